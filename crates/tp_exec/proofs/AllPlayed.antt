@@ -14,7 +14,7 @@ use Rattle.tp_play.specs.TestCases.{Made}
 use Rattle.tp_inbox.specs.Ledgers.{Inbox}
 use Rattle.tp_behaviour.specs.declared.worker.Worker.{Worker}
 use Rattle.tp_exec.specs.declared.played.Played.{Played}
-use Rattle.tp_exec.specs.Returns.{HasReturned, IsWaiting, identity_of, identities_of, worker_number}
+use Rattle.tp_exec.specs.Returns.{HasReturned, IsYetToBegin, identity_of, identities_of, worker_number}
 use Rattle.tp_exec.specs.Rounds.{ArePlayed, AreWorkers, HasNotBegun, HasPlayed, IsWorkerOf, Link, all_links, comes_from, workers_of, links_in}
 
 abbrev Identity : Type 0
@@ -35,7 +35,7 @@ numbered : (s : Setup) (k : ℕ) (x : Worker) → IsWorkerOf s k x → worker_nu
 numbered s k x worker_of = ap (λ (c : CompId). c.0) (worker_of []).ends.comp
 
 -- all are at their places, and nothing has happened there
-pub all_waiting : (made : Made) (workers : List Worker) → AreWorkers made.config workers → All HasNotBegun workers → All (IsWaiting made) workers
+pub all_waiting : (made : Made) (workers : List Worker) → AreWorkers made.config workers → All HasNotBegun workers → All (IsYetToBegin made) workers
 all_waiting made workers are begun = λ k d low.
     let x : Worker = slice_index_or workers k d in
     let worker_of : IsWorkerOf made.config k x = are.worker_of k x (slice_get-get_or workers k d low) in

@@ -2,18 +2,18 @@
 use Rattle.std.proofs.Common.{◌≡◌, ◌≢◌, ℕ, zero, suc, ◌+◌, List, [], ◌∷◌, ◌++◌, Contains, get_or, length, map, refl, sym, ap, ◌∙◌, subst, All, AllPairs, arith}
 use Rattle.std.specs.List.{AllZip}
 use Rattle.std.proofs.lemmas.List.Elements.{All-nil, All-cons, All-append, All-contains, Contains-get_or}
-use Rattle.tp_queue.specs.declared.event.Env.{Env}
+use Rattle.tp_event.specs.declared.event.Env.{Env}
 use Rattle.tp_value.specs.declared.message.Message.{Message}
 use Rattle.tp_config.specs.declared.port_type.CompId.{CompId}
 use Rattle.tp_config.specs.declared.port_type.RouteId.{RouteId}
 use Rattle.tp_config.proofs.RouteLaws.{map_cases, map_contains}
-use Rattle.tp_inbox.specs.declared.entry.Entry.{Entry}
-use Rattle.tp_inbox.specs.declared.entry.Entry.TheVariants as entry
-use Rattle.tp_inbox.specs.declared.posted.Posted.{Posted}
-use Rattle.tp_inbox.specs.declared.stamped.Stamped.{Stamped}
-use Rattle.tp_inbox.specs.History.{arrivals, arrived_from, arrived_on, numbered, posted_on, sent_to}
-use Rattle.tp_inbox.specs.Routed.{AreDelivered, AreNumbered, IsArrivalOn, rest_arrivals, routes_by, sources_of}
-use Rattle.tp_inbox.specs.Ledgers.{AreSenders, Inbox, IsSenderInto, Sending, put_by}
+use Rattle.tp_history.specs.declared.entry.Entry.{Entry}
+use Rattle.tp_history.specs.declared.entry.Entry.TheVariants as entry
+use Rattle.tp_history.specs.declared.posted.Posted.{Posted}
+use Rattle.tp_history.specs.declared.stamped.Stamped.{Stamped}
+use Rattle.tp_history.specs.History.{arrivals, arrived_from, arrived_on, numbered, posted_on, sent_to}
+use Rattle.tp_inbox.specs.Routed.{AreDelivered, AreArrivalsNumbered, IsArrivalOn, rest_arrivals, routes_by, sources_of}
+use Rattle.tp_inbox.specs.Ledgers.{AreSenders, Inbox, IsSenderInto, SenderLedger, put_by}
 use Rattle.tp_inbox.proofs.Arrivals.{arrivals-append}
 use Rattle.tp_inbox.proofs.Ways.{came_by_routes, sent_by_routes}
 use Rattle.tp_behaviour.specs.Outboxes.{routes_of}
@@ -24,8 +24,8 @@ use Rattle.tp_exec.proofs.Pairs.{flat_there, mapped_pairs}
 use Rattle.tp_exec.proofs.Senders.{among_by, by_among, source_there, sources_apart}
 
 -- they are those of these components into the inbox
-back_senders : (logs : ℕ → List Entry) (i : Inbox) (cs : List CompId) (ss : List Sending) → AllZip (IsHandedBack logs) (links_by i cs) ss
-    → All (IsSenderInto i) ss × (map (λ (s : Sending). s.source) ss ≡ cs)
+back_senders : (logs : ℕ → List Entry) (i : Inbox) (cs : List CompId) (ss : List SenderLedger) → AllZip (IsHandedBack logs) (links_by i cs) ss
+    → All (IsSenderInto i) ss × (map (λ (s : SenderLedger). s.source) ss ≡ cs)
 back_senders logs i [] [] z = (All-nil (IsSenderInto i), refl)
 back_senders logs i [] (s ∷ ss) z = absurd z
 back_senders logs i (c ∷ cs) [] z = absurd z
@@ -37,12 +37,12 @@ back_senders logs i (c ∷ cs) (s ∷ ss) z =
     (All-cons (IsSenderInto i) s ss into more.0, λ k. from k ∷ more.1 k)
 
 -- those of the inbox, in its order
-pub are_senders : (logs : ℕ → List Entry) (i : Inbox) (ss : List Sending) → AllZip (IsHandedBack logs) (links_in i) ss → AreSenders i ss
+pub are_senders : (logs : ℕ → List Entry) (i : Inbox) (ss : List SenderLedger) → AllZip (IsHandedBack logs) (links_in i) ss → AreSenders i ss
 are_senders logs i ss z = back_senders logs i (sources_of i.routes) ss z
 
 -- among them is that of each of these components
-back_from : (logs : ℕ → List Entry) (i : Inbox) (cs : List CompId) (ss : List Sending) → AllZip (IsHandedBack logs) (links_by i cs) ss → (c : CompId)
-    → Contains cs c → (s : Sending) × Contains ss s × IsHandedBack logs (link_by i c) s
+back_from : (logs : ℕ → List Entry) (i : Inbox) (cs : List CompId) (ss : List SenderLedger) → AllZip (IsHandedBack logs) (links_by i cs) ss → (c : CompId)
+    → Contains cs c → (s : SenderLedger) × Contains ss s × IsHandedBack logs (link_by i c) s
 back_from logs i [] ss z c h = absurd (omega (arith, h.1))
 back_from logs i (d ∷ cs) [] z c h = absurd z
 back_from logs i (d ∷ cs) (s ∷ ss) z c (zero, low, is) =
@@ -53,30 +53,30 @@ back_from logs i (d ∷ cs) (s ∷ ss) z c (suc k, low, is) =
     (w.0, (suc w.1.0, omega arith, w.1.2), w.2)
 
 -- they have all routes of the inbox
-pub have_all : (i : Inbox) (ss : List Sending) → AreSenders i ss → All (Contains (routes_of ss)) i.routes
+pub have_all : (i : Inbox) (ss : List SenderLedger) → AreSenders i ss → All (Contains (routes_of ss)) i.routes
 have_all i ss are = λ k d low.
     let r : RouteId = get_or i.routes k d in
     let here : Contains i.routes r = Contains-get_or i.routes k d low in
-    let c : Contains (map (λ (s : Sending). s.source) ss) r.source =
+    let c : Contains (map (λ (s : SenderLedger). s.source) ss) r.source =
     subst (λ cs. Contains cs r.source) (sym are.1) (source_there i.routes r here) in
-    let s = map_cases (λ (s : Sending). s.source) ss r.source c in
+    let s = map_cases (λ (s : SenderLedger). s.source) ss r.source c in
     let into = All-contains (IsSenderInto i) ss s.0 are.0 s.1 in
-    flat_there (λ (t : Sending). t.routes) ss s.0 r s.1
+    flat_there (λ (t : SenderLedger). t.routes) ss s.0 r s.1
     (subst (λ rs. Contains rs r) (sym into.1) (among_by s.0.source i.routes r here (sym s.2)))
 
 -- and no two of them have one route
-pub share_none : (i : Inbox) (ss : List Sending) → AreSenders i ss → AllPairs ShareNone ss
+pub share_none : (i : Inbox) (ss : List SenderLedger) → AreSenders i ss → AllPairs ShareNone ss
 share_none i ss are = λ a b d below within k p low j q few same.
-    let s : Sending = get_or ss a d in
-    let t : Sending = get_or ss b d in
+    let s : SenderLedger = get_or ss a d in
+    let t : SenderLedger = get_or ss b d in
     let apart : s.source ≢ t.source =
-    mapped_pairs (λ (c e : CompId). c ≢ e) (λ (x : Sending). x.source) ss
+    mapped_pairs (λ (c e : CompId). c ≢ e) (λ (x : SenderLedger). x.source) ss
     (subst (AllPairs (λ (c e : CompId). c ≢ e)) (sym are.1) (sources_apart i.routes)) a b d below within in
     let one = from_own s (are.0 a d (omega (arith, below, within))) (get_or s.routes k p) (Contains-get_or s.routes k p low) in
     let other = from_own t (are.0 b d within) (get_or t.routes j q) (Contains-get_or t.routes j q few) in
     apart (sym one ∙ ap (λ (r : RouteId). r.source) (sym same) ∙ other)
   where
-    from_own : (s : Sending) → IsSenderInto i s → (r : RouteId) → Contains s.routes r → r.source ≡ s.source
+    from_own : (s : SenderLedger) → IsSenderInto i s → (r : RouteId) → Contains s.routes r → r.source ≡ s.source
     from_own s into r has = (by_among s.source i.routes r (subst (λ rs. Contains rs r) into.1 has)).1
 
 pub length-numbered : (n : ℕ) (ms : List Stamped) → length (numbered n ms) ≡ length ms
@@ -87,16 +87,16 @@ length-numbered n (m ∷ ms) = ap suc (length-numbered (n + 1) ms)
 abbrev Came : CompId → List Entry → CompId × List Posted → Type 0
 Came comp log v = arrived_from comp v.0 log ≡ v.1
 
-module _ (logs : ℕ → List Entry) (i : Inbox) (e : EndedComponent) (ss : List Sending) (z : AllZip (IsHandedBack logs) (links_in i) ss)
-    (came : AreDelivered i.comp e.desk.log (map put_by ss)) (order : AreNumbered i.routes e.desk.log)
+module _ (logs : ℕ → List Entry) (i : Inbox) (e : EndedComponent) (ss : List SenderLedger) (z : AllZip (IsHandedBack logs) (links_in i) ss)
+    (came : AreDelivered i.comp e.desk.log (map put_by ss)) (order : AreArrivalsNumbered i.routes e.desk.log)
     (here : All (λ (r : RouteId). r.to.comp ≡ i.comp) i.routes)
-    (counts : (s : Sending) (r : RouteId) → Contains ss s → Contains s.routes r → Contains i.routes r → IsCounted e.counts.items s r) where
+    (counts : (s : SenderLedger) (r : RouteId) → Contains ss s → Contains s.routes r → Contains i.routes r → IsCounted e.counts.items s r) where
   -- what a component's history says was sent there is what its sender has put
-  put_as : (c : CompId) (s : Sending) → IsHandedBack logs (link_by i c) s → sent_to i.comp (logs c.0) ≡ s.ledger
+  put_as : (c : CompId) (s : SenderLedger) → IsHandedBack logs (link_by i c) s → sent_to i.comp (logs c.0) ≡ s.ledger
   put_as c s back = ap (λ (j : Inbox). sent_to j.comp (logs c.0)) (sym (ap (λ (w : Link). w.0) back.0)) ∙ back.1
 
   -- and this is what came
-  came_as : (c : CompId) (s : Sending) → Contains ss s → IsHandedBack logs (link_by i c) s → arrived_from i.comp c e.desk.log ≡ s.ledger
+  came_as : (c : CompId) (s : SenderLedger) → Contains ss s → IsHandedBack logs (link_by i c) s → arrived_from i.comp c e.desk.log ≡ s.ledger
   came_as c s there back =
       ap (λ (d : CompId). arrived_from i.comp d e.desk.log) (sym (ap (λ (w : Link). w.1) back.0))
       ∙ All-contains (Came i.comp e.desk.log) (map put_by ss) (put_by s) came (map_contains put_by ss s there)
@@ -104,7 +104,7 @@ module _ (logs : ℕ → List Entry) (i : Inbox) (e : EndedComponent) (ss : List
   come_on : (r : RouteId) → Contains i.routes r → HasCome logs e r
   come_on r known =
       let w = back_from logs i (sources_of i.routes) ss z r.source (source_there i.routes r known) in
-      let s : Sending = w.0 in
+      let s : SenderLedger = w.0 in
       let to : r.to.comp ≡ i.comp = All-contains (λ (q : RouteId). q.to.comp ≡ i.comp) i.routes r here known in
       let has : Contains s.routes r = subst (λ (v : Link). Contains v.2 r) (sym w.2.0) (among_by r.source i.routes r known refl) in
       let put : arrived_on r e.desk.log ≡ posted_on r s.ledger =

@@ -6,8 +6,8 @@ use Rattle.std.proofs.lemmas.List.Elements.{All-contains, All-head, All-tail}
 use Rattle.std.proofs.lemmas.Option.{same_Some}
 use Rattle.indexmap.specs.IndexMap.{IndexMap, Updates, get}
 use Rattle.tp_config.specs.declared.port_type.RouteId.{RouteId}
-use Rattle.tp_inbox.specs.History.{count_of, posted_on, same_route}
-use Rattle.tp_inbox.specs.Ledgers.{Sending, put_on_way}
+use Rattle.tp_history.specs.History.{count_of, posted_on, same_route}
+use Rattle.tp_inbox.specs.Ledgers.{SenderLedger, put_on_way}
 use Rattle.tp_inbox.specs.Places.{KeepsOtherRoutes, route_eq}
 use Rattle.tp_inbox.specs.Routed.{absent_route, route_at}
 use Rattle.tp_inbox.proofs.Arrivals.{same_default}
@@ -18,15 +18,15 @@ use Rattle.tp_exec.specs.Held.{AreFiledOf, IsCounted, IsFiled, ShareNone}
 use Rattle.tp_exec.proofs.Pairs.{flat_from}
 
 -- of the first n routes of a sender it is filed how much was put there, and of none that isn't one of its routes
-pub record AreFirstFiled {S : Type 0} (n : ℕ) (s : Sending) (before now : IndexMap RouteId ℕ S) : Type 0 where
+pub record AreFirstFiled {S : Type 0} (n : ℕ) (s : SenderLedger) (before now : IndexMap RouteId ℕ S) : Type 0 where
   pub filed : (k : ℕ) → k < n → IsFiled now s (route_at s.routes k)
   pub others : KeepsOtherRoutes s.routes before now
 
-pub filed_none : {S : Type 0} (s : Sending) (m : IndexMap RouteId ℕ S) → AreFirstFiled 0 s m m
+pub filed_none : {S : Type 0} (s : SenderLedger) (m : IndexMap RouteId ℕ S) → AreFirstFiled 0 s m m
 filed_none s m = record { filed = λ k low. absurd (omega (arith, low)); others = λ r none. refl }
 
 -- one more
-pub filed_next : {S : Type 0} (s : Sending) (before now after : IndexMap RouteId ℕ S) (n : ℕ) → n < length s.routes → AreFirstFiled n s before now
+pub filed_next : {S : Type 0} (s : SenderLedger) (before now after : IndexMap RouteId ℕ S) (n : ℕ) → n < length s.routes → AreFirstFiled n s before now
     → (r : RouteId) (v : ℕ) → r ≡ route_at s.routes n → v ≡ length (put_on_way s n) → Updates route_eq now after r (Some v)
     → AreFirstFiled (n + 1) s before after
 filed_next {S = S} s before now after n low h q v is counts updates = record {
@@ -55,16 +55,16 @@ filed_next {S = S} s before now after n low h q v is counts updates = record {
     others r none (inl e) = absurd (none n absent_route low (eq_same here r e))
     others r none (inr e) = up.2 r e ∙ h.others r none
 
-pub filed_whole : {S : Type 0} (s : Sending) (before now : IndexMap RouteId ℕ S) (n : ℕ) → length s.routes ≡ n → AreFirstFiled n s before now
+pub filed_whole : {S : Type 0} (s : SenderLedger) (before now : IndexMap RouteId ℕ S) (n : ℕ) → length s.routes ≡ n → AreFirstFiled n s before now
     → AreFiledOf now s
 filed_whole s before now n whole h k d low =
     subst (IsFiled now s) (same_default s.routes k absent_route d low) (h.filed k (omega (arith, low, whole)))
 
 -- of the first n senders it is filed how much each has put on its routes
-abbrev pub AreFiledBelow : {S : Type 0} → ℕ → List Sending → IndexMap RouteId ℕ S → Type 0
-AreFiledBelow n ss counts = (k : ℕ) (d : Sending) → k < n → k < length ss → AreFiledOf counts (get_or ss k d)
+abbrev pub AreFiledBelow : {S : Type 0} → ℕ → List SenderLedger → IndexMap RouteId ℕ S → Type 0
+AreFiledBelow n ss counts = (k : ℕ) (d : SenderLedger) → k < n → k < length ss → AreFiledOf counts (get_or ss k d)
 
-pub below_next : {S : Type 0} (ss : List Sending) (s : Sending) (n : ℕ) (now after : IndexMap RouteId ℕ S) → n < length ss → s ≡ get_or ss n s
+pub below_next : {S : Type 0} (ss : List SenderLedger) (s : SenderLedger) (n : ℕ) (now after : IndexMap RouteId ℕ S) → n < length ss → s ≡ get_or ss n s
     → AllPairs ShareNone ss → AreFiledBelow n ss now → AreFiledOf after s → KeepsOtherRoutes s.routes now after → AreFiledBelow (n + 1) ss after
 below_next ss s n now after low is apart h here others k d below within = by (cases_order k n) where
   at : get_or ss n d ≡ s
@@ -75,16 +75,16 @@ below_next ss s n now after low is apart h here others k d below within = by (ca
   by (inr (inl less)) = λ j r few.
       let q = get_or (get_or ss k d).routes j r in
       let none : All (λ (x : RouteId). x ≢ q) s.routes =
-      subst (λ (t : Sending). All (λ (x : RouteId). x ≢ q) t.routes) at (apart k n d less low j r few) in
+      subst (λ (t : SenderLedger). All (λ (x : RouteId). x ≢ q) t.routes) at (apart k n d less low j r few) in
       others q none ∙ h k d less within j r few
   by (inr (inr more)) = absurd (omega (arith, below, more))
 
 -- each of these routes is filed, where each is one of the senders'
-pub all_filed : {S : Type 0} (ss : List Sending) (routes : List RouteId) (m : IndexMap RouteId ℕ S) → All (AreFiledOf m) ss
+pub all_filed : {S : Type 0} (ss : List SenderLedger) (routes : List RouteId) (m : IndexMap RouteId ℕ S) → All (AreFiledOf m) ss
     → All (Contains (routes_of ss)) routes → All (λ (r : RouteId). (n : ℕ) × (get route_eq m r ≡ Some n)) routes
 all_filed ss routes m filed theirs = λ k d low.
     let r : RouteId = get_or routes k d in
-    let w = flat_from (λ (s : Sending). s.routes) ss r (theirs k d low) in
+    let w = flat_from (λ (s : SenderLedger). s.routes) ss r (theirs k d low) in
     (length (posted_on r w.0.ledger), All-contains (IsFiled m w.0) w.0.routes r (All-contains (AreFiledOf m) ss w.0 filed w.1) w.2)
 
 -- the count that stands beside a route is the one that is filed
@@ -107,8 +107,8 @@ counted_at m (c ∷ counts) r n all h at =
         ap (λ b. cond b c.1 (count_of r counts)) e ∙ same_Some c.1 n (sym here ∙ at)
     by (inr e) rest = ap (λ b. cond b c.1 (count_of r counts)) e ∙ rest e
 
-pub counted : {S : Type 0} (ss : List Sending) (routes : List RouteId) (counts : List (RouteId × ℕ)) (m : IndexMap RouteId ℕ S) → All (AreFiledOf m) ss
-    → All (λ (c : RouteId × ℕ). get route_eq m c.0 ≡ Some c.1) counts → map (λ (c : RouteId × ℕ). c.0) counts ≡ routes → (s : Sending) (r : RouteId)
+pub counted : {S : Type 0} (ss : List SenderLedger) (routes : List RouteId) (counts : List (RouteId × ℕ)) (m : IndexMap RouteId ℕ S) → All (AreFiledOf m) ss
+    → All (λ (c : RouteId × ℕ). get route_eq m c.0 ≡ Some c.1) counts → map (λ (c : RouteId × ℕ). c.0) counts ≡ routes → (s : SenderLedger) (r : RouteId)
     → Contains ss s → Contains s.routes r → Contains routes r → IsCounted counts s r
 counted ss routes counts m filed all are s r there has known =
     counted_at m counts r (length (posted_on r s.ledger)) all (subst (λ rs. Contains rs r) (sym are) known)

@@ -6,13 +6,13 @@ use Rattle.std.proofs.lemmas.Bool.{cases_Bool, cases_eq, cases_lt}
 use Rattle.std.proofs.lemmas.List.{take-take, take_all}
 use Rattle.std.proofs.lemmas.List.Sums.{sum_by-append, sum_by-take-le}
 use Rattle.std.proofs.lemmas.Option.{slice_get_cases}
-use Rattle.tp_inbox.specs.declared.entry.Entry.{Entry}
-use Rattle.tp_inbox.specs.declared.entry.Entry.TheVariants as entry
-use Rattle.tp_inbox.specs.History.{is_arrival}
+use Rattle.tp_history.specs.declared.entry.Entry.{Entry}
+use Rattle.tp_history.specs.declared.entry.Entry.TheVariants as entry
+use Rattle.tp_history.specs.History.{is_arrival}
 use Rattle.tp_behaviour.specs.Fresh.{LooksAtPorts}
 use Rattle.tp_exec.specs.Order.{Spot}
-use Rattle.tp_exec.specs.OneOrder.{HasOneOrder, IsAt, IsOrderOf, IsOwn, came_before, entry_at, log_in, sender_to, senders_to, sends_to}
-use Rattle.tp_exec.specs.Greedy.{many, sends}
+use Rattle.tp_exec.specs.OneOrder.{HasOneOrder, IsAt, IsOrderOf, IsOwn, came_before, entry_at_spot, log_in, sender_to, senders_to, sends_to}
+use Rattle.tp_exec.specs.Greedy.{many, count_sent_to}
 use Rattle.tp_exec.specs.LookLaws.{CrossedLooks, Misses}
 use Rattle.tp_exec.proofs.OneOrder.{own_none, spot}
 use Rattle.tp_exec.proofs.Messages.{given_front, given_one}
@@ -28,14 +28,14 @@ sending d None met = absurd (cc)
 sending d (Some e) met = (e, refl, send_own d e met)
 
 module _ (logs : List (List Entry)) (order : List Spot) (is : IsOrderOf logs order) where
-  sending_own : (c d p : ℕ) → sends_to d (entry_at logs (spot c p)) ≡ true → IsOwn logs (spot c p)
+  sending_own : (c d p : ℕ) → sends_to d (entry_at_spot logs (spot c p)) ≡ true → IsOwn logs (spot c p)
   sending_own c d p met =
-      let h = sending d (entry_at logs (spot c p)) met in
+      let h = sending d (entry_at_spot logs (spot c p)) met in
       record { act = h.0; stands = h.1; own = h.2 }
 
   -- what c sends to d before its place m stands before the place n of the order
   abbrev AreSentBefore : (c d m n : ℕ) → Type 0
-  AreSentBefore c d m n = (q : ℕ) → q < m → sends_to d (entry_at logs (spot c q)) ≡ true → (i : ℕ) × (i < n) × IsAt order i (spot c q)
+  AreSentBefore c d m n = (q : ℕ) → q < m → sends_to d (entry_at_spot logs (spot c q)) ≡ true → (i : ℕ) × (i < n) × IsAt order i (spot c q)
 
   -- it does where one that c did itself at that place stands there
   all_before : (c d m n : ℕ) → IsOwn logs (spot c m) → IsAt order n (spot c m) → AreSentBefore c d m n
@@ -54,10 +54,10 @@ module _ (logs : List (List Entry)) (order : List Spot) (is : IsOrderOf logs ord
       omega (arith, front, same, less)
 
   -- a sending counts
-  many_more : (c d i q : ℕ) → IsAt order i (spot c q) → sends_to d (entry_at logs (spot c q)) ≡ true
+  many_more : (c d i q : ℕ) → IsAt order i (spot c q) → sends_to d (entry_at_spot logs (spot c q)) ≡ true
       → many c (senders_to logs d (take (i + 1) order)) ≡ many c (senders_to logs d (take i order)) + 1
   many_more c d i q there met =
-      let b = sends_to d (entry_at logs (spot c q)) in
+      let b = sends_to d (entry_at_spot logs (spot c q)) in
       let xs = senders_to logs d (take i order) in
       let list = ap (many c) (given_one (sender_to logs d) order i (spot c q) there) in
       let parts = sum_by-append (λ x. cond (x == c) 1 0) xs (cons_option (cond b (Some c) None) []) in
@@ -65,25 +65,25 @@ module _ (logs : List (List Entry)) (order : List Spot) (is : IsOrderOf logs ord
       omega (arith, list, parts, one)
 
   -- so in the order so much, or more, is sent by then
-  sent_by : (c d m n : ℕ) → AreSentBefore c d m n → sends d (take m (log_in logs c)) ≤ many c (senders_to logs d (take n order))
+  sent_by : (c d m n : ℕ) → AreSentBefore c d m n → count_sent_to d (take m (log_in logs c)) ≤ many c (senders_to logs d (take n order))
   sent_by c d zero n before = omega arith
   sent_by c d (suc m) n before =
       let log = log_in logs c in
       let f : Entry → ℕ = λ e. unit (sends_to d (Some e)) in
       let e : m + 1 ≡ suc m = omega arith in
-      let on = ap (λ k. sends d (take k log)) e in
+      let on = ap (λ k. count_sent_to d (take k log)) e in
       let rest : AreSentBefore c d m n = λ q less met. before q (omega (arith, less)) met in
       elim (slice_get_cases log m).1 [
         | inr past ↦
             let low : length log ≤ m = past.0 in
-            let whole = ap (sends d) (take_all (m + 1) log (omega (arith, low)) ∙ sym (take_all m log low)) in
+            let whole = ap (count_sent_to d) (take_all (m + 1) log (omega (arith, low)) ∙ sym (take_all m log low)) in
             let was = sent_by c d m n rest in
             omega (arith, on, whole, was)
         | inl h ↦
             let one = sum_one f log m h.0 h.2 in
             elim (cases_Bool (sends_to d (Some h.0))) [
               | inl met ↦
-                  let here : sends_to d (entry_at logs (spot c m)) ≡ true = ap (sends_to d) h.2 ∙ met in
+                  let here : sends_to d (entry_at_spot logs (spot c m)) ≡ true = ap (sends_to d) h.2 ∙ met in
                   let j = before m (omega arith) here in
                   let was = sent_by c d m j.0 (all_before c d m j.0 (sending_own c d m here) j.2) in
                   let more = many_more c d j.0 m j.2 here in
@@ -99,7 +99,7 @@ module _ (logs : List (List Entry)) (order : List Spot) (is : IsOrderOf logs ord
       ]
 
   -- who looks and has missed what was sent to it looked before that was sent
-  missed_before : (c p q d r i j : ℕ) → Misses logs c p q d r → sends_to c (entry_at logs (spot d r)) ≡ true → IsAt order i (spot c q)
+  missed_before : (c p q d r i j : ℕ) → Misses logs c p q d r → sends_to c (entry_at_spot logs (spot d r)) ≡ true → IsAt order i (spot c q)
       → IsAt order j (spot d r) → i ≤ j
   missed_before c p q d r i j misses met look there = elim (cases_lt j i) [
     | inr most ↦ most
@@ -130,10 +130,10 @@ crossed_looks logs c d p q r s one other (order, is) =
     omega (arith, up, on, over, under)
 
 -- a look before which nothing had come has missed each sending
-fewer_none : (logs : List (List Entry)) (c q d r : ℕ) → came_before logs (spot c q) ≡ [] → sends_to c (entry_at logs (spot d r)) ≡ true
-    → many d (came_before logs (spot c q)) < sends c (take (r + 1) (log_in logs d))
+fewer_none : (logs : List (List Entry)) (c q d r : ℕ) → came_before logs (spot c q) ≡ [] → sends_to c (entry_at_spot logs (spot d r)) ≡ true
+    → many d (came_before logs (spot c q)) < count_sent_to c (take (r + 1) (log_in logs d))
 fewer_none logs c q d r none met =
-    let h = sending c (entry_at logs (spot d r)) met in
+    let h = sending c (entry_at_spot logs (spot d r)) met in
     let unseen : many d (came_before logs (spot c q)) ≡ 0 = ap (many d) none in
     let one = sum_one (λ e. unit (sends_to c (Some e))) (log_in logs d) r h.0 h.1 in
     let value : unit (sends_to c (Some h.0)) ≡ 1 = ap unit (ap (sends_to c) (sym h.1) ∙ met) in

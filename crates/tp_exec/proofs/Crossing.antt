@@ -7,7 +7,8 @@ use Rattle.tp_value.proofs.value.Value.TheLaws.TheKnot.{crosses_both as value_kn
 use Rattle.tp_value.proofs.template.Template.TheLaws.TheKnot.{crosses as template_knot}
 use Rattle.tp_config.proofs.port_type.RouteId.TheSendSync.{the_send as route_send}
 use Rattle.tp_floor.proofs.Crossing.{floor_send, floor_sync}
-use Rattle.tp_inbox.proofs.Crossing.{closer_sync, desk_send, owner_send, sender_send}
+use Rattle.tp_history.proofs.Crossing.{desk_send}
+use Rattle.tp_inbox.proofs.Crossing.{closer_sync, owner_send, sender_send}
 use Rattle.tp_behaviour.specs.contracts.choice.Guard as guard
 use Rattle.tp_behaviour.specs.contracts.outbox.Outbox as outbox
 use Rattle.tp_behaviour.specs.contracts.outbox.Outbox.TheInside as outbox_inside

@@ -9,13 +9,13 @@ use Rattle.std.proofs.lemmas.Bool.{eqb-true}
 use Rattle.std.proofs.lemmas.List.Elements.{All-head, All-tail, filter_passes}
 use Rattle.std.proofs.lemmas.List.Kept.{AllPairs-filter}
 use Rattle.std.proofs.lemmas.Option.{same_Some}
-use Rattle.tp_inbox.specs.Ledgers.{Sending}
+use Rattle.tp_inbox.specs.Ledgers.{SenderLedger}
 use Rattle.tp_behaviour.specs.declared.worker.Worker.{Worker}
 use Rattle.tp_exec.specs.Openings.{AreApart, AreHandedOut, AreTwo, HasGiven, IsBare, IsFirstThere, IsFromOneOf, giving, is_of, rest_of}
 use Rattle.tp_exec.proofs.Pairs.{all_before, pairs_before}
 
 -- of all the senders, those before the rest have been handed out
-pub record AreDealt (before : List Worker) (all rest : List Sending) (now : List Worker) : Type 0 where
+pub record AreDealt (before : List Worker) (all rest : List SenderLedger) (now : List Worker) : Type 0 where
   pub same : map rest_of now ≡ map rest_of before
   pub dealt : (k : ℕ) (x : Worker) → slice_get now k ≡ Some x → x.outbox ++ filter (is_of k) rest ≡ filter (is_of k) all
   pub within : All (IsFromOneOf before) rest
@@ -24,11 +24,11 @@ pub record AreDealt (before : List Worker) (all rest : List Sending) (now : List
 pub as_many : (before now : List Worker) → map rest_of now ≡ map rest_of before → length now ≡ length before
 as_many before now same = sym (length-map now rest_of) ∙ ap length same ∙ length-map before rest_of
 
-from_here : (y : Sending) (more : List Sending) → filter (is_of y.source.0) (y ∷ more) ≡ y ∷ filter (is_of y.source.0) more
+from_here : (y : SenderLedger) (more : List SenderLedger) → filter (is_of y.source.0) (y ∷ more) ≡ y ∷ filter (is_of y.source.0) more
 from_here y more = ap (λ (b : Bool). cond b (y ∷ filter (is_of y.source.0) more) (filter (is_of y.source.0) more))
     (eq-eqb y.source.0 y.source.0 refl)
 
-from_else : (k : ℕ) (y : Sending) (more : List Sending) → y.source.0 ≢ k → filter (is_of k) (y ∷ more) ≡ filter (is_of k) more
+from_else : (k : ℕ) (y : SenderLedger) (more : List SenderLedger) → y.source.0 ≢ k → filter (is_of k) (y ∷ more) ≡ filter (is_of k) more
 from_else k y more n = ap (λ (b : Bool). cond b (y ∷ filter (is_of k) more) (filter (is_of k) more)) (ne_eqb y.source.0 k n)
 
 -- what stands at a place of the list was there before, or was put there
@@ -45,7 +45,7 @@ set_cases (x ∷ xs) (suc j) (suc k) v y e =
     ]
 
 -- a worker with one sender more has else what it had
-kept : (xs : List Worker) (j : ℕ) (x : Worker) (y : Sending) → slice_get xs j ≡ Some x → map rest_of (slice_set xs j (giving x y)) ≡ map rest_of xs
+kept : (xs : List Worker) (j : ℕ) (x : Worker) (y : SenderLedger) → slice_get xs j ≡ Some x → map rest_of (slice_set xs j (giving x y)) ≡ map rest_of xs
 kept [] j x y stands = refl
 kept (z ∷ zs) zero x y stands = ap (λ (u : Worker). rest_of u ∷ map rest_of zs) (sym (same_Some z x stands))
 kept (z ∷ zs) (suc j) x y stands = ap (λ l. rest_of z ∷ l) (kept zs j x y stands)
@@ -59,7 +59,7 @@ pub no_rest : {X : Type 0} (it : IntoIter X Global) → into_iter_len it ≡ 0 �
 no_rest it none = nothing (into_iter_items it) (sym it.rest.ok.0 ∙ none)
 
 -- where none has been handed out, and where all have
-pub dealt_first : (before : List Worker) (all : List Sending) → All IsBare before
+pub dealt_first : (before : List Worker) (all : List SenderLedger) → All IsBare before
     → All (IsFromOneOf before) all → AreDealt before all all before
 dealt_first before all bare within = record {
   same = refl;
@@ -72,11 +72,11 @@ dealt_first before all bare within = record {
     empty (z ∷ zs) zero x stands h = subst IsBare (same_Some z x stands) (All-head IsBare z zs h)
     empty (z ∷ zs) (suc k) x stands h = empty zs k x stands (All-tail IsBare z zs h)
 
-pub dealt_last : (before : List Worker) (all : List Sending) (now : List Worker) → AreDealt before all [] now → AreHandedOut before all now
+pub dealt_last : (before : List Worker) (all : List SenderLedger) (now : List Worker) → AreDealt before all [] now → AreHandedOut before all now
 dealt_last before all now h = record { same = h.same; senders = λ k x stands. sym (append-nil x.outbox) ∙ h.dealt k x stands }
 
 -- one more
-module _ (before : List Worker) (all rest : List Sending) (y : Sending) (now : List Worker) (h : AreDealt before all (y ∷ rest) now) where
+module _ (before : List Worker) (all rest : List SenderLedger) (y : SenderLedger) (now : List Worker) (h : AreDealt before all (y ∷ rest) now) where
   pub dealt_within : IsFromOneOf now y
   dealt_within = subst (λ n. y.source.0 < n) (sym (as_many before now h.same)) (All-head (IsFromOneOf before) y rest h.within)
 
@@ -84,9 +84,9 @@ module _ (before : List Worker) (all rest : List Sending) (y : Sending) (now : L
   pub dealt_apart : AreApart all → IsFirstThere now y
   dealt_apart apart x stands =
       let k = y.source.0 in
-      let ours : Sending → Type 0 = λ z. is_of k z ≡ true in
+      let ours : SenderLedger → Type 0 = λ z. is_of k z ≡ true in
       let is : x.outbox ++ y ∷ filter (is_of k) rest ≡ filter (is_of k) all = ap (λ l. x.outbox ++ l) (sym (from_here y rest)) ∙ h.dealt k x stands in
-      let two : All (λ (z : Sending). AreTwo z y) x.outbox =
+      let two : All (λ (z : SenderLedger). AreTwo z y) x.outbox =
       pairs_before AreTwo x.outbox (filter (is_of k) rest) y (subst (AllPairs AreTwo) (sym is) (AllPairs-filter AreTwo (is_of k) all apart)) in
       let here : All ours x.outbox =
       all_before ours x.outbox (y ∷ filter (is_of k) rest) (subst (All ours) (sym is) (filter_passes (is_of k) all)) in

@@ -10,17 +10,17 @@ use Rattle.tp_config.specs.Setup.{Setup, ports_at}
 use Rattle.tp_config.specs.Allowed.{IsSetup}
 use Rattle.tp_config.specs.Routes.{routes_into}
 use Rattle.tp_config.proofs.RouteLaws.{map_cases, map_contains}
-use Rattle.tp_inbox.specs.declared.entry.Entry.{Entry}
-use Rattle.tp_inbox.specs.Desks.{Journal}
-use Rattle.tp_inbox.specs.History.{arrivals, sent_to}
-use Rattle.tp_inbox.specs.Ledgers.{Draining, Sending, end_of}
+use Rattle.tp_history.specs.declared.entry.Entry.{Entry}
+use Rattle.tp_history.specs.Desks.{Journal}
+use Rattle.tp_history.specs.History.{arrivals, sent_to}
+use Rattle.tp_inbox.specs.Ledgers.{Draining, SenderLedger, end_of}
 use Rattle.tp_inbox.specs.Routed.{sources_of}
 use Rattle.tp_behaviour.specs.declared.worker.Worker.{Worker}
 use Rattle.tp_behaviour.specs.Fresh.{Fresh}
 use Rattle.tp_behaviour.specs.Moments.{moments}
 use Rattle.tp_behaviour.specs.Outboxes.{routes_of}
 use Rattle.tp_behaviour.specs.Paths.{own_port}
-use Rattle.tp_behaviour.specs.Workers.{IsNoted, AreEndsOf, IsSenderOf, IsSentBy}
+use Rattle.tp_behaviour.specs.Workers.{IsLedgerOf, AreEndsOf, IsSenderOf, IsSentBy}
 use Rattle.tp_exec.specs.declared.inboxes.Opened.{Opened}
 use Rattle.tp_exec.specs.Openings.{AreApart, AreHandedOut, AreOpened, IsFromOneOf, IsOpened, IsUnused, is_of, rest_of}
 use Rattle.tp_exec.specs.Rounds.{AreWorkers, HasNotBegun, IsWorkerOf, Link, all_links, comp_at, comes_from, link_by, links_in}
@@ -35,7 +35,7 @@ all_from : {X : Type 0} (P : X → Type 0) (xs : List X) → ((x : X) → Contai
 all_from P xs h k d low = h (get_or xs k d) (Contains-get_or xs k d low)
 
 -- those of one component are those of the links from it
-ends_from : (k : ℕ) (ss : List Sending) → map end_of (filter (is_of k) ss) ≡ filter (comes_from k) (map end_of ss)
+ends_from : (k : ℕ) (ss : List SenderLedger) → map end_of (filter (is_of k) ss) ≡ filter (comes_from k) (map end_of ss)
 ends_from k [] = refl
 ends_from k (y ∷ ss) = by (is_of k y) (ends_from k ss) where
   by : (b : Bool) → map end_of (filter (is_of k) ss) ≡ filter (comes_from k) (map end_of ss)
@@ -117,10 +117,10 @@ module _ (s : Setup) (l : IsSetup s) (o : Opened) (xs : List Worker) (h : AreOpe
       let sender = map_cases end_of x.outbox w (subst (λ ws. Contains ws w) (sym (ends k x stands)) kept) in
       let has : Contains sender.0.routes r =
       subst (λ (v : Link). Contains v.2 r) (sym sender.2) (among_by r.source y.owner.inbox.routes r inside refl) in
-      flat_there (λ (z : Sending). z.routes) x.outbox sender.0 r sender.1 has
+      flat_there (λ (z : SenderLedger). z.routes) x.outbox sender.0 r sender.1 has
 
   -- and no others
-  is_link : (k : ℕ) (x : Worker) → slice_get xs k ≡ Some x → (y : Sending) → Contains x.outbox y → IsLinkInto xs (end_of y) × (y.source.0 ≡ k)
+  is_link : (k : ℕ) (x : Worker) → slice_get xs k ≡ Some x → (y : SenderLedger) → Contains x.outbox y → IsLinkInto xs (end_of y) × (y.source.0 ≡ k)
   is_link k x stands y inside =
       let w = passed (comes_from k) (all_links xs) (end_of y) (subst (λ ws. Contains ws (end_of y)) (ends k x stands) (map_contains end_of x.outbox y inside)) in
       (link_of xs (end_of y) w.0, eqb-true y.source.0 k w.1)
@@ -157,7 +157,7 @@ module _ (s : Setup) (l : IsSetup s) (o : Opened) (xs : List Worker) (h : AreOpe
             has_link k x stands j z there r (subst (λ rs. Contains rs r) (sym (opened j z there).routes) (among_those_into s l p r from)) (source_is s p r from);
       }
 
-  noted : (k : ℕ) (x : Worker) → slice_get xs k ≡ Some x → All (IsNoted x.desk.log) x.outbox
+  noted : (k : ℕ) (x : Worker) → slice_get xs k ≡ Some x → All (IsLedgerOf x.desk.log) x.outbox
   unfolding sent_to
   noted k x stands =
       let empty : x.desk.log ≡ [] = ap (λ (d : Journal). d.log) (opened k x stands).desk in

@@ -7,15 +7,15 @@ use Rattle.std.specs.Vec.Iter.{into_iter_items, into_iter_len, into_iter_steps}
 use Rattle.std.proofs.lemmas.Grind.{get_or-set_at}
 use Rattle.std.proofs.lemmas.List.{get_or-set_other, length-map, length-set}
 use Rattle.std.proofs.lemmas.List.Elements.{All-head, All-tail}
-use Rattle.tp_inbox.specs.declared.entry.Entry.{Entry}
-use Rattle.tp_inbox.specs.Ledgers.{Sending, end_of}
+use Rattle.tp_history.specs.declared.entry.Entry.{Entry}
+use Rattle.tp_inbox.specs.Ledgers.{SenderLedger, end_of}
 use Rattle.tp_inbox.proofs.Routes.{same_or_not}
-use Rattle.tp_behaviour.specs.Workers.{IsNoted}
+use Rattle.tp_behaviour.specs.Workers.{IsLedgerOf}
 use Rattle.tp_exec.specs.Rounds.{Link, comes_from}
 use Rattle.tp_exec.specs.Held.{AreAtHand, CanTake, Gives, IsHandedBack, Leaves}
 
 abbrev Hand : Type 0
-Hand = IntoIter Sending Global
+Hand = IntoIter SenderLedger Global
 
 from_here : (m : Link) (more : List Link) → filter (comes_from m.1.0) (m ∷ more) ≡ m ∷ filter (comes_from m.1.0) more
 from_here m more = ap (λ (b : Bool). cond b (m ∷ filter (comes_from m.1.0) more) (filter (comes_from m.1.0) more))
@@ -45,8 +45,8 @@ module _ (logs : ℕ → List Entry) (hands : List Hand) (m : Link) (more : List
     had : map end_of (into_iter_items o) ≡ m ∷ filter (comes_from m.1.0) more
     had = ap (λ (x : Hand). map end_of (into_iter_items x)) is ∙ h.each m.1.0 o inside ∙ from_here m more
 
-    had_noted : All (IsNoted (logs m.1.0)) (into_iter_items o)
-    had_noted = subst (λ (x : Hand). All (IsNoted (logs m.1.0)) (into_iter_items x)) (sym is) (h.noted m.1.0 o inside)
+    had_noted : All (IsLedgerOf (logs m.1.0)) (into_iter_items o)
+    had_noted = subst (λ (x : Hand). All (IsLedgerOf (logs m.1.0)) (into_iter_items x)) (sym is) (h.noted m.1.0 o inside)
 
     held_some : into_iter_len o ≡ 0 → ⊥
     held_some none =
@@ -55,15 +55,15 @@ module _ (logs : ℕ → List Entry) (hands : List Hand) (m : Link) (more : List
         let n = o.rest.ok in
         omega arith
 
-    module _ (x : Sending) (steps : into_iter_items o ≡ x ∷ into_iter_items it) where
+    module _ (x : SenderLedger) (steps : into_iter_items o ≡ x ∷ into_iter_items it) where
       both : (end_of x ≡ m) × (map end_of (into_iter_items it) ≡ filter (comes_from m.1.0) more)
       both = parts (end_of x) m (map end_of (into_iter_items it)) (filter (comes_from m.1.0) more) (ap (map end_of) (sym steps) ∙ had)
 
-      noted : All (IsNoted (logs m.1.0)) (x ∷ into_iter_items it)
-      noted = subst (All (IsNoted (logs m.1.0))) steps had_noted
+      noted : All (IsLedgerOf (logs m.1.0)) (x ∷ into_iter_items it)
+      noted = subst (All (IsLedgerOf (logs m.1.0))) steps had_noted
 
       held_back : IsHandedBack logs m x
-      held_back = (both.0, All-head (IsNoted (logs m.1.0)) x (into_iter_items it) noted)
+      held_back = (both.0, All-head (IsLedgerOf (logs m.1.0)) x (into_iter_items it) noted)
 
       held_next : AreAtHand logs (set hands m.1.0 it) more
       held_next =
@@ -78,9 +78,9 @@ module _ (logs : ℕ → List Entry) (hands : List Hand) (m : Link) (more : List
             noted = λ k d low.
                 ⊎_elim
                 (λ (e : k ≡ m.1.0).
-                subst (λ (y : Hand). All (IsNoted (logs k)) (into_iter_items y)) (sym (get_or-set_at hands m.1.0 k it d e inside))
-                (subst (λ (j : ℕ). All (IsNoted (logs j)) (into_iter_items it)) (sym e) (All-tail (IsNoted (logs m.1.0)) x (into_iter_items it) noted)))
-                (λ (n : k ≢ m.1.0). subst (λ (y : Hand). All (IsNoted (logs k)) (into_iter_items y)) (sym (get_or-set_other hands m.1.0 k it d n))
+                subst (λ (y : Hand). All (IsLedgerOf (logs k)) (into_iter_items y)) (sym (get_or-set_at hands m.1.0 k it d e inside))
+                (subst (λ (j : ℕ). All (IsLedgerOf (logs j)) (into_iter_items it)) (sym e) (All-tail (IsLedgerOf (logs m.1.0)) x (into_iter_items it) noted)))
+                (λ (n : k ≢ m.1.0). subst (λ (y : Hand). All (IsLedgerOf (logs k)) (into_iter_items y)) (sym (get_or-set_other hands m.1.0 k it d n))
                 (h.noted k d (omega arith)))
                 (same_or_not k m.1.0);
             within = λ k d low. subst (λ (n : ℕ). (slice_index_or more k d).1.0 < n) (sym long)
@@ -90,11 +90,11 @@ module _ (logs : ℕ → List Entry) (hands : List Hand) (m : Link) (more : List
 -- o has the senders of a component, the next of which is r, and then has those of it
 module _ (hands : List Hand) (m : Link) (o it : Hand) (is : o ≡ slice_index_or hands m.1.0 o) where
   -- there is a next one, and it is the one on the next link
-  pub gives_one : (r : Option Sending) → into_iter_steps o r it → MatchOption r (¬ CanTake hands (m ∷ [])) (λ s. Gives hands (m ∷ []) (s ∷ []))
+  pub gives_one : (r : Option SenderLedger) → into_iter_steps o r it → MatchOption r (¬ CanTake hands (m ∷ [])) (λ s. Gives hands (m ∷ []) (s ∷ []))
   gives_one None steps = λ w. held_some w.0 hands m w.1 w.2 o it is steps.0
   gives_one (Some x) steps = λ logs more h. (held_back logs hands m more h o it is x steps.0, tt)
 
   -- without it all have the others
-  pub leaves_others : (r : Option Sending) → into_iter_steps o r it → Leaves hands (m ∷ []) (set hands m.1.0 it)
+  pub leaves_others : (r : Option SenderLedger) → into_iter_steps o r it → Leaves hands (m ∷ []) (set hands m.1.0 it)
   leaves_others None steps = λ logs more h. absurd (held_some logs hands m more h o it is steps.0)
   leaves_others (Some x) steps = λ logs more h. held_next logs hands m more h o it is x steps.0

@@ -30,3 +30,7 @@ pub mod Stuck
 pub mod AwaitedArrivals
 pub mod Crossed
 pub mod Messages
+pub mod Given
+pub mod Merged
+pub mod AsSent
+pub mod Causal

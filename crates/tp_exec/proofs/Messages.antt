@@ -9,14 +9,14 @@ use Rattle.std.proofs.lemmas.List.Elements.{filter_map-append}
 use Rattle.std.proofs.lemmas.List.Sums.{sum_by-cons}
 use Rattle.std.proofs.lemmas.Option.{same_Some, slice_get_cases, slice_get_within, slice_get-get_or, get_or_from_slice_get}
 use Rattle.tp_config.specs.declared.port_type.CompId.{CompId}
-use Rattle.tp_inbox.specs.declared.entry.Entry.{Entry}
-use Rattle.tp_inbox.specs.declared.entry.Entry.TheVariants as entry
-use Rattle.tp_inbox.specs.declared.posted.Posted.{Posted}
-use Rattle.tp_inbox.specs.History.{arrival_from, arrived_from, is_arrival, sending_to, sent_to}
+use Rattle.tp_history.specs.declared.entry.Entry.{Entry}
+use Rattle.tp_history.specs.declared.entry.Entry.TheVariants as entry
+use Rattle.tp_history.specs.declared.posted.Posted.{Posted}
+use Rattle.tp_history.specs.History.{arrival_from, arrived_from, is_arrival, sending_to, sent_to}
 use Rattle.tp_report.specs.declared.report.CompReport.{CompReport}
 use Rattle.tp_behaviour.specs.Fresh.{LooksAtPorts}
 use Rattle.tp_exec.specs.Order.{Spot}
-use Rattle.tp_exec.specs.OneOrder.{IsAt, IsOrderOf, IsOwn, entry_at, log_in, logs_of, sender_to, sends_to, source_of}
+use Rattle.tp_exec.specs.OneOrder.{IsAt, IsOrderOf, IsOwn, entry_at_spot, log_in, logs_of, sender_to, sends_to, source_of}
 use Rattle.tp_exec.specs.Greedy.{many}
 use Rattle.tp_exec.specs.LookLaws.{LooksSeeSent, sending_in, posted_at, posted_by}
 use Rattle.tp_exec.proofs.OneOrder.{spot, spot_is}
@@ -137,7 +137,7 @@ module _ (logs : List (List Entry)) (full : List Spot) (is : IsOrderOf logs full
     ];
     each = λ q own less. let j = was.each q own less in let low : j.0 < i = j.1 in (j.0, omega (arith, low), j.2);
     list = given_one (posted_at logs c d) full i a there
-        ∙ ap (λ (b : Bool). posted_by logs c d (take i full) ++ cons_option (cond b (sending_in d (entry_at logs a)) None) []) (ne_eqb c.0 a.comp (λ e. other (sym e)))
+        ∙ ap (λ (b : Bool). posted_by logs c d (take i full) ++ cons_option (cond b (sending_in d (entry_at_spot logs a)) None) []) (ne_eqb c.0 a.comp (λ e. other (sym e)))
         ∙ append-nil (posted_by logs c d (take i full)) ∙ was.list;
   }
 
@@ -183,7 +183,7 @@ module _ (logs : List (List Entry)) (full : List Spot) (is : IsOrderOf logs full
           ]
         ];
         list = given_one (posted_at logs c d) full i (spot c.0 q) there
-            ∙ ap (λ (b : Bool). posted_by logs c d (take i full) ++ cons_option (cond b (sending_in d (entry_at logs (spot c.0 q))) None) []) (eq-eqb c.0 c.0 refl)
+            ∙ ap (λ (b : Bool). posted_by logs c d (take i full) ++ cons_option (cond b (sending_in d (entry_at_spot logs (spot c.0 q))) None) []) (eq-eqb c.0 c.0 refl)
             ∙ ap (λ (o : Option Entry). posted_by logs c d (take i full) ++ cons_option (sending_in d o) []) own.stands
             ∙ ap (λ l. l ++ cons_option (sending_to d own.act) []) (was.list ∙ sym flat)
             ∙ sym (given_one (sending_to d) log q own.act own.stands);
@@ -235,7 +235,7 @@ module _ (logs : List (List Entry)) (full : List Spot) (is : IsOrderOf logs full
       let ys = posted_by logs c d (take i full) in
       let seen = ap (many c.0) (is.seen i (spot d.0 place) e there stands look) in
       let one = as_many (arrival_from d c) source_of c.0 (arrival_size c d) (take place log) in
-      let two = as_many (posted_at logs c d) (sender_to logs d.0) c.0 (λ a. posted_size c d a.comp (entry_at logs a)) (take i full) in
+      let two = as_many (posted_at logs c d) (sender_to logs d.0) c.0 (λ a. posted_size c d a.comp (entry_at_spot logs a)) (take i full) in
       let size : length xs ≡ length ys = omega (arith, seen, one, two) in
       given_front (arrival_from d c) log place
       ∙ ap (λ n. take n (filter_map (arrival_from d c) log)) size

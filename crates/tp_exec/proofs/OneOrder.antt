@@ -7,13 +7,13 @@ use Rattle.std.proofs.lemmas.Bool.{cases_eq, cases_lt, cases_order, false≢true
 use Rattle.std.proofs.lemmas.List.{append-nil, length-append, take-append-le, take-append-drop}
 use Rattle.std.proofs.lemmas.List.Elements.{filter_map-append}
 use Rattle.std.proofs.lemmas.Option.{same_Some, slice_get_within, get_or_from_slice_get}
-use Rattle.tp_inbox.specs.declared.entry.Entry.{Entry}
-use Rattle.tp_inbox.specs.declared.entry.Entry.TheVariants as entry
-use Rattle.tp_inbox.specs.History.{is_arrival}
+use Rattle.tp_history.specs.declared.entry.Entry.{Entry}
+use Rattle.tp_history.specs.declared.entry.Entry.TheVariants as entry
+use Rattle.tp_history.specs.History.{is_arrival}
 use Rattle.tp_behaviour.specs.Fresh.{LooksAtPorts}
 use Rattle.tp_exec.specs.Order.{Spot}
-use Rattle.tp_exec.specs.OneOrder.{IsAt, IsFrontOf, IsOrderOf, IsOwn, entry_at, log_in, sender_to, senders_to, source_of, sources}
-use Rattle.tp_exec.specs.OrderProgress.{IsGone, MayFollow}
+use Rattle.tp_exec.specs.OneOrder.{IsAt, IsFrontOf, IsOrderOf, IsOwn, entry_at_spot, log_in, sender_to, senders_to, source_of, sources}
+use Rattle.tp_exec.specs.OrderProgress.{IsGone, MayComeNext}
 
 -- where spots stand in an order once one more is put behind it
 at_still : (xs : List Spot) (y : Spot) (i : ℕ) (x : Spot) → IsAt xs i x → IsAt (xs ++ y ∷ []) i x
@@ -41,7 +41,7 @@ into_take (z ∷ xs) zero j x less at = absurd (omega (arith, less))
 into_take (z ∷ xs) (suc i) zero x less at = at
 into_take (z ∷ xs) (suc i) (suc j) x less at = into_take xs i j x (omega (arith, less)) at
 
-from_take : (xs : List Spot) (i j : ℕ) (x : Spot) → IsAt (take i xs) j x → (j < i) × IsAt xs j x
+pub from_take : {X : Type 0} (xs : List X) (i j : ℕ) (x : X) → slice_get (take i xs) j ≡ Some x → (j < i) × (slice_get xs j ≡ Some x)
 from_take [] zero j x at = absurd (cc)
 from_take [] (suc i) j x at = absurd (cc)
 from_take (z ∷ xs) zero j x at = absurd (cc)
@@ -92,8 +92,8 @@ spot_is a c p one two = λ i. record { comp = one i; place = two i }
 module _ (logs : List (List Entry)) where
   -- what a component does itself may follow where all that came to it before was sent, and no more where it looks
   follows : (at came out : ℕ → ℕ) (order : List Spot) (c : ℕ) (e : Entry) → IsGone logs at came out order
-      → entry_at logs (spot c (at c)) ≡ Some e → is_arrival e ≡ false → (LooksAtPorts e → came c ≡ out c)
-      → MayFollow logs order (spot c (at c))
+      → entry_at_spot logs (spot c (at c)) ≡ Some e → is_arrival e ≡ false → (LooksAtPorts e → came c ≡ out c)
+      → MayComeNext logs order (spot c (at c))
   follows at came out order c e was stands own looks =
       let log = log_in logs c in
       let xs = sources (take (at c) log) in
@@ -114,7 +114,7 @@ module _ (logs : List (List Entry)) where
 
   -- it is put behind the order
   pub gone_own : (at came out at' out' : ℕ → ℕ) (order : List Spot) (c : ℕ) (e : Entry) → IsGone logs at came out order
-      → entry_at logs (spot c (at c)) ≡ Some e → is_arrival e ≡ false → (LooksAtPorts e → came c ≡ out c)
+      → entry_at_spot logs (spot c (at c)) ≡ Some e → is_arrival e ≡ false → (LooksAtPorts e → came c ≡ out c)
       → at' c ≡ at c + 1 → ((x : ℕ) → (x ≡ c → ⊥) → at' x ≡ at x)
       → ((x : ℕ) → out x ≤ out' x)
       → ((x : ℕ) → take (out' x) (sources (log_in logs x)) ≡ take (out x) (sources (log_in logs x)) ++ cons_option (sender_to logs x (spot c (at c))) [])
@@ -128,11 +128,11 @@ module _ (logs : List (List Entry)) where
       ] in
       record {
         follows = λ i a there. elim (at_cases order new i a there) [
-          | inl old ↦ subst (λ (l : List Spot). MayFollow logs l a) (sym (take_still order new i a old)) (was.follows i a old)
+          | inl old ↦ subst (λ (l : List Spot). MayComeNext logs l a) (sym (take_still order new i a old)) (was.follows i a old)
           | inr last ↦
               let before : order ≡ take i (order ++ new ∷ []) = sym (take-append_seam order (new ∷ [])) ∙ ap (λ n. take n (order ++ new ∷ [])) (sym last.0) in
-              subst (λ (l : List Spot). MayFollow logs l a) before
-              (subst (λ (b : Spot). MayFollow logs order b) (sym last.1) (follows at came out order c e was stands own looks))
+              subst (λ (l : List Spot). MayComeNext logs l a) before
+              (subst (λ (b : Spot). MayComeNext logs order b) (sym last.1) (follows at came out order c e was stands own looks))
         ];
         each = λ a is less. elim (cases_lt a.place (at a.comp)) [
           | inl old ↦ let h = was.each a is old in (h.0, at_still order new h.0 a h.1)
@@ -172,7 +172,7 @@ module _ (logs : List (List Entry)) where
 
   -- what comes is gone by once it is sent
   pub gone_came : (at came out at' came' : ℕ → ℕ) (order : List Spot) (c : ℕ) (e : Entry) (s : ℕ) → IsGone logs at came out order
-      → entry_at logs (spot c (at c)) ≡ Some e → is_arrival e ≡ true → source_of e ≡ Some s → came c < out c
+      → entry_at_spot logs (spot c (at c)) ≡ Some e → is_arrival e ≡ true → source_of e ≡ Some s → came c < out c
       → at' c ≡ at c + 1 → ((x : ℕ) → (x ≡ c → ⊥) → at' x ≡ at x)
       → came' c ≡ came c + 1 → ((x : ℕ) → (x ≡ c → ⊥) → came' x ≡ came x)
       → IsGone logs at' came' out order
@@ -187,7 +187,7 @@ module _ (logs : List (List Entry)) where
                 let g : at a.comp ≡ at c = ap at same in
                 let f : at' a.comp ≡ at' c = ap at' same in
                 let place : a.place ≡ at c = omega (arith, g, f, here, past, under) in
-                let there : entry_at logs a ≡ Some e = ap (entry_at logs) (spot_is a c (at c) same place) ∙ stands in
+                let there : entry_at_spot logs a ≡ Some e = ap (entry_at_spot logs) (spot_is a c (at c) same place) ∙ stands in
                 let one : is.act ≡ e = same_Some is.act e (sym is.stands ∙ there) in
                 absurd (false≢true (sym is.own ∙ ap is_arrival one ∙ arrival))
             | inr other ↦ let e : at' a.comp ≡ at a.comp = others a.comp other in absurd (omega (arith, e, past, under))

@@ -7,7 +7,7 @@ use Rattle.std.proofs.lemmas.List.Elements.{All-nil, All-cons, All-append, All-p
 use Rattle.std.proofs.lemmas.Option.{same_Some}
 use Rattle.tp_config.specs.declared.port_type.CompId.{CompId}
 use Rattle.tp_config.specs.Setup.{Setup}
-use Rattle.tp_inbox.specs.Ledgers.{Inbox, Sending, end_of, new_sender}
+use Rattle.tp_inbox.specs.Ledgers.{Inbox, SenderLedger, end_of, new_sender}
 use Rattle.tp_inbox.specs.Routed.{sources_of}
 use Rattle.tp_behaviour.specs.declared.worker.Worker.{Worker}
 use Rattle.tp_exec.specs.declared.inboxes.Opened.{Opened}
@@ -46,7 +46,7 @@ opened_none s o workers senders closers = record {
 }
 
 -- one more
-pub opened_next : (s : Setup) (n : ℕ) (o now : Opened) (x : Worker) (ys : List Sending) → AreOpened s n o → IsOpened s n x → x.outbox ≡ []
+pub opened_next : (s : Setup) (n : ℕ) (o now : Opened) (x : Worker) (ys : List SenderLedger) → AreOpened s n o → IsOpened s n x → x.outbox ≡ []
     → ys ≡ map (new_sender x.owner.inbox) (sources_of x.owner.inbox.routes) → now.workers.items ≡ o.workers.items ++ x ∷ []
     → now.senders.items ≡ o.senders.items ++ ys → length now.closers.items ≡ length o.closers.items + 1 → AreOpened s (n + 1) now
 opened_next s n o now x ys h one bare mine workers senders closers = record {
@@ -67,7 +67,7 @@ opened_next s n o now x ys h one bare mine workers senders closers = record {
   closers = closers ∙ ap (λ k. k + 1) h.closers;
 }
   where
-    new : List Sending
+    new : List SenderLedger
     new = map (new_sender x.owner.inbox) (sources_of x.owner.inbox.routes)
 
     by : (k : ℕ) (y : Worker) → (slice_get o.workers.items k ≡ Some y) ⊎ ((k ≡ length o.workers.items) × (x ≡ y)) → IsOpened s k y

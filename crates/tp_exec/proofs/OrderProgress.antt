@@ -9,18 +9,18 @@ use Rattle.std.proofs.lemmas.List.{append-nil, get_or-map, get_or_past, get_or-r
 use Rattle.std.proofs.lemmas.List.Elements.{filter_map-append}
 use Rattle.std.proofs.lemmas.List.Sums.{sum_by-append, sum_by-cons}
 use Rattle.std.proofs.lemmas.Option.{slice_get_within, get_or_from_slice_get}
-use Rattle.tp_inbox.specs.declared.entry.Entry.{Entry}
-use Rattle.tp_inbox.specs.declared.entry.Entry.TheVariants as entry
-use Rattle.tp_inbox.specs.History.{is_arrival}
+use Rattle.tp_history.specs.declared.entry.Entry.{Entry}
+use Rattle.tp_history.specs.declared.entry.Entry.TheVariants as entry
+use Rattle.tp_history.specs.History.{is_arrival}
 use Rattle.tp_behaviour.specs.Fresh.{LooksAtPorts}
 use Rattle.tp_report.specs.declared.report.CompReport.{CompReport}
 use Rattle.tp_exec.specs.declared.kind.AwaitedArrival.{AwaitedArrival}
 use Rattle.tp_exec.specs.declared.kind.EntryKind.{EntryKind}
 use Rattle.tp_exec.specs.declared.kind.EntryKind.TheVariants as kind
-use Rattle.tp_exec.specs.OneOrder.{HasOneOrder, entry_at, log_in, logs_of, sender_to, senders_to, sends_to, source_of, sources}
+use Rattle.tp_exec.specs.OneOrder.{HasOneOrder, entry_at_spot, log_in, logs_of, sender_to, senders_to, sends_to, source_of, sources}
 use Rattle.tp_exec.specs.OrderProgress.{awaited_sources, kind_of, came_then, sent_then}
 use Rattle.tp_exec.specs.Order.{Spot}
-use Rattle.tp_exec.specs.Greedy.{CanDo, IsProgressBy, IsGreedy, many, sends}
+use Rattle.tp_exec.specs.Greedy.{CanHappen, IsProgressBy, IsGreedy, many, count_sent_to}
 use Rattle.tp_exec.proofs.EntryKinds.{of_came, of_looked, of_quiet, of_sent}
 use Rattle.tp_exec.proofs.Stuck.{unit, many_here, many_sent, many_there, no_send, sum_one}
 use Rattle.tp_exec.proofs.OneOrder.{came_on, gone_all, gone_came, gone_none, gone_own, spot}
@@ -54,14 +54,14 @@ none_in logs d n c past at =
 
 module _ (logs : List (List Entry)) where
   -- nothing is sent
-  none_more : (c p : ℕ) (e : Entry) (x n : ℕ) → entry_at logs (spot c p) ≡ Some e → sends_to x (Some e) ≡ false
+  none_more : (c p : ℕ) (e : Entry) (x n : ℕ) → entry_at_spot logs (spot c p) ≡ Some e → sends_to x (Some e) ≡ false
       → take n (sources (log_in logs x)) ≡ take n (sources (log_in logs x)) ++ cons_option (sender_to logs x (spot c p)) []
   none_more c p e x n stands none =
       let o : sender_to logs x (spot c p) ≡ None =
       ap (λ (y : Option Entry). cond (sends_to x y) (Some c) None) stands ∙ ap (λ (b : Bool). cond b (Some c) None) none in
       sym (ap (λ (y : Option ℕ). take n (sources (log_in logs x)) ++ cons_option y []) o ∙ append-nil (take n (sources (log_in logs x))))
 
-  some_more : (c p : ℕ) (e : Entry) (x n : ℕ) → entry_at logs (spot c p) ≡ Some e → sends_to x (Some e) ≡ true
+  some_more : (c p : ℕ) (e : Entry) (x n : ℕ) → entry_at_spot logs (spot c p) ≡ Some e → sends_to x (Some e) ≡ true
       → slice_get (sources (log_in logs x)) n ≡ Some c
       → take (n + 1) (sources (log_in logs x)) ≡ take n (sources (log_in logs x)) ++ cons_option (sender_to logs x (spot c p)) []
   some_more c p e x n stands some at =
@@ -78,7 +78,7 @@ module _ (logs : List (List Entry)) where
 
   -- what is known of what was sent stays so
   greedy_own : (at out at' out' : ℕ → ℕ) (order : List Spot) (c : ℕ) (e : Entry) → IsGreedy logs at out order
-      → entry_at logs (spot c (at c)) ≡ Some e → at' c ≡ at c + 1 → ((x : ℕ) → (x ≡ c → ⊥) → at' x ≡ at x)
+      → entry_at_spot logs (spot c (at c)) ≡ Some e → at' c ≡ at c + 1 → ((x : ℕ) → (x ≡ c → ⊥) → at' x ≡ at x)
       → ((x : ℕ) → out' x ≤ length (sources (log_in logs x)))
       → ((x : ℕ) → AreLookedBelow (log_in logs x) (out' x) (at' x))
       → IsGreedy logs at' out' (order ++ spot c (at c) ∷ [])
@@ -95,24 +95,24 @@ module _ (logs : List (List Entry)) where
         ∙ ap (λ n. many y (senders_to logs d order) + n) (many_sent c y met) in
         elim (cases_eq x c) [
           | inl same ↦
-              let P : ℕ → Type 0 = λ y. many y (senders_to logs d (order ++ new ∷ [])) ≡ sends d (take (at' y) (log_in logs y)) in
+              let P : ℕ → Type 0 = λ y. many y (senders_to logs d (order ++ new ∷ [])) ≡ count_sent_to d (take (at' y) (log_in logs y)) in
               let here = list c in
               let one = many_here c met in
               let on = sum_one (λ z. unit (sends_to d (Some z))) (log_in logs c) (at c) e stands in
-              let up = ap (λ n. sends d (take n (log_in logs c))) then in
+              let up = ap (λ n. count_sent_to d (take n (log_in logs c))) then in
               let before = was.counted c d in
               subst P (sym same) (omega (arith, here, one, on, up, before))
           | inr other ↦
               let here = list x in
               let none = many_there c x met (λ f. other (sym f)) in
-              let up = ap (λ n. sends d (take n (log_in logs x))) (away x other) in
+              let up = ap (λ n. count_sent_to d (take n (log_in logs x))) (away x other) in
               let before = was.counted x d in
               omega (arith, here, none, up, before)
         ];
   }
 
   greedy_came : (at out at' : ℕ → ℕ) (order : List Spot) (c : ℕ) (e : Entry) → IsGreedy logs at out order
-      → entry_at logs (spot c (at c)) ≡ Some e → is_arrival e ≡ true → at' c ≡ at c + 1 → ((x : ℕ) → (x ≡ c → ⊥) → at' x ≡ at x)
+      → entry_at_spot logs (spot c (at c)) ≡ Some e → is_arrival e ≡ true → at' c ≡ at c + 1 → ((x : ℕ) → (x ≡ c → ⊥) → at' x ≡ at x)
       → IsGreedy logs at' out order
   greedy_came at out at' order c e was stands arrival then away = record {
     fits = was.fits;
@@ -124,20 +124,20 @@ module _ (logs : List (List Entry)) where
         ];
     counted = λ x d. was.counted x d ∙ elim (cases_eq x c) [
       | inl same ↦
-          let P : ℕ → Type 0 = λ y. sends d (take (at y) (log_in logs y)) ≡ sends d (take (at' y) (log_in logs y)) in
+          let P : ℕ → Type 0 = λ y. count_sent_to d (take (at y) (log_in logs y)) ≡ count_sent_to d (take (at' y) (log_in logs y)) in
           let on = sum_one (λ z. unit (sends_to d (Some z))) (log_in logs c) (at c) e stands in
           let none = ap unit (no_send d e arrival) in
-          let up = ap (λ n. sends d (take n (log_in logs c))) then in
+          let up = ap (λ n. count_sent_to d (take n (log_in logs c))) then in
           subst P (sym same) (omega (arith, on, none, up))
-      | inr other ↦ sym (ap (λ n. sends d (take n (log_in logs x))) (away x other))
+      | inr other ↦ sym (ap (λ n. count_sent_to d (take n (log_in logs x))) (away x other))
     ];
   }
 
   -- the next thing is done
   pub done : (places known sent : List ℕ) (c : ℕ) (e : Entry) (k : EntryKind) → kind_of e ≡ k
-      → entry_at logs (spot c (slice_index places c)) ≡ Some e → c < length places → c < length known
+      → entry_at_spot logs (spot c (slice_index places c)) ≡ Some e → c < length places → c < length known
       → length sent ≡ length logs
-      → CanDo logs (slice_index places) (slice_index known) (slice_index sent) c k
+      → CanHappen logs (slice_index places) (slice_index known) (slice_index sent) c k
       → IsProgressBy logs places known sent
       → IsProgressBy logs (set places c (slice_index places c + 1)) (came_then c k known) (sent_then k sent)
   done places known sent c e (kind.Came s) is stands low low_known size can was =
@@ -317,7 +317,7 @@ begun logs n m k = (
   record {
     fits = λ x. let e = zeros k x in omega (arith, e);
     looked = λ x q f is look less. let e = zeros k x in absurd (omega (arith, e, less));
-    counted = λ x d. ap (λ n. sends d (take n (log_in logs x))) (sym (zeros n x));
+    counted = λ x d. ap (λ n. count_sent_to d (take n (log_in logs x))) (sym (zeros n x));
   },
 )
 

@@ -9,12 +9,12 @@ use Rattle.tp_config.specs.declared.port_type.RouteId.{RouteId}
 use Rattle.tp_config.specs.Setup.{Setup}
 use Rattle.tp_config.specs.Routes.{routes_into}
 use Rattle.tp_config.proofs.RouteLaws.{map_contains}
-use Rattle.tp_inbox.specs.declared.entry.Entry.{Entry}
-use Rattle.tp_inbox.specs.declared.entry.Entry.TheVariants as entry
-use Rattle.tp_inbox.specs.declared.posted.Posted.{Posted}
-use Rattle.tp_inbox.specs.History.{arrival_from, arrivals, arrived_from, sending_to, sent_to}
+use Rattle.tp_history.specs.declared.entry.Entry.{Entry}
+use Rattle.tp_history.specs.declared.entry.Entry.TheVariants as entry
+use Rattle.tp_history.specs.declared.posted.Posted.{Posted}
+use Rattle.tp_history.specs.History.{arrival_from, arrivals, arrived_from, sending_to, sent_to}
 use Rattle.tp_inbox.specs.Routed.{IsArrivalOn}
-use Rattle.tp_inbox.specs.Ledgers.{Sending, end_of}
+use Rattle.tp_inbox.specs.Ledgers.{SenderLedger, end_of}
 use Rattle.tp_inbox.proofs.Arrivals.{came_in}
 use Rattle.tp_inbox.proofs.Made.{routes_here}
 use Rattle.tp_behaviour.specs.declared.worker.Worker.{Worker}
@@ -33,7 +33,7 @@ IsOut s c r = (r.source ≡ c) × Contains (routes_into s r.to.comp) r
 pub links_out : (s : Setup) (workers : List Worker) → AreWorkers s workers → (k : ℕ) (x : Worker) → slice_get workers k ≡ Some x → (r : RouteId)
     → Contains (routes_of x.outbox) r → IsOut s (comp_at k) r
 links_out s workers are k x at r h =
-    let y = flat_from (λ (z : Sending). z.routes) x.outbox r h in
+    let y = flat_from (λ (z : SenderLedger). z.routes) x.outbox r h in
     let kept : Contains (filter (comes_from k) (all_links workers)) (end_of y.0) =
     subst (λ l. Contains l (end_of y.0)) (are.senders k x at) (map_contains end_of x.outbox y.0 y.1) in
     let p = passed (comes_from k) (all_links workers) (end_of y.0) kept in

@@ -1,105 +1,57 @@
 -- In a report no message overtakes another: what is sent to a component comes there in one order.
-use Rattle.std.proofs.Common.{◌≡◌, ◌⊎◌, inl, inr, ℕ, zero, suc, ◌+◌, ◌<◌, cond, eq-eqb, Option, Some, None, List, [], ◌∷◌, map, refl, sym, ap, ◌∙◌, subst, arith}
+use Rattle.std.proofs.Common.{◌≡◌, ◌⊎◌, inl, inr, ℕ, ◌+◌, ◌<◌, cond, eq-eqb, Some, None, List, map, refl, sym, ap, ◌∙◌, subst, arith}
 use Rattle.std.specs.Prelude.{slice_get, Result, Ok, Err, IfOk}
-use Rattle.std.specs.List.{filter_map, cons_option}
 use Rattle.std.proofs.lemmas.Bool.{cases_order}
-use Rattle.std.proofs.lemmas.Option.{same_Some}
-use Rattle.tp_queue.specs.declared.event.Env.{Env}
+use Rattle.tp_event.specs.declared.event.Env.{Env}
 use Rattle.tp_value.specs.declared.message.Message.{Message}
 use Rattle.tp_config.specs.declared.port_type.CompId.{CompId}
 use Rattle.tp_config.specs.declared.port_type.RouteId.{RouteId}
 use Rattle.tp_play.specs.TestCases.{Made}
-use Rattle.tp_inbox.specs.declared.posted.Posted.{Posted}
-use Rattle.tp_inbox.specs.declared.stamped.Stamped.{Stamped}
-use Rattle.tp_inbox.specs.declared.entry.Entry.{Entry}
-use Rattle.tp_inbox.specs.declared.entry.Entry.TheVariants as entry
-use Rattle.tp_inbox.specs.History.{arrival_from, arrived_from, posted_on, posting_on, same_route, sending_to, sent_on, sent_to}
+use Rattle.tp_history.specs.declared.posted.Posted.{Posted}
+use Rattle.tp_history.specs.declared.stamped.Stamped.{Stamped}
+use Rattle.tp_history.specs.declared.entry.Entry.TheVariants as entry
+use Rattle.tp_history.specs.History.{arrival_from, arrived_from, posted_on, posting_on, same_route, sending_to, sent_on, sent_to}
 use Rattle.tp_inbox.proofs.Putting.{route_itself}
 use Rattle.tp_inbox.proofs.Ways.{sent_by_routes}
 use Rattle.tp_report.specs.declared.report.Report.{Report}
 use Rattle.tp_exec.specs.declared.fault.RunFault.{RunFault}
 use Rattle.tp_exec.specs.Delivery.{IsReportOf, numbers_from}
 use Rattle.tp_exec.specs.Order.{CameAt, NoneOvertakes, log_of}
+use Rattle.tp_exec.proofs.Given.{given_at, given_later, given_tells, so_much}
 use Rattle.tp_exec.proofs.NoCircle.{history, number_is, on_route, reported}
-
--- at which place of what is given of a list stands what is given of its element at a place
-abbrev more : {B : Type 0} → Option B → ℕ → ℕ
-more None n = n
-more (Some y) n = suc n
-
-abbrev rank : {A B : Type 0} → (A → Option B) → List A → ℕ → ℕ
-rank f [] n = 0
-rank f (x ∷ xs) zero = 0
-rank f (x ∷ xs) (suc n) = more (f x) (rank f xs n)
-
-deeper : {B : Type 0} (o : Option B) (ys : List B) (n : ℕ) (y : B) → slice_get ys n ≡ Some y → slice_get (cons_option o ys) (more o n) ≡ Some y
-deeper None ys n y h = h
-deeper (Some z) ys n y h = h
-
-ranked : {A B : Type 0} (f : A → Option B) (xs : List A) (n : ℕ) (x : A) (y : B) → slice_get xs n ≡ Some x → f x ≡ Some y
-    → slice_get (filter_map f xs) (rank f xs n) ≡ Some y
-ranked f [] n x y is at = absurd (cc)
-ranked f (z ∷ xs) zero x y is at = ap (λ o. slice_get (cons_option o (filter_map f xs)) 0) (ap f (same_Some z x is) ∙ at)
-ranked f (z ∷ xs) (suc n) x y is at = deeper (f z) (filter_map f xs) (rank f xs n) y (ranked f xs n x y is at)
-
--- a later element's is later
-grows_more : {B : Type 0} (o : Option B) (n m : ℕ) → n < m → more o n < more o m
-grows_more None n m h = h
-grows_more (Some y) n m h = omega (arith, h)
-
-first_given : {B : Type 0} (o : Option B) (y : B) (n : ℕ) → o ≡ Some y → 0 < more o n
-first_given None y n h = absurd (cc)
-first_given (Some z) y n h = omega arith
-
-rank_grows : {A B : Type 0} (f : A → Option B) (xs : List A) (n m : ℕ) (x : A) (y : B) → n < m → slice_get xs n ≡ Some x → f x ≡ Some y
-    → rank f xs n < rank f xs m
-rank_grows f [] n m x y less is at = absurd (cc)
-rank_grows f (z ∷ xs) n zero x y less is at = absurd (omega (arith, less))
-rank_grows f (z ∷ xs) zero (suc m) x y less is at = first_given (f z) y (rank f xs m) (ap f (same_Some z x is) ∙ at)
-rank_grows f (z ∷ xs) (suc n) (suc m) x y less is at =
-    grows_more (f z) (rank f xs n) (rank f xs m) (rank_grows f xs n m x y (omega (arith, less)) is at)
-
--- so of two elements of which something is given, that comes first whose is first
-rank_tells : {A B : Type 0} (f : A → Option B) (xs : List A) (n m : ℕ) (x : A) (y : B) → slice_get xs m ≡ Some x → f x ≡ Some y
-    → rank f xs n < rank f xs m → n < m
-rank_tells f xs n m x y is at less = by (cases_order n m) where
-  by : (n ≡ m) ⊎ ((n < m) ⊎ (m < n)) → n < m
-  by (inl e) = absurd (omega (arith, less, ap (rank f xs) e))
-  by (inr (inl before)) = before
-  by (inr (inr after)) = absurd (omega (arith, less, rank_grows f xs m n x y after is at))
 
 -- where what was put on a route is numbered, two that have one number there are one
 module _ (r : RouteId) (xs : List Posted) (are : map (λ x. x.0) (posted_on r xs) ≡ numbers_from 0 (posted_on r xs)) where
   on_it : (x : Posted) → x.route ≡ r → posting_on r x ≡ Some (x.number, x.stamped)
   on_it x is = ap (λ b. cond b (Some (x.number, x.stamped)) None) (ap (same_route r) is ∙ route_itself r)
 
-  numbered_at : (i : ℕ) (x : Posted) → slice_get xs i ≡ Some x → x.route ≡ r → x.number ≡ rank (posting_on r) xs i
+  numbered_at : (i : ℕ) (x : Posted) → slice_get xs i ≡ Some x → x.route ≡ r → x.number ≡ so_much (posting_on r) xs i
   unfolding posted_on
   numbered_at i x at is =
-      let e : x.number ≡ 0 + rank (posting_on r) xs i =
-      number_is 0 (posted_on r xs) are (rank (posting_on r) xs i) (x.number, x.stamped) (ranked (posting_on r) xs i x (x.number, x.stamped) at (on_it x is)) in
+      let e : x.number ≡ 0 + so_much (posting_on r) xs i =
+      number_is 0 (posted_on r xs) are (so_much (posting_on r) xs i) (x.number, x.stamped) (given_at (posting_on r) xs i x (x.number, x.stamped) at (on_it x is)) in
       omega (arith, e)
 
-  one_place : (i j : ℕ) (x y : Posted) → slice_get xs i ≡ Some x → slice_get xs j ≡ Some y → x.route ≡ r → y.route ≡ r → x.number ≡ y.number → i ≡ j
+  pub one_place : (i j : ℕ) (x y : Posted) → slice_get xs i ≡ Some x → slice_get xs j ≡ Some y → x.route ≡ r → y.route ≡ r → x.number ≡ y.number → i ≡ j
   one_place i j x y at there is same number = by (cases_order i j) where
-    first : x.number ≡ rank (posting_on r) xs i
+    first : x.number ≡ so_much (posting_on r) xs i
     first = numbered_at i x at is
 
-    second : y.number ≡ rank (posting_on r) xs j
+    second : y.number ≡ so_much (posting_on r) xs j
     second = numbered_at j y there same
 
     by : (i ≡ j) ⊎ ((i < j) ⊎ (j < i)) → i ≡ j
     by (inl e) = e
-    by (inr (inl less)) = absurd (omega (arith, first, second, number, rank_grows (posting_on r) xs i j x (x.number, x.stamped) less at (on_it x is)))
-    by (inr (inr less)) = absurd (omega (arith, first, second, number, rank_grows (posting_on r) xs j i y (y.number, y.stamped) less there (on_it y same)))
+    by (inr (inl less)) = absurd (omega (arith, first, second, number, given_later (posting_on r) xs i j x (x.number, x.stamped) less at (on_it x is)))
+    by (inr (inr less)) = absurd (omega (arith, first, second, number, given_later (posting_on r) xs j i y (y.number, y.stamped) less there (on_it y same)))
 
 -- what a sending to a component is among those to it, and an arrival from one among those from it
-sent_as : (d : CompId) (k : List Entry) (i number : ℕ) (r : RouteId) (m : Stamped) → r.to.comp ≡ d → slice_get k i ≡ Some (entry.Sent r number m)
+pub sent_as : (d : CompId) (number : ℕ) (r : RouteId) (m : Stamped) → r.to.comp ≡ d
     → sending_to d (entry.Sent r number m) ≡ Some record { route = r; number = number; stamped = m }
-sent_as d k i number r m to at =
+sent_as d number r m to =
     ap (λ b. cond b (Some record { route = r; number = number; stamped = m }) None) (eq-eqb d.0 r.to.comp.0 (ap (λ (c : CompId). c.0) (sym to)))
 
-abbrev posted : RouteId → Env Message → ℕ → Posted
+abbrev pub posted : RouteId → Env Message → ℕ → Posted
 posted r e stamp = record { route = r; number = e.number; stamped = record { stamp = stamp; message = e.msg } }
 
 came_as : (c d : CompId) (r : RouteId) (e : Env Message) (stamp : ℕ) → r.source ≡ c → r.to.comp ≡ d → e.sender ≡ r.source.0
@@ -140,7 +92,7 @@ module _ (made : Made) (report : Report) (h : IsReportOf made report) where
 
   -- the message came at the place at which it was sent
   place_is : (r : RouteId) (i a number : ℕ) (m : Stamped) → slice_get (history report r.source.0) i ≡ Some (entry.Sent r number m) → CameAt report a r number
-      → rank (arrival_from r.to.comp r.source) (history report r.to.comp.0) a ≡ rank (sending_to r.to.comp) (history report r.source.0) i
+      → so_much (arrival_from r.to.comp r.source) (history report r.to.comp.0) a ≡ so_much (sending_to r.to.comp) (history report r.source.0) i
   unfolding sent_to arrived_from
   place_is r i a number m out into =
       let c = r.source in
@@ -149,13 +101,13 @@ module _ (made : Made) (report : Report) (h : IsReportOf made report) where
       let l = history report d.0 in
       let put : Posted = record { route = r; number = number; stamped = m } in
       let got : Posted = posted r into.envelope into.stamp in
-      let at : slice_get (sent c d) (rank (sending_to d) k i) ≡ Some put =
-      ranked (sending_to d) k i (entry.Sent r number m) put out (sent_as d k i number r m refl out) in
-      let there : slice_get (came c d) (rank (arrival_from d c) l a) ≡ Some got =
-      ranked (arrival_from d c) l a (entry.Arrive r.to.port into.envelope into.stamp) got into.stands
+      let at : slice_get (sent c d) (so_much (sending_to d) k i) ≡ Some put =
+      given_at (sending_to d) k i (entry.Sent r number m) put out (sent_as d number r m refl) in
+      let there : slice_get (came c d) (so_much (arrival_from d c) l a) ≡ Some got =
+      given_at (arrival_from d c) l a (entry.Arrive r.to.port into.envelope into.stamp) got into.stands
       (came_as c d r into.envelope into.stamp refl refl into.sender) in
-      one_place r (sent c d) (numbered_on r a number into) (rank (arrival_from d c) l a) (rank (sending_to d) k i) got put
-      (ap (λ s. slice_get s (rank (arrival_from d c) l a)) (all_came r i a number m out into) ∙ there) at refl refl into.numbered
+      one_place r (sent c d) (numbered_on r a number into) (so_much (arrival_from d c) l a) (so_much (sending_to d) k i) got put
+      (ap (λ s. slice_get s (so_much (arrival_from d c) l a)) (all_came r i a number m out into) ∙ there) at refl refl into.numbered
 
   -- **no message overtakes another**
   pub none_overtakes : NoneOvertakes report
@@ -167,14 +119,13 @@ module _ (made : Made) (report : Report) (h : IsReportOf made report) where
       let later : slice_get k j ≡ Some (entry.Sent q o w) = ap (λ (e : CompId). slice_get (history report e.0) j) source ∙ next in
       let stands : slice_get l b ≡ Some (entry.Arrive q.to.port after.envelope after.stamp) =
       ap (λ (e : CompId). slice_get (history report e.0) b) to ∙ after.stands in
-      let one : rank (arrival_from d c) l a ≡ rank (sending_to d) k i = place_is r i a n m out into in
-      let other : rank (arrival_from d c) l b ≡ rank (sending_to d) k j =
-      ap (λ (e : CompId × CompId). rank (arrival_from e.1 e.0) (history report e.1.0) b) (λ p. (source p, to p)) ∙ place_is q j b o w next after
-      ∙ ap (λ (e : CompId × CompId). rank (sending_to e.1) (history report e.0.0) j) (λ p. (sym source p, sym to p)) in
-      let before = rank_grows (sending_to d) k i j (entry.Sent r n m) (record { route = r; number = n; stamped = m }) less out
-      (sent_as d k i n r m refl out) in
-      rank_tells (arrival_from d c) l a b (entry.Arrive q.to.port after.envelope after.stamp) (posted q after.envelope after.stamp) stands
-      (came_as c d q after.envelope after.stamp (sym source) (sym to) after.sender) (omega (arith, one, other, before))
+      let one : so_much (arrival_from d c) l a ≡ so_much (sending_to d) k i = place_is r i a n m out into in
+      let other : so_much (arrival_from d c) l b ≡ so_much (sending_to d) k j =
+      ap (λ (e : CompId × CompId). so_much (arrival_from e.1 e.0) (history report e.1.0) b) (λ p. (source p, to p)) ∙ place_is q j b o w next after
+      ∙ ap (λ (e : CompId × CompId). so_much (sending_to e.1) (history report e.0.0) j) (λ p. (sym source p, sym to p)) in
+      let before = given_later (sending_to d) k i j (entry.Sent r n m) (record { route = r; number = n; stamped = m }) less out
+      (sent_as d n r m refl) in
+      given_tells (arrival_from d c) l a b (omega (arith, one, other, before))
 
 -- nor does one in that of a run, if it has one
 pub keeps_order : (made : Made) (result : Result Report RunFault) → IfOk result (IsReportOf made) → IfOk result NoneOvertakes

@@ -12,18 +12,18 @@ use Rattle.tp_config.specs.declared.port_type.CompId.{CompId}
 use Rattle.tp_config.specs.Setup.{Setup}
 use Rattle.tp_config.specs.Allowed.{IsSetup}
 use Rattle.tp_config.specs.Routes.{routes_into}
-use Rattle.tp_inbox.specs.declared.entry.Entry.{Entry}
-use Rattle.tp_inbox.specs.Ledgers.{Sending, end_of}
+use Rattle.tp_history.specs.declared.entry.Entry.{Entry}
+use Rattle.tp_inbox.specs.Ledgers.{SenderLedger, end_of}
 use Rattle.tp_inbox.specs.Routed.{sources_of}
-use Rattle.tp_behaviour.specs.Workers.{IsConsistent, IsNoted}
+use Rattle.tp_behaviour.specs.Workers.{IsConsistent, IsLedgerOf}
 use Rattle.tp_exec.specs.declared.idle.Idle.{Idle}
 use Rattle.tp_exec.specs.declared.played.Played.{Played}
 use Rattle.tp_exec.specs.Rounds.{AreWorkers, Link, all_links, comp_at, comes_from, workers_of, link_by, links_in}
-use Rattle.tp_exec.specs.Held.{AreAtHand, IsIdle, idle_of, log_at, outbox_of, links_to}
+use Rattle.tp_exec.specs.Held.{AreAtHand, IsIdleComponent, idle_of, log_at, outbox_of, links_to}
 use Rattle.tp_exec.proofs.Sources.{sources_within}
 
 abbrev Hand : Type 0
-Hand = IntoIter Sending Global
+Hand = IntoIter SenderLedger Global
 
 -- there is an element at each place of a list
 pub at_place : {A : Type 0} (xs : List A) (k : ℕ) → k < length xs → (x : A) × (slice_get xs k ≡ Some x)
@@ -62,7 +62,7 @@ module _ (s : Setup) (l : IsSetup s) (played : List Played) (h : AreWorkers s (w
   pub consistent_at : (k : ℕ) (p : Played) → slice_get played k ≡ Some p → IsConsistent (record { config = s; comp = comp_at k; references = [] }) p.worker
   consistent_at k p is = h.worker_of k p.worker (worker_at k p is) []
 
-  idle_at : (k : ℕ) (p : Played) → slice_get played k ≡ Some p → IsIdle s (idle_of p)
+  idle_at : (k : ℕ) (p : Played) → slice_get played k ≡ Some p → IsIdleComponent s (idle_of p)
   idle_at k p is =
       let m = consistent_at k p is in record {
         desk = m.desk;
@@ -70,8 +70,8 @@ module _ (s : Setup) (l : IsSetup s) (played : List Played) (h : AreWorkers s (w
         routes = h.routes k p.worker (worker_at k p is) ∙ ap (routes_into s) (sym (m.desk.0 ∙ m.ends.comp));
       }
 
-  pub all_idle : All (IsIdle s) (map idle_of played)
-  all_idle = All-map (IsIdle s) idle_of played (all_places (λ p. IsIdle s (idle_of p)) played idle_at)
+  pub all_idle : All (IsIdleComponent s) (map idle_of played)
+  all_idle = All-map (IsIdleComponent s) idle_of played (all_places (λ p. IsIdleComponent s (idle_of p)) played idle_at)
 
   all_within : All (λ (link : Link). link.1.0 < length s.components) (links_to (map idle_of played))
   all_within =
@@ -104,7 +104,7 @@ module _ (s : Setup) (l : IsSetup s) (played : List Played) (h : AreWorkers s (w
       noted = λ k d low.
           let p = player k low in
           let log : log_at played k ≡ p.0.worker.desk.log = ap (λ o. option_map_or (λ (x : Played). x.worker.desk.log) o []) p.1 in
-          subst (λ (ss : List Sending). All (IsNoted (log_at played k)) ss) (sym (has_outbox k d low p.0 p.1))
-          (subst (λ (k : List Entry). All (IsNoted k) p.0.worker.outbox) (sym log) (consistent_at k p.0 p.1).noted);
+          subst (λ (ss : List SenderLedger). All (IsLedgerOf (log_at played k)) ss) (sym (has_outbox k d low p.0 p.1))
+          (subst (λ (k : List Entry). All (IsLedgerOf k) p.0.worker.outbox) (sym log) (consistent_at k p.0 p.1).noted);
       within = subst (λ n. All (λ (link : Link). link.1.0 < n) (links_to (map idle_of played))) (sym (hands_long ∙ long)) all_within;
     }

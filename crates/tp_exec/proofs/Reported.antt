@@ -9,15 +9,15 @@ use Rattle.tp_queue.proofs.Cuts.{length-push}
 use Rattle.tp_config.specs.declared.port_type.CompId.{CompId}
 use Rattle.tp_config.specs.declared.port_type.RouteId.{RouteId}
 use Rattle.tp_config.specs.Allowed.{IsSetup}
-use Rattle.tp_config.specs.Setup.{Setup, IsComponent, names}
+use Rattle.tp_config.specs.Setup.{Setup, IsComponent, names_of_components}
 use Rattle.tp_config.specs.Routes.{routes_into}
 use Rattle.tp_play.specs.declared.body.Body.{Body}
 use Rattle.tp_play.specs.Behaviours.{Behaviour}
 use Rattle.tp_play.specs.TestCases.{Made, behaviour_at}
-use Rattle.tp_inbox.specs.declared.stamped.Stamped.{Stamped}
-use Rattle.tp_inbox.specs.declared.entry.Entry.{Entry}
-use Rattle.tp_inbox.specs.Desks.{Journal, at_port}
-use Rattle.tp_inbox.specs.History.{IsClocked, arrived_from, arrived_on, count_of, numbered, sent_on, sent_to}
+use Rattle.tp_history.specs.declared.stamped.Stamped.{Stamped}
+use Rattle.tp_history.specs.declared.entry.Entry.{Entry}
+use Rattle.tp_history.specs.Desks.{Journal, at_port}
+use Rattle.tp_history.specs.History.{IsClocked, arrived_from, arrived_on, count_of, numbered, sent_on, sent_to}
 use Rattle.tp_report.specs.declared.report.CompReport.{CompReport}
 use Rattle.tp_report.specs.declared.report.Report.{Report}
 use Rattle.tp_report.specs.Reports.{IsDeskIn, IsReportable}
@@ -129,7 +129,7 @@ module _ (made : Made) (ended : List EndedComponent) (run : IsOfARun made ended)
       let own = run.each c.0 e w.1 in
       let log : x.desk.log ≡ e.desk.log = ap (λ (d : Journal). d.log) r.desk in
       record {
-        name = subst (λ (q : CompId). slice_get (names made.config) q.0 ≡ Some (string_bytes x.name)) own.comp r.name;
+        name = subst (λ (q : CompId). slice_get (names_of_components made.config) q.0 ≡ Some (string_bytes x.name)) own.comp r.name;
         comp = ap (λ (d : Journal). d.comp) r.desk ∙ own.comp;
         ports = ap (λ (d : Journal). d.ports) r.desk ∙ own.ports;
         lawful = subst (λ (d : Journal). (port : ℕ) → port < d.ports → Lawful (at_port d port)) (sym r.desk) r.sound.lawful;

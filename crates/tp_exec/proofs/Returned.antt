@@ -8,7 +8,7 @@ use Rattle.tp_play.specs.declared.test_case.Behaviour.{Behaviour as BorrowedBeha
 use Rattle.tp_play.specs.Behaviours.{Behaviour}
 use Rattle.tp_play.specs.Seen.{as_behaviour}
 use Rattle.tp_play.specs.TestCases.{Made, behaviour_at}
-use Rattle.tp_inbox.specs.declared.entry.Entry.{Entry}
+use Rattle.tp_history.specs.declared.entry.Entry.{Entry}
 use Rattle.tp_inbox.specs.Ledgers.{Inbox}
 use Rattle.tp_behaviour.specs.declared.outcome.Outcome.TheVariants as outcome
 use Rattle.tp_behaviour.specs.declared.task.Task.{Task}
@@ -19,7 +19,7 @@ use Rattle.tp_behaviour.specs.Paths.{IsPath}
 use Rattle.tp_behaviour.specs.Outcomes.{HasEnded}
 use Rattle.tp_behaviour.specs.Workers.{IsConsistent, role_of}
 use Rattle.tp_exec.specs.declared.played.Played.{Played}
-use Rattle.tp_exec.specs.Returns.{CanBegin, HasBehaved, HasReturned, IsBack, IsBusy, IsTaskOf, IsWaiting, worker_number}
+use Rattle.tp_exec.specs.Returns.{CanBegin, HasBehaved, HasReturned, IsBack, IsBusy, IsTaskOf, IsYetToBegin, worker_number}
 use Rattle.tp_exec.specs.Rounds.{BehaviourEnded, comp_at}
 
 -- a worker is as well that of its component for a behaviour with other references
@@ -48,7 +48,7 @@ pub no_moment : (k : List Entry) → k ≡ [] → moments k ≡ []
 no_moment k none = ap moments none ∙ none_at_all
 
 -- a component that has nothing to do
-pub returned_at_once : (made : Made) (x : Worker) → IsWaiting made x → behaviour_at made (worker_number x) ≡ None
+pub returned_at_once : (made : Made) (x : Worker) → IsYetToBegin made x → behaviour_at made (worker_number x) ≡ None
     → HasReturned made (record { worker = x; outcome = outcome.Done })
 returned_at_once made x waits nothing = record {
   worker_of = waits.worker_of;
@@ -87,7 +87,7 @@ behaved_back made task before p its behaved =
     }
 
 -- a component can begin with its own task
-pub waiting_begins : (made : Made) (task : Task) (x : Worker) → IsTaskOf made x.owner.inbox.comp task → IsWaiting made x → CanBegin task x
+pub waiting_begins : (made : Made) (task : Task) (x : Worker) → IsTaskOf made x.owner.inbox.comp task → IsYetToBegin made x → CanBegin task x
 waiting_begins made task x its waits =
     let references : List ℕ = (as_behaviour task.behaviour).references in
     let r : Actor = record { config = made.config; comp = x.owner.inbox.comp; references = references } in
@@ -99,16 +99,16 @@ waiting_begins made task x its waits =
     }
 
 -- the desk of a worker is that of its component
-pub desk_comp : (made : Made) (x : Worker) → IsWaiting made x → x.desk.comp ≡ x.owner.inbox.comp
+pub desk_comp : (made : Made) (x : Worker) → IsYetToBegin made x → x.desk.comp ≡ x.owner.inbox.comp
 desk_comp made x waits = (waits.worker_of []).desk.0
 
 -- a component with which a body comes has something to do, and one without has nothing
-pub nothing_where_none : (made : Made) (x : Worker) (comp : CompId) (r : Option BorrowedBehaviour) → IsWaiting made x → comp ≡ x.desk.comp
+pub nothing_where_none : (made : Made) (x : Worker) (comp : CompId) (r : Option BorrowedBehaviour) → IsYetToBegin made x → comp ≡ x.desk.comp
     → option_map as_behaviour r ≡ behaviour_at made comp.0 → is_some r ≡ false → behaviour_at made (worker_number x) ≡ None
 nothing_where_none made x comp None waits its is none = ap (λ (c : CompId). behaviour_at made c.0) (sym (its ∙ desk_comp made x waits)) ∙ sym is
 nothing_where_none made x comp (Some d) waits its is none = absurd (true≢false none)
 
-pub busy_where_some : (made : Made) (x : Worker) (comp : CompId) (r : Option BorrowedBehaviour) → IsWaiting made x → comp ≡ x.desk.comp
+pub busy_where_some : (made : Made) (x : Worker) (comp : CompId) (r : Option BorrowedBehaviour) → IsYetToBegin made x → comp ≡ x.desk.comp
     → option_map as_behaviour r ≡ behaviour_at made comp.0 → is_some r ≡ true → IsBusy made x
 busy_where_some made x comp None waits its is some = absurd (true≢false (sym some))
 busy_where_some made x comp (Some d) waits its is some =

@@ -11,9 +11,9 @@ use Rattle.tp_config.specs.Setup.{Setup}
 use Rattle.tp_play.specs.declared.body.Body.{Body}
 use Rattle.tp_play.specs.Behaviours.{Behaviour}
 use Rattle.tp_play.specs.TestCases.{Made, behaviour_at}
-use Rattle.tp_inbox.specs.declared.entry.Entry.{Entry}
-use Rattle.tp_inbox.specs.declared.entry.Entry.TheVariants as entry
-use Rattle.tp_inbox.specs.History.{is_arrival}
+use Rattle.tp_history.specs.declared.entry.Entry.{Entry}
+use Rattle.tp_history.specs.declared.entry.Entry.TheVariants as entry
+use Rattle.tp_history.specs.History.{is_arrival}
 use Rattle.tp_behaviour.specs.declared.outcome.Outcome.{Outcome}
 use Rattle.tp_behaviour.specs.declared.worker.Worker.{Worker}
 use Rattle.tp_behaviour.specs.Fresh.{HasOwn, LooksAtPorts}
@@ -25,7 +25,7 @@ use Rattle.tp_behaviour.specs.Workers.{IsSentBy}
 use Rattle.tp_exec.specs.declared.ended.EndedComponent.{EndedComponent}
 use Rattle.tp_exec.specs.declared.played.Played.{Played}
 use Rattle.tp_exec.specs.Rounds.{ArePlayed, AreWorkers, BehaviourEnded, comp_at, workers_of}
-use Rattle.tp_exec.specs.Settlings.{AreSettled, IsComponentOf, IsOfARun, IsSentOut}
+use Rattle.tp_exec.specs.Settlings.{AreSettled, IsEndedComponentOf, IsOfARun, IsSentOut}
 use Rattle.tp_exec.proofs.Outgoing.{IsOut, links_out}
 use Rattle.tp_exec.proofs.Settled.{same_moments}
 
@@ -106,7 +106,7 @@ pub of_a_run : (made : Made) (played : List Played) (ended : List EndedComponent
     → IsOfARun made ended
 of_a_run made played ended are done settled = record { each = component; come = settled.come }
   where
-    component : (k : ℕ) (e : EndedComponent) → slice_get ended k ≡ Some e → IsComponentOf made k e
+    component : (k : ℕ) (e : EndedComponent) → slice_get ended k ≡ Some e → IsEndedComponentOf made k e
     component k e at =
         let c : CompId = comp_at k in
         let w = settled.each k e at in

@@ -7,16 +7,16 @@ use Rattle.std.proofs.lemmas.List.{length-map}
 use Rattle.std.proofs.lemmas.List.Elements.{All-contains, All-head, All-nil, All-cons, All-tail}
 use Rattle.std.proofs.lemmas.Option.{same_Some}
 use Rattle.std.proofs.lemmas.Slice.Zip.{AllZip-long}
-use Rattle.tp_queue.specs.declared.event.Env.{Env}
+use Rattle.tp_event.specs.declared.event.Env.{Env}
 use Rattle.tp_value.specs.declared.message.Message.{Message}
 use Rattle.tp_config.specs.declared.port_type.CompId.{CompId}
 use Rattle.tp_config.specs.declared.port_type.RouteId.{RouteId}
 use Rattle.tp_config.specs.Setup.{Setup}
 use Rattle.tp_config.specs.Allowed.{IsSetup}
 use Rattle.tp_config.specs.Routes.{routes_into}
-use Rattle.tp_inbox.specs.declared.entry.Entry.{Entry}
-use Rattle.tp_inbox.specs.declared.entry.Entry.TheVariants as entry
-use Rattle.tp_inbox.specs.History.{arrivals, arrived_from, is_arrival, sent_on, sent_to}
+use Rattle.tp_history.specs.declared.entry.Entry.{Entry}
+use Rattle.tp_history.specs.declared.entry.Entry.TheVariants as entry
+use Rattle.tp_history.specs.History.{arrivals, arrived_from, is_arrival, sent_on, sent_to}
 use Rattle.tp_inbox.specs.Ledgers.{Inbox}
 use Rattle.tp_inbox.specs.Routed.{IsArrivalOn, rest_arrivals, sources_of}
 use Rattle.tp_inbox.proofs.Rests.{rest_sends_nothing, rest_sends_to_none}
@@ -28,7 +28,7 @@ use Rattle.tp_exec.specs.declared.played.Played.{Played}
 use Rattle.tp_exec.specs.Delivery.{IsDeliveredBetween, IsOnRoute}
 use Rattle.tp_exec.specs.Rounds.{AreWorkers, comp_at, workers_of}
 use Rattle.tp_exec.specs.Settlings.{AreSettled, IsAllThere, IsSettled}
-use Rattle.tp_exec.specs.Held.{HasCome, HasComeFrom, IsDone, IsEndOf, idle_of, log_at}
+use Rattle.tp_exec.specs.Held.{HasCome, HasComeFrom, HasEndedWithAll, IsEndingOf, idle_of, log_at}
 use Rattle.tp_exec.proofs.Outgoing.{none_came, none_sent, links_out}
 use Rattle.tp_exec.proofs.Senders.{source_or_not}
 use Rattle.tp_exec.proofs.Sources.{leads_to, receiver_within, source_within}
@@ -89,7 +89,7 @@ all_on s c (e ∷ k) all =
     All-cons (IsOnRoute s c) e k here.0 (all_on s c k here.1)
 
 -- more has come to the component, that is all
-settled_as : (p : Played) (e : EndedComponent) → IsEndOf (idle_of p) e → IsSettled p e
+settled_as : (p : Played) (e : EndedComponent) → IsEndingOf (idle_of p) e → IsSettled p e
 settled_as p e h = record {
   outcome = h.outcome;
   comp = h.comp;
@@ -104,20 +104,20 @@ pub same_moments : (p : Played) (e : EndedComponent) → IsSettled p e → momen
 same_moments p e h = ap moments h.grown ∙ moments-arrivals p.worker.desk.log (rest_arrivals h.rest) (rest_arrives h.rest)
 
 -- so it has sent no more
-sent_as : (p : Played) (e : EndedComponent) → IsEndOf (idle_of p) e → (r : RouteId) → sent_on r e.desk.log ≡ sent_on r p.worker.desk.log
+sent_as : (p : Played) (e : EndedComponent) → IsEndingOf (idle_of p) e → (r : RouteId) → sent_on r e.desk.log ≡ sent_on r p.worker.desk.log
 sent_as p e h r = ap (sent_on r) h.grown ∙ rest_sends_nothing r p.worker.desk.log h.rest
 
 module _ (s : Setup) (l : IsSetup s) (played : List Played) (h : AreWorkers s (workers_of played)) (ended : List EndedComponent)
-    (z : AllZip (IsDone (log_at played)) (map idle_of played) ended) where
-  player_of : (k : ℕ) (e : EndedComponent) → slice_get ended k ≡ Some e → (p : Played) × (slice_get played k ≡ Some p) × IsDone (log_at played) (idle_of p) e
-  player_of k e is = beside_second idle_of (IsDone (log_at played)) played ended z k e is
+    (z : AllZip (HasEndedWithAll (log_at played)) (map idle_of played) ended) where
+  player_of : (k : ℕ) (e : EndedComponent) → slice_get ended k ≡ Some e → (p : Played) × (slice_get played k ≡ Some p) × HasEndedWithAll (log_at played) (idle_of p) e
+  player_of k e is = beside_second idle_of (HasEndedWithAll (log_at played)) played ended z k e is
 
   -- the component of a number below that of the components
   comp_of : (k : ℕ) → k < length s.components → (p : Played) × (slice_get played k ≡ Some p)
-      × ((e : EndedComponent) × (slice_get ended k ≡ Some e) × IsDone (log_at played) (idle_of p) e)
+      × ((e : EndedComponent) × (slice_get ended k ≡ Some e) × HasEndedWithAll (log_at played) (idle_of p) e)
   comp_of k low =
       let p = at_place played k (omega (arith, low, long s l played h)) in
-      (p.0, p.1, beside_first idle_of (IsDone (log_at played)) played ended z k p.0 p.1)
+      (p.0, p.1, beside_first idle_of (HasEndedWithAll (log_at played)) played ended z k p.0 p.1)
 
   routes_at : (k : ℕ) (p : Played) → slice_get played k ≡ Some p → p.worker.owner.inbox.routes ≡ routes_into s (comp_at k)
   routes_at k p is = h.routes k p.worker (worker_at s l played h k p is)
@@ -146,7 +146,7 @@ module _ (s : Setup) (l : IsSetup s) (played : List Played) (h : AreWorkers s (w
       }
 
   -- one with routes to a component has sent there what has come from it, and one with none has sent nothing
-  from_to : (c d : CompId) (p q : Played) (y : EndedComponent) → slice_get played c.0 ≡ Some p → slice_get played d.0 ≡ Some q → IsDone (log_at played) (idle_of q) y
+  from_to : (c d : CompId) (p q : Played) (y : EndedComponent) → slice_get played c.0 ≡ Some p → slice_get played d.0 ≡ Some q → HasEndedWithAll (log_at played) (idle_of q) y
       → q.worker.owner.inbox.comp ≡ d → IsDeliveredBetween c d p.worker.desk.log y.desk.log
   from_to c d p q y at to done here = by (source_or_not inbox.routes c) where
     inbox : Inbox
@@ -183,7 +183,7 @@ module _ (s : Setup) (l : IsSetup s) (played : List Played) (h : AreWorkers s (w
   all_settled = record {
     each = λ k e is. let p = player_of k e is in (p.0, p.1, settled_as p.0 e p.2.end);
     come = record {
-      everyone = AllZip-long (IsDone (log_at played)) (map idle_of played) ended z ∙ length-map played idle_of ∙ long s l played h;
+      everyone = AllZip-long (HasEndedWithAll (log_at played)) (map idle_of played) ended z ∙ length-map played idle_of ∙ long s l played h;
       routed = λ k e is. let p = player_of k e is in
           all_on s (comp_at k) e.desk.log (subst (λ rs. All (IsArrivalOn rs) (arrivals e.desk.log)) (routes_at k p.0 p.1) p.2.end.routed);
       there = there;

@@ -8,16 +8,16 @@ use Rattle.std.proofs.lemmas.List.{length-append, take-append-drop, take-take, t
 use Rattle.std.proofs.lemmas.List.Elements.{filter_map-append}
 use Rattle.std.proofs.lemmas.List.Sums.{sum_by-append, sum_by_push, sum_by-take-le}
 use Rattle.std.proofs.lemmas.Option.{same_Some, slice_get_cases, slice_get_within, slice_get-get_or, get_or_from_slice_get}
-use Rattle.tp_inbox.specs.declared.entry.Entry.{Entry}
-use Rattle.tp_inbox.specs.declared.entry.Entry.TheVariants as entry
-use Rattle.tp_inbox.specs.History.{is_arrival}
+use Rattle.tp_history.specs.declared.entry.Entry.{Entry}
+use Rattle.tp_history.specs.declared.entry.Entry.TheVariants as entry
+use Rattle.tp_history.specs.History.{is_arrival}
 use Rattle.tp_behaviour.specs.Fresh.{LooksAtPorts}
 use Rattle.tp_exec.specs.declared.kind.EntryKind.{EntryKind}
 use Rattle.tp_exec.specs.declared.kind.EntryKind.TheVariants as kind
 use Rattle.tp_exec.specs.Order.{Spot}
-use Rattle.tp_exec.specs.OneOrder.{IsAt, IsOrderOf, IsOwn, came_before, entry_at, log_in, sender_to, senders_to, sends_to, source_of, sources}
+use Rattle.tp_exec.specs.OneOrder.{IsAt, IsOrderOf, IsOwn, came_before, entry_at_spot, log_in, sender_to, senders_to, sends_to, source_of, sources}
 use Rattle.tp_exec.specs.OrderProgress.{IsGone, kind_of}
-use Rattle.tp_exec.specs.Greedy.{AreLookedBefore, CanDo, IsGreedy, IsStuck, many, sends}
+use Rattle.tp_exec.specs.Greedy.{AreLookedBefore, CanHappen, IsGreedy, IsStuck, many, count_sent_to}
 use Rattle.tp_exec.proofs.OneOrder.{came_all, came_on, one_more, spot, spot_is}
 use Rattle.tp_exec.proofs.EntryKinds.{of_came, of_sent}
 
@@ -115,7 +115,7 @@ module _ (logs : List (List Entry)) (at came out : ℕ → ℕ) (order : List Sp
     low : (x : ℕ) → gone x ≤ at x
     done : (j : ℕ) (a : Spot) → j < i → IsAt full j a → a.place < gone a.comp
     each : (a : Spot) → IsOwn logs a → a.place < gone a.comp → (j : ℕ) × (j < i) × IsAt full j a
-    counted : (c d : ℕ) → many c (senders_to logs d (take i full)) ≡ sends d (take (gone c) (log_in logs c))
+    counted : (c d : ℕ) → many c (senders_to logs d (take i full)) ≡ count_sent_to d (take (gone c) (log_in logs c))
 
   split : (d i : ℕ) → senders_to logs d (take i full) ++ senders_to logs d (drop i full) ≡ sources (log_in logs d)
   split d i =
@@ -157,9 +157,9 @@ module _ (logs : List (List Entry)) (at came out : ℕ → ℕ) (order : List Sp
             let next : slice_get xs (out d) ≡ Some c = slice_get-get_or xs (out d) 0 low in
             let one : many c (take (out d + 1) xs) ≡ many c (take (out d) xs) + 1 = many_one c xs (out d) next in
             let more : many c (take (out d + 1) xs) ≤ many c (take m xs) = sum_grows (λ x. cond (x == c) 1 0) xs (out d + 1) m (omega (arith, less)) in
-            let here : many c (take (out d) xs) ≡ sends d (take (at c) (log_in logs c)) = ap (many c) (sym (was.sent d)) ∙ greedy.counted c d in
-            let there : many c (take m xs) ≡ sends d (take (gone c) (log_in logs c)) = ap (many c) (sym (front d i)) ∙ past.counted c d in
-            let grown : sends d (take (gone c) (log_in logs c)) ≤ sends d (take (at c) (log_in logs c)) =
+            let here : many c (take (out d) xs) ≡ count_sent_to d (take (at c) (log_in logs c)) = ap (many c) (sym (was.sent d)) ∙ greedy.counted c d in
+            let there : many c (take m xs) ≡ count_sent_to d (take (gone c) (log_in logs c)) = ap (many c) (sym (front d i)) ∙ past.counted c d in
+            let grown : count_sent_to d (take (gone c) (log_in logs c)) ≤ count_sent_to d (take (at c) (log_in logs c)) =
             sum_grows (λ e. cond (sends_to d (Some e)) 1 0) (log_in logs c) (gone c) (at c) (past.low c) in
             absurd (omega (arith, one, more, here, there, grown))
       ]
@@ -178,7 +178,7 @@ module _ (logs : List (List Entry)) (at came out : ℕ → ℕ) (order : List Sp
   ]
 
   flat : (i : ℕ) (gone : ℕ → ℕ) → IsPast i gone → (a : Spot) → IsAt full i a → gone a.comp ≤ a.place → (d : ℕ)
-      → sends d (take a.place (log_in logs a.comp)) ≡ sends d (take (gone a.comp) (log_in logs a.comp))
+      → count_sent_to d (take a.place (log_in logs a.comp)) ≡ count_sent_to d (take (gone a.comp) (log_in logs a.comp))
   flat i gone past a there most d =
       let k = log_in logs a.comp in
       let f : Entry → ℕ = λ e. unit (sends_to d (Some e)) in
@@ -188,22 +188,22 @@ module _ (logs : List (List Entry)) (at came out : ℕ → ℕ) (order : List Sp
       (λ q x from to stands. ap unit (no_send d x (between i gone past a there q x from (omega (arith, to, most)) stands)))
 
   -- a sending at the next place of the order is the next one
-  sender_is : (a : Spot) (e : Entry) (d : ℕ) → entry_at logs a ≡ Some e → sender_to logs d a ≡ cond (sends_to d (Some e)) (Some a.comp) None
+  sender_is : (a : Spot) (e : Entry) (d : ℕ) → entry_at_spot logs a ≡ Some e → sender_to logs d a ≡ cond (sends_to d (Some e)) (Some a.comp) None
   sender_is a e d stands = ap (λ (o : Option Entry). cond (sends_to d o) (Some a.comp) None) stands
 
-  one_sent : (i : ℕ) (a : Spot) (e : Entry) (d : ℕ) → IsAt full i a → entry_at logs a ≡ Some e
+  one_sent : (i : ℕ) (a : Spot) (e : Entry) (d : ℕ) → IsAt full i a → entry_at_spot logs a ≡ Some e
       → senders_to logs d (take (i + 1) full) ≡ senders_to logs d (take i full) ++ cons_option (cond (sends_to d (Some e)) (Some a.comp) None) []
   one_sent i a e d there stands =
       ap (λ (l : List Spot). senders_to logs d l) (take_one full i a there) ∙ filter_map-append (sender_to logs d) (take i full) (a ∷ [])
       ∙ ap (λ (o : Option ℕ). senders_to logs d (take i full) ++ cons_option o []) (sender_is a e d stands)
 
-  some_sent : (i : ℕ) (a : Spot) (e : Entry) (d : ℕ) → IsAt full i a → entry_at logs a ≡ Some e → sends_to d (Some e) ≡ true
+  some_sent : (i : ℕ) (a : Spot) (e : Entry) (d : ℕ) → IsAt full i a → entry_at_spot logs a ≡ Some e → sends_to d (Some e) ≡ true
       → senders_to logs d (take (i + 1) full) ≡ senders_to logs d (take i full) ++ a.comp ∷ []
   some_sent i a e d there stands met =
       one_sent i a e d there stands
       ∙ ap (λ (b : Bool). senders_to logs d (take i full) ++ cons_option (cond b (Some a.comp) None) []) met
 
-  next_is : (i : ℕ) (a : Spot) (e : Entry) (d : ℕ) → IsAt full i a → entry_at logs a ≡ Some e → sends_to d (Some e) ≡ true
+  next_is : (i : ℕ) (a : Spot) (e : Entry) (d : ℕ) → IsAt full i a → entry_at_spot logs a ≡ Some e → sends_to d (Some e) ≡ true
       → slice_get (sources (log_in logs d)) (length (senders_to logs d (take i full))) ≡ Some a.comp
   next_is i a e d there stands met =
       let xs = senders_to logs d (take i full) in
@@ -212,7 +212,7 @@ module _ (logs : List (List Entry)) (at came out : ℕ → ℕ) (order : List Sp
       ∙ at_seam xs rest a.comp
 
   no_less : (i : ℕ) (gone : ℕ → ℕ) → IsPast i gone → (a : Spot) → IsAt full i a → at a.comp ≡ a.place → (e : Entry) (d : ℕ)
-      → entry_at logs a ≡ Some e → sends_to d (Some e) ≡ true → out d ≡ length (senders_to logs d (take i full))
+      → entry_at_spot logs a ≡ Some e → sends_to d (Some e) ≡ true → out d ≡ length (senders_to logs d (take i full))
   no_less i gone past a there place e d stands met =
       let c = a.comp in
       let xs = sources (log_in logs d) in
@@ -223,16 +223,16 @@ module _ (logs : List (List Entry)) (at came out : ℕ → ℕ) (order : List Sp
         | inl less ↦
             let one : many c (take (m + 1) xs) ≡ many c (take m xs) + 1 = many_one c xs m (next_is i a e d there stands met) in
             let more : many c (take (m + 1) xs) ≤ many c (take (out d) xs) = sum_grows (λ x. cond (x == c) 1 0) xs (m + 1) (out d) (omega (arith, less)) in
-            let here : many c (take (out d) xs) ≡ sends d (take (at c) (log_in logs c)) = ap (many c) (sym (was.sent d)) ∙ greedy.counted c d in
-            let up : many c (take m xs) ≡ sends d (take (gone c) (log_in logs c)) = ap (many c) (sym (front d i)) ∙ past.counted c d in
+            let here : many c (take (out d) xs) ≡ count_sent_to d (take (at c) (log_in logs c)) = ap (many c) (sym (was.sent d)) ∙ greedy.counted c d in
+            let up : many c (take m xs) ≡ count_sent_to d (take (gone c) (log_in logs c)) = ap (many c) (sym (front d i)) ∙ past.counted c d in
             let low : gone c ≤ at c = past.low c in
-            let level : sends d (take a.place (log_in logs c)) ≡ sends d (take (gone c) (log_in logs c)) = flat i gone past a there (omega (arith, low, place)) d in
-            let same : sends d (take (at c) (log_in logs c)) ≡ sends d (take a.place (log_in logs c)) = ap (λ n. sends d (take n (log_in logs c))) place in
+            let level : count_sent_to d (take a.place (log_in logs c)) ≡ count_sent_to d (take (gone c) (log_in logs c)) = flat i gone past a there (omega (arith, low, place)) d in
+            let same : count_sent_to d (take (at c) (log_in logs c)) ≡ count_sent_to d (take a.place (log_in logs c)) = ap (λ n. count_sent_to d (take n (log_in logs c))) place in
             absurd (omega (arith, one, more, here, up, level, same))
       ]
 
   looked_first : (i : ℕ) (gone : ℕ → ℕ) → IsPast i gone → (a : Spot) → IsAt full i a → at a.comp ≡ a.place → (e : Entry) (d : ℕ)
-      → entry_at logs a ≡ Some e → kind_of e ≡ kind.Sent d → AreLookedBefore (log_in logs d) (out d) (at d)
+      → entry_at_spot logs a ≡ Some e → kind_of e ≡ kind.Sent d → AreLookedBefore (log_in logs d) (out d) (at d)
   looked_first i gone past a there place e d stands sent q f at_q look few =
       let h = of_sent e d sent in
       let met = h.1 d ∙ eq-eqb d d refl in
@@ -241,7 +241,7 @@ module _ (logs : List (List Entry)) (at came out : ℕ → ℕ) (order : List Sp
       elim (cases_order j.0 i) [
         | inl same ↦
             let one : spot d q ≡ a = same_Some (spot d q) a (sym j.1 ∙ ap (λ n. slice_get full n) same ∙ there) in
-            let act : f ≡ e = same_Some f e (sym at_q ∙ ap (entry_at logs) one ∙ stands) in
+            let act : f ≡ e = same_Some f e (sym at_q ∙ ap (entry_at_spot logs) one ∙ stands) in
             absurd (h.2 (subst LooksAtPorts act look))
         | inr (inl less) ↦
             let b : q < gone d = past.done j.0 (spot d q) less j.1 in
@@ -258,7 +258,7 @@ module _ (logs : List (List Entry)) (at came out : ℕ → ℕ) (order : List Sp
 
   -- so the next one of the order could be done
   could : (i : ℕ) (gone : ℕ → ℕ) → IsPast i gone → (a : Spot) → IsAt full i a → at a.comp ≡ a.place → (e : Entry)
-      → entry_at logs a ≡ Some e → is_arrival e ≡ false → (k : EntryKind) → kind_of e ≡ k → CanDo logs at came out a.comp k
+      → entry_at_spot logs a ≡ Some e → is_arrival e ≡ false → (k : EntryKind) → kind_of e ≡ k → CanHappen logs at came out a.comp k
   could i gone past a there place e stands own (kind.Came s) kind_is = absurd (false≢true (sym own ∙ (of_came e s kind_is).0))
   could i gone past a there place e stands own kind.Looked kind_is =
       let c = a.comp in
@@ -288,7 +288,7 @@ module _ (logs : List (List Entry)) (at came out : ℕ → ℕ) (order : List Sp
       let on = ap length (came_on log (at c) e stands) in
       let one = one_more (source_of e) h.0 (sources (take (at c) log)) h.2 in
       let may : came c < out c = omega (arith, known, on, one, most) in
-      stuck c e stands (subst (CanDo logs at came out c) (sym h.1) may)
+      stuck c e stands (subst (CanHappen logs at came out c) (sym h.1) may)
 
   goes : (i : ℕ) (gone : ℕ → ℕ) → IsPast i gone → (a : Spot) → IsAt full i a → a.place < at a.comp
   goes i gone past a there =
@@ -379,23 +379,23 @@ module _ (logs : List (List Entry)) (at came out : ℕ → ℕ) (order : List Sp
             let met = sends_to d (Some own.act) in
             let list = ap (many x) (one_sent i a own.act d there own.stands) in
             let parts = sum_by-append (λ y. cond (y == x) 1 0) (senders_to logs d (take i full)) (cons_option (cond met (Some c) None) []) in
-            let was_so : many x (senders_to logs d (take i full)) ≡ sends d (take (gone x) (log_in logs x)) = past.counted x d in
+            let was_so : many x (senders_to logs d (take i full)) ≡ count_sent_to d (take (gone x) (log_in logs x)) = past.counted x d in
             let more = many_sent c x met in
             elim (cases_eq x c) [
               | inl same ↦
-                  let P : ℕ → Type 0 = λ y. many c (senders_to logs d (take (i + 1) full)) ≡ sends d (take y log) in
-                  let Q : ℕ → Type 0 = λ y. many y (senders_to logs d (take (i + 1) full)) ≡ sends d (take (then y) (log_in logs y)) in
+                  let P : ℕ → Type 0 = λ y. many c (senders_to logs d (take (i + 1) full)) ≡ count_sent_to d (take y log) in
+                  let Q : ℕ → Type 0 = λ y. many y (senders_to logs d (take (i + 1) full)) ≡ count_sent_to d (take (then y) (log_in logs y)) in
                   let list = ap (many c) (one_sent i a own.act d there own.stands) in
                   let parts = sum_by-append (λ y. cond (y == c) 1 0) (senders_to logs d (take i full)) (cons_option (cond met (Some c) None) []) in
-                  let before : many c (senders_to logs d (take i full)) ≡ sends d (take (gone c) log) = past.counted c d in
+                  let before : many c (senders_to logs d (take i full)) ≡ count_sent_to d (take (gone c) log) = past.counted c d in
                   let one = many_sent c c met ∙ many_here c met in
                   let on = sum_one (λ e. unit (sends_to d (Some e))) log a.place own.act own.stands in
                   let level = flat i gone past a there most d in
-                  let sum : many c (senders_to logs d (take (i + 1) full)) ≡ sends d (take (a.place + 1) log) = omega (arith, list, parts, before, one, on, level) in
+                  let sum : many c (senders_to logs d (take (i + 1) full)) ≡ count_sent_to d (take (a.place + 1) log) = omega (arith, list, parts, before, one, on, level) in
                   subst Q (sym same) (subst P (sym (here c refl)) sum)
               | inr other ↦
                   let none = more ∙ many_there c x met (λ e. other (sym e)) in
-                  let e = ap (λ n. sends d (take n (log_in logs x))) (others x other) in
+                  let e = ap (λ n. count_sent_to d (take n (log_in logs x))) (others x other) in
                   omega (arith, list, parts, was_so, none, e)
             ];
       }

@@ -3,15 +3,15 @@ use Rattle.std.specs.Prelude.{◌≡◌, ◌<◌, ℕ, List, [], ◌∷◌, Opti
 use Rattle.tp_queue.specs.History.{Lawful}
 use Rattle.tp_config.specs.declared.port_type.CompId.{CompId}
 use Rattle.tp_config.specs.declared.port_type.RouteId.{RouteId}
-use Rattle.tp_config.specs.Setup.{Setup, names, ports_at}
+use Rattle.tp_config.specs.Setup.{Setup, names_of_components, ports_at}
 use Rattle.tp_config.specs.Routes.{routes_into}
 use Rattle.tp_play.specs.Behaviours.{Behaviour}
 use Rattle.tp_play.specs.TestCases.{Made, behaviour_at}
-use Rattle.tp_inbox.specs.declared.entry.Entry.{Entry}
-use Rattle.tp_inbox.specs.declared.entry.Entry.TheVariants as entry
-use Rattle.tp_inbox.specs.Desks.{at_port}
-use Rattle.tp_inbox.specs.History.{IsClocked, sent_on, sent_to, arrived_from, arrived_on, count_of}
-use Rattle.tp_inbox.specs.declared.ending.End.{End}
+use Rattle.tp_history.specs.declared.entry.Entry.{Entry}
+use Rattle.tp_history.specs.declared.entry.Entry.TheVariants as entry
+use Rattle.tp_history.specs.Desks.{at_port}
+use Rattle.tp_history.specs.History.{IsClocked, sent_on, sent_to, arrived_from, arrived_on, count_of}
+use Rattle.tp_history.specs.declared.ending.End.{End}
 use Rattle.tp_report.specs.declared.report.Report.{Report}
 use Rattle.tp_report.specs.declared.report.CompReport.{CompReport}
 use Rattle.tp_behaviour.specs.Ends.{Follows}
@@ -59,7 +59,7 @@ FollowsBehaviour s c None k end =
 -- the report of one component of the test case
 pub record IsCompReport (made : Made) (c : CompId) (x : CompReport) : Type 0 where
   -- it is that of the component, with its ports
-  pub name : slice_get (names made.config) c.0 ≡ Some (string_bytes x.name)
+  pub name : slice_get (names_of_components made.config) c.0 ≡ Some (string_bytes x.name)
   pub comp : x.desk.comp ≡ c
   pub ports : x.desk.ports ≡ length (ports_at made.config.types made.config.components c)
   -- every port's history obeys the rules of a port

@@ -3,7 +3,7 @@ use Rattle.std.specs.Prelude.{◌≡◌, ℕ, ◌<◌, ◌≤◌, ◌==◌, Some
 use Rattle.std.specs.List.{sum_by}
 use Rattle.std.specs.declared.vec.Vec.{Vec}
 use Rattle.std.specs.Global.{Global}
-use Rattle.tp_inbox.specs.declared.entry.Entry.{Entry}
+use Rattle.tp_history.specs.declared.entry.Entry.{Entry}
 use Rattle.tp_behaviour.specs.Fresh.{LooksAtPorts}
 use Rattle.tp_report.specs.declared.report.CompReport.{CompReport}
 use Rattle.tp_exec.specs.declared.progress.OrderProgress.{OrderProgress}
@@ -15,8 +15,8 @@ use Rattle.tp_exec.specs.OneOrder.{log_in, logs_of, senders_to, sends_to, source
 use Rattle.tp_exec.specs.OrderProgress.{IsGone, awaited_sources, kind_of}
 
 -- how many messages are sent to the component in this history
-abbrev pub sends : ℕ → List Entry → ℕ
-sends d k = sum_by (λ e. cond (sends_to d (Some e)) 1 0) k
+abbrev pub count_sent_to : ℕ → List Entry → ℕ
+count_sent_to d k = sum_by (λ e. cond (sends_to d (Some e)) 1 0) k
 
 -- how often the number stands in the list
 abbrev pub many : ℕ → List ℕ → ℕ
@@ -29,7 +29,7 @@ AreLookedBefore k n place =
 
 -- the order has what was sent before these places; no more is sent than came, and only after the looks that saw less
 pub record IsGreedy (logs : List (List Entry)) (at out : ℕ → ℕ) (order : List Spot) : Type 0 where
-  pub counted : (c d : ℕ) → many c (senders_to logs d order) ≡ sends d (take (at c) (log_in logs c))
+  pub counted : (c d : ℕ) → many c (senders_to logs d order) ≡ count_sent_to d (take (at c) (log_in logs c))
   pub fits : (c : ℕ) → out c ≤ length (sources (log_in logs c))
   pub looked : (c q : ℕ) (e : Entry) → slice_get (log_in logs c) q ≡ Some e → LooksAtPorts e
       → length (sources (take q (log_in logs c))) < out c → q < at c
@@ -49,20 +49,20 @@ MaySend logs at out c d =
     (slice_get (sources (log_in logs d)) (out d) ≡ Some c) × AreLookedBefore (log_in logs d) (out d) (at d)
 
 -- the component can do a thing of this kind
-abbrev pub CanDo : List (List Entry) → (ℕ → ℕ) → (ℕ → ℕ) → (ℕ → ℕ) → ℕ → EntryKind → Type 0
-CanDo logs at came out c (kind.Came source) = came c < out c
-CanDo logs at came out c kind.Looked = came c ≡ out c
-CanDo logs at came out c kind.Quiet = Unit {0}
-CanDo logs at came out c (kind.Sent d) = MaySend logs at out c d
+abbrev pub CanHappen : List (List Entry) → (ℕ → ℕ) → (ℕ → ℕ) → (ℕ → ℕ) → ℕ → EntryKind → Type 0
+CanHappen logs at came out c (kind.Came source) = came c < out c
+CanHappen logs at came out c kind.Looked = came c ≡ out c
+CanHappen logs at came out c kind.Quiet = Unit {0}
+CanHappen logs at came out c (kind.Sent d) = MaySend logs at out c d
 
 -- this component can't go on
-abbrev pub IsHeld : List (List Entry) → (ℕ → ℕ) → (ℕ → ℕ) → (ℕ → ℕ) → ℕ → Type 0
-IsHeld logs at came out c =
-    (e : Entry) → slice_get (log_in logs c) (at c) ≡ Some e → ¬ CanDo logs at came out c (kind_of e)
+abbrev pub CannotGoOn : List (List Entry) → (ℕ → ℕ) → (ℕ → ℕ) → (ℕ → ℕ) → ℕ → Type 0
+CannotGoOn logs at came out c =
+    (e : Entry) → slice_get (log_in logs c) (at c) ≡ Some e → ¬ CanHappen logs at came out c (kind_of e)
 
 -- none can
 abbrev pub IsStuck : List (List Entry) → (ℕ → ℕ) → (ℕ → ℕ) → (ℕ → ℕ) → Type 0
-IsStuck logs at came out = (c : ℕ) → IsHeld logs at came out c
+IsStuck logs at came out = (c : ℕ) → CannotGoOn logs at came out c
 
 -- each place is the least that is behind the looks which have to be before that message was sent
 abbrev pub AreAfter : List Entry → List AwaitedArrival → Type 0

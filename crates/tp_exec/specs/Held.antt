@@ -6,19 +6,19 @@ use Rattle.std.specs.Option.{option_map_or}
 use Rattle.std.specs.declared.vec.IntoIter.{IntoIter}
 use Rattle.std.specs.Vec.Iter.{into_iter_items}
 use Rattle.indexmap.specs.IndexMap.{IndexMap, get}
-use Rattle.tp_queue.specs.declared.event.Env.{Env}
+use Rattle.tp_event.specs.declared.event.Env.{Env}
 use Rattle.tp_value.specs.declared.message.Message.{Message}
 use Rattle.tp_config.specs.declared.port_type.CompId.{CompId}
 use Rattle.tp_config.specs.declared.port_type.RouteId.{RouteId}
 use Rattle.tp_config.specs.Setup.{Setup}
 use Rattle.tp_config.specs.Routes.{routes_into}
-use Rattle.tp_inbox.specs.declared.entry.Entry.{Entry}
-use Rattle.tp_inbox.specs.declared.stamped.Stamped.{Stamped}
-use Rattle.tp_inbox.specs.History.{arrivals, arrived_from, arrived_on, count_of, numbered, posted_on, sent_on, sent_to}
-use Rattle.tp_inbox.specs.Ledgers.{Inbox, IsDeskOf, Sending, end_of}
+use Rattle.tp_history.specs.declared.entry.Entry.{Entry}
+use Rattle.tp_history.specs.declared.stamped.Stamped.{Stamped}
+use Rattle.tp_history.specs.History.{arrivals, arrived_from, arrived_on, count_of, numbered, posted_on, sent_on, sent_to}
+use Rattle.tp_inbox.specs.Ledgers.{Inbox, IsDeskOf, SenderLedger, end_of}
 use Rattle.tp_inbox.specs.Places.{route_eq}
 use Rattle.tp_inbox.specs.Routed.{IsArrivalOn, rest_arrivals, sources_of}
-use Rattle.tp_behaviour.specs.Workers.{IsNoted}
+use Rattle.tp_behaviour.specs.Workers.{IsLedgerOf}
 use Rattle.tp_exec.specs.declared.ended.EndedComponent.{EndedComponent}
 use Rattle.tp_exec.specs.declared.idle.Idle.{Idle}
 use Rattle.tp_exec.specs.declared.played.Played.{Played}
@@ -29,7 +29,7 @@ use Rattle.tp_exec.specs.Settlings.{IsSoundJournal}
 abbrev pub idle_of : Played → Idle
 idle_of p = record { owner = p.worker.owner; desk = p.worker.desk; outcome = p.outcome }
 
-abbrev pub outbox_of : Played → List Sending
+abbrev pub outbox_of : Played → List SenderLedger
 outbox_of p = p.worker.outbox
 
 -- the history of the component of this number, empty where there is no such component
@@ -45,59 +45,59 @@ abbrev pub links_to : List Idle → List Link
 links_to idles = flat_map (λ (x : Idle). links_in x.owner.inbox) idles
 
 -- the table has, for this route, how many messages the sender has put on it
-abbrev pub IsFiled : {S : Type 0} → IndexMap RouteId ℕ S → Sending → RouteId → Type 0
+abbrev pub IsFiled : {S : Type 0} → IndexMap RouteId ℕ S → SenderLedger → RouteId → Type 0
 IsFiled counts s r = get route_eq counts r ≡ Some (length (posted_on r s.ledger))
 
 -- the same of each of the sender's routes
-abbrev pub AreFiledOf : {S : Type 0} → IndexMap RouteId ℕ S → Sending → Type 0
+abbrev pub AreFiledOf : {S : Type 0} → IndexMap RouteId ℕ S → SenderLedger → Type 0
 AreFiledOf counts s = All (IsFiled counts s) s.routes
 
 -- no route of the one sender is one of the other
-abbrev pub ShareNone : Sending → Sending → Type 0
+abbrev pub ShareNone : SenderLedger → SenderLedger → Type 0
 ShareNone s t = All (λ (r : RouteId). All (λ (q : RouteId). q ≢ r) t.routes) s.routes
 
 -- how many messages were put on the route is counted
-abbrev pub IsCounted : List (RouteId × ℕ) → Sending → RouteId → Type 0
+abbrev pub IsCounted : List (RouteId × ℕ) → SenderLedger → RouteId → Type 0
 IsCounted counts s r = count_of r counts ≡ length (posted_on r s.ledger)
 
 -- each component, whose history is this, has those of the senders on these links that are from it, in their order, and
 -- has noted what they have put
-pub record AreAtHand (logs : ℕ → List Entry) (hands : List (IntoIter Sending Global)) (links : List Link) : Type 0 where
-  pub each : (k : ℕ) (d : IntoIter Sending Global) → k < length hands
+pub record AreAtHand (logs : ℕ → List Entry) (hands : List (IntoIter SenderLedger Global)) (links : List Link) : Type 0 where
+  pub each : (k : ℕ) (d : IntoIter SenderLedger Global) → k < length hands
       → map end_of (into_iter_items (slice_index_or hands k d)) ≡ filter (comes_from k) links
-  pub noted : (k : ℕ) (d : IntoIter Sending Global) → k < length hands
-      → All (IsNoted (logs k)) (into_iter_items (slice_index_or hands k d))
+  pub noted : (k : ℕ) (d : IntoIter SenderLedger Global) → k < length hands
+      → All (IsLedgerOf (logs k)) (into_iter_items (slice_index_or hands k d))
   pub within : All (λ (link : Link). link.1.0 < length hands) links
 
 -- the sender is that on this link, and its component has noted what it has put
-abbrev pub IsHandedBack : (ℕ → List Entry) → Link → Sending → Type 0
-IsHandedBack logs link s = (end_of s ≡ link) × IsNoted (logs link.1.0) s
+abbrev pub IsHandedBack : (ℕ → List Entry) → Link → SenderLedger → Type 0
+IsHandedBack logs link s = (end_of s ≡ link) × IsLedgerOf (logs link.1.0) s
 
 -- whoever has senders has, first of all, those on these links
-abbrev pub CanTake : List (IntoIter Sending Global) → List Link → Type 0
+abbrev pub CanTake : List (IntoIter SenderLedger Global) → List Link → Type 0
 CanTake hands links = (logs : ℕ → List Entry) × (more : List Link) × AreAtHand logs hands (links ++ more)
 
 -- without those on these links they have all others
-abbrev pub Leaves : List (IntoIter Sending Global) → List Link → List (IntoIter Sending Global) → Type 0
+abbrev pub Leaves : List (IntoIter SenderLedger Global) → List Link → List (IntoIter SenderLedger Global) → Type 0
 Leaves hands links after =
     (logs : ℕ → List Entry) (more : List Link) → AreAtHand logs hands (links ++ more) → AreAtHand logs after more
 
 -- those on these links are these
-abbrev pub Gives : List (IntoIter Sending Global) → List Link → List Sending → Type 0
+abbrev pub Gives : List (IntoIter SenderLedger Global) → List Link → List SenderLedger → Type 0
 Gives hands links senders =
     (logs : ℕ → List Entry) (more : List Link) → AreAtHand logs hands (links ++ more)
     → AllZip (IsHandedBack logs) links senders
 
 -- its inbox and its desk are those of one component, into which the inbox's routes lead, and what it has drained is
 -- what has arrived at the desk
-pub record IsIdle (s : Setup) (x : Idle) : Type 0 where
+pub record IsIdleComponent (s : Setup) (x : Idle) : Type 0 where
   pub desk : IsDeskOf x.owner.inbox x.desk
   pub arrived : arrivals x.desk.log ≡ x.owner.drained
   pub routes : x.owner.inbox.routes ≡ routes_into s x.desk.comp
 
 -- what has ended is this component, to which more has come, that is all; its history is a sound one, each arrival is of
 -- a route into its inbox, and there is a count for each
-pub record IsEndOf (x : Idle) (e : EndedComponent) : Type 0 where
+pub record IsEndingOf (x : Idle) (e : EndedComponent) : Type 0 where
   pub outcome : e.outcome ≡ x.outcome
   pub comp : e.desk.comp ≡ x.desk.comp
   pub ports : e.desk.ports ≡ x.desk.ports
@@ -124,12 +124,12 @@ pub record HasAll (logs : ℕ → List Entry) (inbox : Inbox) (e : EndedComponen
   pub sources : All (HasComeFrom logs inbox e) (sources_of inbox.routes)
 
 -- the component has ended, and all has come to it
-pub record IsDone (logs : ℕ → List Entry) (x : Idle) (e : EndedComponent) : Type 0 where
-  pub end : IsEndOf x e
+pub record HasEndedWithAll (logs : ℕ → List Entry) (x : Idle) (e : EndedComponent) : Type 0 where
+  pub end : IsEndingOf x e
   pub come : HasAll logs x.owner.inbox e
 
 -- all has come to the component that the senders into its inbox, of those that these have, have put
-abbrev pub AllCome : List (IntoIter Sending Global) → Idle → EndedComponent → Type 0
+abbrev pub AllCome : List (IntoIter SenderLedger Global) → Idle → EndedComponent → Type 0
 AllCome hands x e =
     (logs : ℕ → List Entry) (more : List Link) → AreAtHand logs hands (links_in x.owner.inbox ++ more)
     → HasAll logs x.owner.inbox e

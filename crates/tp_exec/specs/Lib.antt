@@ -13,3 +13,4 @@ pub mod OneOrder
 pub mod OrderProgress
 pub mod Greedy
 pub mod LookLaws
+pub mod MessageLaws

@@ -4,16 +4,16 @@ use Rattle.std.specs.Prelude.{◌≡◌, ℕ, ◌<◌, ◌+◌, ◌==◌, true, 
 use Rattle.std.specs.List.{filter_map}
 use Rattle.tp_config.specs.declared.port_type.CompId.{CompId}
 use Rattle.tp_play.specs.TestCases.{Made}
-use Rattle.tp_inbox.specs.declared.entry.Entry.{Entry}
-use Rattle.tp_inbox.specs.declared.posted.Posted.{Posted}
-use Rattle.tp_inbox.specs.History.{arrived_from, sending_to}
+use Rattle.tp_history.specs.declared.entry.Entry.{Entry}
+use Rattle.tp_history.specs.declared.posted.Posted.{Posted}
+use Rattle.tp_history.specs.History.{arrived_from, sending_to}
 use Rattle.tp_report.specs.declared.report.CompReport.{CompReport}
 use Rattle.tp_report.specs.declared.report.Report.{Report}
 use Rattle.tp_behaviour.specs.Fresh.{LooksAtPorts}
 use Rattle.tp_exec.specs.Delivery.{IsReportOf}
 use Rattle.tp_exec.specs.Order.{Spot}
-use Rattle.tp_exec.specs.OneOrder.{HasOneOrder, IsAt, IsOrderOf, came_before, entry_at, log_in, logs_of, sends_to}
-use Rattle.tp_exec.specs.Greedy.{many, sends}
+use Rattle.tp_exec.specs.OneOrder.{HasOneOrder, IsAt, IsOrderOf, came_before, entry_at_spot, log_in, logs_of, sends_to}
+use Rattle.tp_exec.specs.Greedy.{many, count_sent_to}
 
 -- what the entry sends to the component
 abbrev pub sending_in : CompId → Option Entry → Option Posted
@@ -22,7 +22,7 @@ sending_in d None = None
 
 -- what is sent to the component d at this spot, where the spot is one of c
 abbrev pub posted_at : List (List Entry) → CompId → CompId → Spot → Option Posted
-posted_at logs c d a = cond (c.0 == a.comp) (sending_in d (entry_at logs a)) None
+posted_at logs c d a = cond (c.0 == a.comp) (sending_in d (entry_at_spot logs a)) None
 
 -- what c sends to d at these spots, in their order
 abbrev pub posted_by : List (List Entry) → CompId → CompId → List Spot → List Posted
@@ -41,12 +41,12 @@ LooksSeeSent =
 -- c sends to d at the place p of its history, and looks at ports at the place q behind it; and the look missed what d sent
 -- at its place r: fewer messages of d had come to c before it than d sends to c up to r, with what stands at r
 pub record Misses (logs : List (List Entry)) (c p q d r : ℕ) : Type 0 where
-  pub sent : sends_to d (entry_at logs (record { comp = c; place = p })) ≡ true
+  pub sent : sends_to d (entry_at_spot logs (record { comp = c; place = p })) ≡ true
   pub behind : p < q
   pub look : Entry
-  pub stands : entry_at logs (record { comp = c; place = q }) ≡ Some look
+  pub stands : entry_at_spot logs (record { comp = c; place = q }) ≡ Some look
   pub looks : LooksAtPorts look
-  pub fewer : many d (came_before logs (record { comp = c; place = q })) < sends c (take (r + 1) (log_in logs d))
+  pub fewer : many d (came_before logs (record { comp = c; place = q })) < count_sent_to c (take (r + 1) (log_in logs d))
 
 -- where one order gives the histories, not both of two components which each send to the other and then look have missed
 -- what the other sent there; nor has one component which sends to itself, where c and d are the same

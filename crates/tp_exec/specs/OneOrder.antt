@@ -3,9 +3,9 @@
 -- A component is known by its number, and what it did by its place in the component's history: both are a spot.
 use Rattle.std.specs.Prelude.{◌≡◌, ℕ, ◌<◌, ◌==◌, ◌++◌, Bool, false, cond, Option, Some, None, List, [], map, take, slice_get, slice_index_or}
 use Rattle.std.specs.List.{filter_map}
-use Rattle.tp_inbox.specs.declared.entry.Entry.{Entry}
-use Rattle.tp_inbox.specs.declared.entry.Entry.TheVariants as entry
-use Rattle.tp_inbox.specs.History.{is_arrival}
+use Rattle.tp_history.specs.declared.entry.Entry.{Entry}
+use Rattle.tp_history.specs.declared.entry.Entry.TheVariants as entry
+use Rattle.tp_history.specs.History.{is_arrival}
 use Rattle.tp_report.specs.declared.report.CompReport.{CompReport}
 use Rattle.tp_report.specs.declared.report.Report.{Report}
 use Rattle.tp_behaviour.specs.Fresh.{LooksAtPorts}
@@ -20,13 +20,13 @@ abbrev pub log_in : List (List Entry) → ℕ → List Entry
 log_in logs c = slice_index_or logs c []
 
 -- what stands at the spot
-abbrev pub entry_at : List (List Entry) → Spot → Option Entry
-entry_at logs a = slice_get (log_in logs a.comp) a.place
+abbrev pub entry_at_spot : List (List Entry) → Spot → Option Entry
+entry_at_spot logs a = slice_get (log_in logs a.comp) a.place
 
 -- at the spot stands what its component did itself
 pub record IsOwn (logs : List (List Entry)) (a : Spot) : Type 0 where
   pub act : Entry
-  pub stands : entry_at logs a ≡ Some act
+  pub stands : entry_at_spot logs a ≡ Some act
   pub own : is_arrival act ≡ false
 
 -- the sender of the message that came, where the entry is an arrival
@@ -45,7 +45,7 @@ sends_to d _ = false
 
 -- the component of the spot, where a sending to the component d stands there
 abbrev pub sender_to : List (List Entry) → ℕ → Spot → Option ℕ
-sender_to logs d a = cond (sends_to d (entry_at logs a)) (Some a.comp) None
+sender_to logs d a = cond (sends_to d (entry_at_spot logs a)) (Some a.comp) None
 
 -- the senders of what is sent to the component at these spots, in their order
 abbrev pub senders_to : List (List Entry) → ℕ → List Spot → List ℕ
@@ -56,8 +56,8 @@ abbrev pub came_before : List (List Entry) → Spot → List ℕ
 came_before logs a = sources (take a.place (log_in logs a.comp))
 
 -- the one list is the other, or its front
-abbrev pub IsFrontOf : List ℕ → List ℕ → Type 0
-IsFrontOf front whole = (rest : List ℕ) × (front ++ rest ≡ whole)
+abbrev pub IsFrontOf : {X : Type 0} → List X → List X → Type 0
+IsFrontOf {X} front whole = (rest : List X) × (front ++ rest ≡ whole)
 
 -- the spot is the one at this place of the order
 abbrev pub IsAt : List Spot → ℕ → Spot → Type 0
@@ -79,7 +79,7 @@ pub record IsOrderOf (logs : List (List Entry)) (order : List Spot) : Type 0 whe
   -- what had come to a component before it did something was sent before that: so much, by those senders, in their turn
   pub sent : (i : ℕ) (a : Spot) → IsAt order i a → IsFrontOf (came_before logs a) (senders_to logs a.comp (take i order))
   -- and where it looks at ports that is all that was sent to it before
-  pub seen : (i : ℕ) (a : Spot) (e : Entry) → IsAt order i a → entry_at logs a ≡ Some e → LooksAtPorts e
+  pub seen : (i : ℕ) (a : Spot) (e : Entry) → IsAt order i a → entry_at_spot logs a ≡ Some e → LooksAtPorts e
       → came_before logs a ≡ senders_to logs a.comp (take i order)
   -- in the end all that was sent has come
   pub ended : (c : ℕ) → sources (log_in logs c) ≡ senders_to logs c order

@@ -2,8 +2,8 @@
 use Rattle.std.specs.Prelude.{◌≡◌, ◌≢◌, ◌<◌, ◌==◌, ◌++◌, ℕ, Bool, Some, List, [], ◌∷◌, All, AllPairs, filter, length, map, slice_get, slice_set}
 use Rattle.tp_config.specs.Setup.{Setup, ports_at}
 use Rattle.tp_config.specs.Routes.{routes_into}
-use Rattle.tp_inbox.specs.Desks.{Journal, new_desk}
-use Rattle.tp_inbox.specs.Ledgers.{Draining, Sending, end_of}
+use Rattle.tp_history.specs.Desks.{Journal, new_desk}
+use Rattle.tp_inbox.specs.Ledgers.{Draining, SenderLedger, end_of}
 use Rattle.tp_behaviour.specs.declared.worker.Worker.{Worker}
 use Rattle.tp_exec.specs.declared.inboxes.Opened.{Opened}
 use Rattle.tp_exec.specs.Rounds.{all_links, comp_at}
@@ -13,7 +13,7 @@ abbrev pub IsBare : Worker → Type 0
 IsBare x = x.outbox ≡ []
 
 -- nothing was put by the sender
-abbrev pub IsUnused : Sending → Type 0
+abbrev pub IsUnused : SenderLedger → Type 0
 IsUnused y = y.ledger ≡ []
 
 -- the worker has the inbox and the desk of the component of this number, and nothing has happened there
@@ -35,32 +35,32 @@ pub record AreOpened (s : Setup) (n : ℕ) (o : Opened) : Type 0 where
   pub closers : length o.closers.items ≡ n
 
 -- the sender is that of the component of this number
-abbrev pub is_of : ℕ → Sending → Bool
+abbrev pub is_of : ℕ → SenderLedger → Bool
 is_of k y = y.source.0 == k
 
 -- the sender is that of one of the components of these workers
-abbrev pub IsFromOneOf : List Worker → Sending → Type 0
+abbrev pub IsFromOneOf : List Worker → SenderLedger → Type 0
 IsFromOneOf workers y = y.source.0 < length workers
 
 -- two senders of one component put into the inboxes of two
-abbrev pub AreTwo : Sending → Sending → Type 0
+abbrev pub AreTwo : SenderLedger → SenderLedger → Type 0
 AreTwo y z = y.source ≡ z.source → y.inbox.comp ≢ z.inbox.comp
 
 -- no component has two senders into one inbox
-abbrev pub AreApart : List Sending → Type 0
+abbrev pub AreApart : List SenderLedger → Type 0
 AreApart senders = AllPairs AreTwo senders
 
 -- the worker of its component has no sender into its inbox
-abbrev pub IsFirstThere : List Worker → Sending → Type 0
+abbrev pub IsFirstThere : List Worker → SenderLedger → Type 0
 IsFirstThere workers y =
-    (x : Worker) → slice_get workers y.source.0 ≡ Some x → All (λ (z : Sending). z.inbox.comp ≢ y.inbox.comp) x.outbox
+    (x : Worker) → slice_get workers y.source.0 ≡ Some x → All (λ (z : SenderLedger). z.inbox.comp ≢ y.inbox.comp) x.outbox
 
 -- the worker with one sender more
-abbrev pub giving : Worker → Sending → Worker
+abbrev pub giving : Worker → SenderLedger → Worker
 giving x y = record x { outbox = x.outbox ++ y ∷ [] }
 
 -- the sender has come to the worker of its component, and nothing else has changed
-abbrev pub HasGiven : Sending → List Worker → List Worker → Type 0
+abbrev pub HasGiven : SenderLedger → List Worker → List Worker → Type 0
 HasGiven y before after =
     (x : Worker) × (slice_get before y.source.0 ≡ Some x) × (after ≡ slice_set before y.source.0 (giving x y))
 
@@ -69,6 +69,6 @@ abbrev pub rest_of : Worker → Draining × Journal
 rest_of x = (x.owner, x.desk)
 
 -- each worker, which had no sender, has those of its component, in their order, and nothing else has changed
-pub record AreHandedOut (before : List Worker) (all : List Sending) (after : List Worker) : Type 0 where
+pub record AreHandedOut (before : List Worker) (all : List SenderLedger) (after : List Worker) : Type 0 where
   pub same : map rest_of after ≡ map rest_of before
   pub senders : (k : ℕ) (x : Worker) → slice_get after k ≡ Some x → x.outbox ≡ filter (is_of k) all

@@ -1,14 +1,14 @@
 -- How far the histories of a run's components are gone through, on the way to one order.
 use Rattle.std.specs.Prelude.{◌≡◌, ℕ, ◌<◌, ◌≤◌, ◌+◌, ◌^◌, Some, List, length, map, take, slice_index, slice_set}
-use Rattle.tp_inbox.specs.declared.entry.Entry.{Entry}
-use Rattle.tp_inbox.specs.declared.entry.Entry.TheVariants as entry
+use Rattle.tp_history.specs.declared.entry.Entry.{Entry}
+use Rattle.tp_history.specs.declared.entry.Entry.TheVariants as entry
 use Rattle.tp_behaviour.specs.Fresh.{LooksAtPorts}
 use Rattle.tp_exec.specs.declared.kind.EntryKind.{EntryKind}
 use Rattle.tp_exec.specs.declared.kind.EntryKind.TheVariants as kind
 use Rattle.tp_exec.specs.declared.kind.AwaitedArrival.{AwaitedArrival}
 use Rattle.tp_exec.specs.declared.progress.OrderProgress.{OrderProgress}
 use Rattle.tp_exec.specs.Order.{Spot}
-use Rattle.tp_exec.specs.OneOrder.{IsAt, IsFrontOf, IsOwn, came_before, entry_at, log_in, senders_to, sources}
+use Rattle.tp_exec.specs.OneOrder.{IsAt, IsFrontOf, IsOwn, came_before, entry_at_spot, log_in, senders_to, sources}
 
 -- what an entry is for the order
 abbrev pub kind_of : Entry → EntryKind
@@ -30,18 +30,18 @@ abbrev pub awaited_sources : List AwaitedArrival → List ℕ
 awaited_sources all_awaited = map (λ x. x.source) all_awaited
 
 -- the spot may follow these in an order
-pub record MayFollow (logs : List (List Entry)) (before : List Spot) (a : Spot) : Type 0 where
+pub record MayComeNext (logs : List (List Entry)) (before : List Spot) (a : Spot) : Type 0 where
   pub own : IsOwn logs a
   pub new : (i : ℕ) → ¬ IsAt before i a
   pub kept : (j : ℕ) → j < a.place → IsOwn logs (record { comp = a.comp; place = j })
       → (i : ℕ) × IsAt before i (record { comp = a.comp; place = j })
   pub sent : IsFrontOf (came_before logs a) (senders_to logs a.comp before)
-  pub seen : (e : Entry) → entry_at logs a ≡ Some e → LooksAtPorts e → came_before logs a ≡ senders_to logs a.comp before
+  pub seen : (e : Entry) → entry_at_spot logs a ≡ Some e → LooksAtPorts e → came_before logs a ≡ senders_to logs a.comp before
 
 -- the order has all that the components did themselves before these places; so many messages that came to each stand
 -- there, and so many were sent to it by those in the order
 pub record IsGone (logs : List (List Entry)) (at came out : ℕ → ℕ) (order : List Spot) : Type 0 where
-  pub follows : (i : ℕ) (a : Spot) → IsAt order i a → MayFollow logs (take i order) a
+  pub follows : (i : ℕ) (a : Spot) → IsAt order i a → MayComeNext logs (take i order) a
   pub each : (a : Spot) → IsOwn logs a → a.place < at a.comp → (i : ℕ) × IsAt order i a
   pub below : (i : ℕ) (a : Spot) → IsAt order i a → a.place < at a.comp
   pub known : (c : ℕ) → length (sources (take (at c) (log_in logs c))) ≡ came c

@@ -1,11 +1,11 @@
 -- What a report has of what a run came to, and why there is none.
 use Rattle.std.specs.Prelude.{◌≡◌, ◌+◌, ℕ, zero, suc, Option, Some, None, List, All, map, slice_get, string_bytes}
-use Rattle.tp_config.specs.Setup.{Setup, names}
-use Rattle.tp_inbox.specs.declared.entry.Entry.{Entry}
+use Rattle.tp_config.specs.Setup.{Setup, names_of_components}
+use Rattle.tp_history.specs.declared.entry.Entry.{Entry}
 use Rattle.tp_play.specs.Behaviours.{Behaviour}
 use Rattle.tp_play.specs.TestCases.{Made, behaviour_at}
-use Rattle.tp_inbox.specs.declared.ending.End.{End}
-use Rattle.tp_inbox.specs.declared.ending.End.TheVariants as end
+use Rattle.tp_history.specs.declared.ending.End.{End}
+use Rattle.tp_history.specs.declared.ending.End.TheVariants as end
 use Rattle.tp_report.specs.declared.report.CompReport.{CompReport}
 use Rattle.tp_report.specs.Verdicts.{local_verdict}
 use Rattle.tp_behaviour.specs.declared.outcome.Outcome.{Outcome}
@@ -45,7 +45,7 @@ end_as (outcome.Waiting guards) = end.Waiting
 -- this is reported of the component: its name, its ports and its history, its end, its verdict, and the numbers of its
 -- routes
 pub record IsReportedAs (s : Setup) (e : EndedComponent) (x : CompReport) : Type 0 where
-  pub name : slice_get (names s) e.desk.comp.0 ≡ Some (string_bytes x.name)
+  pub name : slice_get (names_of_components s) e.desk.comp.0 ≡ Some (string_bytes x.name)
   pub desk : x.desk ≡ e.desk
   pub ending : x.ending ≡ end_as e.outcome
   pub verdict : x.verdict ≡ local_verdict e.desk.log

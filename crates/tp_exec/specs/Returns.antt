@@ -25,7 +25,7 @@ abbrev pub worker_number : Worker → ℕ
 worker_number x = x.owner.inbox.comp.0
 
 -- the worker is that of its component, and has done nothing yet
-pub record IsWaiting (made : Made) (x : Worker) : Type 0 where
+pub record IsYetToBegin (made : Made) (x : Worker) : Type 0 where
   pub worker_of : IsWorkerOf made.config (worker_number x) x
   pub begun : HasNotBegun x
 

@@ -1,17 +1,17 @@
 -- What a run comes to once all messages have come.
 use Rattle.std.specs.Prelude.{◌≡◌, ◌<◌, ◌++◌, ℕ, Some, List, All, Contains, length, map, slice_get}
-use Rattle.tp_queue.specs.declared.event.Env.{Env}
+use Rattle.tp_event.specs.declared.event.Env.{Env}
 use Rattle.tp_queue.specs.History.{Lawful}
 use Rattle.tp_value.specs.declared.message.Message.{Message}
 use Rattle.tp_config.specs.declared.port_type.CompId.{CompId}
 use Rattle.tp_config.specs.declared.port_type.RouteId.{RouteId}
 use Rattle.tp_config.specs.Setup.{Setup, ports_at}
 use Rattle.tp_config.specs.Routes.{routes_into}
-use Rattle.tp_inbox.specs.declared.entry.Entry.{Entry}
-use Rattle.tp_inbox.specs.declared.entry.Entry.TheVariants as entry
-use Rattle.tp_inbox.specs.declared.stamped.Stamped.{Stamped}
-use Rattle.tp_inbox.specs.Desks.{IsWithin, Journal, at_port}
-use Rattle.tp_inbox.specs.History.{IsClocked, arrived_on, count_of, numbered, sent_on}
+use Rattle.tp_history.specs.declared.entry.Entry.{Entry}
+use Rattle.tp_history.specs.declared.entry.Entry.TheVariants as entry
+use Rattle.tp_history.specs.declared.stamped.Stamped.{Stamped}
+use Rattle.tp_history.specs.Desks.{IsWithin, Journal, at_port}
+use Rattle.tp_history.specs.History.{IsClocked, arrived_on, count_of, numbered, sent_on}
 use Rattle.tp_inbox.specs.Routed.{rest_arrivals}
 use Rattle.tp_play.specs.TestCases.{Made, behaviour_at}
 use Rattle.tp_behaviour.specs.Fresh.{Fresh}
@@ -74,7 +74,7 @@ IsSentOut s c _ = Unit {0}
 
 -- a component of a run: it is at its place, it has done what it is there for, each operation was a fresh one, and its
 -- history is a sound one
-pub record IsComponentOf (made : Made) (k : ℕ) (e : EndedComponent) : Type 0 where
+pub record IsEndedComponentOf (made : Made) (k : ℕ) (e : EndedComponent) : Type 0 where
   pub comp : e.desk.comp ≡ comp_at k
   pub ports : e.desk.ports ≡ length (ports_at made.config.types made.config.components (comp_at k))
   pub ended : BehaviourEnded made.config (comp_at k) (behaviour_at made k) e.outcome e.desk.log
@@ -85,5 +85,5 @@ pub record IsComponentOf (made : Made) (k : ℕ) (e : EndedComponent) : Type 0 w
 
 -- what a run of the test case came to
 pub record IsOfARun (made : Made) (ended : List EndedComponent) : Type 0 where
-  pub each : (k : ℕ) (e : EndedComponent) → slice_get ended k ≡ Some e → IsComponentOf made k e
+  pub each : (k : ℕ) (e : EndedComponent) → slice_get ended k ≡ Some e → IsEndedComponentOf made k e
   pub come : HasAllCome made.config ended

@@ -2,7 +2,7 @@
 ghost use Rattle.std.specs.Prelude.{◌≡◌, ℕ, All, AllPairs, Contains, IfOk, OnOk, Some, map};
 ghost use Rattle.indexmap.specs.IndexMap.{get};
 ghost use Rattle.tp_config.specs.declared.port_type.RouteId.{RouteId as Route};
-ghost use Rattle.tp_inbox.specs.Ledgers.{Sending};
+ghost use Rattle.tp_inbox.specs.Ledgers.{SenderLedger};
 ghost use Rattle.tp_inbox.specs.Places.{KeepsOtherRoutes, route_eq};
 ghost use Rattle.tp_behaviour.specs.Outboxes.{routes_of};
 ghost use Rattle.tp_exec.specs.Held.{AreFiledOf, IsCounted, ShareNone};
@@ -83,7 +83,7 @@ pub(crate) fn count_all(
     requires apart { AllPairs ShareNone senders.now }
     requires theirs { All (Contains (routes_of senders.now)) routes.items }
     ensures routes { IfOk result (λ all. map (λ n. n.0) all.items ≡ routes.items) }
-    ensures counted { IfOk result (λ all. (s : Sending) (r : Route) →
+    ensures counted { IfOk result (λ all. (s : SenderLedger) (r : Route) →
         Contains senders.now s → Contains s.routes r → Contains routes.items r
         → IsCounted all.items s r) }
 {

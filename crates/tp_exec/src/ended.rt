@@ -1,7 +1,7 @@
 //! What is left of a component once all messages have come.
 use tp_behaviour::outcome::Outcome;
 use tp_config::port_type::RouteId;
-use tp_inbox::desk::Desk;
+use tp_history::desk::Desk;
 
 /// A component to which all has come that was sent to it.
 #[derive(Drop)]

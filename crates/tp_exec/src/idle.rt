@@ -1,6 +1,6 @@
 //! A component that has given its senders back.
 use tp_behaviour::outcome::Outcome;
-use tp_inbox::desk::Desk;
+use tp_history::desk::Desk;
 use tp_inbox::owner::Owner;
 
 /// A component whose behaviour has ended, without its senders.

@@ -14,7 +14,7 @@ use tp_behaviour::worker::Worker;
 use tp_config::config::Config;
 use tp_config::port_type::CompId;
 use tp_floor::floor::Floor;
-use tp_inbox::desk::Desk;
+use tp_history::desk::Desk;
 use tp_inbox::making::inbox;
 use tp_inbox::owner::Closer;
 use tp_inbox::sender::Sender;

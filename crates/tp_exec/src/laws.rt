@@ -1,6 +1,7 @@
 //! Laws of what a report promises, each as a function whose contract it is. They do nothing.
 ghost use Rattle.tp_exec.specs.Laws.{RoutesFollow, TracesAreLawful};
 ghost use Rattle.tp_exec.specs.LookLaws.{CrossedLooks, LooksSeeSent};
+ghost use Rattle.tp_exec.specs.MessageLaws.{DeliveryIsCausal, MessagesComeAsSent};
 
 /// The law that what is delivered between two components is delivered on each route from the one to
 /// the other.
@@ -24,4 +25,16 @@ pub fn looks_see_sent()
 /// the other's message, in any histories that one order gives.
 pub fn crossed_looks()
     ensures { CrossedLooks }
+{}
+
+/// The law that in an order which gives the histories of a report all messages to a component come
+/// as they are sent: before it has one on top of a queue it has got all that was sent to it before.
+pub fn messages_come_as_sent()
+    ensures { MessagesComeAsSent }
+{}
+
+/// The law that in a report which one order gives delivery is causal: of two messages to one
+/// component that comes first whose sending happened before the other's.
+pub fn delivery_is_causal()
+    ensures { DeliveryIsCausal }
 {}

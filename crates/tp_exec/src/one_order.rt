@@ -6,13 +6,13 @@ ghost use Rattle.tp_report.specs.declared.report.CompReport.{CompReport as Repor
 ghost use Rattle.tp_exec.specs.OneOrder.{HasOneOrder, log_in, logs_of, sources};
 ghost use Rattle.tp_exec.specs.OrderProgress.{HasSpace, HasSize, affected, awaited_sources};
 ghost use Rattle.tp_exec.specs.OrderProgress.{kind_of as kind_of_entry, came_then, sent_then};
-ghost use Rattle.tp_exec.specs.Greedy.{AreAfter, AreAwaitedOf, CanDo, IsProgress, IsHeld, IsStuck};
+ghost use Rattle.tp_exec.specs.Greedy.{AreAfter, AreAwaitedOf, CanHappen, IsProgress, CannotGoOn, IsStuck};
 ghost use Rattle.tp_exec.specs.Greedy.{MaySend};
 
 use crate::kind::{AwaitedArrival, EntryKind};
 use crate::progress::OrderProgress;
 use std::alloc::Global;
-use tp_inbox::entry::Entry;
+use tp_history::entry::Entry;
 use tp_refusal::memory::Memory;
 use tp_report::report::CompReport;
 
@@ -108,7 +108,7 @@ fn is_possible(
     requires within { c < length all_awaited.now }
     ensures can { (components : List Report) → AreAwaitedOf components all_awaited.now
         → (IsTrue result
-        ↔ CanDo (logs_of components) (slice_index progress.now.places.items)
+        ↔ CanHappen (logs_of components) (slice_index progress.now.places.items)
         (slice_index progress.now.came.items) (slice_index progress.now.sent.items) c kind) }
     ensures space { IsTrue result →
         HasSpace progress.now.came.items progress.now.sent.items c kind }
@@ -164,7 +164,7 @@ fn step(
     ensures progress { IsProgress (logs_of components.now) progress.new }
     ensures ahead { IfSome result (λ d. (d < length components.now)
         × (sum progress.new.places.items ≡ sum progress.old.places.items + 1)) }
-    ensures held { IfNone result (IsHeld (logs_of components.now)
+    ensures held { IfNone result (CannotGoOn (logs_of components.now)
         (slice_index progress.old.places.items) (slice_index progress.old.came.items)
         (slice_index progress.old.sent.items) c) }
     ensures same { IfNone result (progress.new ≡ progress.old) }

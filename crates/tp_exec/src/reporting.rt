@@ -17,7 +17,7 @@ use crate::waiting::are_at_rest;
 use std::alloc::Global;
 use tp_behaviour::outcome::Outcome;
 use tp_config::config::Config;
-use tp_inbox::ending::End;
+use tp_history::ending::End;
 use tp_play::test_case::TestCase;
 use tp_refusal::memory::Memory;
 use tp_report::report::{CompReport, Report};

@@ -2,12 +2,12 @@
 ghost use Rattle.std.specs.Prelude.{◌≡◌, ◌++◌, ◌<◌, All, Contains, IfOk, OnOk, map};
 ghost use Rattle.tp_config.specs.declared.port_type.RouteId.{RouteId as Route};
 ghost use Rattle.tp_config.specs.Routes.{routes_into};
-ghost use Rattle.tp_inbox.specs.Desks.{adding_all};
-ghost use Rattle.tp_inbox.specs.History.{arrivals};
-ghost use Rattle.tp_inbox.specs.Ledgers.{AreSenders, IsDeskOf, Sending, put_by};
-ghost use Rattle.tp_inbox.specs.Routed.{AreDelivered, AreNumbered, AreRoutes, IsArrivalOn};
+ghost use Rattle.tp_history.specs.Desks.{adding_all};
+ghost use Rattle.tp_history.specs.History.{arrivals};
+ghost use Rattle.tp_inbox.specs.Ledgers.{AreSenders, IsDeskOf, SenderLedger, put_by};
+ghost use Rattle.tp_inbox.specs.Routed.{AreDelivered, AreArrivalsNumbered, AreRoutes, IsArrivalOn};
 ghost use Rattle.tp_inbox.specs.Routed.{rest_arrivals};
-ghost use Rattle.tp_exec.specs.Held.{AllCome, CanTake, Gives, IsCounted, IsEndOf, IsIdle, Leaves};
+ghost use Rattle.tp_exec.specs.Held.{AllCome, CanTake, Gives, IsCounted, IsEndingOf, IsIdleComponent, Leaves};
 ghost use Rattle.tp_exec.specs.Rounds.{AreWorkers, workers_of, links_in};
 ghost use Rattle.tp_exec.specs.Settlings.{AreSettled};
 
@@ -21,11 +21,11 @@ use std::sync::Wait;
 use std::vec::IntoIter;
 use tp_config::config::Config;
 use tp_config::port_type::RouteId;
-use tp_inbox::desk::Desk;
+use tp_event::event::Env;
+use tp_history::desk::Desk;
 use tp_inbox::gathered::{Rest, gather};
 use tp_inbox::owner::Owner;
 use tp_inbox::sender::Sender;
-use tp_queue::event::Env;
 use tp_refusal::memory::Memory;
 use tp_value::message::Message;
 
@@ -54,7 +54,7 @@ fn settle<R: Wait>(rt: &R, owner: Owner, desk: &Desk, senders: Vec<Sender>) -> R
     ensures are { AreRoutes owner.inbox.comp owner.inbox.ports owner.inbox.routes }
     ensures delivered { IfOk result (λ rest. AreDelivered owner.inbox.comp
         (desk.now.log ++ rest_arrivals rest.items) (map put_by senders.items)) }
-    ensures numbered { IfOk result (λ rest. AreNumbered owner.inbox.routes
+    ensures numbered { IfOk result (λ rest. AreArrivalsNumbered owner.inbox.routes
         (desk.now.log ++ rest_arrivals rest.items)) }
     ensures routed { IfOk result (λ rest. All (IsArrivalOn owner.inbox.routes)
         (arrivals (desk.now.log ++ rest_arrivals rest.items))) }
@@ -86,7 +86,7 @@ fn take_senders(
         Gives hands.old.items (links_in idle.now.owner.inbox) taken.0.items) }
     ensures routes { IfOk result (λ taken.
         map (λ n. n.0) taken.1.items ≡ idle.now.owner.inbox.routes) }
-    ensures counted { IfOk result (λ taken. (s : Sending) (r : Route) →
+    ensures counted { IfOk result (λ taken. (s : SenderLedger) (r : Route) →
         Contains taken.0.items s → Contains s.routes r → Contains idle.now.owner.inbox.routes r
         → IsCounted taken.1.items s r) }
 {
@@ -107,11 +107,11 @@ fn settle_one<R: Wait>(
     idle: Idle,
     hands: &mut Vec<IntoIter<Sender>>,
 ) -> Result<EndedComponent, Memory>
-    requires idle { IsIdle config.now idle }
+    requires idle { IsIdleComponent config.now idle }
     requires held { CanTake hands.old.items (links_in idle.owner.inbox) }
     ensures held { OnOk result
         (Leaves hands.old.items (links_in idle.owner.inbox) hands.new.items) }
-    ensures end { IfOk result (IsEndOf idle) }
+    ensures end { IfOk result (IsEndingOf idle) }
     ensures come { IfOk result (AllCome hands.old.items idle) }
 {
     let (senders, counts) = take_senders(alloc, config, &idle, hands)?;

@@ -4,7 +4,7 @@ ghost use Rattle.std.specs.Prelude.{length, map, vec_capacity};
 ghost use Rattle.tp_play.specs.TestCases.{Made, behaviour_at};
 ghost use Rattle.tp_exec.specs.Faults.{IsThreadFault};
 ghost use Rattle.tp_exec.specs.Returns.{CanBegin, HasBehaved, HasReturned, IsBack, IsBusy};
-ghost use Rattle.tp_exec.specs.Returns.{IsTaskOf, IsWaiting, identity_of, identities_of, worker_number};
+ghost use Rattle.tp_exec.specs.Returns.{IsTaskOf, IsYetToBegin, identity_of, identities_of, worker_number};
 ghost use Rattle.tp_exec.specs.Rounds.{ArePlayed, AreWorkers, HasNotBegun, workers_of};
 ghost use Rattle.tp_exec.specs.Children.{IsChild, identity_at};
 
@@ -117,7 +117,7 @@ fn live<R: Wait, G: Gate>(
     context: &RunContext,
     worker: Worker,
 ) -> Result<Played, Memory>
-    requires waiting { IsWaiting test_case.now worker }
+    requires waiting { IsYetToBegin test_case.now worker }
     requires busy { IsBusy test_case.now worker }
     ensures { IfOk result (IsBack test_case.now worker) }
 {
@@ -130,7 +130,7 @@ fn live<R: Wait, G: Gate>(
 /// A component that has nothing to do has done it.
 fn done_at_once(worker: Worker) -> Played
     ensures same { result.worker ≡ worker }
-    ensures returned { (made : Made) → IsWaiting made worker →
+    ensures returned { (made : Made) → IsYetToBegin made worker →
         behaviour_at made (worker_number worker) ≡ None → HasReturned made result }
 {
     Played {
@@ -149,7 +149,7 @@ fn set_out<'s, E, R: Wait + Sync, G: Gate>(
     context: &'s RunContext,
     worker: Worker,
 ) -> Option<Child>
-    requires { IsWaiting test_case.now worker }
+    requires { IsYetToBegin test_case.now worker }
     ensures identity { IfSome result (λ child. identity_at child ≡ identity_of worker) }
     ensures child { IfSome result (IsChild test_case.now) }
 {
@@ -161,7 +161,7 @@ fn set_out<'s, E, R: Wait + Sync, G: Gate>(
         worker: Snapshot::of(&worker),
     };
     let play = move || -> Result<Played, Memory>
-        requires { IsWaiting test_case.now worker × IsBusy test_case.now worker }
+        requires { IsYetToBegin test_case.now worker × IsBusy test_case.now worker }
         ensures { IfOk result (IsBack test_case.entry.now worker) }
     { live(rt, gate, test_case, context, worker) };
     let Ok(handle) = scope.spawn_with(was, play) else {
@@ -225,7 +225,7 @@ fn play_each<R: Threads + Wait + Sync, G: Gate>(
     context: &RunContext,
     workers: Vec<Worker>,
 ) -> Result<Vec<Played>, RunFault>
-    requires { All (IsWaiting test_case.now) workers.items }
+    requires { All (IsYetToBegin test_case.now) workers.items }
     ensures identities { IfOk result (λ back.
         identities_of back.items ≡ map identity_of workers.items) }
     ensures returned { IfOk result (λ back. All (HasReturned test_case.now) back.items) }
@@ -235,7 +235,7 @@ fn play_each<R: Threads + Wait + Sync, G: Gate>(
         thread::scope_env(),
         rt,
         |scope| -> Result<Vec<Played>, RunFault>
-            requires { All (IsWaiting test_case.now) workers.items }
+            requires { All (IsYetToBegin test_case.now) workers.items }
             ensures identities { IfOk result (λ back.
                 identities_of back.items ≡ map identity_of workers.items) }
             ensures returned { IfOk result (λ back.

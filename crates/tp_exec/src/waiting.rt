@@ -7,8 +7,8 @@ ghost use Rattle.tp_exec.specs.Reporting.{IsAtRest};
 use crate::ended::EndedComponent;
 use tp_behaviour::choice::Guard;
 use tp_behaviour::outcome::Outcome;
-use tp_inbox::desk::Desk;
-use tp_queue::operation::ReceiveKind;
+use tp_event::operation::ReceiveKind;
+use tp_history::desk::Desk;
 
 /// Whether the operation discards a message that it doesn't take.
 fn discards(guard: &Guard) -> bool

@@ -3,7 +3,7 @@ use Rattle.std.proofs.Common.{◌≡◌, ◌<◌, ◌+◌, ◌++◌, ◌∷◌, 
 use Rattle.std.specs.Prelude.{slice_get}
 use Rattle.std.proofs.lemmas.List.{length_push}
 use Rattle.std.proofs.lemmas.Option.{slice_get_read}
-use Rattle.tp_inbox.specs.declared.entry.Entry.{Entry}
+use Rattle.tp_history.specs.declared.entry.Entry.{Entry}
 use Rattle.tp_report.specs.declared.report.CompReport.{CompReport}
 use Rattle.tp_exec.specs.declared.kind.AwaitedArrival.{AwaitedArrival}
 use Rattle.tp_exec.specs.OneOrder.{logs_of, sources}

@@ -2,7 +2,7 @@
 use Rattle.std.proofs.Common.{ℕ, ◌<◌, ◌+◌, ◌-◌, ◌*◌, All, length, map, sum, slice_index}
 use Rattle.tp_exec.specs.OneOrder.{logs_of}
 use Rattle.tp_exec.specs.OrderProgress.{HasSize}
-use Rattle.tp_exec.specs.Greedy.{IsProgress, IsHeld}
+use Rattle.tp_exec.specs.Greedy.{IsProgress, CannotGoOn}
 use Rattle.tp_exec.proofs.one_order.go_all.Given as goal
 
 abbrev pub invariant-loop-c : goal.invariant-loop-c
@@ -10,7 +10,7 @@ invariant-loop-c l = record {
   ready : All (λ x. x < length l.components) l.ready.items;
   size : HasSize l.progress (length l.components);
   progress : IsProgress (logs_of l.components) l.progress;
-  held : (k : ℕ) → k < l.c → IsHeld (logs_of l.components) (slice_index l.progress.places.items) (slice_index l.progress.came.items)
+  held : (k : ℕ) → k < l.c → CannotGoOn (logs_of l.components) (slice_index l.progress.places.items) (slice_index l.progress.came.items)
       (slice_index l.progress.sent.items) k;
 }
 

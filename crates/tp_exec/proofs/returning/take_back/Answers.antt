@@ -6,8 +6,8 @@ use Rattle.std.specs.declared.vec.IntoIter.{IntoIter}
 use Rattle.std.specs.Vec.Iter.{into_iter_items}
 use Rattle.std.proofs.lemmas.List.{append-nil}
 use Rattle.tp_config.specs.declared.port_type.CompId.{CompId}
-use Rattle.tp_inbox.specs.declared.entry.Entry.{Entry}
-use Rattle.tp_inbox.specs.Ledgers.{Inbox, Sending}
+use Rattle.tp_history.specs.declared.entry.Entry.{Entry}
+use Rattle.tp_inbox.specs.Ledgers.{Inbox, SenderLedger}
 use Rattle.tp_inbox.proofs.Gathering.{move_one}
 use Rattle.tp_exec.specs.Held.{AreAtHand, CanTake, IsHandedBack, links_by}
 use Rattle.tp_exec.specs.Rounds.{Link, link_by}
@@ -15,12 +15,12 @@ use Rattle.tp_exec.proofs.Holding.{no_rest}
 use Rattle.tp_exec.proofs.returning.take_back.Goals as goal
 
 -- the next link is the first
-next_held : (logs : ℕ → List Entry) (hands : List (IntoIter Sending Global)) (i : Inbox) (c : CompId) (cs rest : List CompId) (more : List Link)
+next_held : (logs : ℕ → List Entry) (hands : List (IntoIter SenderLedger Global)) (i : Inbox) (c : CompId) (cs rest : List CompId) (more : List Link)
     → cs ≡ c ∷ rest → AreAtHand logs hands (links_by i cs ++ more) → AreAtHand logs hands (link_by i c ∷ (links_by i rest ++ more))
 next_held logs hands i c cs rest more is h = subst (λ (ds : List CompId). AreAtHand logs hands (links_by i ds ++ more)) is h
 
 -- so it can be taken
-next_taken : (logs : ℕ → List Entry) (hands : List (IntoIter Sending Global)) (i : Inbox) (c : CompId) (cs rest : List CompId) (more : List Link)
+next_taken : (logs : ℕ → List Entry) (hands : List (IntoIter SenderLedger Global)) (i : Inbox) (c : CompId) (cs rest : List CompId) (more : List Link)
     → cs ≡ c ∷ rest → AreAtHand logs hands (links_by i cs ++ more) → CanTake hands (link_by i c ∷ [])
 next_taken logs hands i c cs rest more is h = (logs, links_by i rest ++ more, next_held logs hands i c cs rest more is h)
 

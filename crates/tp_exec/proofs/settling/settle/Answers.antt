@@ -1,8 +1,8 @@
 -- What had arrived and the rest are what the senders have put, on the inbox's routes and at ports that there are.
 use Rattle.std.proofs.Common.{ℕ, ◌<◌, ◌++◌, All, map, sym, subst}
-use Rattle.tp_queue.specs.declared.event.Env.{Env}
+use Rattle.tp_event.specs.declared.event.Env.{Env}
 use Rattle.tp_value.specs.declared.message.Message.{Message}
-use Rattle.tp_inbox.specs.Routed.{AreDelivered, AreNumbered, IsArrivalOn, rest_arrivals}
+use Rattle.tp_inbox.specs.Routed.{AreDelivered, AreArrivalsNumbered, IsArrivalOn, rest_arrivals}
 use Rattle.tp_inbox.specs.Ledgers.{Inbox, put_by}
 use Rattle.tp_inbox.proofs.Rests.{rest_within}
 use Rattle.tp_exec.proofs.Coming.{all_routed}
@@ -16,7 +16,7 @@ returns-in-Ok-clause-delivered g c =
 
 pub returns-in-Ok-clause-numbered : goal.returns-in-Ok-clause-numbered
 returns-in-Ok-clause-numbered g c =
-    subst (λ (i : Inbox). AreNumbered i.routes (c.args.desk.now.log ++ rest_arrivals c.in-Ok.rest.items)) c.gather-gathered.ensures.inbox
+    subst (λ (i : Inbox). AreArrivalsNumbered i.routes (c.args.desk.now.log ++ rest_arrivals c.in-Ok.rest.items)) c.gather-gathered.ensures.inbox
     c.in-Ok.ensures.numbered
 
 pub returns-in-Ok-clause-routed : goal.returns-in-Ok-clause-routed

@@ -1,9 +1,9 @@
 -- The senders that came back are the inbox's, and what they have put is what has come.
 use Rattle.std.proofs.Common.{◌≡◌, All, map, refl, sym, ap, subst}
-use Rattle.tp_inbox.specs.Desks.{Journal, adding_all}
-use Rattle.tp_inbox.specs.History.{arrivals}
+use Rattle.tp_history.specs.Desks.{Journal, adding_all}
+use Rattle.tp_history.specs.History.{arrivals}
 use Rattle.tp_inbox.specs.Ledgers.{put_by}
-use Rattle.tp_inbox.specs.Routed.{AreDelivered, AreNumbered, IsArrivalOn, rest_arrivals}
+use Rattle.tp_inbox.specs.Routed.{AreDelivered, AreArrivalsNumbered, IsArrivalOn, rest_arrivals}
 use Rattle.tp_exec.proofs.Coming.{are_senders, has_all}
 use Rattle.tp_exec.proofs.settling.settle_one.Goals as goal
 
@@ -39,5 +39,5 @@ returns-clause-come g c = λ logs more h.
     has_all logs i record { desk = c.append.new.desk; outcome = c.args.idle.outcome; counts = c.in_ok-senders.counts } ss
     (c.in_ok-senders.ensures.back logs more h)
     (subst (λ (j : Journal). AreDelivered i.comp j.log (map put_by ss)) (sym grown) c.in_ok-rest.ensures.delivered)
-    (subst (λ (j : Journal). AreNumbered i.routes j.log) (sym grown) c.in_ok-rest.ensures.numbered) c.settle.ensures.are.here
+    (subst (λ (j : Journal). AreArrivalsNumbered i.routes j.log) (sym grown) c.in_ok-rest.ensures.numbered) c.settle.ensures.are.here
     c.in_ok-senders.ensures.counted

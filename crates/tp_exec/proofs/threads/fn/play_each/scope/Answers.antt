@@ -8,7 +8,7 @@ use Rattle.std.proofs.lemmas.List.Elements.{All-nil, All-cons, All-append, All-r
 use Rattle.std.proofs.lemmas.Result.{IfOk-weaker}
 use Rattle.tp_inbox.proofs.Senders.{moved}
 use Rattle.tp_behaviour.specs.declared.worker.Worker.{Worker}
-use Rattle.tp_exec.specs.Returns.{IsWaiting, identity_of}
+use Rattle.tp_exec.specs.Returns.{IsYetToBegin, identity_of}
 use Rattle.tp_exec.specs.Children.{IsChild, identity_at}
 use Rattle.tp_exec.proofs.threads.fn.play_each.scope.Goals as goal
 
@@ -28,7 +28,7 @@ loop-worker-preserved-in-Some-set_out g c =
       children = subst (All (IsChild made)) (sym pushed)
           (All-append (IsChild made) c.loop-worker.children.items (child ∷ []) was.children
           (All-cons (IsChild made) child [] c.in-Some-set_out.ensures.child (All-nil (IsChild made))));
-      workers = All-rest (IsWaiting made) c.in-Some.worker rest _ steps was.workers;
+      workers = All-rest (IsYetToBegin made) c.in-Some.worker rest _ steps was.workers;
       space = let e = was.space in omega arith;
       empty = was.empty;
       list = let e = was.list in omega arith;
@@ -44,7 +44,7 @@ loop-worker-preserved g c =
     record {
       identities = λ fresh. absurd (true≢false fresh);
       children = was.children;
-      workers = All-rest (IsWaiting made) c.in-Some.worker rest _ steps was.workers;
+      workers = All-rest (IsYetToBegin made) c.in-Some.worker rest _ steps was.workers;
       space = let e = was.space in omega arith;
       empty = was.empty;
       list = let e = was.list in omega arith;

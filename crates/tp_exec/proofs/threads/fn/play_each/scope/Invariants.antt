@@ -1,7 +1,7 @@
 -- The components that have begun and those to come are all of them, and there is space for each.
 use Rattle.std.proofs.Common.{◌≡◌, ◌≤◌, ◌+◌, ◌++◌, [], All, length, map, false, vec_capacity}
 use Rattle.std.specs.Vec.Iter.{into_iter_items}
-use Rattle.tp_exec.specs.Returns.{IsWaiting, identity_of}
+use Rattle.tp_exec.specs.Returns.{IsYetToBegin, identity_of}
 use Rattle.tp_exec.specs.Children.{IsChild, identity_at}
 use Rattle.tp_exec.proofs.threads.fn.play_each.scope.Given as goal
 
@@ -11,7 +11,7 @@ invariant-loop-worker g l =
     record {
       identities : l.refused ≡ false → map identity_at l.children.items ++ map identity_of rest ≡ map identity_of (into_iter_items l.initial.worker-iterator);
       children : All (IsChild l.test_case.now) l.children.items;
-      workers : All (IsWaiting l.test_case.now) rest;
+      workers : All (IsYetToBegin l.test_case.now) rest;
       space : length l.children.items + length rest ≤ vec_capacity l.children;
       empty : l.back.items ≡ [];
       list : length l.children.items + length rest ≤ vec_capacity l.back;

@@ -1,0 +1,6 @@
+-- So it is in a report.
+use Rattle.tp_exec.proofs.AsSent.{messages_come_as_sent}
+use Rattle.tp_exec.proofs.laws.messages_come_as_sent.Goals as goal
+
+pub returns : goal.returns
+returns c = messages_come_as_sent
