@@ -3,7 +3,7 @@ use Rattle.std.proofs.Common.{◌≡◌, ℕ, Bool, true, false, Option, Some, N
 use Rattle.std.specs.Prelude.{IfNone, IfSome, MatchOption, OnSome}
 use Rattle.std.specs.Io.KnownBytes.{Appends, Keeps, append_known}
 use Rattle.tp_text.specs.declared.watched.Watched.{Watched}
-use Rattle.tp_text.specs.Watching.{AppendsFront, HasFailed, Writes, left_in}
+use Rattle.tp_text.specs.Watching.{AppendsFront, HasFailed, Writes, reader_left}
 use Rattle.tp_text.proofs.Writing.{not_both, writes_first}
 use Rattle.tp_port.specs.declared.replay.QueueFault.{QueueFault}
 use Rattle.tp_port.specs.declared.replay.QueueFault.TheVariants as q
@@ -91,7 +91,7 @@ module _ {W R : Type 0} (contents : W → Option (List ℕ)) (remaining : R → 
   May = IsQueueAnswer remaining asked left
 
   -- a queue file is answered
-  pub replayed : (start mid done : Watched W) (given : Option ℕ) → IsReplayed contents (left_in remaining asked) start mid → Writes contents mid done []
+  pub replayed : (start mid done : Watched W) (given : Option ℕ) → IsReplayed contents (reader_left remaining asked) start mid → Writes contents mid done []
       → MatchOption given (HasFailed done) (λ s. (s ≡ 0) × (done.failed ≡ false)) → IsAnswered contents May start done given
   replayed start mid done given h last told =
       record {
@@ -103,7 +103,7 @@ module _ {W R : Type 0} (contents : W → Option (List ℕ)) (remaining : R → 
       }
 
   told_fault : (fault : QueueFault) (start mid done : Watched W) (given : Option ℕ) → HasLine fault → (fault ≡ q.Write → ⊥)
-      → HasFault (left_in remaining asked) (left_in remaining left) fault → (fault ≡ q.Read → HasFailed left)
+      → HasFault (reader_left remaining asked) (reader_left remaining left) fault → (fault ≡ q.Read → HasFailed left)
       → ((fault ≡ q.Write → ⊥) → mid ≡ start) → IsAnswered contents (IsJust (fault_text fault) (fault_status fault)) mid done given
       → IsAnswered contents May start done given
   told_fault fault start mid done given line other found unread unwritten h =
@@ -113,8 +113,8 @@ module _ {W R : Type 0} (contents : W → Option (List ℕ)) (remaining : R → 
 
   -- or it has a fault; where that is the writer's, a front of the answers is written
   pub not_replayed : (fault : QueueFault) (start mid done : Watched W) (given : Option ℕ)
-      → HasFault (left_in remaining asked) (left_in remaining left) fault → (fault ≡ q.Read → HasFailed left)
-      → (fault ≡ q.Write → IsReplayed contents (left_in remaining asked) start mid) → (fault ≡ q.Write → HasFailed mid)
+      → HasFault (reader_left remaining asked) (reader_left remaining left) fault → (fault ≡ q.Read → HasFailed left)
+      → (fault ≡ q.Write → IsReplayed contents (reader_left remaining asked) start mid) → (fault ≡ q.Write → HasFailed mid)
       → ((fault ≡ q.Write → ⊥) → mid ≡ start) → IsAnswered contents (IsJust (fault_text fault) (fault_status fault)) mid done given
       → IsAnswered contents May start done given
   not_replayed (q.BadLine n) start mid done given found unread cut failed unwritten h =

@@ -1,9 +1,9 @@
 -- The outcome of mode check: what is printed of a script, and the status.
 use Rattle.std.specs.Prelude.{◌≡◌, ℕ, ◌≤◌, ◌⊎◌, Option, List, length, codes, IfSome}
 use Rattle.std.specs.Io.KnownBytes.{Consumes}
-use Rattle.tp_text.specs.Reading.{IsFull}
+use Rattle.tp_text.specs.Reading.{IsCapacity}
 use Rattle.tp_text.specs.declared.watched.Watched.{Watched}
-use Rattle.tp_text.specs.Watching.{HasFailed, left_in}
+use Rattle.tp_text.specs.Watching.{HasFailed, reader_left}
 use Rattle.tp_text.specs.declared.text.ReadFault.{ReadFault}
 use Rattle.tp_text.specs.declared.text.ReadFault.TheVariants as read_fault
 use Rattle.tp_token.specs.declared.fault.TextRule.TheVariants as text_rule
@@ -56,7 +56,7 @@ IsRight text = (made : Made) × IsScriptOf text made
 abbrev pub IsScriptFaultIn : List ℕ → ℕ → TestCaseFault → Type 0
 IsScriptFaultIn text taken (test_case_fault.Refused rule line) =
     (taken ≤ 1048577) × IsScriptFaultOf text (test_case_fault.Refused rule line)
-IsScriptFaultIn text taken (test_case_fault.Memory m) = (taken ≤ 1048576) × (IsFull taken ⊎ (length text ≤ 1048576))
+IsScriptFaultIn text taken (test_case_fault.Memory m) = (taken ≤ 1048576) × (IsCapacity taken ⊎ (length text ≤ 1048576))
 
 -- and the reader may fail anywhere within the limit
 abbrev pub IsCheckFaultOf : List ℕ → ℕ → CheckFault → Type 0
@@ -73,7 +73,7 @@ HasCheckFault old new fault =
 pub record IsNotAccepted {R : Type 0} (remaining : R → Option (List ℕ)) (old new : Watched R) (text : List ℕ) (status : ℕ)
     : Type 0 where
   pub fault : CheckFault
-  pub found : HasCheckFault (left_in remaining old) (left_in remaining new) fault
+  pub found : HasCheckFault (reader_left remaining old) (reader_left remaining new) fault
   pub unread : fault ≡ check_fault.Read → HasFailed new
   pub code : status ≡ check_fault_status fault
   pub line : text ≡ check_fault_text fault
@@ -81,4 +81,4 @@ pub record IsNotAccepted {R : Type 0} (remaining : R → Option (List ℕ)) (old
 -- what mode check may print: `accepted`, with status 0, for a text that is right, or the line of its fault
 abbrev pub IsCheckAnswer : {R : Type 0} → (R → Option (List ℕ)) → Watched R → Watched R → List ℕ → ℕ → Type 0
 IsCheckAnswer remaining old new text status =
-    ((status ≡ 0) × IfSome (left_in remaining old) IsRight × (text ≡ accepted_text)) ⊎ IsNotAccepted remaining old new text status
+    ((status ≡ 0) × IfSome (reader_left remaining old) IsRight × (text ≡ accepted_text)) ⊎ IsNotAccepted remaining old new text status

@@ -1,9 +1,9 @@
 -- The outcome of mode judge: what is printed of a trace, and the status.
 use Rattle.std.specs.Prelude.{◌≡◌, ℕ, ◌≤◌, ◌⊎◌, Option, List, length, IfSome}
 use Rattle.std.specs.Io.KnownBytes.{Consumes}
-use Rattle.tp_text.specs.Reading.{IsFull}
+use Rattle.tp_text.specs.Reading.{IsCapacity}
 use Rattle.tp_text.specs.declared.watched.Watched.{Watched}
-use Rattle.tp_text.specs.Watching.{HasFailed, left_in}
+use Rattle.tp_text.specs.Watching.{HasFailed, reader_left}
 use Rattle.tp_text.specs.declared.text.ReadFault.{ReadFault}
 use Rattle.tp_text.specs.declared.text.ReadFault.TheVariants as read_fault
 use Rattle.tp_refusal.specs.declared.refusal.Refusal.TheVariants as refusal
@@ -50,7 +50,7 @@ abbrev pub IsTraceFaultIn : List ℕ → ℕ → TraceFault → Type 0
 IsTraceFaultIn text taken (trace_fault.BadLine line) = (taken ≤ 268435456) × IsFaultOf text (trace_fault.BadLine line)
 IsTraceFaultIn text taken trace_fault.Limit = (taken ≤ 268435457) × IsFaultOf text trace_fault.Limit
 IsTraceFaultIn text taken trace_fault.Memory =
-    (taken ≤ 268435456) × (IsFull taken ⊎ (length text ≤ 268435456))
+    (taken ≤ 268435456) × (IsCapacity taken ⊎ (length text ≤ 268435456))
 
 -- and the reader may fail anywhere within the limit
 abbrev pub IsJudgeFaultOf : List ℕ → ℕ → JudgeFault → Type 0
@@ -74,11 +74,11 @@ pub record IsJudged (known : Option (List ℕ)) (text : List ℕ) (status : ℕ)
 pub record IsNotJudged {R : Type 0} (remaining : R → Option (List ℕ)) (old new : Watched R) (text : List ℕ) (status : ℕ)
     : Type 0 where
   pub fault : JudgeFault
-  pub found : HasJudgeFault (left_in remaining old) (left_in remaining new) fault
+  pub found : HasJudgeFault (reader_left remaining old) (reader_left remaining new) fault
   pub unread : fault ≡ judge_fault.Read → HasFailed new
   pub code : status ≡ judge_fault_status fault
   pub line : text ≡ judge_fault_text fault
 
 -- what mode judge may print: what is said of the trace that was read, or the line of its fault
 abbrev pub IsJudgeAnswer : {R : Type 0} → (R → Option (List ℕ)) → Watched R → Watched R → List ℕ → ℕ → Type 0
-IsJudgeAnswer remaining old new text status = IsJudged (left_in remaining old) text status ⊎ IsNotJudged remaining old new text status
+IsJudgeAnswer remaining old new text status = IsJudged (reader_left remaining old) text status ⊎ IsNotJudged remaining old new text status

@@ -2,7 +2,7 @@
 use Rattle.std.specs.Prelude.{◌≡◌, ℕ, ◌⊎◌, Option, List, [], ◌++◌, codes, IfSome}
 use Rattle.std.specs.Fmt.{decimal}
 use Rattle.tp_text.specs.declared.watched.Watched.{Watched}
-use Rattle.tp_text.specs.Watching.{HasFailed, left_in}
+use Rattle.tp_text.specs.Watching.{HasFailed, reader_left}
 use Rattle.tp_refusal.specs.declared.refusal.Refusal.{Refusal}
 use Rattle.tp_refusal.specs.declared.refusal.Refusal.TheVariants as refusal
 use Rattle.tp_refusal.specs.Label.{label}
@@ -50,7 +50,7 @@ pub record IsQueueRefused {R : Type 0} (remaining : R → Option (List ℕ)) (ol
     : Type 0 where
   pub fault : QueueFault
   pub is_told : HasLine fault
-  pub found : HasFault (left_in remaining old) (left_in remaining new) fault
+  pub found : HasFault (reader_left remaining old) (reader_left remaining new) fault
   pub unread : fault ≡ queue_fault.Read → HasFailed new
   pub code : status ≡ fault_status fault
   pub line : text ≡ fault_text fault
@@ -58,4 +58,4 @@ pub record IsQueueRefused {R : Type 0} (remaining : R → Option (List ℕ)) (ol
 -- what mode queue may print: the answers to the text that the reader had, with status 0, or the line of its fault
 abbrev pub IsQueueAnswer : {R : Type 0} → (R → Option (List ℕ)) → Watched R → Watched R → List ℕ → ℕ → Type 0
 IsQueueAnswer remaining old new text status =
-    ((status ≡ 0) × IfSome (left_in remaining old) (λ file. IsAnswerTo file text)) ⊎ IsQueueRefused remaining old new text status
+    ((status ≡ 0) × IfSome (reader_left remaining old) (λ file. IsAnswerTo file text)) ⊎ IsQueueRefused remaining old new text status

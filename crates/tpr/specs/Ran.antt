@@ -1,7 +1,7 @@
 -- The outcome of the modes run and trace: what is printed of a test case, and the status.
 use Rattle.std.specs.Prelude.{◌≡◌, ℕ, ◌⊎◌, Option, List, IfSome}
 use Rattle.tp_text.specs.declared.watched.Watched.{Watched}
-use Rattle.tp_text.specs.Watching.{left_in}
+use Rattle.tp_text.specs.Watching.{reader_left}
 use Rattle.tp_play.specs.TestCases.{Made}
 use Rattle.tp_report.specs.declared.report.Report.{Report}
 use Rattle.tp_report.specs.Reports.{report_text, trace_text}
@@ -39,7 +39,7 @@ IsRunOf form made text status = IsReported form made text status ⊎ IsNotReport
 abbrev pub IsAnswerBy : {R : Type 0} → (Made → Report → List ℕ) → (R → Option (List ℕ)) → Watched R → Watched R → List ℕ → ℕ
     → Type 0
 IsAnswerBy form remaining old new text status =
-    ((made : Made) × IfSome (left_in remaining old) (λ script. IsScriptOf script made) × IsRunOf form made text status)
+    ((made : Made) × IfSome (reader_left remaining old) (λ script. IsScriptOf script made) × IsRunOf form made text status)
     ⊎ IsNotAccepted remaining old new text status
 
 -- mode run prints a report as its text

@@ -1,6 +1,6 @@
 //! Whether a script is right.
 ghost use Rattle.std.specs.Prelude.{◌≡◌, IfErr, IfOk, IfSome, OnOk};
-ghost use Rattle.tp_text.specs.Watching.{HasFailed, Writes, left_in};
+ghost use Rattle.tp_text.specs.Watching.{HasFailed, Writes, reader_left};
 ghost use Rattle.tp_script.specs.Scripts.{IsScriptOf};
 ghost use Rattle.tpr.specs.Handed.{IsAnswered, IsJust};
 ghost use Rattle.tpr.specs.Checked.{HasCheckFault, IsCheckAnswer, IsRight, accepted_text, check_fault_status, check_fault_text};
@@ -46,10 +46,10 @@ impl From<ReadFault> for CheckFault {
 /// Reads a script, and checks it: its test case.
 pub fn check_script<R: Read>(alloc: Global, reader: &mut Watched<R>) -> Result<TestCase, CheckFault>
     ensures script { IfOk result (λ made.
-        IfSome (left_in R.remaining reader.old) (λ text. IsScriptOf text made)) }
-    ensures right { OnOk result (IfSome (left_in R.remaining reader.old) IsRight) }
+        IfSome (reader_left R.remaining reader.old) (λ text. IsScriptOf text made)) }
+    ensures right { OnOk result (IfSome (reader_left R.remaining reader.old) IsRight) }
     ensures fault { IfErr result
-        (HasCheckFault (left_in R.remaining reader.old) (left_in R.remaining reader.new)) }
+        (HasCheckFault (reader_left R.remaining reader.old) (reader_left R.remaining reader.new)) }
     ensures unread { IfErr result (λ f. f ≡ CheckFault.Read → HasFailed reader.new) }
 {
     match read_text(alloc, reader) {

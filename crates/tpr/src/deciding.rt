@@ -1,9 +1,9 @@
 //! Which verdicts a test case can come to.
 ghost use Rattle.std.specs.Prelude.{◌≡◌};
-ghost use Rattle.tp_text.specs.Watching.{left_in};
+ghost use Rattle.tp_text.specs.Watching.{reader_left};
 ghost use Rattle.tp_verdicts.specs.Found.{IsVerdictsOf};
 ghost use Rattle.tp_verdicts.specs.Texts.{verdicts_status};
-ghost use Rattle.tpr.specs.Decided.{IsDecided, IsDecidedOf, IsKept, IsVerdictsAnswer};
+ghost use Rattle.tpr.specs.Decided.{IsDecided, IsDecidedOf, IsAlwaysKept, IsVerdictsAnswer};
 ghost use Rattle.tpr.specs.Handed.{IsAnswered, IsJust};
 ghost use Rattle.tpr.specs.Outcome.{memory_text};
 
@@ -84,7 +84,7 @@ pub fn answer_verdicts<R: Read, W: Write>(
 ) -> Option<u8>
     ensures answer { IsAnswered W.contents (IsVerdictsAnswer R.remaining reader.old reader.new)
         writer.old writer.new result }
-    ensures always { IsAnswered W.contents (IsKept (left_in R.remaining reader.old))
+    ensures always { IsAnswered W.contents (IsAlwaysKept (reader_left R.remaining reader.old))
         writer.old writer.new result }
 {
     match check_script(alloc, reader) {

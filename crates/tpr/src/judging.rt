@@ -1,6 +1,6 @@
 //! Whether a trace is lawful.
 ghost use Rattle.std.specs.Prelude.{◌≡◌, IfErr, IfOk, IfSome};
-ghost use Rattle.tp_text.specs.Watching.{HasFailed, Writes, left_in};
+ghost use Rattle.tp_text.specs.Watching.{HasFailed, Writes, reader_left};
 ghost use Rattle.tp_referee.specs.Answers.{ruling_status, ruling_text};
 ghost use Rattle.tp_referee.specs.Rulings.{IsRulingOf};
 ghost use Rattle.tpr.specs.Handed.{IsAnswered, IsJust};
@@ -43,9 +43,9 @@ impl From<ReadFault> for JudgeFault {
 /// Reads a text, and says whether it is a lawful trace.
 fn judge_text<R: Read>(alloc: Global, reader: &mut Watched<R>) -> Result<Ruling, JudgeFault>
     ensures ruling { IfOk result (λ ruling.
-        IfSome (left_in R.remaining reader.old) (λ text. IsRulingOf text ruling)) }
+        IfSome (reader_left R.remaining reader.old) (λ text. IsRulingOf text ruling)) }
     ensures fault { IfErr result
-        (HasJudgeFault (left_in R.remaining reader.old) (left_in R.remaining reader.new)) }
+        (HasJudgeFault (reader_left R.remaining reader.old) (reader_left R.remaining reader.new)) }
     ensures unread { IfErr result (λ f. f ≡ JudgeFault.Read → HasFailed reader.new) }
 {
     match read_within(alloc, reader, TRACE_LIMIT as u32) {

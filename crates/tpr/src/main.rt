@@ -4,9 +4,9 @@
 ghost use Rattle.std.specs.Prelude.{◌≡◌, IfNone, IfSome, OnSome, Some};
 ghost use Rattle.std.specs.Io.Buffered.{writer_contents};
 ghost use Rattle.std.specs.Io.KnownBytes.{Keeps};
-ghost use Rattle.tp_text.specs.Watching.{left_in};
+ghost use Rattle.tp_text.specs.Watching.{reader_left};
 ghost use Rattle.tpr.specs.Checked.{IsCheckAnswer};
-ghost use Rattle.tpr.specs.Decided.{IsKept, IsVerdictsAnswer};
+ghost use Rattle.tpr.specs.Decided.{IsAlwaysKept, IsVerdictsAnswer};
 ghost use Rattle.tpr.specs.Handed.{BeginsWith, IsAnswered, IsHanded, IsJust};
 ghost use Rattle.tpr.specs.Judged.{IsJudgeAnswer};
 ghost use Rattle.tpr.specs.Outcome.{IsQueueAnswer, unread_text};
@@ -67,7 +67,7 @@ fn answer<T: AllocGlobal + Threads + Wait + Sync, R: Read, W: Write>(
     ensures verdicts { mode ≡ Mode.Verdicts → IsAnswered W.contents
         (IsVerdictsAnswer R.remaining reader.old reader.new) writer.old writer.new result }
     ensures always { mode ≡ Mode.Verdicts → IsAnswered W.contents
-        (IsKept (left_in R.remaining reader.old)) writer.old writer.new result }
+        (IsAlwaysKept (reader_left R.remaining reader.old)) writer.old writer.new result }
 {
     match mode {
         Mode::Queue => answer_queue(rt.alloc(), reader, writer),
@@ -128,7 +128,8 @@ fn answer_through<T: AllocGlobal + Threads + Wait + Sync, R: Read, W: Write + Dr
     ensures verdicts { mode ≡ Mode.Verdicts → IsHanded
         (IsVerdictsAnswer R.remaining reader.old reader.new)
         (writer_contents W.contents buffer) (W.contents result.1) result.0 }
-    ensures always { mode ≡ Mode.Verdicts → IsHanded (IsKept (left_in R.remaining reader.old))
+    ensures always { mode ≡ Mode.Verdicts
+        → IsHanded (IsAlwaysKept (reader_left R.remaining reader.old))
         (writer_contents W.contents buffer) (W.contents result.1) result.0 }
 {
     let mut writer = Watched::new(buffer);

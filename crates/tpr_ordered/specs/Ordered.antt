@@ -22,12 +22,12 @@ pub record IsReportText (made : Made) (text : List ℕ) : Type 0 where
   pub is : text ≡ report_text made report
 
 -- the line of a gate that gave up, or that of a fault by which a run of the test case has no report
-abbrev pub IsLine : Made → List ℕ → Type 0
-IsLine made text = (text ≡ codes "not held\n") ⊎ ((f : RunFault) × IsRunFault made f × (text ≡ run_fault_text f))
+abbrev pub IsFaultLine : Made → List ℕ → Type 0
+IsFaultLine made text = (text ≡ codes "not held\n") ⊎ ((f : RunFault) × IsRunFault made f × (text ≡ run_fault_text f))
 
 -- what is written of a run of this test case
 abbrev pub IsRunText : Made → List ℕ → Type 0
-IsRunText made text = IsReportText made text ⊎ IsLine made text
+IsRunText made text = IsReportText made text ⊎ IsFaultLine made text
 
 -- what is written of an order: its line, what came of its run, and an empty line
 pub record IsOrderText (made : Made) (order : Order) (text : List ℕ) : Type 0 where

@@ -11,7 +11,7 @@ pub const PATIENCE: u32 = 10_000_000;
 
 /// A step of one component, and where it stands in the order.
 #[derive(Clone, Copy)]
-struct Place {
+struct OrderedStep {
     /// How many steps stand before it.
     number: u64,
     /// Where the component is held.
@@ -20,22 +20,22 @@ struct Place {
 
 /// What an order has of one component.
 #[derive(Drop)]
-struct Part {
+struct OrderTurn {
     /// Its steps.
-    places: Vec<Place>,
+    places: Vec<OrderedStep>,
     /// To how many of them it has come; behind the last it counts its statements.
     met: AtomicU64,
 }
 
-impl Part {
+impl OrderTurn {
     /// The step to which it has come.
-    fn last(&self) -> Option<Place> {
+    fn last(&self) -> Option<OrderedStep> {
         let before = self.met.load(Ordering::SeqCst).checked_sub(1)?;
         self.places.get(before as usize).copied()
     }
 
     /// The step to which it comes next.
-    fn next(&self) -> Option<Place> {
+    fn next(&self) -> Option<OrderedStep> {
         let met = self.met.load(Ordering::SeqCst);
         self.places.get(met as usize).copied()
     }
@@ -60,7 +60,7 @@ impl Part {
 #[derive(Drop)]
 pub struct OrderGate {
     /// What the order has of each component, by its number.
-    parts: Vec<Part>,
+    parts: Vec<OrderTurn>,
     /// How many steps the order names.
     length: u64,
     /// For how many turns a component is held.
@@ -75,10 +75,14 @@ pub struct OrderGate {
 /// none.
 ///
 /// 50 where an allocation was refused.
-fn parts_of(alloc: Global, components: usize, steps: &[Step]) -> Result<Vec<Part>, AllocError> {
+fn parts_of(
+    alloc: Global,
+    components: usize,
+    steps: &[Step],
+) -> Result<Vec<OrderTurn>, AllocError> {
     let mut parts = Vec::new(alloc);
     for _ in 0..components {
-        parts.push(Part {
+        parts.push(OrderTurn {
             places: Vec::new(alloc),
             met: AtomicU64::new(0),
         })?;
@@ -90,10 +94,10 @@ fn parts_of(alloc: Global, components: usize, steps: &[Step]) -> Result<Vec<Part
 /// Adds the place of each step to the part of its component.
 ///
 /// 50 where an allocation was refused.
-fn note_places(parts: &mut Vec<Part>, steps: &[Step]) -> Result<(), AllocError> {
+fn note_places(parts: &mut Vec<OrderTurn>, steps: &[Step]) -> Result<(), AllocError> {
     for (number, step) in steps.iter().enumerate() {
         if let Some(part) = parts.get_mut(step.who.0 as usize) {
-            part.places.push(Place {
+            part.places.push(OrderedStep {
                 number: number as u64,
                 hold: step.hold,
             })?;
@@ -130,7 +134,7 @@ impl OrderGate {
 
     /// The component comes to its next step, and is held until the order has come to it; where it
     /// has none, until the order has come to its end.
-    fn come_to_next(&self, part: &Part) {
+    fn come_to_next(&self, part: &OrderTurn) {
         if let Some(place) = part.last() {
             self.ended
                 .store(place.number.wrapping_add(1), Ordering::SeqCst);
