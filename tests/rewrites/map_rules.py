@@ -2,10 +2,12 @@
 
     tests/rewrites/map_rules.py PROGRAM
 
-`mapped/why` and what ends with `annotated` there were worked out by hand. It prints a line `passed ..` or `FAILED: ..` for each case.
+`mapped/why` and what ends with `annotated` or `explored` there were worked out by hand. It prints a line `passed ..` or
+`FAILED: ..` for each case.
 """
 from __future__ import annotations
 
+import json
 import os
 import subprocess
 import sys
@@ -15,6 +17,7 @@ FOLDER = os.path.dirname(os.path.realpath(__file__))
 ROOT = os.path.dirname(os.path.dirname(FOLDER))
 sys.path.insert(0, f"{ROOT}/tools")
 
+from tpr_tools.explore.forced_script import forced_script
 from tpr_tools.explore.parting import Deed, Parting
 from tpr_tools.origins import Line, Origins, Row, lines_told
 
@@ -28,11 +31,12 @@ def read(file: str) -> str:
         return opened.read()
 
 
-def tool(program: str, *words: str, beside: str = f"{FOLDER}/mapped") -> str:
+def tool(program: str, *words: str, beside: str = f"{FOLDER}/mapped", ordered: str = f"{FOLDER}/nowhere") -> str:
     """What a tool prints and says, asked beside the modules."""
     run = subprocess.run(
         [f"{ROOT}/tools/{words[0]}", *words[1:]], cwd=beside, check=False, text=True,
-        stdout=subprocess.PIPE, stderr=subprocess.STDOUT, env={**os.environ, "TPR": program},
+        stdout=subprocess.PIPE, stderr=subprocess.STDOUT,
+        env={**os.environ, "TPR": program, "TPR_ORDERED": ordered},
     )
     return run.stdout
 
@@ -51,7 +55,9 @@ def main() -> None:
         look_at_another(program, output)
         one_module(program, f"{folder}/login.ttcn")
         parted(program, folder)
+        raced(program, f"{folder}/race.ttcn")
     look_at_partings()
+    look_at_forced_lines()
     look_at_lines()
 
 
@@ -134,6 +140,47 @@ def one_module(program: str, output: str) -> None:
     judged("why, of one module", sent == ["34", "->", "24"], f"{sent}")
 
 
+def raced(program: str, output: str) -> None:
+    """Of two runs, where they part: in the text and as an object each line is the engineer's own."""
+    tool(program, "rewrite", "race.ttcn", "says.ttcn", "-o", output)
+    found = tool(program, "explore", output)
+    told = found[found.find("lines of ") : found.find("\nNo reports: ")]
+    is_so = found.startswith("pass or fail\n") and told == read(f"{FOLDER}/mapped/race.explored")
+    judged("what parts two runs, of two modules", is_so, found)
+    printed = tool(program, "explore", output, "--json")
+    where = json.loads(printed)["partings"][0]["where"] if printed.startswith("{") else {}
+    places = [where.get(key, {}).get("origin") for key in ("first", "second")]
+    judged("the same as an object", places == ["race.ttcn:12:16", "race.ttcn:13:16"], printed)
+    unordered = [place["origin"] for place in where.get("unordered") or []]
+    judged("what has no order, as an object", unordered == ["says.ttcn:7:11"] * 2, printed)
+    texts = [where.get(key, {}).get("text", "").rpartition(", ")[2] for key in ("first", "second")]
+    judged("where a message was sent, as an object", texts == ["sent at line 7 of says.ttcn"] * 2, printed)
+    found = tool(program, "explore", output, ordered=program_of_line(f"{output}.ordered", "refused 15 Limit line 6"))
+    told = "No reports: with a step more in each body the script is refused 15 Limit line 7 of says.ttcn\n"
+    judged("where what is run in its place is refused", found.endswith(told), found)
+    with open(f"{output}.map", "a", encoding="utf-8") as opened:
+        opened.write("2 1:1 race.ttcn\n")
+    found = tool(program, "explore", output)
+    is_so = "it isn't the map of" in found and "What parts" not in found
+    judged("explore, of a map that isn't the script's", is_so, found)
+
+
+def program_of_line(file: str, line: str) -> str:
+    """A program that refuses what it is given by this line."""
+    with open(file, "w", encoding="utf-8") as opened:
+        opened.write(f"#!/bin/sh\necho '{line}'\nexit 2\n")
+    os.chmod(file, 0o755)
+    return file
+
+
+def look_at_forced_lines() -> None:
+    """A line of what is run in place of a script is told as the script's own."""
+    text = "module T {\n\n\n  type component C { }\n  testcase t() runs on C {\n\n    setverdict(pass);\n  }\n}\n"
+    script = forced_script(text.encode())
+    found = [script.own_line(number) for number in range(1, script.text().count("\n") + 1)]
+    judged("lines of what is run in its place", found == [1, 4, 5, 7, 8, 9], f"{found}")
+
+
 def look_at_partings() -> None:
     """What tools/explore says of where two runs part."""
     origins = Origins([Row(3, 9, 5, "a.ttcn"), Row(4, 9, 5, "a.ttcn"), Row(6, 2, 1, "b.ttcn")])
@@ -143,6 +190,10 @@ def look_at_partings() -> None:
         "nothing makes line 9 of a.ttcn wait for line 2 of b.ttcn, nor line 2 of b.ttcn for line 9 of a.ttcn\n"
     )
     judged("where two runs part", parting.text(origins) == wanted, parting.text(origins))
+    told = Parting("mtc", Deed(3, "sent"), Deed(None, "waits"), None).as_json(origins)
+    first, second = {"line": 3, "origin": "a.ttcn:9:5", "text": "sent"}, {"line": None, "origin": None, "text": "waits"}
+    is_so = told == {"component": "mtc", "first": first, "second": second, "unordered": None}
+    judged("where two runs part, as an object", is_so, f"{told}")
     same = Parting("mtc", Deed(3, "sent"), Deed(4, "sent"), None).text(origins)
     judged("where they part at one line", same == "line 9 of a.ttcn: mtc sent;\n  in the other run it sent\n", same)
 

@@ -6,16 +6,16 @@ rewrites() {
     while read -r part least; do
         at_least "$least" told "$room/rewrites_$part" tests/rewrites/rewrite_rules.py "$tpr" "$part"
     done <<'PARTS'
-table 80
-natural 50
+table 102
+natural 53
 same 59
-broken 12
+broken 14
 listed 39
-rows 109
-faults 37
+rows 219
+faults 60
 PARTS
-    at_least 484 told "$room/rewrites_by_chance" tests/rewrites/chance/chance_rules.py
-    at_least 17 told "$room/rewrites_maps" tests/rewrites/map_rules.py "$tpr"
+    at_least 488 told "$room/rewrites_by_chance" tests/rewrites/chance/chance_rules.py
+    at_least 25 told "$room/rewrites_maps" tests/rewrites/map_rules.py "$tpr"
     observe env -u TPR "$root/tools/rewrite" --help
     tool_must "rewrite tells its words" 0 grep -q -- '--case NAME' "$room/printed"
     observe "$root/tools/rewrite" --tpr "$tpr" "$room/nothing.ttcn"

@@ -3,6 +3,7 @@
 
     explain_rules.py answers JSON FOLDER      each script of the folder is told as NAME.answer has it
     explain_rules.py columns JSON             nine of ten that are refused at a line have a column
+    explain_rules.py planted FOLDER           of refusals that aren't those of its scripts the rules are told alone
     explain_rules.py table JSON TABLE LEAST   each script of a table is told so
     explain_rules.py words                    the tool's words are those of the documents
     explain_rules.py numbers                  each number has its name, in tools/, the documents and the program
@@ -21,6 +22,8 @@ sys.dont_write_bytecode = True
 sys.path.insert(0, os.path.join(ROOT, "tools"))
 
 from rule_cases import must, read, try_one_of
+from tpr_tools.explain.explaining import explain, reading_of
+from tpr_tools.explain.explanation import Explanation
 from tpr_tools.refusals import SEND_FAULTS, Refusal
 from tpr_tools.script.constructs import Construct
 from tpr_tools.script.refusal_rules import BEYOND_SCRIPTS, RULES_OF
@@ -55,6 +58,9 @@ def check_places(file: str, one: dict[str, Any]) -> None:
         lines = opened.read().decode("utf-8", "replace").split("\n")
     must(one["sentence"] and len(one["can_stand"]) <= 6, f"{file}: {one}")
     must(one["rules"] or one["number"] == 10, f"{file}: no rule is told")
+    of_number = [rule.value for rule in RULES_OF[Refusal(one["number"])]]
+    must(set(one["rules"]) <= set(of_number), f"{file}: {one['rules']} aren't rules of {one['number']}")
+    must(bool(one["own_reading"]) == (one["column"] is None and one["line"] != 0), f"{file}: {one}")
     if one["column"] is not None:
         last = len(lines[one["line"] - 1]) + 1
         must(1 <= one["column"] <= last, f"{file}: there is no column {one['column']}")
@@ -62,6 +68,35 @@ def check_places(file: str, one: dict[str, Any]) -> None:
     for place in one["places"]:
         line = lines[place["line"] - 1].rstrip("\r")
         must(len(line) == len(place["text"]), f"{file}: line {place['line']} isn't shown as it is")
+
+
+def check_planted(folder: str) -> None:
+    """Each script with the numbers, names and lines of other refusals."""
+    numbers = [it for it in RULES_OF if it is not Refusal.READ]
+    names = [name.removesuffix(".answer") for name in sorted(os.listdir(folder)) if name.endswith(".answer")]
+    must(len(names) >= 1000, f"there are {len(names)} texts alone")
+    for at, name in enumerate(names):
+        with open(os.path.join(folder, f"{name}.ttcn"), "rb") as opened:
+            data = opened.read()
+        own = reading_of(data).answer
+        line = int(own.split()[-1]) if own != "accepted" else 1
+        same, other = (own.split(" line ")[0], numbers[at % len(numbers)].told())
+        planted = {f"{same} line {line + 1}", f"refused {other} line {line}", f"refused {other} line {line + 2}"}
+        for said in sorted(planted - {own} - {f"accepted line {line + 1}"}):
+            check_planted_one(name, explain(name, data, said), said, own)
+
+
+def check_planted_one(name: str, told: Explanation, said: str, own: str) -> None:
+    """The number and the line are those that were said, the rules all those of the number."""
+    _, number, word, _, line = said.split()
+    rules = list(RULES_OF[Refusal(int(number))])
+    must([told.number, told.name, told.line] == [int(number), word, int(line)], f"{name}, {said}: {told}")
+    must(told.rules == rules and told.own_reading == own, f"{name}, {said}: {told}")
+    of_script = (told.column, told.places, told.can_stand, told.construct, told.clause, told.instead)
+    must(of_script == (None, [], [], "", "", ""), f"{name}, {said}: {told}")
+    is_first = told.sentence == rules[0].value.partition(". ")[0]
+    must(is_first == (len(rules) == 1), f"{name}, {said}: {told.sentence}")
+    must(f": {own}\n" in told.text(), f"{name}, {said}: {told.text()}")
 
 
 def check_columns(file: str) -> None:
@@ -135,6 +170,7 @@ def check_numbers() -> None:
 
 CHECKS: dict[str, Callable[..., None]] = {
     "answers": check_answers,
+    "planted": check_planted,
     "columns": check_columns,
     "table": check_table,
     "words": check_words,

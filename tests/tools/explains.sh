@@ -27,6 +27,8 @@ explained_tables() {
     cp -- "$room/printed" "$room/explained"
     tool_must "the number and the line of each text of the tables" 2 explain_rules_hold answers "$room/explained" "$room/texts"
     tool_must "a column for nine of ten" 2 explain_rules_hold columns "$room/explained"
+    observe python3 "$root/tests/tools/explain_rules.py" planted "$room/texts"
+    tool_must "other refusals than those of the texts of the tables" 0 prints ''
     explain --json tests/tools/explained
     cp -- "$room/printed" "$room/explained"
     tool_must "the constructs of the full language" 2 explain_rules_hold table "$room/explained" tests/tools/explained/constructs 38
@@ -209,27 +211,51 @@ $room/missing: refused 2 Read: the file isn't there, is a folder, or can't be re
 explained_by_another_program() { # NAME STATUS ANSWER PRINTED
     printf '#!/bin/sh\ncat >/dev/null\necho %s\n' "'$3'" >"$room/program"
     chmod +x -- "$room/program"
-    printf 'module M {\n  type set S { }\n}\n' >"$room/script"
     observe "$root/tools/explain" --tpr "$room/program" "$room/script"
     sed -i "s|^$room/script|FILE|" "$room/printed"
     tool_must "explain: $1" "$2" prints "$4"
 }
 
+# The own reading of $room/script comes to something else than the answer: the rules of its number are told, all of them
+# and no others, and no column.
+explained_otherwise() { # NAME ANSWER SENTENCE READING RULE..
+    local number word line=: rule told
+    read -r _ number word _ line <<<"$2"
+    told="FILE:${line:+$line:} refused $number $word: $3
+  no place is shown, since explain itself reads: $4
+"
+    for rule in "${@:5}"; do told+="  $(if (($# == 5)); then echo rule; else echo one of these rules; fi): $rule"$'\n'; done
+    explained_by_another_program "$1" 2 "$2" "$told"
+}
+
 explained_less() {
-    local long
-    explained_by_another_program "another line than its own reading" 2 'refused 10 Syntax line 3' "\
-FILE:3: refused 10 Syntax: a rule is broken, and it isn't sure where
-  one of these rules: a byte that begins no token
-  one of these rules: a token that can't stand at its place
-"
-    explained_by_another_program "another number than its own reading" 2 'refused 17 NoDone line 2' "\
-FILE:2: refused 17 NoDone: where there is one, \`all component.done\` ends the test case
-  rule: where there is one, \`all component.done\` ends the test case
-"
+    local long unsure="a rule is broken, and it isn't sure where" listed
+    local done='where there is one, `all component.done` ends the test case'
+    listed="it is in the port's list of sent types for a send, of received types for a receiving operation; in \`sut\` the\
+ two lists are exchanged"
+    printf 'module M {\n  type set S { }\n}\n' >"$room/script"
+    explained_otherwise "another line than its own reading" 'refused 10 Syntax line 3' "$unsure" \
+        'refused 10 Syntax line 2' 'a byte that begins no token' "a token that can't stand at its place"
+    explained_otherwise "a line behind the text" 'refused 10 Syntax line 99' "$unsure" \
+        'refused 10 Syntax line 2' 'a byte that begins no token' "a token that can't stand at its place"
+    explained_otherwise "another number than its own reading" 'refused 17 NoDone line 2' "$done" \
+        'refused 10 Syntax line 2' "$done"
+    explained_otherwise "several rules of another number" 'refused 18 NotStarted line 2' "$unsure" \
+        'refused 10 Syntax line 2' "it isn't started twice" 'each component variable is started'
+    explained_otherwise "a file that can be read" 'refused 2 Read' "the file isn't there, is a folder, or can't be read" \
+        'refused 10 Syntax line 2' "the file isn't there, is a folder, or can't be read"
+    explained_by_another_program "a number with the name of another" 1 'refused 12 Syntax line 2' \
+        $'FILE: refused 12 Syntax line 2\n'
     explained_by_another_program "a fault" 3 'fault 50 Memory' $'FILE: fault 50 Memory\n'
     explained_by_another_program "no answer of tpr" 1 'hello' $'FILE: hello\n'
     long=refused\ $(printf '9%.0s' {1..5000})\ Limit
     explained_by_another_program "a number that is none" 1 "$long" "FILE: $long"$'\n'
+    head -c 2097152 /dev/zero | tr '\0' ' ' >"$room/script"
+    explained_otherwise "another number of a long text" 'refused 14 Direction line 3' "$listed" 'refused 15 Limit line 0' \
+        "$listed"
+    printf 'module M {\n  type component C { }\n  testcase t() runs on C { }\n}\n' >"$room/script"
+    explained_otherwise "a script that is right" 'refused 28 NotSystem line 3' 'exactly one is a port of `system`' accepted \
+        'exactly one is a port of `system`'
 }
 
 # A script of 1 MiB, in which one line is wrong. How long it takes, bench/explaining/run says.
@@ -241,10 +267,10 @@ explained_at_length() {
 }
 
 explains() {
-    at_least 6 explained_tables
+    at_least 7 explained_tables
     at_least 11 explained_example
     at_least 7 explained_places
     at_least 13 explained_bad_input
-    at_least 5 explained_less
+    at_least 11 explained_less
     at_least 1 explained_at_length
 }

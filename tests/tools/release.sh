@@ -272,6 +272,11 @@ uses_installed() {
     sed '26s/counter/bell/' "$examples/$bell.ttcn" >broken.ttcn
     installed tpr-explain --short broken.ttcn
     tool_must "tpr-explain, installed" 2 grep -q '^broken.ttcn:26:19: refused 14 Direction: ' "$room/printed"
+    installed tpr-rewrite "$root/tests/rewrites/natural/login_with_templates.ttcn" -o rewritten.ttcn
+    tool_must "tpr-rewrite, installed" 0 test -s rewritten.ttcn.map
+    installed tpr-why rewritten.ttcn
+    tool_must "tpr-why of what it wrote, installed" 0 \
+        grep -qx "lines of $root/tests/rewrites/natural/login_with_templates.ttcn" "$room/printed"
     installed tpr-suite --jobs 1 "$examples"
     tool_must "tpr-suite, installed" 0 grep -q '; all as wanted$' "$room/printed"
     installed tpr-explore "$examples/broadcast_is_overtaken_by_an_answer.ttcn"
@@ -370,7 +375,7 @@ of_the_package() {
         return
     fi
     at_least 3 planted_packages
-    at_least 16 package_is_installed
+    at_least 18 package_is_installed
     if command -v lintian >/dev/null; then
         at_least 1 package_by_lintian
     else

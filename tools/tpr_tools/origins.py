@@ -55,6 +55,11 @@ class Origins:
             return Line("", own)
         return Line(row.file if len(self.files) > 1 else "", row.line)
 
+    def place(self, own: int) -> str:
+        """`login.ttcn:9:5`; nothing where it comes from itself."""
+        row = self.row(own)
+        return f"{shown(row.file)}:{row.line}:{row.column}" if row else ""
+
     def heading(self) -> str:
         """Whose lines are told, where they aren't the script's own."""
         return f"lines of {and_(map(shown, self.files))}\n" if self.files else ""
@@ -79,10 +84,9 @@ def origins_of(script: str) -> Origins:
 def origin_told(script: str, own: Optional[int]) -> str:
     """`login.ttcn:9:5`; nothing where no map of the script as it stands lies beside it."""
     try:
-        row = None if own is None else origins_of(script).row(own)
+        return "" if own is None else origins_of(script).place(own)
     except Stop:
         return ""
-    return f"{shown(row.file)}:{row.line}:{row.column}" if row else ""
 
 
 def _row_of(text: str) -> Optional[Row]:

@@ -148,9 +148,14 @@ class Behaviour(Evaluator):
         value = self.evaluate(statement.value, scope, type)
         for case in statement.cases:
             templates = case.templates
-            if templates is None or any(self.is_match(value, self.evaluate(it, scope, type)) for it in templates):
+            if templates is None or any(self._is_case(statement, value, it, scope, type) for it in templates):
                 yield from self._block(case.block, scope)
                 return
+
+    def _is_case(self, statement: tree.Select, value: Any, template: Any, scope: Scope, type: Optional[str]) -> bool:
+        if statement.is_union:
+            return bool(value.name == template.word)
+        return self.is_match(value, self.evaluate(template, scope, type))
 
     def _for(self, statement: tree.For, scope: Scope) -> Acts:
         inner = Scope(scope)

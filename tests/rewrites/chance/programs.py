@@ -170,7 +170,8 @@ class Maker:
         flat = [self.sends, self.sends, self.receives, self._called, self._variable, self._counted]
         nested = [self._loop, self._condition, self._selected, self._while]
         asking = [self._alternatives, self._told_apart, self._repeated, self._checked, self._interleaved]
-        return [*flat, *nested, *asking, *asking, self._alternatives]
+        encoded = [self._told_apart] * 6 if self.encodes else []
+        return [*flat, *nested, *asking, *asking, self._alternatives, *encoded]
 
     def _called(self) -> list[str]:
         sends = [f"f_send({self.integer()});", f'f_send(p_n := {self.integer()}, p_s := "b");']
@@ -230,6 +231,8 @@ class Maker:
         ]
 
     def _encoded_apart(self, name: str) -> list[str]:
+        if self.is_so(0.6):
+            return self._union_apart(name)
         of, asked = self.chance.choice([
             ("Note", f"ispresent({name}.n)"), ("Note", f"{name}.colour == red"),
             ("Note", f"{name}.n == {self.integer()}"),
@@ -240,6 +243,25 @@ class Maker:
         return [
             f"var {of} {name};", "alt {", f"[] e.receive({of}:{template}) -> value {name} {{", f"if ({asked}) {{",
             *self.statements(0, 1), "} else {", *self.statements(0, 1), "}", "}", "[] e.receive { }", "}",
+        ]
+
+    def _union_apart(self, name: str) -> list[str]:
+        """Each alternative goes on in its own way, and is looked into there."""
+        number = [f"if ({name}.number < {self.integer()}) {{", *self.statements(0, 1), "} else {", self.verdict(), "}"]
+        colour = [f"if ({name}.colour == red) {{", *self.statements(0, 1), "}"]
+        of_number, of_colour = ["case (number) {", *number, "}"], ["case (colour) {", *colour, "}"]
+        other = ["case else {", *self.statements(0, 1), "}"]
+        both = ["case (number, colour) {", *self.statements(0, 1), "}"]
+        cases = self.chance.choice([
+            of_number + of_colour, of_colour + of_number, of_number + other, of_colour + other, of_colour, both,
+        ])
+        by_cases = [f"select union ({name}) {{", *cases, "}"]
+        by_asking = [f"if (ischosen({name}.colour)) {{", *colour, "} else {", *number, "}"]
+        template = self.pick("?", "?", "({ number := (0 .. 1) }, { colour := ? })", "{ number := ? }")
+        how = self.pick("receive", "receive", "trigger")
+        return [
+            f"var Answer {name};", "alt {", f"[] e.{how}(Answer:{template}) -> value {name} {{",
+            *(by_cases if self.is_so(0.7) else by_asking), "}", "[] e.receive { }", "}",
         ]
 
     def _alternatives(self) -> list[str]:

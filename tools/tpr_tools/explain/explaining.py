@@ -3,7 +3,7 @@ from __future__ import annotations
 
 import re
 from dataclasses import replace
-from typing import Any, Callable, Optional, Union
+from typing import Any, Callable, NamedTuple, Optional, Union
 
 from ..refusals import Refusal
 from ..script.checks import check_script
@@ -28,21 +28,42 @@ def explain(file: str, data: Optional[bytes], said: str) -> Explanation:
     if said == "accepted":
         return Explanation(file, Answer.ACCEPTED, said)
     refused = _REFUSED.fullmatch(said)
-    if refused is None or int(refused[1]) not in RULES_OF:
+    if refused is None or int(refused[1]) not in RULES_OF or refused[2] != Refusal(int(refused[1])).word:
         answer = Answer.FAULT if _FAULT.fullmatch(said) else Answer.BROKEN
         return Explanation(file, answer, said.partition("\n")[0] or "nothing was printed")
     line = int(refused[3]) if refused[3] else None
     explanation = Explanation(file, Answer.REFUSED, said, int(refused[1]), refused[2], line)
-    if data is None or line is None:
-        return _by_rules(explanation)
+    reading = reading_of(data)
+    if reading.answer != said:
+        explanation.own_reading = reading.answer
+        _by_rules(explanation)
+    elif reading.text is not None:
+        _EXPLAINED[type(reading.fault)](explanation, reading.text, reading.fault)
+    elif data is None:
+        _by_rules(explanation)
+    else:
+        _of_long_text(explanation)
+    return explanation
+
+
+class Reading(NamedTuple):
+    """What `tpr check` prints where it finds what is found here, and the fault in the text."""
+
+    answer: str
+    text: Optional[Text] = None
+    fault: Optional[Fault] = None
+
+
+def reading_of(data: Optional[bytes]) -> Reading:
+    if data is None:
+        return Reading(f"refused {Refusal.READ.told()}")
     if len(data) > MOST_BYTES:
-        return _of_long_text(explanation)
+        return Reading(f"refused {Refusal.LIMIT.told()} line 0")
     text = Text(data)
     fault = first_fault(text)
-    if fault is None or (fault.number, line_of(text, fault)) != (explanation.number, line):
-        return _by_rules(explanation)
-    _EXPLAINED[type(fault)](explanation, text, fault)
-    return explanation
+    if fault is None:
+        return Reading("accepted")
+    return Reading(f"refused {Refusal(fault.number).told()} line {line_of(text, fault)}", text, fault)
 
 
 def first_fault(text: Text) -> Optional[Fault]:
@@ -63,25 +84,22 @@ def line_of(text: Text, fault: Fault) -> int:
     return text.line(fault.told if isinstance(fault, RuleFault) else fault.place)
 
 
-def _by_rules(explanation: Explanation) -> Explanation:
-    """Where the own reading comes to another place: the rules of the number, and nothing of the script."""
+def _by_rules(explanation: Explanation) -> None:
+    """The rules of the number, and nothing of the script."""
     rules = list(RULES_OF[Refusal(explanation.number or 0)])
     is_one = len(rules) == 1
-    told = _sentence(rules[0]) if is_one else "a rule is broken, and it isn't sure where"
-    explanation.sentence = told
+    explanation.sentence = _sentence(rules[0]) if is_one else "a rule is broken, and it isn't sure where"
     explanation.rules = rules
-    return explanation
 
 
 def _sentence(rule: Rule) -> str:
     return rule.value.partition(". ")[0]
 
 
-def _of_long_text(explanation: Explanation) -> Explanation:
+def _of_long_text(explanation: Explanation) -> None:
     explanation.sentence = f"the text has more than {MOST_BYTES:,} bytes"
     explanation.rules = [Rule.SHORT_TEXT]
     explanation.instead = "a script for each test case"
-    return explanation
 
 
 def _show(text: Text, place: int, label: str = "") -> Shown:

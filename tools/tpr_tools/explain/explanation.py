@@ -53,6 +53,8 @@ class Explanation:
     clause: str = ""
     instead: str = ""
     rules: list[Rule] = field(default_factory=list)
+    # What the own reading comes to, where that isn't what `tpr check` said: then no place is known.
+    own_reading: str = ""
     # Where the line comes from, in a script that tools/rewrite wrote.
     origin: str = ""
 
@@ -81,6 +83,8 @@ class Explanation:
             lines.append(f"  write instead: {self.instead}")
         if self.construct:
             lines.append(f"  more: docs/FROM_TTCN3.md, {self.clause}")
+        if self.own_reading:
+            lines.append(f"  no place is shown, since explain itself reads: {self.own_reading}")
         word = "rule" if len(self.rules) == 1 else "one of these rules"
         lines += [f"  {word}: {rule.value}" for rule in self.rules]
         return "\n".join(lines) + "\n"
@@ -102,6 +106,7 @@ class Explanation:
             "clause": self.clause or None,
             "instead": self.instead or None,
             "rules": [rule.value for rule in self.rules],
+            "own_reading": self.own_reading or None,
         }
 
 

@@ -6,6 +6,7 @@ from dataclasses import dataclass
 from typing import Iterator, Optional
 
 from ..model.run import Run
+from ..origins import Origins
 from .answers import Answer
 from .following import NoEnd, result_of, some_order
 from .forced_order import forced_order_of
@@ -40,9 +41,9 @@ class Parted:
 class Exploration:
     """Looks at what was answered of a script."""
 
-    def __init__(self, script: ForcedScript, answer: Answer):
+    def __init__(self, script: ForcedScript, answer: Answer, origins: Optional[Origins] = None):
         self.answer = answer
-        self.case = script.case()
+        self.case = script.case(origins)
         # Of one verdict and no other no order is printed: each comes to it.
         orders = answer.orders or [(verdict, tuple(some_order(Run(self.case)))) for verdict in answer.verdicts]
         self.shown = [self.followed(verdict, order) for verdict, order in orders]

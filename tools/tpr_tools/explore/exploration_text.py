@@ -4,7 +4,7 @@ from __future__ import annotations
 import shlex
 from typing import Optional
 
-from ..origins import Origins, origins_of
+from ..origins import Origins
 from .answers import Answer
 from .exploration import Exploration, Parted, Shown
 
@@ -23,7 +23,7 @@ def text_of(exploration: Exploration, script: str) -> str:
     lines = [line for it in shown for line in _lines_of(it, dict(answer.orders).get(it.verdict))]
     pieces += ["", *lines] if lines else []
     if partings := exploration.partings():
-        pieces.append(_text_of_partings(partings, origins_of(script)))
+        pieces.append(_text_of_partings(partings, exploration.case.origins))
     if answer.orders:
         pieces += [_text_of_report(it, script) for it in shown if it.report]
     if exploration.no_reports and (answer.orders or exploration.interrupted):
@@ -109,7 +109,7 @@ def as_json(exploration: Exploration, script: str) -> dict[str, object]:
             {
                 "first": {"verdict": it.better.verdict, "order": _order_of(it.better)},
                 "second": {"verdict": it.worse.verdict, "order": _order_of(it.worse)},
-                "where": None if it.where is None else it.where.as_json(),
+                "where": None if it.where is None else it.where.as_json(exploration.case.origins),
             }
             for it in exploration.partings()
         ],

@@ -12,6 +12,7 @@ from itertools import count
 from typing import Iterator, Optional
 
 from ..model.tree import EVERYONE, Choice, Function, Loop, Send, Variable
+from ..origins import Origins
 from .placed import Placed, PlacedCase, placed_tokens
 
 Edits = dict[int, tuple[int, list[str]]]  # by the place of a token: how many are taken out, and what stands there
@@ -23,8 +24,8 @@ class ForcedScript:
 
     tokens: list[Placed]
 
-    def case(self) -> PlacedCase:
-        return PlacedCase(self.tokens)
+    def case(self, origins: Optional[Origins] = None) -> PlacedCase:
+        return PlacedCase(self.tokens, origins)
 
     def text(self) -> str:
         """The tokens, those of a line on a line."""
@@ -34,6 +35,14 @@ class ForcedScript:
             pieces.append(token)
             line = token.line
         return "".join(pieces) + "\n"
+
+    def own_line(self, number: int) -> int:
+        """The line of the script that stands in this line of the text."""
+        lines = [1]
+        for token in self.tokens:
+            if token.line != lines[-1]:
+                lines.append(token.line)
+        return lines[min(number, len(lines)) - 1]
 
 
 def forced_script(data: bytes) -> ForcedScript:

@@ -40,8 +40,8 @@ class Deed:
     line: Optional[int]
     text: str
 
-    def as_json(self) -> dict[str, object]:
-        return {"line": self.line, "text": self.text}
+    def as_json(self, origins: Origins) -> dict[str, object]:
+        return {**_place_as_json(self.line, origins), "text": self.text}
 
 
 @dataclass(frozen=True)
@@ -61,9 +61,15 @@ class Parting:
         told = f"{where}{self.component} {self.first.text};\n  in the other run{other} it {self.second.text}\n"
         return told + ("" if self.unordered is None else f"{_unordered(*map(origins.line, self.unordered))}\n")
 
-    def as_json(self) -> dict[str, object]:
-        told = {"component": self.component, "first": self.first.as_json(), "second": self.second.as_json()}
-        return {**told, "unordered": None if self.unordered is None else list(self.unordered)}
+    def as_json(self, origins: Origins) -> dict[str, object]:
+        first, second = self.first.as_json(origins), self.second.as_json(origins)
+        lines = None if self.unordered is None else [_place_as_json(line, origins) for line in self.unordered]
+        return {"component": self.component, "first": first, "second": second, "unordered": lines}
+
+
+def _place_as_json(line: Optional[int], origins: Origins) -> dict[str, object]:
+    """The script's own line, and where it comes from, as `tools/explain --json` names both."""
+    return {"line": line, "origin": (origins.place(line) if line is not None else "") or None}
 
 
 def _unordered(one: Line, other: Line) -> str:
@@ -264,4 +270,5 @@ def _look(told: Told, step: Done) -> str:
 
 def _message(told: Told, name: Name, message: Message) -> str:
     sender = told.case.names[message.sender]
-    return f"{told.run.text(message)} from {sender} at port {name[1]}, sent at line {told.sent[name]}"
+    line = told.case.told(told.sent[name])
+    return f"{told.run.text(message)} from {sender} at port {name[1]}, sent at line {line}"

@@ -6,6 +6,7 @@ from typing import Optional, TypeVar
 from ..model.bodies import Begun, TestCase, Tried
 from ..model.reading import TOKENS, Reader
 from ..model.tree import Guard
+from ..origins import Line, Origins
 
 
 Node = TypeVar("Node")
@@ -71,12 +72,13 @@ class _PlacedReader(Reader):
 
 
 class PlacedCase(TestCase):
-    """A test case that knows the lines of its statements."""
+    """A test case that knows the lines of its statements, and where these come from."""
 
-    def __init__(self, tokens: list[Placed]):
+    def __init__(self, tokens: list[Placed], origins: Optional[Origins] = None):
         reader = _PlacedReader(tokens)
         super().__init__(reader.module())
         self._reader = reader
+        self.origins = origins or Origins([])
 
     def bodies_from(self) -> list[int]:
         """Where each function, and the test case, begins."""
@@ -89,6 +91,10 @@ class PlacedCase(TestCase):
     def span(self, statement: object) -> tuple[int, int]:
         """The places of the statement's first token, and of the one behind its last."""
         return self._reader.spans[id(statement)]
+
+    def told(self, line: int) -> Line:
+        """A line of the script as it is told to whoever wrote it."""
+        return self.origins.line(line)
 
     def line(self, node: object) -> Optional[int]:
         """Where a statement, or a receiving operation, begins."""

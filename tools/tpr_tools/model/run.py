@@ -233,7 +233,7 @@ class Run:
         number = me.numbers.get((component, port), 0)
         me.numbers[component, port] = number + 1
         message = Message(*self.message(me, send), who, number)
-        self.components[component].ports[port].queue.append(message)
+        self.deliver(component, port, message)
         me.lines.append(f"sent {self.case.names[component]}.{port} {number} {self.text(message)}")
         me.sent += 1
         if me.sent < len(routes):
@@ -241,6 +241,10 @@ class Run:
         me.sent = 0
         me.place += 1
         return Act.DONE
+
+    def deliver(self, component: int, port: str, message: Message) -> None:
+        """The one place where a component changes another."""
+        self.components[component].ports[port].queue.append(message)
 
     def message(self, me: Component, send: Send) -> tuple[str, Any]:
         """The type and the value that are sent."""
@@ -322,9 +326,12 @@ class Run:
 
     def report(self) -> str:
         """The report, where no component can go on."""
+        lines = [line for place in range(len(self.components)) for line in self.lines_of(place)]
+        return "".join(f"{line}\n" for line in [*lines, f"result {self.result()}"])
+
+    def result(self) -> str:
+        """The overall verdict, where no component can go on."""
         places = range(len(self.components))
-        ends = [self.end(place) for place in places]
-        verdicts = [self.verdict(place) for place in places]
-        result = "error" if "waiting" in ends else max(verdicts, key=VERDICTS.index)
-        lines = [line for place in places for line in self.lines_of(place)]
-        return "".join(f"{line}\n" for line in [*lines, f"result {result}"])
+        if "waiting" in [self.end(place) for place in places]:
+            return "error"
+        return max((self.verdict(place) for place in places), key=VERDICTS.index)

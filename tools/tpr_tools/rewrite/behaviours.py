@@ -275,7 +275,7 @@ class Follower(ListFollower):
 
     def _select(self, statement: tree.Select, path: Path, scope: Scope) -> list[Path]:
         if statement.is_union:
-            refuse(statement.at, "`select union` isn't carried over")
+            return self._select_union(statement, path, scope)
         type = self.type_of(statement.value, path, scope)
         value = self.evaluate(statement.value, path, scope, type)
         for case in statement.cases:
@@ -284,6 +284,26 @@ class Follower(ListFollower):
             ):
                 return self.block(case.block, path, scope)
         return [path]
+
+    def _select_union(self, statement: tree.Select, path: Path, scope: Scope) -> list[Path]:
+        """The first case that names the chosen alternative (19.3.2). Of what was received it may be open: each
+        alternative that a case names gets a branch."""
+        type = self.type_of(statement.value, path, scope)
+        value = self.evaluate(statement.value, path, scope, type)
+        if type is None or type.kind is not Kind.UNION:
+            refuse(statement.value.at, "`select union` asks for the alternative of a union")
+        if value is Mark.UNSET:
+            refuse(statement.value.at, "this has no value yet")
+        for case in statement.cases:
+            names = [self._alternative(item, type) for item in case.templates or []]
+            if case.templates is None or any(self.has_chosen(value, name, case.at) for name in names):
+                return self.block(case.block, path, scope)
+        return [path]
+
+    def _alternative(self, item: Expression, type: Type) -> str:
+        if not isinstance(item, tree.Name) or type.field_number(item.word) is None:
+            refuse(item.at, f"a case of `select union` names alternatives of `{type.name}`")
+        return item.word
 
     def _is_case(
         self, value: Form, item: Expression, path: Path, scope: Scope, type: Optional[Type]

@@ -7,7 +7,7 @@ from . import tree
 from .lists import Plan
 from .emitted import Code, Got, GotDone, Message, Way, Ways, Who
 from .evaluating import SENDER
-from .fitting import opened
+from .fitting import open_alternatives, opened, type_at
 from .guards import Expander, Guard, is_repeat_alone, may_repeat
 from .paths import Exit, Fork, Path, Scope
 from .refusing import refuse
@@ -15,18 +15,18 @@ from .tokens import Token
 from .tree import Receiving
 from .types import Kind, Type
 from .values import (
-    Chosen, ComponentValue, Elements, Excluded, Fields, Form, Mark, Options, Received, Symbol, Wild, is_value, narrowed,
+    Chosen, ComponentValue, Elements, Excluded, Facts, Fields, Form, Mark, Options, Received, Symbol, Wild, is_value,
+    narrowed,
 )
 
 MOST_TURNS = 30
 MOST_DEPTH = 60
-_Facts = dict[tuple[tuple[int, ...], Form], bool]
 
 
 class Leaf:
     """A branch as it is written: a guard, with what is asked of the message besides."""
 
-    def __init__(self, guard: Guard, facts: _Facts, message: Optional[Message], sender: Optional[Who]):
+    def __init__(self, guard: Guard, facts: Facts, message: Optional[Message], sender: Optional[Who]):
         self.guard = guard
         self.facts = facts
         self.message = message
@@ -149,7 +149,7 @@ class Chooser(Expander):
         return self._counted(found, path) if count else found
 
     def _planned(
-        self, guard: Guard, plan: Plan, facts: _Facts, message: Optional[Message], sender: Optional[Who]
+        self, guard: Guard, plan: Plan, facts: Facts, message: Optional[Message], sender: Optional[Who]
     ) -> list[Leaf]:
         if plan is None:
             return [Leaf(guard, facts, message, sender)]
@@ -167,6 +167,8 @@ class Chooser(Expander):
         first = [] if narrow_message and narrow_message.form == Options(()) else self._planned(
             guard, yes, held, narrow_message, narrow_sender
         )
+        if first and steps != SENDER and message is not None and _has_no_more(message, steps, missed):
+            return first
         return first + self._planned(guard, no, missed, message, sender)
 
     def _is_discarding(self, guard: Guard, before: list[Guard]) -> bool:
@@ -327,6 +329,12 @@ def _takes_all(guard: Guard, port: str, type: Type) -> bool:
         return False
     message = guard.message
     return message is None or (message.type.root is type.root and message.form is Wild.ANY)
+
+
+def _has_no_more(message: Message, steps: tuple[int, ...], facts: Facts) -> bool:
+    """Whether each alternative of the union at these steps has a branch before."""
+    type = type_at(message.type, steps)
+    return type is not None and type.kind is Kind.UNION and not open_alternatives(facts, steps, type)
 
 
 def _narrow(form: Form, type: Type, steps: tuple[int, ...], asked: Form, at: Token) -> Form:

@@ -33,6 +33,9 @@ class Cursor:
         self.created: set[str] = set()
         # What is sent or wanted, and whether it is sent: its type may stand before it.
         self.messages: list[tuple[Expression, bool]] = []
+        # What is called within an expression: a function, or a template with parameters.
+        self.called: list[Token] = []
+        self.module_names: set[str] = set()
 
     @property
     def token(self) -> Token:

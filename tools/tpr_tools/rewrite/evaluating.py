@@ -6,7 +6,7 @@ from typing import Optional, Union
 from . import tree
 from .arithmetic import ASKING, PREDEFINED, computed, inverted, predefined
 from .braces import BracesReader
-from .fitting import opened, template_at
+from .fitting import open_alternatives, opened, template_at
 from .paths import Key, Path, Scope, Slot, Split
 from .program import Program
 from .refusing import refuse, Refusal
@@ -246,12 +246,18 @@ class Evaluator(BracesReader):
         if of is None or number is None:
             refuse(node.at, f"the field `{node.word}` isn't known here")
         if of.kind is Kind.UNION:
-            template = self.said_of(whole) if isinstance(whole, Received) else None
-            if not isinstance(template, Chosen):
-                refuse(node.at, "which alternative it has isn't known here: ask `ischosen` before")
-            if template.name != node.word:
-                refuse(node.at, f"the alternative `{node.word}` isn't the chosen one")
+            self._look_at_chosen(node, whole, of)
         return self.part(whole, (number,))
+
+    def _look_at_chosen(self, node: tree.FieldOf, whole: Form, of: Type) -> None:
+        """What was received has this alternative for sure: its template names it, or all others were asked for."""
+        template = self.said_of(whole) if isinstance(whole, Received) else None
+        if isinstance(whole, Received) and not isinstance(template, Chosen):
+            if open_alternatives(whole.symbol.facts, whole.steps, of) != [node.word]:
+                refuse(node.at, "which alternative it has isn't known here: ask `ischosen` before")
+            self.fits(whole, Chosen(node.word, Wild.ANY), node.at)
+        elif not isinstance(template, Chosen) or template.name != node.word:
+            refuse(node.at, f"the alternative `{node.word}` isn't the chosen one")
 
     def _range(self, node: tree.RangeOf, path: Path, scope: Optional[Scope]) -> Form:
         low, high = (self._limit(item, path, scope) for item in (node.low, node.high))
@@ -404,11 +410,17 @@ class Evaluator(BracesReader):
         if not isinstance(node, tree.FieldOf):
             refuse(node.at, "`ischosen` asks for an alternative")
         whole = self.evaluate(node.value, path, scope)
+        return self.has_chosen(whole, node.word, node.at)
+
+    def has_chosen(self, whole: Form, name: str, at: Token) -> bool:
+        """Whether a union has this alternative; where that is open of what was received, its branch is split."""
+        if whole is Mark.LOST:
+            raise Refusal(at, "")
         if isinstance(whole, Received) and whole.steps != SENDER:
-            return self.fits(whole, Chosen(node.word, Wild.ANY), node.at)
+            return self.fits(whole, Chosen(name, Wild.ANY), at)
         if not isinstance(whole, Chosen):
-            refuse(node.at, "which alternative it has isn't known here")
-        return whole.name == node.word
+            refuse(at, "which alternative it has isn't known here")
+        return whole.name == name
 
     def _match(self, value: Form, template: Form, at: Token) -> bool:
         if not is_template(template):

@@ -5,8 +5,8 @@ from typing import Iterable, Optional
 
 from .types import FieldOfType, Kind, Type
 from .values import (
-    Bounds, Chosen, Digits, DigitsPattern, Elements, Enumerated, Excluded, Fields, Form, IfPresent, Mark, Options,
-    TextPattern, Wild,
+    Bounds, Chosen, Digits, DigitsPattern, Elements, Enumerated, Excluded, Facts, Fields, Form, IfPresent, Mark,
+    Options, TextPattern, Wild,
 )
 
 LEAST, MOST = -(2**63), 2**63 - 1
@@ -89,6 +89,21 @@ def template_at(form: Form, type: Optional[Type], steps: Iterable[int]) -> Form:
             return Wild.ANY
         form, type = _part_of(form, type, step)
     return form
+
+
+def type_at(type: Optional[Type], steps: Iterable[int]) -> Optional[Type]:
+    """The type of a part of what has the type."""
+    for step in steps:
+        if type is None:
+            return None
+        _, type = _part_of(Wild.ANY, type, step)
+    return type
+
+
+def open_alternatives(facts: Facts, steps: tuple[int, ...], union: Type) -> list[str]:
+    """Those of a union that was received which no branch before has asked for in vain."""
+    names = [field.name for field in union.root.fields]
+    return [name for name in names if facts.get((steps, Chosen(name, Wild.ANY))) is not False]
 
 
 def _part_of(form: Form, type: Type, step: int) -> tuple[Form, Optional[Type]]:

@@ -10,6 +10,16 @@ from . import tree
 from .reading_modules import ModuleReader
 from .tokens import Refused, Source, Token
 
+# ES 201 873-1, 16.1.2. What isn't listed is a function of this module, or of one that it imports.
+_PREDEFINED = frozenset(
+    "any2unistr bit2hex bit2int bit2oct bit2str char2int char2oct decvalue decvalue_o decvalue_unichar encvalue"
+    " encvalue_o encvalue_unichar enum2int float2int get_stringencoding hex2bit hex2int hex2oct hex2str hostid"
+    " int2bit int2char int2enum int2float int2hex int2oct int2str int2unichar isbound ischosen ispresent"
+    " istemplatekind isvalue lengthof oct2bit oct2char oct2hex oct2int oct2str oct2unichar regexp remove_bom"
+    " replace rnd sizeof str2float str2hex str2int str2oct substr testcasename unichar2int unichar2oct".split()
+)
+# Calls that are constructs of their own.
+_TOLD_ELSEWHERE = ("match", "valueof", "checkstate")
 _WORDS = {"port": "p", "operation": "send", "type": "T", "value": "1", "name": "f", "verdict": "fail"}
 
 
@@ -40,6 +50,7 @@ def constructs_of(file: str, data: bytes) -> tuple[list[Listed], list[Refused]]:
     modules = reader.modules()
     found = [Listed(construct, at) for construct, at in reader.noted]
     found += _of_messages(reader, modules)
+    found += _of_calls(reader, modules)
     for module in modules:
         for definition in module.definitions:
             if isinstance(definition, (tree.Function, tree.TestCase)) and definition.body:
@@ -62,6 +73,14 @@ def _of_messages(reader: ModuleReader, modules: list[tree.Module]) -> list[Liste
         elif not isinstance(called, tree.Name):
             found.append(Listed(Construct.NO_TYPE, message.at))
     return found
+
+
+def _of_calls(reader: ModuleReader, modules: list[tree.Module]) -> list[Listed]:
+    """A function that is called, and no altstep or template with parameters."""
+    definitions = [item for module in modules for item in module.definitions]
+    others = {item.name for item in definitions if not isinstance(item, tree.Function)}
+    called = [at for at in reader.called if at.text not in others and at.text not in _TOLD_ELSEWHERE]
+    return [Listed(Construct.PREDEFINED if at.text in _PREDEFINED else Construct.CALL_FUNCTION, at) for at in called]
 
 
 def _of_order(body: Union[tree.Function, tree.TestCase]) -> list[Listed]:

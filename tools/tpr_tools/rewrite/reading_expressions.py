@@ -177,7 +177,7 @@ class ExpressionReader(Cursor):
         return braces
 
     def _item(self, braces: tree.Braces) -> None:
-        if self.token.kind is Kind.NAME and self.ahead(1).text == ":=":
+        if _names_a_part(self.token) and self.ahead(1).text == ":=":
             name = self.take().text
             self.take()
             braces.named.append((name, self.expression()))
@@ -265,6 +265,7 @@ class ExpressionReader(Cursor):
             elif self.is_at("(") and isinstance(value, (tree.Name, tree.FieldOf)):
                 if value.word in ("match", "valueof"):
                     self.note(Construct.MATCHING, value.at)
+                self.called.append(value.at)
                 value = tree.Call(value.at, value, self.arguments())
             else:
                 return value
@@ -272,12 +273,12 @@ class ExpressionReader(Cursor):
     def _dotted(self, value: Expression) -> Optional[Expression]:
         """A field, `create`, or what is asked; None where an operation follows, which is a statement's."""
         word = self.ahead(1)
-        if word.kind is Kind.NAME:
+        if _names_a_part(word):
             self.place += 2
             if isinstance(value, tree.Name) and self.is_at(":"):
                 self.note(Construct.GLOBAL_NAME, value.at)
                 return self.maybe_typed(tree.Name(word, word.text))
-            self.note(Construct.FIELD, word)
+            self._note_field(value, word)
             return tree.FieldOf(word, value, word.text)
         if word.text == "create":
             self.place += 2
@@ -290,6 +291,14 @@ class ExpressionReader(Cursor):
                 self.skip_brackets()
             return tree.Asked(word, "", word.text)
         return None
+
+    def _note_field(self, value: Expression, word: Token) -> None:
+        if word.text == "checkstate" and self.is_at("("):
+            self.note(Construct.CHECKSTATE, word)
+        elif isinstance(value, tree.Name) and value.word in self.module_names:
+            self.note(Construct.GLOBAL_NAME, value.at)
+        else:
+            self.note(Construct.FIELD, word)
 
     def _create(self, of: Expression, at: Token) -> Expression:
         arguments = []
@@ -315,6 +324,11 @@ class ExpressionReader(Cursor):
             self.place += 2
             return tree.Argument(at, at.text, self.expression())
         return tree.Argument(at, None, self.expression())
+
+
+def _names_a_part(token: Token) -> bool:
+    """A field, or an alternative of `anytype`, which has the name of its type."""
+    return token.kind is Kind.NAME or token.text in _BASE_TYPES
 
 
 _Read = Callable[[ExpressionReader], Expression]

@@ -38,6 +38,7 @@ class ModuleReader(StatementReader):
     def _module(self) -> tree.Module:
         at = self.expect("module")
         name = self.name("the name of the module").text
+        self.module_names.add(name)
         if self.is_at("language"):
             self.note(Construct.LANGUAGE, self.take())
             while self.accept(",") or self.token.kind is Kind.TEXT:
@@ -292,6 +293,7 @@ class ModuleReader(StatementReader):
             token = self.take()
             depth += {"{": 1, "}": -1}.get(token.text, 0) if token.kind is Kind.SIGN else 0
             if token.text == "execute" and self.is_at("("):
+                self.note(Construct.EXECUTE, token)
                 called = self.ahead(1)
                 if self.ahead(2).text == "." and self.ahead(3).kind is Kind.NAME:
                     called = self.ahead(3)

@@ -205,7 +205,9 @@ class OperationReader(TypeReader):
         return tree.Operate(at, target, PortAct(at.text), arguments, (start, self.place))
 
     def _note_arguments(self, call: Expression) -> None:
-        """A component is started with components as arguments alone."""
+        """A component is started with components as arguments alone. The function of the start isn't called here."""
+        if isinstance(call, tree.Call):
+            self.called = [at for at in self.called if at is not call.at]
         for item in call.arguments if isinstance(call, tree.Call) else []:
             if not isinstance(item.value, (tree.Name, tree.Special)):
                 self.note(Construct.START_ARGUMENT, item.at)

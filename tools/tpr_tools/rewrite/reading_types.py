@@ -83,9 +83,12 @@ class TypeReader(ExpressionReader):
     def _structured(self, at: Token) -> tree.TypeDefinition:
         """A record or a set, with fields or of elements; a union."""
         word = self.take()
-        if word.text in ("set", "union"):
-            self.note(Construct.SET if word.text == "set" else Construct.UNION, word)
-        if word.text != "union" and (self.is_at("of", "length")):
+        is_list = word.text != "union" and self.is_at("of", "length")
+        if word.text == "set":
+            self.note(Construct.SET_OF if is_list else Construct.SET, word)
+        elif word.text == "union":
+            self.note(Construct.UNION, word)
+        if is_list:
             body = self._list(word)
             name = self.name("the name of the type").text
             body.restriction = body.restriction or self.restriction()

@@ -134,7 +134,7 @@ class Symbol:
         self.type = type
         self.template = template
         self.hint = hint
-        self.facts: dict[tuple[tuple[int, ...], Form], bool] = {}
+        self.facts: Facts = {}
         self.is_used = False
         self.name = ""
         self.is_sender = False
@@ -154,6 +154,8 @@ Form = Union[
     Received,
 ]
 
+# Of a message: whether the part at these steps matches.
+Facts = dict[tuple[tuple[int, ...], Form], bool]
 _OPEN = (Wild, Options, Excluded, Bounds, TextPattern, DigitsPattern, Received, IfPresent)
 VERDICTS = ("none", "pass", "inconc", "fail", "error")
 
@@ -308,6 +310,19 @@ def narrowed(template: Form, asked: Form) -> Optional[Form]:
         return asked if is_template(template) and matches(asked, template) else None
     if isinstance(template, Bounds) and isinstance(asked, Bounds):
         return _both(template, asked)
-    if isinstance(template, Options) and all(map(is_value, template.items)):
-        return Options(tuple(item for item in template.items if matches(item, asked)))
+    if isinstance(template, Options):
+        return _narrowed_options(template.items, asked)
     return None
+
+
+def _narrowed_options(items: tuple[Form, ...], asked: Form) -> Optional[Form]:
+    """Of each what both match; the only one that is left stands for itself."""
+    found: list[Form] = []
+    for item in items:
+        answer = decided(item, asked)
+        part = narrowed(item, asked) if answer is None else item
+        if part is None:
+            return None
+        if answer is not False and part != Options(()):
+            found.append(part)
+    return found[0] if len(found) == 1 else Options(tuple(found))

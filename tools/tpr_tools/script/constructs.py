@@ -240,6 +240,11 @@ class Construct(Enum):
         "16.1.1",
         "its statements, written out here: a function is what a component does",
     )
+    PREDEFINED = (
+        "predefined functions, as `lengthof`, `int2str`",
+        "16.1.2",
+        "the value itself; what can't be known before is matched by a template",
+    )
     EXTERNAL = (
         "an external function",
         "16.1.3",

@@ -120,6 +120,7 @@ RULES_OF = {
         Rule.ARGUMENTS,
         Rule.BODY_PORT,
         Rule.BODY_TYPE,
+        Rule.FITS,
         Rule.SENT_VARIABLE,
         Rule.PEER,
         Rule.VALUE_TO,

@@ -1,6 +1,6 @@
 """What an entry of Titan's log says of ports and messages.
 
-    Port p was started.                                           an operation, and so stopped, halted, cleared
+    Port p was started.                                           an operation: started, stopped, halted, cleared
     Port p has accepted the connection from x(3):q.               p leads to q of x(3), until
     Port p was disconnected from x(3):q.
     Sent on p to x(3) integer : 1                                 a sending, but where at once there follows
