@@ -69,6 +69,30 @@ Made = TypeVar("Made")
 
 printing = threading.Lock()
 is_over = threading.Event()  # once it is set, no further check begins
+beginning = threading.Lock()  # held while a check begins, and while all that have begun are ended
+begun: list[subprocess.Popen[str]] = []
+
+
+def begin(words: Sequence[str], folder: str) -> Optional[subprocess.Popen[str]]:
+    """Begins a check, where none of them is to be the last. It has a session of its own: a terminal's
+    interrupt doesn't end it before `is_over` is set, so that no other begins in its place."""
+    with beginning:
+        if is_over.is_set():
+            return None
+        begun.append(subprocess.Popen(
+            words, cwd=folder, stdin=subprocess.DEVNULL, stdout=subprocess.PIPE, stderr=subprocess.PIPE,
+            text=True, errors="replace", start_new_session=True,
+        ))
+        return begun[-1]
+
+
+def end_all() -> None:
+    """Lets no further check begin, and ends those at work."""
+    with beginning:
+        is_over.set()
+        for it in begun:
+            if it.poll() is None:
+                os.killpg(it.pid, signal.SIGTERM)
 
 
 def check(
@@ -76,11 +100,11 @@ def check(
 ) -> tuple[list[str], str]:
     """What a check says of these functions, or of the whole crate where there are none, and what the
     prover answers."""
-    words = [*words, *[word for path in paths for word in ("--only", path)]]
-    ran = subprocess.run(
-        words, cwd=folder, stdin=subprocess.DEVNULL, capture_output=True, text=True, errors="replace"
-    )
-    lines = (ran.stdout + ran.stderr).split("\n")
+    ran = begin([*words, *[word for path in paths for word in ("--only", path)]], folder)
+    if ran is None:
+        return [], NO_ANSWER
+    printed, said = ran.communicate()
+    lines = (printed + said).split("\n")
     counts = [re.match(r"only=(\d+) proved=(\d+)", line) for line in lines]
     is_short = any(it and int(it[2]) < int(it[1]) for it in counts)
     if is_short or any(line.startswith("logic=not-proved") for line in lines):
@@ -245,7 +269,7 @@ def try_each(jobs: int, work: Callable[[str, Edits], Made], asked: dict[str, Edi
             return [it.result() for it in made]
         except BaseException:
             ignore_further()
-            is_over.set()
+            end_all()
             pool.shutdown(cancel_futures=True)
             raise
 
