@@ -32,7 +32,7 @@ EVERYWHERE = frozenset(
 )
 # Words of the toolchain's library that edits have and no source below them has.
 OF_THE_KIT = frozenset(
-    "MAX and is_err is_none is_ok iter max min or position remove rev reverse saturating_add swap trim"
+    "MAX and is_err is_none is_ok iter max min or position remove rev reverse saturating_add saturating_sub swap trim"
     " truncate unwrap_or".split()
 )
 # What `derive` gives a type.

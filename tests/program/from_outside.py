@@ -402,8 +402,8 @@ Case = tuple[str, str, Callable[[Program, str], None]]
 
 def cases() -> Iterator[Case]:
     """Each case: its name, its mode, and what is tried."""
-    all_modes, long_modes = ("queue", "check", "run", "judge"), ("queue", "run")
-    for mode in all_modes:
+    long_modes = ("queue", "run")
+    for mode in ("queue", "check", "run", "trace", "judge", "verdicts"):
         yield "a full device", mode, full_device
         yield "a pipe that nobody reads", mode, closed_pipe
         yield "a limit on memory", mode, limit_on_memory
@@ -420,7 +420,7 @@ def cases() -> Iterator[Case]:
         yield "a small disk that is full", mode, small_disk
         for number in ENDING:
             yield f"{number.name} while it writes", mode, signal_while_writing(number)
-    for tried in (full_device, pipe_that_closes, file_that_is_full, limit_on_memory):
+    for tried in (pipe_that_closes, file_that_is_full):
         yield f"{tried.__name__.replace('_', ' ')}, with the arrivals", "trace", tried
     yield "no thread to be had", "run", no_threads
     yield "a limit on processes", "run", limit_on_processes

@@ -161,6 +161,7 @@ traces_of_titan() {
         counts_of_logs "$folder" 'Message enqueued' came
         counts_of_logs "$folder" 'Check-receive operation' found
         counts_of_logs "$folder" 'Port [^ ]* was started' started
+        counts_of_logs "$folder" 'Port [^ ]* was stopped' stopped
         counts_of_logs "$folder" 'Port [^ ]* was halted' halted
         counts_of_logs "$folder" 'Port [^ ]* was cleared' cleared
     done

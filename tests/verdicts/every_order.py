@@ -1,71 +1,142 @@
 """All verdicts that a script can come to, over every order of its acts in the model of runs (tools/tpr_tools/model/). No
 order is left out.
+
+What a component does next hangs on its own state alone, and what a message does to a receiver on the receiver's. So the
+model is asked once for each state of a component. These states are numbered. A state of all components is one integer,
+which has the number of each component at its own bits.
 """
 from __future__ import annotations
 
-import time
-from collections.abc import Hashable, Iterator
-from dataclasses import dataclass, field
-from typing import NamedTuple
+from collections.abc import Hashable
+from typing import NamedTuple, Optional
 
-from tpr_tools.explore.following import result_of
 from tpr_tools.model.bodies import TestCase
-from tpr_tools.model.run import Act, Component, Run
+from tpr_tools.model.run import Act, Component, Message, Run
 
-State = tuple[int, ...]
-
-
-class Reached(NamedTuple):
-    """A run, and the number of the state of each component."""
-
-    run: Run
-    state: State
+BITS = 24  # of the number of a component's state
 
 
-@dataclass
-class EveryOrder:
-    """The search through every order. The states of a component are numbered as they come up."""
+class Apart(Run):
+    """A run that delivers nothing, so that an act changes one component alone."""
 
-    most_states: int
-    most_seconds: float  # of the processor, so that beside other work no less is looked at
-    numbers: dict[Hashable, int] = field(default_factory=dict)
+    def __init__(self, case: TestCase):
+        super().__init__(case)
+        self.sent: list[tuple[int, str, Message]] = []
 
-    def verdicts(self, case: TestCase) -> tuple[set[str], bool]:
-        """The verdicts of all ends that were come to, and whether there are no others."""
-        end = time.process_time() + self.most_seconds
-        begin = self.reached_in(Run(case))
-        seen, open_ones, found = {begin.state}, [begin], set()
-        while open_ones and len(seen) <= self.most_states and time.process_time() <= end:
-            one = open_ones.pop()
-            following = list(self.following(one))
-            if not following:
-                found.add(result_of(one.run))
-            new = {it.state: it for it in following if it.state not in seen}
-            seen |= new.keys()
-            open_ones += new.values()
-        return found, not open_ones
+    def deliver(self, component: int, port: str, message: Message) -> None:
+        self.sent.append((component, port, message))
 
-    def following(self, one: Reached) -> Iterator[Reached]:
-        """What comes of one act more."""
-        for who in range(len(one.run.components)):
-            if one.run.statement(who) is None:
-                continue
-            changed = one.run.reached(who)
-            after = one.run.copy_of(changed)
-            if after.act(who) is not Act.WAITS:
-                yield Reached(after, self.state_behind(one.state, after, changed))
 
-    def reached_in(self, run: Run) -> Reached:
-        return Reached(run, tuple(self.number_of(it) for it in run.components))
+class States:
+    """The states of one component, by their numbers at its bits."""
 
-    def state_behind(self, state: State, after: Run, changed: set[int]) -> State:
-        numbers = list(state)
-        for who in changed:
-            numbers[who] = self.number_of(after.components[who])
-        return tuple(numbers)
+    def __init__(self, who: int, begin: Component):
+        self.who = who
+        self.one = 1 << BITS * who
+        self.mask = self.one * ((1 << BITS) - 1)
+        self.numbers: dict[Hashable, int] = {}
+        self.numbered: dict[int, Component] = {}
+        self.begin = self.number_of(begin)
 
     def number_of(self, component: Component) -> int:
-        return self.numbers.setdefault(all_that_counts(component), len(self.numbers))
+        number = self.numbers.setdefault(all_that_counts(component), self.one * len(self.numbers))
+        return number if number in self.numbered else self.new(number, component)
+
+    def new(self, number: int, component: Component) -> int:
+        """What it did is no part of its state."""
+        component.lines, component.numbers, component.looked = [], {}, ()
+        self.numbered[number] = component
+        return number
+
+
+class Sent(dict[int, int]):
+    """What is added to a state of all by the coming of a message, for each number of the receiver's state."""
+
+    __slots__ = ("states", "mask", "port", "message")
+
+    def __init__(self, states: States, port: str, message: Message):
+        self.states, self.mask = states, states.mask
+        self.port, self.message = port, message
+
+    def __missing__(self, number: int) -> int:
+        receiver = self.states.numbered[number].copy()
+        receiver.ports[self.port].queue.append(self.message)
+        self[number] = self.states.number_of(receiver) - number
+        return self[number]
+
+
+class Acted(NamedTuple):
+    """What is added to a state of all by an act, and what that sends."""
+
+    change: int
+    sent: Optional[Sent]
+
+
+class Acts(dict[int, Optional[Acted]]):
+    """What the next act comes to, for each number of a component's state. None where it waits or has ended."""
+
+    __slots__ = ("every", "states")
+
+    def __init__(self, every: EveryOrder, states: States):
+        self.every, self.states = every, states
+
+    def __missing__(self, number: int) -> Optional[Acted]:
+        run, who = self.every.run, self.states.who
+        run.components[who] = me = self.states.numbered[number].copy()
+        self[number] = None
+        if run.statement(who) is not None and run.act(who) is not Act.WAITS:
+            sent = self.every.sent_by(*run.sent.pop()) if run.sent else None
+            self[number] = Acted(self.states.number_of(me) - number, sent)
+        return self[number]
+
+
+class EveryOrder:
+    """The search through every order."""
+
+    def __init__(self, case: TestCase):
+        self.run = Apart(case)
+        self.states = [States(who, it) for who, it in enumerate(self.run.components)]
+        self.acts = [(it.mask, Acts(self, it)) for it in self.states]
+        self.sent: dict[Hashable, Sent] = {}
+
+    def sent_by(self, receiver: int, port: str, message: Message) -> Sent:
+        key = receiver, port, message.type, message.value, message.sender
+        return self.sent.setdefault(key, Sent(self.states[receiver], port, message))
+
+    def following(self, state: int) -> list[int]:
+        """The states behind one act more."""
+        found = []
+        for mask, acts in self.acts:
+            acted = acts[state & mask]
+            if acted is not None:
+                behind, sent = state + acted[0], acted[1]
+                found.append(behind if sent is None else behind + sent[behind & sent.mask])
+        return found
+
+    def result(self, state: int) -> str:
+        """The overall verdict, where no component can go on."""
+        self.run.components = [it.numbered[state & it.mask] for it in self.states]
+        return self.run.result()
+
+    def verdicts(self, most_states: int) -> tuple[set[str], bool]:
+        """The verdicts of all ends that were come to, and whether there are no others."""
+        begin = sum(it.begin for it in self.states)
+        seen, open_ones, found = {begin}, [begin], set()
+        while open_ones and len(seen) <= most_states:
+            one = open_ones.pop()
+            following = self.following(one)
+            if not following:
+                found.add(self.result(one))
+            for state in following:
+                if state not in seen:
+                    seen.add(state)
+                    open_ones.append(state)
+        return found, not open_ones
+
+
+def verdicts_of(case: TestCase, most_states: int) -> tuple[set[str], bool]:
+    """The verdicts of all ends that were come to, and whether there are no others."""
+    return EveryOrder(case).verdicts(most_states)
 
 
 def all_that_counts(component: Component) -> Hashable:

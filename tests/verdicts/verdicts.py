@@ -12,7 +12,8 @@ made by chance that have few components. `limit` has scripts whose states are co
 beyond. `answers` looks whether answers that can't be are refused.
 
 Of each script it prints `passed 1 STATES SCRIPT`, `passed 0 STATES SCRIPT` where the model didn't come through all
-orders, or lines that begin with `FAILED: `, with the script. STATES is how many the program looked at.
+orders, or lines that begin with `FAILED: `, with the script. STATES is how many the program looked at. The last line
+names each script with more states in the model than it goes through: of what it didn't come to nothing is said.
 """
 from __future__ import annotations
 
@@ -22,43 +23,42 @@ import random
 import subprocess
 import sys
 import tempfile
+from collections.abc import Iterable, Iterator
 from concurrent.futures import ProcessPoolExecutor
 from functools import partial
+from itertools import count, islice
 from pathlib import Path
-from typing import Callable, NamedTuple
+from typing import NamedTuple
 
 sys.dont_write_bytecode = True
 ROOT = Path(__file__).resolve().parents[2]
 sys.path[:0] = [str(ROOT / it) for it in ("tools", "tests/orders")]
 
-from every_order import EveryOrder
+from every_order import verdicts_of
 from generator import some_script
 from tpr_tools.explore.answers import MOST_STATES, Answer, read_answer
 from tpr_tools.explore.following import end_by
 from tpr_tools.model.bodies import TestCase
 from tpr_tools.model.reading import read_script
 
-SECONDS_OF_THE_PROGRAM = 120
+SECONDS_OF_THE_PROGRAM = 1800  # it ends by the number of its states: this is for one that hangs
 MOST_COMPONENTS = 5  # of a script by chance
-
-
-class Bounds(NamedTuple):
-    """How far the model goes: so many states, and seconds of the processor."""
-
-    states: int
-    seconds: float
-
-
-OF_EACH = Bounds(10_000, 30.0)
-BY_CHANCE = Bounds(4_000, 1.5)
+MOST_STATES_OF_MODEL = 10_000
+AT_ONCE = 10  # scripts that a process is given together
 
 
 class Compared(NamedTuple):
-    """Whether the model came through all orders, how many states the program looked at, and what is wrong."""
+    """A script: whether the model came through all orders, how many states the program looked at, and what is wrong."""
 
+    path: Path
     whole: bool
     states: int
     wrong: str | None
+
+    def line(self) -> str:
+        if self.wrong is None:
+            return f"passed {int(self.whole)} {self.states} {self.path}"
+        return f"FAILED: {self.path}: {self.wrong}\n{self.path.read_text(encoding='latin-1')}"
 
 
 def printed_of(program: str, path: Path) -> tuple[int, str]:
@@ -91,34 +91,37 @@ def difference(said: set[str], decided: bool, found: set[str], whole: bool) -> s
     return f"the program says {sorted(said)}, and the model comes to {sorted(found)} {how}"
 
 
-def compared(program: str, bounds: Bounds, path: Path) -> Compared:
+def compared(program: str, path: Path) -> Compared:
     status, printed = printed_of(program, path)
     answer = read_answer(printed)
     if answer is None:
-        return Compared(False, 0, f"this is no answer, with status {status}: {printed[:2000]}")
+        return Compared(path, False, 0, f"this is no answer, with status {status}: {printed[:2000]}")
     wrong = answer.fault() or (f"the status is {status}" if status != answer.status() else None)
     case = TestCase(read_script(str(path)))
-    found, whole = EveryOrder(*bounds).verdicts(case)
+    found, whole = verdicts_of(case, MOST_STATES_OF_MODEL)
     if wrong is None and whole and not answer.decided:
         wrong = "it is undecided, and the model comes through all orders"
     wrong = wrong or difference(set(answer.verdicts), answer.decided, found, whole) or wrong_order(case, answer)
-    return Compared(whole, answer.states, wrong)
+    return Compared(path, whole, answer.states, wrong)
 
 
-def line_of(program: str, bounds: Bounds, path: Path) -> str:
+def looked_at(program: str, path: Path) -> Compared:
     try:
-        done = compared(program, bounds, path)
+        return compared(program, path)
     except Exception as error:  # a script that can't be read is a failure, and not the end of the others
-        done = Compared(False, 0, repr(error))
-    if done.wrong is None:
-        return f"passed {int(done.whole)} {done.states} {path}"
-    return f"FAILED: {path}: {done.wrong}\n{path.read_text(encoding='latin-1')}"
+        return Compared(path, False, 0, repr(error))
 
 
-def tell_each(looking: Callable[[Path], str], paths: list[Path]) -> None:
+def tell_each(program: str, paths: Iterable[Path]) -> None:
+    """A line, or lines, for each script. They are looked at while others are still made."""
+    left_open = []
     with ProcessPoolExecutor(len(os.sched_getaffinity(0))) as pool:
-        for line in pool.map(looking, paths):
-            print(line, flush=True)
+        for done in pool.map(partial(looked_at, program), paths, chunksize=AT_ONCE):
+            print(done.line(), flush=True)
+            if done.wrong is None and not done.whole:
+                left_open.append(done.path.stem)
+    if left_open:
+        print(f"more than {MOST_STATES_OF_MODEL} states, so that nothing is said of those behind:", *left_open)
 
 
 # Scripts by chance
@@ -128,15 +131,13 @@ def is_small(text: str) -> bool:
     return text.count(".create;") + 1 + text.count(" system C") <= MOST_COMPONENTS
 
 
-def made_by_chance(seed: str, number: int, folder: str) -> list[Path]:
+def made_by_chance(seed: str, number: int, folder: str) -> Iterator[Path]:
     """So many scripts of few components."""
-    made: list[Path] = []
-    for at in range(2 * number):
-        text = some_script(random.Random(f"{seed} {at}"))
-        if len(made) < number and is_small(text):
-            made.append(Path(folder, f"seed_{seed}_script_{at}.ttcn"))
-            made[-1].write_text(text, encoding="latin-1")
-    return made
+    texts = ((at, some_script(random.Random(f"{seed} {at}"))) for at in count())
+    for at, text in islice((it for it in texts if is_small(it[1])), number):
+        made = Path(folder, f"{seed}_{at}.ttcn")
+        made.write_text(text, encoding="latin-1")
+        yield made
 
 
 # The limit
@@ -244,8 +245,7 @@ def tell_made(asked: argparse.Namespace, folder: str) -> None:
         for first, second in LOOKS:
             print(limited(asked.program, Path(folder, "looking.ttcn"), first, second), flush=True)
         return
-    made = made_by_chance(asked.seed, asked.number, folder)
-    tell_each(partial(line_of, asked.program, BY_CHANCE), made)
+    tell_each(asked.program, made_by_chance(asked.seed, asked.number, folder))
 
 
 def main() -> None:
@@ -253,7 +253,7 @@ def main() -> None:
     if asked.what == "answers":
         judged_answers()
     elif asked.what == "each":
-        tell_each(partial(line_of, asked.program, OF_EACH), asked.scripts)
+        tell_each(asked.program, asked.scripts)
     else:
         with tempfile.TemporaryDirectory() as folder:
             tell_made(asked, folder)

@@ -2,8 +2,8 @@
 
 # Of how many scripts the model goes through every order at least, and how many scripts are made by chance.
 least_whole=167
-verdicts_by_chance=300
-least_whole_by_chance=240
+verdicts_by_chance=10000
+least_whole_by_chance=8900
 
 verdicts_of_each() {
     find_runnable
