@@ -56,7 +56,10 @@ IsWithin n (entry.Cleared port) = port < n
 IsWithin n (entry.Started port) = port < n
 IsWithin n (entry.Stopped port) = port < n
 IsWithin n (entry.Halted port) = port < n
-IsWithin n _ = Unit {0}
+IsWithin n (entry.Sent r number m) = Unit {0}
+IsWithin n entry.Else = Unit {0}
+IsWithin n (entry.Verdict v) = Unit {0}
+IsWithin n (entry.Failed fault) = Unit {0}
 
 -- the history of this port
 abbrev pub at_port : Journal → ℕ → List (Event Message)

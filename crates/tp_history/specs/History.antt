@@ -22,7 +22,10 @@ event_at port (entry.Cleared p) = cond (port == p) (Some event.Cleared) None
 event_at port (entry.Started p) = cond (port == p) (Some event.Started) None
 event_at port (entry.Stopped p) = cond (port == p) (Some event.Stopped) None
 event_at port (entry.Halted p) = cond (port == p) (Some event.Halted) None
-event_at port _ = None
+event_at port (entry.Sent r number m) = None
+event_at port entry.Else = None
+event_at port (entry.Verdict v) = None
+event_at port (entry.Failed fault) = None
 
 -- the history of a port: the events of the entries that name it, in order
 unfoldable pub history_of : ℕ → List Entry → List (Event Message)

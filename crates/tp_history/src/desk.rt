@@ -286,11 +286,11 @@ impl Desk {
         Ok(())
     }
 
-    /// Notes that this message is sent on this route, under this number there and the next stamp, and
-    /// hands it out under that stamp, to be put.
+    /// Notes that this message is sent on this route, under this number there and the next stamp,
+    /// and hands it out under that stamp, to be put.
     ///
-    /// 50 `Memory` where an allocation was refused, or where no stamp is left: the message is handed
-    /// back, and the desk is as before.
+    /// 50 `Memory` where an allocation was refused, or where no stamp is left: the message is
+    /// handed back, and the desk is as before.
     pub fn note_sending(
         &mut self,
         route: RouteId,

@@ -172,9 +172,9 @@ impl Sender {
         }
     }
 
-    /// Sends a message: notes it at this desk under the next stamp of its history, and puts it on this
-    /// one of the routes. The two are one: it is noted where it is put, and nowhere else. The desk is
-    /// of one thread, so nobody sees a note before its message is put.
+    /// Sends a message: notes it at this desk under the next stamp of its history, and puts it on
+    /// this one of the routes. The two are one: it is noted where it is put, and nowhere else. The
+    /// desk is of one thread, so nobody sees a note before its message is put.
     ///
     /// 15 `Limit` only where the route has taken all that it takes; else 50 `Memory` where an
     /// allocation was refused, or where no stamp is left. Either hands the message back, and

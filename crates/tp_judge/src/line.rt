@@ -162,17 +162,17 @@ impl Act {
     pub(crate) fn is_looking(self) -> bool
         ensures { result ≡ is_looking self }
     {
-        matches!(
-            self,
+        match self {
             Act::Took(_)
-                | Act::Found(_)
-                | Act::Dropped(_)
-                | Act::Cleared(_)
-                | Act::Started(_)
-                | Act::Stopped(_)
-                | Act::Halted(_)
-                | Act::Else
-        )
+            | Act::Found(_)
+            | Act::Dropped(_)
+            | Act::Cleared(_)
+            | Act::Started(_)
+            | Act::Stopped(_)
+            | Act::Halted(_)
+            | Act::Else => true,
+            Act::Sent(_) | Act::Came(_) | Act::Left(_) | Act::End | Act::Other => false,
+        }
     }
 
     /// The parcel that was sent, or that came.

@@ -23,13 +23,24 @@ is_removal _ = false
 
 -- the event empties the queue: 22.5.1 (clear) and 22.5.2 (start)
 abbrev pub is_emptying : {M : Type 0} → Event M → Bool
+is_emptying (event.Arrive e) = false
+is_emptying (event.Took e) = false
+is_emptying (event.Found e) = false
+is_emptying (event.Dropped e) = false
 is_emptying event.Cleared = true
 is_emptying event.Started = true
-is_emptying _ = false
+is_emptying event.Stopped = false
+is_emptying event.Halted = false
 
 abbrev pub is_clear : {M : Type 0} → Event M → Bool
+is_clear (event.Arrive e) = false
+is_clear (event.Took e) = false
+is_clear (event.Found e) = false
+is_clear (event.Dropped e) = false
 is_clear event.Cleared = true
-is_clear _ = false
+is_clear event.Started = false
+is_clear event.Stopped = false
+is_clear event.Halted = false
 
 abbrev pub is_start : {M : Type 0} → Event M → Bool
 is_start event.Started = true

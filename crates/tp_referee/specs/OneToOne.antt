@@ -70,7 +70,9 @@ port_of_act (act.Cleared port) = Some port
 port_of_act (act.Started port) = Some port
 port_of_act (act.Stopped port) = Some port
 port_of_act (act.Halted port) = Some port
-port_of_act _ = None
+port_of_act act.Else = None
+port_of_act act.End = None
+port_of_act act.Other = None
 
 -- the two have one number exactly where they name the same
 pub record AreNumberedAlike (s u : Stand) (l m : IndexedLine) : Type 0 where

@@ -52,7 +52,9 @@ IsKnown s c (entry.Started port) = IsPort s (component_port c port)
 IsKnown s c (entry.Stopped port) = IsPort s (component_port c port)
 IsKnown s c (entry.Halted port) = IsPort s (component_port c port)
 IsKnown s c (entry.Sent route number stamped) = IsPort s route.to
-IsKnown s c _ = Unit {0}
+IsKnown s c entry.Else = Unit {0}
+IsKnown s c (entry.Verdict v) = Unit {0}
+IsKnown s c (entry.Failed fault) = Unit {0}
 
 -- the desk is that of the component, and its entries name what is of the configuration
 pub record IsDeskIn (s : Setup) (c : CompId) (d : Journal) : Type 0 where
