@@ -1,25 +1,25 @@
-pub mod Moments
-mod FixedRules
-mod LastingRules
-mod Viewed
-mod Looks
-pub mod Outboxes
-pub mod Filed
-mod Entries
-mod Consistent
-mod Noted
-mod Chosen
-mod Acted
-mod Sent
-mod Variables
-mod Routed
-mod Stayed
-mod Placed
-mod Decided
-mod Stepped
-mod Received
-mod Executed
-mod Turned
-mod Branched
-mod Begun
-pub mod Stopped
+pub mod TraceGrowth
+mod FixedValueRules
+mod LastingStatementRules
+mod GuardViewsByPlace
+mod BranchLookOutcomes
+pub mod OutboxSendersByRoute
+pub mod SenderRouteTableGrowth
+mod RouteHistoryGrowth
+mod WorkerInvariantOnArrivals
+mod WorkerInvariantOnActions
+mod AltChoiceOutcomes
+mod PortOperationOutcomes
+mod WorkerInvariantOnSends
+mod ValuesHeldByVariables
+mod SendOutcomes
+mod UnchangedWorkerPorts
+mod PlayableBlocksAndBranches
+mod AltChoicesWithinBounds
+mod StatementOutcomes
+mod ReceiveOutcomes
+mod BlockPathGrowth
+mod BlockTurnGrowth
+mod AltAndForOutcomes
+mod BehaviourStartAndEnd
+pub mod WeakerStopConditions

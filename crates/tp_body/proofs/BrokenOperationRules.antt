@@ -17,8 +17,8 @@ use Rattle.tp_body.specs.Scoping.{IsReference}
 use Rattle.tp_body.specs.BrokenOperations as b
 use Rattle.tp_body.specs.BrokenOperations.{FromBreaks, NamesNoComponent, NamesNoVariable, ReceiverBreaks}
 use Rattle.tp_tree.specs.declared.tree.Receivers.TheVariants as destination
-use Rattle.tp_body.proofs.Fixed.{absent_contained, absent_place}
-use Rattle.tp_body.proofs.Telling.{told_rule}
+use Rattle.tp_body.proofs.NameLookupsAreUnique.{absent_contained, absent_place}
+use Rattle.tp_body.proofs.RuleFaultPropagation.{told_rule}
 
 -- what is no reference is a name
 pub only_named : (scope : Scope) (variables : Variables) (turns : List (List ℕ)) (x : ComponentName)

@@ -19,7 +19,7 @@ use Rattle.tp_body.specs.declared.scope.Variables.{Variables}
 use Rattle.tp_body.specs.Messages.{AreElements, AreFields}
 use Rattle.tp_body.specs.BrokenValues as b
 use Rattle.tp_body.specs.BrokenValues.{ValueNameBreaks, ValueBreaks, ElementsBreak, FieldsBreak}
-use Rattle.tp_body.proofs.Telling.{told_rule}
+use Rattle.tp_body.proofs.RuleFaultPropagation.{told_rule}
 
 -- a name that is no loop variable
 pub no_turn_told : (variables : Variables) (turns : List (List ℕ)) (u : Ty) (name : List ℕ) (line : ℕ) (f : ModuleFault) → IsAbsent turns name

@@ -28,7 +28,7 @@ use Rattle.tp_body.specs.Messages.{IsMessage, IsTemplate, IsValue}
 use Rattle.tp_body.specs.Bodies.{IsReceive, IsSend, IsSent, IsWanted}
 use Rattle.tp_body.specs.BrokenOperations as b
 use Rattle.tp_body.specs.BrokenOperations.{FromBreaks, MessageBreaks, NamesNoComponent, NamesNoMessage, NamesNoVariable, ReceiveBreaks, ReceiverBreaks, SendBreaks, SenderTargetBreaks, SentBreaks, ValueTargetBreaks, WantedBreaks}
-use Rattle.tp_body.proofs.Fixed.{absent_contained, absent_place, contained_at, message_fixed, port_fixed, reference_named, type_fixed, variable_fixed}
+use Rattle.tp_body.proofs.NameLookupsAreUnique.{absent_contained, absent_place, contained_at, message_fixed, port_fixed, reference_named, type_fixed, variable_fixed}
 use Rattle.tp_body.proofs.OperationInversions.{FromMeans, HasComponent, HasMessage, ReceiverMeans, SenderMeans, SentMeans, ValueMeans, WantedMeans, from_means, receiver_means, sender_means, sent_means, target_moves, value_means, wanted_means}
 use Rattle.tp_body.proofs.ValueExclusions.{value_excludes}
 use Rattle.tp_body.proofs.TemplateExclusions.{template_excludes}

@@ -28,7 +28,7 @@ use Rattle.tp_body.specs.Scoping.{IsType, IsVariable, IsReference}
 use Rattle.tp_body.specs.Messages.{IsMessage, IsTemplate}
 use Rattle.tp_body.specs.Bodies as b
 use Rattle.tp_body.specs.Bodies.{IsSend, IsReceive, IsSent, IsReceiver, IsWanted, IsFrom, IsValueTarget, IsSenderTarget, IsVerdict}
-use Rattle.tp_body.proofs.Fixed.{type_fixed}
+use Rattle.tp_body.proofs.NameLookupsAreUnique.{type_fixed}
 
 module _ (scope : Scope) (variables : Variables) (turns : List (List ℕ)) where
   -- what a variable of messages holds

@@ -22,8 +22,8 @@ use Rattle.tp_body.specs.Scoping.{IsSoundScope, declared_port_names}
 use Rattle.tp_body.specs.Bodies.{AreBranches, AreVariables, IsBlock, IsBody, IsBranch}
 use Rattle.tp_body.specs.BrokenBodies as b
 use Rattle.tp_body.specs.BrokenBodies.{AfterBreaks, BlockBreaks, BodyBreaks, BranchBreaks, BranchesBreak, StatementBreaks, VariableBreaks, VariablesBreak}
-use Rattle.tp_body.proofs.Fixed.{absent_contained, absent_place}
-use Rattle.tp_body.proofs.Declaring.{Next, has_next, variables_fixed}
+use Rattle.tp_body.proofs.NameLookupsAreUnique.{absent_contained, absent_place}
+use Rattle.tp_body.proofs.BodyVariableDeclarations.{Next, has_next, variables_fixed}
 use Rattle.tp_body.proofs.OperationInversions.{verdict_means}
 use Rattle.tp_body.proofs.OperationExclusions.{receive_excludes, send_excludes}
 use Rattle.tp_body.proofs.StatementInversions.{AfterMeans, Ruled, after_means, block_member, branch_member, made_parts, out_all_ports, out_alt, out_block, out_control, out_for, out_receive, out_send, out_set_verdict, ruled}

@@ -29,7 +29,7 @@ use Rattle.tp_body.specs.declared.scope.Variables.{Variables}
 use Rattle.tp_body.specs.Scoping.{IsPortNamed, IsNew}
 use Rattle.tp_body.specs.Bodies as d
 use Rattle.tp_body.specs.Bodies.{IsSend, IsReceive, IsVerdict, IsStatement, IsBlock, IsBranch, IsAfter, AreBranches}
-use Rattle.tp_body.proofs.Placed.{push_cases}
+use Rattle.tp_body.proofs.PlacedEntriesGrowth.{push_cases}
 
 pub out_send : (x : Send) → out-Action (a.Send x) ≡ o.Send x
 out_send x = ap out-Action (sym (a.rolls-Send x)) ∙ out-roll-Action (o.Send x)

@@ -17,7 +17,7 @@ use Rattle.tp_body.specs.Placing.{field_names}
 use Rattle.tp_body.specs.Messages.{IsTemplate, AreMembers, AreElementTemplates, AreFieldTemplates, AreNamedTemplates}
 use Rattle.tp_body.specs.BrokenTemplates as b
 use Rattle.tp_body.specs.BrokenTemplates.{RangeBreaks, TemplateBreaks, MembersBreak, ListBreaks, RecordBreaks, ElementTemplatesBreak, FieldTemplatesBreak, EntryTemplatesBreak}
-use Rattle.tp_body.proofs.Entered.{entry_stands}
+use Rattle.tp_body.proofs.EachFieldHasEntry.{entry_stands}
 use Rattle.tp_body.proofs.ValueExclusions.{text_excludes, name_excludes}
 use Rattle.tp_body.proofs.TemplateInversions.{out_int, out_bool, out_text, out_name, out_none, out_one_of, out_none_of, out_range, out_pattern, out_list, out_record, IsBraced, IsEntries, IsOpened, opened, members_each, element_templates_each, element_is_template, field_templates_count, field_templates_each, named_templates_each, names_part}
 

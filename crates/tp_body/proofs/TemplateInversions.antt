@@ -22,8 +22,8 @@ use Rattle.tp_play.specs.declared.body.RecvTemplate.{RecvTemplate}
 use Rattle.tp_name.specs.Named.{IsPlace}
 use Rattle.tp_body.specs.Placing.{HaveEntries}
 use Rattle.tp_body.specs.Messages.{IsTemplate, int_template, bool_template, text_template, turn_template, any, one_of, none_of, range, pattern, element_templates, place_templates, field_templates, AreMembers, no_member, one_member_more, AreElementTemplates, no_element_template, one_element_template_more, IsElementTemplate, many, single, AreFieldTemplates, no_field_template, one_field_template_more, AreNamedTemplates, no_name_template, one_name_template_more}
-use Rattle.tp_body.proofs.Placed.{push_cases}
-use Rattle.tp_body.proofs.Entered.{AreEntered, entered_more, have_entries}
+use Rattle.tp_body.proofs.PlacedEntriesGrowth.{push_cases}
+use Rattle.tp_body.proofs.EachFieldHasEntry.{AreEntered, entered_more, have_entries}
 
 pub out_name : (n : String Global) → out-Template (t.Name n) ≡ o.Name n
 out_name n = ap out-Template (sym (t.rolls-Name n)) ∙ out-roll-Template (o.Name n)

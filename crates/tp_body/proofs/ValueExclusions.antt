@@ -20,8 +20,8 @@ use Rattle.tp_body.specs.Placing.{field_names}
 use Rattle.tp_body.specs.Messages.{IsValue, AreElements, AreFields, AreNamed}
 use Rattle.tp_body.specs.BrokenValues as b
 use Rattle.tp_body.specs.BrokenValues.{TextBreaks, ValueNameBreaks, ValueBreaks, ElementsBreak, FieldsBreak, EntriesBreak}
-use Rattle.tp_body.proofs.Fixed.{absent_place}
-use Rattle.tp_body.proofs.Entered.{entry_stands}
+use Rattle.tp_body.proofs.NameLookupsAreUnique.{absent_place}
+use Rattle.tp_body.proofs.EachFieldHasEntry.{entry_stands}
 use Rattle.tp_body.proofs.ValueInversions.{out_int, out_bool, out_text, out_name, out_list, out_record, IsBraced, IsEntries, IsOpened, opened, elements_each, fields_count, fields_each, named_each, names_part}
 
 pub text_excludes : {u : Ty} {cs : List ℕ} {r : ModuleRule} → TextBreaks u cs r → (u ≡ ty.Charstring) × ArePrintable cs → ⊥

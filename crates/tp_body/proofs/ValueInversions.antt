@@ -21,8 +21,8 @@ use Rattle.tp_play.specs.declared.body.SendValue.{SendValue}
 use Rattle.tp_name.specs.Named.{IsPlace}
 use Rattle.tp_body.specs.Placing.{HaveEntries}
 use Rattle.tp_body.specs.Messages.{IsValue, int, bool, text, turn, elements, places, fields, AreElements, no_element, one_element_more, AreFields, no_field, one_field_more, AreNamed, no_name, one_name_more}
-use Rattle.tp_body.proofs.Placed.{push_cases}
-use Rattle.tp_body.proofs.Entered.{AreEntered, entered_more, have_entries}
+use Rattle.tp_body.proofs.PlacedEntriesGrowth.{push_cases}
+use Rattle.tp_body.proofs.EachFieldHasEntry.{AreEntered, entered_more, have_entries}
 
 pub out_int : (z : ℤ) → out-Value (v.Int z) ≡ o.Int z
 out_int z = ap out-Value (sym (v.rolls-Int z)) ∙ out-roll-Value (o.Int z)

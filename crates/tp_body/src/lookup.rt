@@ -69,7 +69,7 @@ pub fn lists(types: &TypeList, ty: Ty) -> bool
 }
 
 /// The type of values that a name stands for. Takes no memory.
-#[tactic(auto, using(crate::proofs::Rules::cases))]
+#[tactic(auto, using(crate::proofs::TypeAndReferenceRules::cases))]
 pub fn find_type(types: &Types, name: &TypeName) -> Option<Ty>
     ensures there { IfSome result (IsType types.now name.now) }
     ensures absent { IfNone result ((u : Ty) → IsType types.now name.now u → ⊥) }
@@ -112,7 +112,7 @@ fn find_component(scope: &Scope, name: &str) -> Option<usize>
 }
 
 /// The place of a component among the references. Takes no memory.
-#[tactic(auto, using(crate::proofs::Rules::cases))]
+#[tactic(auto, using(crate::proofs::TypeAndReferenceRules::cases))]
 pub fn find_reference(context: &Context, component: &ComponentName) -> Option<usize>
     ensures there { IfSome result (IsReference
         context.now.scope.now context.now.variables.now (texts context.now.turns.now)

@@ -26,7 +26,7 @@ fn turn_count(first: &i64, bound: &i64) -> u64
 
 /// The size of a statement, up to [`COUNTED`].
 #[cycle(size)]
-#[tactic(auto, using(crate::proofs::Counting::laws))]
+#[tactic(auto, using(crate::proofs::CappedStatementSizes::laws))]
 fn count_statement(statement: &Statement) -> u64
     ensures { result ≡ capped (size_of statement.now) }
 {
@@ -51,7 +51,7 @@ fn count_statement(statement: &Statement) -> u64
 
 /// The size of a block, up to [`COUNTED`].
 #[cycle(size)]
-#[tactic(auto, using(crate::proofs::Counting::laws))]
+#[tactic(auto, using(crate::proofs::CappedStatementSizes::laws))]
 fn count_block(block: &[Statement]) -> u64
     ensures { result ≡ capped (size_of_all block.now) }
 {
@@ -64,7 +64,7 @@ fn count_block(block: &[Statement]) -> u64
 
 /// The size of a branch, up to [`COUNTED`].
 #[cycle(size)]
-#[tactic(auto, using(crate::proofs::Counting::laws))]
+#[tactic(auto, using(crate::proofs::CappedStatementSizes::laws))]
 fn count_branch(branch: &Branch) -> u64
     ensures { result ≡ capped (size_in branch.now) }
 {
@@ -73,7 +73,7 @@ fn count_branch(branch: &Branch) -> u64
 
 /// The size of the branches of an `alt`, up to [`COUNTED`].
 #[cycle(size)]
-#[tactic(auto, using(crate::proofs::Counting::laws))]
+#[tactic(auto, using(crate::proofs::CappedStatementSizes::laws))]
 fn count_branches(branches: &[Branch]) -> u64
     ensures { result ≡ capped (size_in_all branches.now) }
 {
@@ -86,7 +86,7 @@ fn count_branches(branches: &[Branch]) -> u64
 
 /// How many statements a body has, once each `for` stands for its copies; 100,001 where there are
 /// more. Each variable counts 1. Takes no memory.
-#[tactic(auto, using(crate::proofs::Counting::laws))]
+#[tactic(auto, using(crate::proofs::CappedStatementSizes::laws))]
 pub fn count_body(body: &Body) -> u64
     ensures { result ≡ capped (size_of_body body.now) }
 {

@@ -51,7 +51,7 @@ pub fn is_new(context: &Context, name: &str) -> bool
 
 /// What a variable of this type holds, or `None` where the name stands for no type of messages and
 /// no component type. Takes no memory.
-#[tactic(auto, using(crate::proofs::VariableRules::cases))]
+#[tactic(auto, using(crate::proofs::HeldVariableRules::cases))]
 fn find_held(scope: &Scope, name: &TypeName) -> Option<VariableType>
     ensures there { IfSome result (IsVariableType scope.now name.now) }
     ensures absent { IfNone result ((held : VariableType)

@@ -15,9 +15,9 @@ use Rattle.tp_config.specs.Allowed.{ArePorts, IsSetup}
 use Rattle.tp_config.specs.Routes.{AreDistinctRoutes, AreRoutesInto, IsRouteOf, RouteCauseOf, SendersAreDetermined, beside, route_to, routes_below, routes_from, routes_into}
 use Rattle.tp_config.specs.Links.{links_at, routes_kept}
 use Rattle.tp_config.specs.Kept.{KeepsPairs}
-use Rattle.tp_config.proofs.Decide.{Contains-here, Contains-later, Contains-split}
-use Rattle.tp_config.proofs.Beside.{beside_back, beside_distinct, beside_of_one, cons_cases, pair_cases}
-use Rattle.tp_config.proofs.Joined.{port_within}
+use Rattle.tp_config.proofs.CreateTestsDecideCauses.{Contains-here, Contains-later, Contains-split}
+use Rattle.tp_config.proofs.PortPartnerLaws.{beside_back, beside_distinct, beside_of_one, cons_cases, pair_cases}
+use Rattle.tp_config.proofs.InvariantsAfterNewPair.{port_within}
 
 -- an element of a mapped list comes from one of the list
 pub map_cases : {X Y : Type 0} (f : X → Y) (xs : List X) (y : Y) → Contains (map f xs) y → (x : X) × Contains xs x × (f x ≡ y)

@@ -15,9 +15,9 @@ use Rattle.tp_exec.specs.OneOrder.{log_in, logs_of, source_of, sources}
 use Rattle.tp_exec.specs.OrderProgress.{awaited_sources, kind_of}
 use Rattle.tp_exec.specs.Greedy.{AreAfter, AreAllAfter, AreAwaitedOf, AreLookedBefore, MaySend}
 use Rattle.tp_exec.proofs.EntryKinds.{of_came, of_quiet, of_sent}
-use Rattle.tp_exec.proofs.OneOrder.{at_cases, came_on, one_more}
-use Rattle.tp_exec.proofs.Stuck.{came_grows, look_own, looked_looks}
-use Rattle.tp_exec.proofs.OrderProgress.{all_awaited_size, log_is, none_in, none_some, sources_of_awaited}
+use Rattle.tp_exec.proofs.SpotOrderGrowth.{at_cases, came_on, one_more}
+use Rattle.tp_exec.proofs.NoOrderWhereStuck.{came_grows, look_own, looked_looks}
+use Rattle.tp_exec.proofs.OrderProgressGrowth.{all_awaited_size, log_is, none_in, none_some, sources_of_awaited}
 
 -- the looks up to a place are before another one
 abbrev pub LookedUpTo : List Entry → ℕ → ℕ → Type 0

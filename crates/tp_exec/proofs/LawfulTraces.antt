@@ -13,13 +13,13 @@ use Rattle.tp_history.specs.declared.stamped.Stamped.{Stamped}
 use Rattle.tp_history.specs.declared.entry.Entry.{Entry}
 use Rattle.tp_history.specs.declared.entry.Entry.TheVariants as entry
 use Rattle.tp_history.specs.History.{arrival_on, arrived_on, posted_on, sent_on}
-use Rattle.tp_inbox.proofs.Ways.{came_on, sent_by_routes}
+use Rattle.tp_inbox.proofs.ComponentMessagesByRoute.{came_on, sent_by_routes}
 use Rattle.tp_report.specs.declared.report.CompReport.{CompReport}
 use Rattle.tp_report.specs.declared.report.Report.{Report}
 use Rattle.tp_exec.specs.Delivery.{IsReportOf, numbers_from}
 use Rattle.tp_exec.specs.Laws.{IsLawfulRoute}
 use Rattle.tp_exec.specs.Order.{log_of}
-use Rattle.tp_exec.proofs.NoCircle.{on_route}
+use Rattle.tp_exec.proofs.NoHappenedBeforeCircle.{on_route}
 
 first_is : {B : Type 0} (x y : B) (xs ys : List B) → x ∷ xs ≡ y ∷ ys → x ≡ y
 first_is x y xs ys e = cc

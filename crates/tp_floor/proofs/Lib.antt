@@ -1,2 +1,2 @@
-pub mod Crossing
-pub mod Standing
+pub mod FloorThreadSafety
+pub mod CountsKeepFloorRule

@@ -1,3 +1,3 @@
-pub mod Clocks
-pub mod Crossing
-pub mod Ports
+pub mod HistoryClockGrowth
+pub mod DeskThreadSafety
+pub mod PortQueuesMatchLog

@@ -1,4 +1,4 @@
-pub mod Numbering
-pub mod Places
-pub mod NameTables
-pub mod Telling
+pub mod NameSetLookups
+pub mod NameSearchGrowth
+pub mod FirstPlacesOfNames
+pub mod MemoryRefusals

@@ -1,5 +1,5 @@
-pub mod Filling
-pub mod Playing
-pub mod PlayRules
-pub mod Doing
-pub mod Crossing
+pub mod FilledValueEquations
+pub mod PlayableStatementEquations
+pub mod PlayableStatementRules
+pub mod PlayableBehaviours
+pub mod TestCaseThreadSafety

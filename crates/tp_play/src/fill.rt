@@ -15,7 +15,7 @@ use tp_value::value::Value;
 
 /// What a value comes to.
 #[cycle(fill)]
-#[tactic(auto, using(crate::proofs::Filling::values))]
+#[tactic(auto, using(crate::proofs::FilledValueEquations::values))]
 fn fill_value(alloc: Global, value: &SendValue, turns: &[i64]) -> Result<Value, Memory>
     requires given { needed value.now ≤ length turns.now }
     ensures { IfOk result (λ made. made ≡ filled turns.now value.now) }
@@ -38,7 +38,7 @@ fn fill_value(alloc: Global, value: &SendValue, turns: &[i64]) -> Result<Value, 
 
 /// What values come to.
 #[cycle(fill)]
-#[tactic(auto, using(crate::proofs::Filling::values))]
+#[tactic(auto, using(crate::proofs::FilledValueEquations::values))]
 fn fill_values(alloc: Global, values: &[SendValue], turns: &[i64]) -> Result<Items<Value>, Memory>
     requires given { greatest (map needed values.now) ≤ length turns.now }
     ensures { IfOk result (λ made. made ≡ map (filled turns.now) values.now) }
@@ -81,7 +81,7 @@ pub fn fill_message(alloc: Global, message: &SendMsg, turns: &[i64]) -> Result<M
 
 /// What a template comes to.
 #[cycle(template)]
-#[tactic(auto, using(crate::proofs::Filling::templates))]
+#[tactic(auto, using(crate::proofs::FilledValueEquations::templates))]
 fn fill_one(alloc: Global, template: &RecvTemplate, turns: &[i64]) -> Result<Template, Memory>
     requires given { needed_by_template template.now ≤ length turns.now }
     ensures { IfOk result (λ made. made ≡ filled_template turns.now template.now) }
@@ -119,7 +119,7 @@ fn fill_one(alloc: Global, template: &RecvTemplate, turns: &[i64]) -> Result<Tem
 
 /// What templates come to.
 #[cycle(template)]
-#[tactic(auto, using(crate::proofs::Filling::templates))]
+#[tactic(auto, using(crate::proofs::FilledValueEquations::templates))]
 fn fill_all(
     alloc: Global,
     templates: &[RecvTemplate],

@@ -1,6 +1,6 @@
-pub mod Cuts
-pub mod Words
-pub mod Kept
-pub mod Moves
-pub mod Queues
-pub mod Calls
+pub mod ListPartGrowth
+pub mod QueueHistoryGrowth
+pub mod QueueFieldsMatchHistory
+pub mod EventsKeepQueueFields
+pub mod QueueStateTransitions
+pub mod ReceivingCallAnswers

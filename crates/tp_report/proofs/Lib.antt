@@ -1,8 +1,8 @@
-pub mod Worst
-mod Naming
-mod Deciding
-mod Pieces
-mod Known
-mod Spaced
-mod Behind
-mod Integers
+pub mod WorstVerdictGrowth
+mod ComponentAndPortNames
+mod TypeTestIsExact
+mod PiecewiseWrittenText
+mod EntryNamesInConfiguration
+mod NumberBetweenSpaces
+mod TextBuiltBackwards
+mod IntegerMessageText

@@ -33,7 +33,7 @@ use Rattle.tp_config.specs.Shape.{ports_of}
 use Rattle.tp_setup.specs.Definitions.{name_of, type_of, port_type_of, component_type_of, function_of, case_of, type_definitions, port_types, component_types, functions, test_cases, definition_names, type_names, port_type_names, component_type_names, declared, declared_ports, inner_names}
 use Rattle.tp_setup.specs.Resolved.{ty_of, IsTypeNamed, IsField, IsTypeDef, IsNamedType, goes_in, goes_out, received_types, sent_types, IsPortType, IsMadeOf, IsPortDecl, IsComponentType, port_list}
 use Rattle.tp_setup.specs.Rules.{NamesType, IsSound}
-use Rattle.tp_script.proofs.Zips.{sequence_zip, zip_map, zip_all, zip_zip, zip_contains, zip_nil, zip_flat_map, zip_flat_same, zip_if, zip_weaker, BothOrNone, zip_filter_map}
+use Rattle.tp_script.proofs.ListsAlikeByPlace.{sequence_zip, zip_map, zip_all, zip_zip, zip_contains, zip_nil, zip_flat_map, zip_flat_same, zip_if, zip_weaker, BothOrNone, zip_filter_map}
 
 abbrev pub SameDefined : Defined → Defined → Type 0
 SameDefined x y = defined_content x ≡ defined_content y

@@ -27,7 +27,7 @@ use Rattle.tp_name.specs.Named.{IsPlace}
 use Rattle.tp_body.specs.Scoping.{IsType, type_named}
 use Rattle.tp_body.specs.Messages as m
 use Rattle.tp_body.specs.Messages.{IsValue, AreElements, AreFields, AreNamed}
-use Rattle.tp_script.proofs.Zips.{sequence_zip, zip_get, zip_push, zip_nil}
+use Rattle.tp_script.proofs.ListsAlikeByPlace.{sequence_zip, zip_get, zip_push, zip_nil}
 
 -- a name of a type
 pub type_moves : (types : Types) (x y : TypeName) (u : Ty) → type_content x ≡ type_content y → IsType types x u → IsType types y u

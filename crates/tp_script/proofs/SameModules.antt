@@ -3,7 +3,7 @@ use Rattle.std.proofs.Common.{◌≡◌, ℕ, List, [], ◌∷◌, Option, map, 
 use Rattle.std.specs.Prelude.{Contains, option_map, if◌then◌else◌}
 use Rattle.std.specs.List.{AllZip}
 use Rattle.std.specs.Str.{bytes_eq}
-use Rattle.tp_token.proofs.Accepted.{good_texts_are_accepted}
+use Rattle.tp_token.proofs.AcceptedTokenTexts.{good_texts_are_accepted}
 use Rattle.tp_token.specs.declared.fault.ScriptFault.TheVariants as script_fault
 use Rattle.tp_tree.specs.declared.tree.Definition.{Definition}
 use Rattle.tp_tree.specs.declared.tree.Function.{Function}
@@ -38,7 +38,7 @@ use Rattle.tp_script.specs.Behaviours as behaviours
 use Rattle.tp_script.specs.Behaviours.{Does}
 use Rattle.tp_script.specs.TestCases.{known_of, AreKinds, IsTestCaseOf, HasSoundBodies, WellFormed}
 use Rattle.tp_script.specs.Accepted.{ScriptsAreAccepted}
-use Rattle.tp_script.proofs.Zips.{sequence_zip, zip_map, zip_all, zip_zip, zip_get, zip_contains, zip_one}
+use Rattle.tp_script.proofs.ListsAlikeByPlace.{sequence_zip, zip_map, zip_all, zip_zip, zip_get, zip_contains, zip_one}
 use Rattle.tp_script.proofs.SameStatements.{SameStatement, SameVariable, body_moves}
 use Rattle.tp_script.proofs.SameDefinitions.{SameDefined, SameDefinition, SameComponent, SameFunction, SameCase, parameter_names_same, named_type_moves, component_type_moves, sound_moves, definitions_zip, type_definitions_zip, port_types_zip, component_types_zip, functions_zip, test_cases_zip, definition_names_same, inner_names_same, type_names_same, port_type_names_same, component_type_names_same}
 use Rattle.tp_script.proofs.SameSetups.{setups_zip, variables_same, runs_on_same, system_same, interface_number_same, set_up_moves, sound_variables_move, starts_move}

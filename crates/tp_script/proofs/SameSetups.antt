@@ -31,7 +31,7 @@ use Rattle.tp_setup.specs.Components.{creation_of, creations, variable_name, var
 use Rattle.tp_setup.specs.Configuring as configuring
 use Rattle.tp_setup.specs.Configuring.{end_component_number, IsPortOfEnd, Connects, Maps, IsStep, Makes, interface_number, most_variables, IsSetUp, AreSoundVariables}
 use Rattle.tp_setup.specs.Starting.{component_named, IsArgument, HasParameterType, type_names_of, IsStartOf, started_names, IsStartPlace, AreStarts}
-use Rattle.tp_script.proofs.Zips.{sequence_zip, zip_map, zip_all, zip_zip, zip_get, zip_contains, zip_push, zip_nil, BothOrNone, zip_filter_map}
+use Rattle.tp_script.proofs.ListsAlikeByPlace.{sequence_zip, zip_map, zip_all, zip_zip, zip_get, zip_contains, zip_push, zip_nil, BothOrNone, zip_filter_map}
 use Rattle.tp_script.proofs.SameDefinitions.{SameComponent, SameFunction, SameCase, SameParameter, parameters_zip, declared_ports_same}
 
 abbrev pub SameSetup : SetupStatement → SetupStatement → Type 0

@@ -52,7 +52,7 @@ use Rattle.tp_body.specs.Scoping as scoping
 use Rattle.tp_body.specs.Scoping.{IsPortNamed, IsVariable, IsReference, IsNew}
 use Rattle.tp_body.specs.Bodies as bodies
 use Rattle.tp_body.specs.Bodies.{IsSent, IsReceiver, IsSend, IsWanted, IsFrom, IsValueTarget, IsSenderTarget, IsReceive, IsStatement, IsBlock, IsBranch, IsAfter, AreBranches, IsVariableType, AreVariables, IsBody}
-use Rattle.tp_script.proofs.Zips.{sequence_zip, zip_push, zip_nil}
+use Rattle.tp_script.proofs.ListsAlikeByPlace.{sequence_zip, zip_push, zip_nil}
 use Rattle.tp_script.proofs.SameMessages.{type_moves, value_moves}
 use Rattle.tp_script.proofs.SameTemplates.{template_moves}
 

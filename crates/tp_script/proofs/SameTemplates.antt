@@ -24,7 +24,7 @@ use Rattle.tp_play.specs.declared.body.RecvTemplate.TheVariants as recv_template
 use Rattle.tp_name.specs.Named.{IsPlace}
 use Rattle.tp_body.specs.Messages as m
 use Rattle.tp_body.specs.Messages.{part_of, IsTemplate, AreMembers, AreElementTemplates, IsElementTemplate, AreFieldTemplates, AreNamedTemplates}
-use Rattle.tp_script.proofs.Zips.{sequence_zip, zip_get, zip_push, zip_nil}
+use Rattle.tp_script.proofs.ListsAlikeByPlace.{sequence_zip, zip_get, zip_push, zip_nil}
 
 abbrev Layer : Type 0
 Layer = o.Template-F Template TemplateField

@@ -183,7 +183,7 @@ fn check_case(components: &NameSet, case: &TestCase, line: u32) -> Result<(), Mo
 }
 
 /// Looks at one definition.
-#[tactic(auto, using(crate::proofs::Sound::soundness))]
+#[tactic(auto, using(crate::proofs::SoundDefinitionRules::soundness))]
 fn check_definition(
     sorted: &Sorted,
     system: &Option<String>,

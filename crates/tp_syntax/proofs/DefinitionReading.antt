@@ -18,8 +18,8 @@ use Rattle.tp_syntax.specs.Templates.{low_lexemes}
 use Rattle.tp_syntax.specs.Definitions.{record_type_lexemes, list_type_lexemes, port_type_lexemes, component_type_lexemes, defined_lexemes, all_done_lexemes}
 use Rattle.tp_syntax.specs.Grammar.{are_parts, has_one, direction_part, port_declaration_part, all_done_parts, defined_part}
 use Rattle.tp_syntax.specs.Reading.{AllStand, MayStandBefore, first, is_type}
-use Rattle.tp_syntax.proofs.Reading.{at_0, at_1, at_2, minus_then}
-use Rattle.tp_syntax.proofs.Remaining.{parts_stand}
+use Rattle.tp_syntax.proofs.FirstTokensAhead.{at_0, at_1, at_2, minus_then}
+use Rattle.tp_syntax.proofs.PartsLeftToRead.{parts_stand}
 
 type_word : (x : RecordType) (r : List Lexeme) (ps : List Placed) → ahead ps ≡ record_type_lexemes x ++ r → (token_at ps 1 ≡ Some (word w.Record)) × (token_at ps 2 ≡ Some (name (string_bytes x.name)))
 unfolding record_type_lexemes

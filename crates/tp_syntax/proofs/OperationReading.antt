@@ -24,9 +24,9 @@ use Rattle.tp_syntax.specs.Definitions.{direction_lexemes, directions_lexemes}
 use Rattle.tp_syntax.specs.Grammar.{has_one, is_sent, is_template, is_template_part, is_value}
 use Rattle.tp_syntax.specs.Nesting.{part_depth, sent_depth, template_depth, value_depth}
 use Rattle.tp_syntax.specs.Reading.{first}
-use Rattle.tp_syntax.proofs.Reading.{at_0, at_1, first_is}
-use Rattle.tp_syntax.proofs.Remaining.{no_brace}
-use Rattle.tp_syntax.proofs.Begins.{direction_begins}
+use Rattle.tp_syntax.proofs.FirstTokensAhead.{at_0, at_1, first_is}
+use Rattle.tp_syntax.proofs.PartsLeftToRead.{no_brace}
+use Rattle.tp_syntax.proofs.FirstTokensOfParts.{direction_begins}
 
 message_no_variable : (x : TypeName) (r : List Lexeme) (ps : List Placed) → ahead ps ≡ type_lexemes x ++ symbol Colon ∷ r →
     (is_name_in (token_at ps 0) ≡ true) × (token_at ps 1 ≡ Some (symbol RightParen)) → ⊥

@@ -20,7 +20,7 @@ use Rattle.tp_syntax.specs.Grammar.{Part, has_one, are_parts, is_sent, is_templa
 use Rattle.tp_syntax.specs.Contents as c
 use Rattle.tp_syntax.specs.Contents.{Content, sequence, send_content, receive_content, action_content_step, body_content_step, branch_content_step, counted_content_step, else_content_step, statement_content_step, action_content, body_content, branch_content, counted_content, else_branch_content, statement_content, statements_content}
 use Rattle.tp_syntax.proofs.StatementTokens as tokens
-use Rattle.tp_syntax.proofs.Grammar as grammar
+use Rattle.tp_syntax.proofs.GrammarEquations as grammar
 
 -- a layer of what a statement does, and of what stands behind the operation of a branch
 abbrev pub Layer : Type 0

@@ -29,10 +29,10 @@ use Rattle.tp_syntax.specs.Grammar.{Part, are_parts, has_one, body_part, else_br
 use Rattle.tp_syntax.specs.Nesting.{body_depth, statements_depth, otherwise_depth}
 use Rattle.tp_syntax.specs.Reading.{AllStand, IsEndedOr, MayStandBefore, Stops, first, is_branch_ahead, ends_operation, may_end_before, receive_word}
 use Rattle.tp_syntax.proofs.StatementTokens as tokens
-use Rattle.tp_syntax.proofs.Grammar as grammar
-use Rattle.tp_syntax.proofs.Nesting as nesting
-use Rattle.tp_syntax.proofs.Reading.{at_0, at_1, at_2, brace_at}
-use Rattle.tp_syntax.proofs.Remaining.{is_begin, parts_stand, stand_behind, stand_before}
+use Rattle.tp_syntax.proofs.GrammarEquations as grammar
+use Rattle.tp_syntax.proofs.NestingEquations as nesting
+use Rattle.tp_syntax.proofs.FirstTokensAhead.{at_0, at_1, at_2, brace_at}
+use Rattle.tp_syntax.proofs.PartsLeftToRead.{is_begin, parts_stand, stand_behind, stand_before}
 use Rattle.tp_syntax.proofs.StatementReading.{Kind, sends, receives, controls, all_controls, sets, chooses, counts, kind_lexemes, IsRightKind, body_cases, counted_opens}
 
 -- what isn't ended stands before a `}`

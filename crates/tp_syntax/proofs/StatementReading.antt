@@ -30,10 +30,10 @@ use Rattle.tp_syntax.specs.Grammar.{Part, are_parts, has_one, is_sent, is_templa
 use Rattle.tp_syntax.specs.Nesting.{sent_depth, receive_depth, action_depth, counted_depth, branches_depth, otherwise_depth}
 use Rattle.tp_syntax.specs.Reading.{IsEndOf, IsEndedOr, Stops, first, is_end_ahead}
 use Rattle.tp_syntax.proofs.StatementTokens as tokens
-use Rattle.tp_syntax.proofs.Grammar as grammar
-use Rattle.tp_syntax.proofs.Nesting as nesting
-use Rattle.tp_syntax.proofs.Reading.{end_first}
-use Rattle.tp_syntax.proofs.Remaining.{is_begin}
+use Rattle.tp_syntax.proofs.GrammarEquations as grammar
+use Rattle.tp_syntax.proofs.NestingEquations as nesting
+use Rattle.tp_syntax.proofs.FirstTokensAhead.{end_first}
+use Rattle.tp_syntax.proofs.PartsLeftToRead.{is_begin}
 
 -- a fact of what each statement does, variant by variant
 pub record Cases (Q : Action → Type 0) : Type 0 where

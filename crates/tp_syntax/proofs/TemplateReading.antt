@@ -22,9 +22,9 @@ use Rattle.tp_syntax.specs.Grammar.{each, one_and_each, is_bound, is_64_bit, is_
 use Rattle.tp_syntax.specs.Nesting.{deepest, template_depth, template_field_depth}
 use Rattle.tp_syntax.specs.Reading.{first}
 use Rattle.tp_syntax.proofs.TemplateTokens as tokens
-use Rattle.tp_syntax.proofs.Grammar as grammar
-use Rattle.tp_syntax.proofs.Nesting as nesting
-use Rattle.tp_syntax.proofs.Signs.{sign_first, no_bool, no_int, no_bool_brace, int_unnamed, bool_unnamed, some_int}
+use Rattle.tp_syntax.proofs.GrammarEquations as grammar
+use Rattle.tp_syntax.proofs.NestingEquations as nesting
+use Rattle.tp_syntax.proofs.FirstTokensOfLiterals.{sign_first, no_bool, no_int, no_bool_brace, int_unnamed, bool_unnamed, some_int}
 
 -- a fact of each template, variant by variant
 record Cases (Q : Template → Type 0) : Type 0 where

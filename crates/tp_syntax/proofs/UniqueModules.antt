@@ -6,7 +6,7 @@ use Rattle.std.specs.declared.alloc.Global.{Global}
 use Rattle.tp_token.specs.declared.word.Word.TheVariants as w
 use Rattle.tp_token.specs.declared.token.Symbol.TheVariants.{LeftBrace, LeftParen, RightBrace, RightParen}
 use Rattle.tp_token.specs.Lexeme.{Lexeme, PlacedLexeme, name, word, symbol}
-use Rattle.tp_token.proofs.Unique.{tokens_are_unique}
+use Rattle.tp_token.proofs.UniqueTokens.{tokens_are_unique}
 use Rattle.tp_tree.specs.declared.tree.Statement.{Statement}
 use Rattle.tp_tree.specs.declared.tree.RecordType.{RecordType}
 use Rattle.tp_tree.specs.declared.tree.ListType.{ListType}
@@ -32,13 +32,13 @@ use Rattle.tp_syntax.specs.Reading.{first, IsPlaced, AllStand, is_setup_ahead, i
 use Rattle.tp_syntax.specs.Contents as c
 use Rattle.tp_syntax.specs.Contents.{Content, sequence, optional_name, statement_content, statements_content}
 use Rattle.tp_syntax.specs.Same.{variable_content, field_type_content, direction_content, port_declaration_content, parameter_content, setup_content, start_content, all_done_content, test_case_content, defined_content, definition_content, ModulesAreUnique, ReadingsAreUnique}
-use Rattle.tp_syntax.proofs.Begins.{direction_begins, port_declaration_begins, variable_begins, setup_begins, start_begins, definition_begins}
+use Rattle.tp_syntax.proofs.FirstTokensOfParts.{direction_begins, port_declaration_begins, variable_begins, setup_begins, start_begins, definition_begins}
 use Rattle.tp_syntax.proofs.StatementReading.{Kind, kind_lexemes, sends, receives, controls, all_controls, sets, chooses, counts, counted_opens, statement_kind, statement_begins}
-use Rattle.tp_syntax.proofs.CaseReading.{statements_no_var, function_variables, function_statements, behind_statements, behind_variables, behind_starts, behind_setups, CaseStands, case_stands, case_ends, case_no_var, case_no_setup, case_no_start}
+use Rattle.tp_syntax.proofs.TestCaseReading.{statements_no_var, function_variables, function_statements, behind_statements, behind_variables, behind_starts, behind_setups, CaseStands, case_stands, case_ends, case_no_var, case_no_setup, case_no_start}
 use Rattle.tp_syntax.proofs.UniqueSequences.{Agree, tails, end_same}
 use Rattle.tp_syntax.proofs.UniqueOperations.{type_same}
 use Rattle.tp_syntax.proofs.UniqueStatements.{statements_same}
-use Rattle.tp_syntax.proofs.UniqueParts.{commas_same, parts_same, braces_same, field_type_opens, field_type_same, parameter_same, variable_same, direction_same, port_declaration_same, setup_same, start_same}
+use Rattle.tp_syntax.proofs.UniqueDefinitionParts.{commas_same, parts_same, braces_same, field_type_opens, field_type_same, parameter_same, variable_same, direction_same, port_declaration_same, setup_same, start_same}
 
 -- ---- types
 

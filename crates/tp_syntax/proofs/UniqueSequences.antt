@@ -8,7 +8,7 @@ use Rattle.tp_syntax.specs.Values.{int_lexemes, bool_lexeme}
 use Rattle.tp_syntax.specs.Grammar.{Part, each}
 use Rattle.tp_syntax.specs.Reading.{first, may_end_before, IsPlaced, may_all_stand, AllStand}
 use Rattle.tp_syntax.specs.Contents.{Content, sequence}
-use Rattle.tp_syntax.proofs.Remaining.{is_begin, begin_stands}
+use Rattle.tp_syntax.proofs.PartsLeftToRead.{is_begin, begin_stands}
 
 -- they say the same, and the same stands behind them
 abbrev pub Agree : {A : Type 0} → A → A → List Lexeme → List Lexeme → Type 0

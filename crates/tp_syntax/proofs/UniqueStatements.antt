@@ -26,9 +26,9 @@ use Rattle.tp_syntax.specs.Grammar.{Part, is_64_bit, has_one, are_parts, is_temp
 use Rattle.tp_syntax.specs.Reading.{first, may_end_before, Stops, IsPlaced, AllStand, IsEndedOr, is_branch_ahead}
 use Rattle.tp_syntax.specs.Contents as c
 use Rattle.tp_syntax.specs.Contents.{Content, action_content, body_content, branch_content, counted_content, else_branch_content, statement_content, statements_content, receive_content}
-use Rattle.tp_syntax.proofs.Grammar as grammar
+use Rattle.tp_syntax.proofs.GrammarEquations as grammar
 use Rattle.tp_syntax.proofs.StatementTokens as tokens
-use Rattle.tp_syntax.proofs.Remaining.{is_begin, parts_stand}
+use Rattle.tp_syntax.proofs.PartsLeftToRead.{is_begin, parts_stand}
 use Rattle.tp_syntax.proofs.StatementReading.{statement_begins, branch_begins}
 use Rattle.tp_syntax.proofs.StatementParts.{ends_or, ends_blockless, body_stops, branches_stand, otherwise_stands, otherwise_no_branch}
 use Rattle.tp_syntax.proofs.StatementContents.{Layer, BodyLayer, otherwise_content, layer_lexemes, layer_part, layer_content, body_layer_lexemes, body_layer_part, body_layer_content, action_lexemes_out, action_part_out, action_content_out, body_lexemes_out, body_part_out, body_content_out, branch_content_out, counted_content_out, else_content_out, statement_content_out}

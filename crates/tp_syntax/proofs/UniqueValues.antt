@@ -16,8 +16,8 @@ use Rattle.tp_syntax.specs.Reading.{first}
 use Rattle.tp_syntax.specs.Contents as c
 use Rattle.tp_syntax.specs.Contents.{Content, value_content_step, value_field_content_step, value_content, value_field_content}
 use Rattle.tp_syntax.proofs.ValueReading.{value_named, value_some}
-use Rattle.tp_syntax.proofs.Standing.{each_of_one}
-use Rattle.tp_syntax.proofs.Starts.{Start, sign, truth, quote, letter, brace, start_of, int_starts, bool_starts, int_opens, bool_opens}
+use Rattle.tp_syntax.proofs.PassedPartGrowth.{each_of_one}
+use Rattle.tp_syntax.proofs.FirstTokensOfValues.{Start, sign, truth, quote, letter, brace, start_of, int_starts, bool_starts, int_opens, bool_opens}
 use Rattle.tp_syntax.proofs.UniqueSequences.{Agree, Unique, is_close, tails, enclosed_same, no_field, int_same, bool_same}
 
 abbrev pub Layer : Type 0

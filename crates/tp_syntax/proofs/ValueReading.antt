@@ -20,9 +20,9 @@ use Rattle.tp_syntax.specs.Grammar.{each, one_and_each, is_64_bit, is_value, is_
 use Rattle.tp_syntax.specs.Nesting.{deepest, value_depth, value_field_depth}
 use Rattle.tp_syntax.specs.Reading.{first}
 use Rattle.tp_syntax.proofs.ValueTokens as tokens
-use Rattle.tp_syntax.proofs.Grammar as grammar
-use Rattle.tp_syntax.proofs.Nesting as nesting
-use Rattle.tp_syntax.proofs.Signs.{sign_first, no_bool, no_int, no_bool_brace, int_unnamed, bool_unnamed, some_int}
+use Rattle.tp_syntax.proofs.GrammarEquations as grammar
+use Rattle.tp_syntax.proofs.NestingEquations as nesting
+use Rattle.tp_syntax.proofs.FirstTokensOfLiterals.{sign_first, no_bool, no_int, no_bool_brace, int_unnamed, bool_unnamed, some_int}
 
 layer : (Q : Value → Type 0) → ((z : ℤ) → Q (v.Int z)) → ((b : Bool) → Q (v.Bool b)) → ((t : Vec ℕ Global) → Q (v.Text t)) →
     ((n : String Global) → Q (v.Name n)) → ((vs : Vec Value Global) → Q (v.List vs)) → ((fs : Vec ValueField Global) → Q (v.Record fs)) →

@@ -108,7 +108,7 @@ impl<'a, 't> Parser<'a, 't> {
 
     /// A statement, in which so many brackets may be opened.
     #[cycle(statement)]
-    #[tactic(auto, using(crate::proofs::StatementTokens::statement_rules, crate::proofs::Nesting::statement_nesting))]
+    #[tactic(auto, using(crate::proofs::StatementTokens::statement_rules, crate::proofs::NestingEquations::statement_nesting))]
     fn statement(&mut self, alloc: Global, left: u32) -> Result<Statement, Stuck>
         ensures tokens { IfOk result (λ s. Passes self.old (statement_lexemes s) self.new) }
         ensures shorter { OnOk result (length self.new.rest.now < length self.old.rest.now) }
@@ -133,7 +133,7 @@ impl<'a, 't> Parser<'a, 't> {
 
     /// What a statement does.
     #[cycle(statement)]
-    #[tactic(auto, using(crate::proofs::StatementTokens::statement_rules, crate::proofs::Nesting::statement_nesting))]
+    #[tactic(auto, using(crate::proofs::StatementTokens::statement_rules, crate::proofs::NestingEquations::statement_nesting))]
     fn action(&mut self, alloc: Global, left: u32) -> Result<Action, Stuck>
         ensures tokens { IfOk result (λ a. Passes self.old (action_lexemes a) self.new) }
         ensures shorter { OnOk result (length self.new.rest.now < length self.old.rest.now) }
@@ -178,7 +178,7 @@ impl<'a, 't> Parser<'a, 't> {
 
     /// An `alt`. Stuck also where it has no branch, or one behind `[else]`.
     #[cycle(statement)]
-    #[tactic(auto, using(crate::proofs::StatementTokens::statement_rules, crate::proofs::Nesting::statement_nesting))]
+    #[tactic(auto, using(crate::proofs::StatementTokens::statement_rules, crate::proofs::NestingEquations::statement_nesting))]
     fn alt(&mut self, alloc: Global, left: u32) -> Result<Action, Stuck>
         ensures tokens { IfOk result (λ a. Passes self.old (action_lexemes a) self.new) }
         ensures shorter { OnOk result (length self.new.rest.now < length self.old.rest.now) }
@@ -239,7 +239,7 @@ impl<'a, 't> Parser<'a, 't> {
 
     /// A branch behind a receiving operation.
     #[cycle(statement)]
-    #[tactic(auto, using(crate::proofs::StatementTokens::statement_rules, crate::proofs::Nesting::statement_nesting))]
+    #[tactic(auto, using(crate::proofs::StatementTokens::statement_rules, crate::proofs::NestingEquations::statement_nesting))]
     fn branch(&mut self, alloc: Global, left: u32) -> Result<Branch, Stuck>
         ensures tokens { IfOk result (λ b. Passes self.old (branch_lexemes b) self.new) }
         ensures shorter { OnOk result (length self.new.rest.now < length self.old.rest.now) }
@@ -268,7 +268,7 @@ impl<'a, 't> Parser<'a, 't> {
 
     /// The block of a branch, if it is there.
     #[cycle(statement)]
-    #[tactic(auto, using(crate::proofs::StatementTokens::statement_rules, crate::proofs::Nesting::statement_nesting))]
+    #[tactic(auto, using(crate::proofs::StatementTokens::statement_rules, crate::proofs::NestingEquations::statement_nesting))]
     fn body(&mut self, alloc: Global, left: u32) -> Result<BranchBody, Stuck>
         ensures tokens { IfOk result (λ b. Passes self.old (body_lexemes b) self.new) }
         ensures shorter { OnOk result (length self.new.rest.now ≤ length self.old.rest.now) }
@@ -291,7 +291,7 @@ impl<'a, 't> Parser<'a, 't> {
 
     /// The branch `[else]`, if it comes next.
     #[cycle(statement)]
-    #[tactic(auto, using(crate::proofs::StatementTokens::statement_rules, crate::proofs::Nesting::statement_nesting))]
+    #[tactic(auto, using(crate::proofs::StatementTokens::statement_rules, crate::proofs::NestingEquations::statement_nesting))]
     fn otherwise(&mut self, alloc: Global, left: u32) -> Result<Option<ElseBranch>, Stuck>
         ensures tokens { IfOk result (λ e. Passes self.old (otherwise_lexemes e) self.new) }
         ensures shorter { OnOk result (length self.new.rest.now ≤ length self.old.rest.now) }
@@ -321,7 +321,7 @@ impl<'a, 't> Parser<'a, 't> {
 
     /// A counted `for`.
     #[cycle(statement)]
-    #[tactic(auto, using(crate::proofs::StatementTokens::statement_rules, crate::proofs::Nesting::statement_nesting))]
+    #[tactic(auto, using(crate::proofs::StatementTokens::statement_rules, crate::proofs::NestingEquations::statement_nesting))]
     fn counted(&mut self, alloc: Global, left: u32) -> Result<Counted, Stuck>
         ensures tokens { IfOk result (λ f. Passes self.old (counted_lexemes f) self.new) }
         ensures shorter { OnOk result (length self.new.rest.now < length self.old.rest.now) }
@@ -341,7 +341,7 @@ impl<'a, 't> Parser<'a, 't> {
 
     /// A block, in which so many brackets may be opened, its own among them.
     #[cycle(statement)]
-    #[tactic(auto, using(crate::proofs::StatementTokens::statement_rules, crate::proofs::Nesting::statement_nesting))]
+    #[tactic(auto, using(crate::proofs::StatementTokens::statement_rules, crate::proofs::NestingEquations::statement_nesting))]
     fn block(&mut self, alloc: Global, left: u32) -> Result<Vec<Statement>, Stuck>
         ensures tokens { IfOk result (λ v.
             Passes self.old (braced (statements_lexemes v.items)) self.new) }

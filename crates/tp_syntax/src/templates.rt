@@ -120,7 +120,7 @@ impl<'a, 't> Parser<'a, 't> {
 
     /// The characters of a text behind `pattern`. Stuck where another token comes next, or none,
     /// or the text holds one of `\ [ ] { } ( ) | # +` or a quote.
-    #[tactic(auto, using(crate::proofs::TemplateTokens::template_rules, crate::proofs::Nesting::template_nesting))]
+    #[tactic(auto, using(crate::proofs::TemplateTokens::template_rules, crate::proofs::NestingEquations::template_nesting))]
     fn pattern(&mut self, alloc: Global) -> Result<Template, Stuck>
         ensures tokens { IfOk result (λ t.
             word Word.Pattern ∷ ahead self.old.rest.now
@@ -146,7 +146,7 @@ impl<'a, 't> Parser<'a, 't> {
 
     /// A template, in which so many brackets may be opened.
     #[cycle(template)]
-    #[tactic(auto, using(crate::proofs::TemplateTokens::template_rules, crate::proofs::Nesting::template_nesting))]
+    #[tactic(auto, using(crate::proofs::TemplateTokens::template_rules, crate::proofs::NestingEquations::template_nesting))]
     pub fn template(&mut self, alloc: Global, left: u32) -> Result<Template, Stuck>
         ensures tokens { IfOk result (λ t. Passes self.old (template_lexemes t) self.new) }
         ensures shorter { OnOk result (length self.new.rest.now < length self.old.rest.now) }
@@ -197,7 +197,7 @@ impl<'a, 't> Parser<'a, 't> {
 
     /// What stands behind the `(` of a template, and its `)`.
     #[cycle(template)]
-    #[tactic(auto, using(crate::proofs::TemplateTokens::template_rules, crate::proofs::Nesting::template_nesting))]
+    #[tactic(auto, using(crate::proofs::TemplateTokens::template_rules, crate::proofs::NestingEquations::template_nesting))]
     fn alternatives(&mut self, alloc: Global, left: u32) -> Result<Template, Stuck>
         ensures tokens { IfOk result (λ t.
             symbol Symbol.LeftParen ∷ ahead self.old.rest.now
@@ -232,7 +232,7 @@ impl<'a, 't> Parser<'a, 't> {
 
     /// What stands behind `complement`.
     #[cycle(template)]
-    #[tactic(auto, using(crate::proofs::TemplateTokens::template_rules, crate::proofs::Nesting::template_nesting))]
+    #[tactic(auto, using(crate::proofs::TemplateTokens::template_rules, crate::proofs::NestingEquations::template_nesting))]
     fn complement(&mut self, alloc: Global, left: u32) -> Result<Template, Stuck>
         ensures tokens { IfOk result (λ t.
             word Word.Complement ∷ ahead self.old.rest.now
@@ -256,7 +256,7 @@ impl<'a, 't> Parser<'a, 't> {
 
     /// What stands behind the `{` of a template, and its `}`.
     #[cycle(template)]
-    #[tactic(auto, using(crate::proofs::TemplateTokens::template_rules, crate::proofs::Nesting::template_nesting))]
+    #[tactic(auto, using(crate::proofs::TemplateTokens::template_rules, crate::proofs::NestingEquations::template_nesting))]
     fn template_entries(&mut self, alloc: Global, left: u32) -> Result<Template, Stuck>
         ensures tokens { IfOk result (λ t.
             symbol Symbol.LeftBrace ∷ ahead self.old.rest.now
@@ -346,7 +346,7 @@ impl<'a, 't> Parser<'a, 't> {
 
     /// A field.
     #[cycle(template)]
-    #[tactic(auto, using(crate::proofs::TemplateTokens::template_rules, crate::proofs::Nesting::template_nesting))]
+    #[tactic(auto, using(crate::proofs::TemplateTokens::template_rules, crate::proofs::NestingEquations::template_nesting))]
     fn template_field(&mut self, alloc: Global, left: u32) -> Result<TemplateField, Stuck>
         ensures tokens { IfOk result (λ f. Passes self.old (template_field_lexemes f) self.new) }
         ensures shorter { OnOk result (length self.new.rest.now < length self.old.rest.now) }

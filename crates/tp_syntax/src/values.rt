@@ -121,7 +121,7 @@ impl<'a, 't> Parser<'a, 't> {
 
     /// A value, in which so many brackets may be opened.
     #[cycle(value)]
-    #[tactic(auto, using(crate::proofs::ValueTokens::value_rules, crate::proofs::Nesting::value_nesting))]
+    #[tactic(auto, using(crate::proofs::ValueTokens::value_rules, crate::proofs::NestingEquations::value_nesting))]
     pub fn value(&mut self, alloc: Global, left: u32) -> Result<Value, Stuck>
         ensures tokens { IfOk result (λ v. Passes self.old (value_lexemes v) self.new) }
         ensures shorter { OnOk result (length self.new.rest.now < length self.old.rest.now) }
@@ -164,7 +164,7 @@ impl<'a, 't> Parser<'a, 't> {
 
     /// What stands behind the `{` of a value, and its `}`.
     #[cycle(value)]
-    #[tactic(auto, using(crate::proofs::ValueTokens::value_rules, crate::proofs::Nesting::value_nesting, crate::proofs::Commas::braced_read))]
+    #[tactic(auto, using(crate::proofs::ValueTokens::value_rules, crate::proofs::NestingEquations::value_nesting, crate::proofs::ReadSequenceGrowth::braced_read))]
     pub fn value_entries(&mut self, alloc: Global, left: u32) -> Result<Value, Stuck>
         ensures tokens { IfOk result (λ v.
             symbol Symbol.LeftBrace ∷ ahead self.old.rest.now
@@ -253,7 +253,7 @@ impl<'a, 't> Parser<'a, 't> {
 
     /// A field.
     #[cycle(value)]
-    #[tactic(auto, using(crate::proofs::ValueTokens::value_rules, crate::proofs::Nesting::value_nesting))]
+    #[tactic(auto, using(crate::proofs::ValueTokens::value_rules, crate::proofs::NestingEquations::value_nesting))]
     pub fn value_field(&mut self, alloc: Global, left: u32) -> Result<ValueField, Stuck>
         ensures tokens { IfOk result (λ f. Passes self.old (value_field_lexemes f) self.new) }
         ensures shorter { OnOk result (length self.new.rest.now < length self.old.rest.now) }

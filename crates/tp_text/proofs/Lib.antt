@@ -1,5 +1,5 @@
-pub mod Taking
-pub mod Places
-pub mod Lines
-pub mod Words
-pub mod Writing
+pub mod ReadBytesAndRoom
+pub mod BytePlacesInText
+pub mod FirstLineOfText
+pub mod FirstWordOfLine
+pub mod WatchedWriterGrowth

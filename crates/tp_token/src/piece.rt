@@ -27,7 +27,7 @@ const GREATEST_IN_TOKEN: u64 = 9_223_372_036_854_775_808;
 /// other than 32 to 126, or a comment isn't closed. 15 `Limit` at the line: a name has more than
 /// 64 characters, or a number is above 9223372036854775808. 50 where the memory for a text's
 /// characters was refused.
-#[tactic(auto, using(crate::proofs::Pieces::piece_of_token, crate::proofs::Pieces::blank_at))]
+#[tactic(auto, using(crate::proofs::PieceAtFront::piece_of_token, crate::proofs::PieceAtFront::blank_at))]
 pub fn piece<'t>(
     alloc: Global,
     bytes: &'t [u8],

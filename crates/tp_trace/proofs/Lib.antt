@@ -1,6 +1,6 @@
-pub mod Cuts
-pub mod Messages
-pub mod Telling
-pub mod Places
-pub mod Pieces
-pub mod Standing
+pub mod UniqueByteCuts
+pub mod MessagePartsFromBytes
+pub mod UniqueLineMeanings
+pub mod SectionNamePlaces
+pub mod LineSpansInText
+pub mod TraceLineGrowth

@@ -1,7 +1,7 @@
-pub mod Typed
-pub mod Naming
-pub mod Cutting
-pub mod Scans
-pub mod Matched
-pub mod Fitted
-pub mod Written
+pub mod HasTypeEquations
+pub mod TypeNameLookups
+pub mod CutsByFirstPart
+pub mod BacktrackingScans
+pub mod MatchesEquations
+pub mod FitsEquations
+pub mod WrittenValueTexts

@@ -1,4 +1,4 @@
-pub mod Reading
-pub mod Answered
-pub mod Refereed
-pub mod Always
+pub mod CheckedScriptFaults
+pub mod AnswersThroughBuffers
+pub mod JudgedTraceFaults
+pub mod AlwaysMeansEachReport

@@ -1,6 +1,6 @@
 -- What is answered comes through the buffer.
 use Rattle.std.specs.Io.Buffered.{writer_contents}
-use Rattle.tpr.proofs.Answered.{handed}
+use Rattle.tpr.proofs.AnswersThroughBuffers.{handed}
 use Rattle.tpr.proofs.answer_through.Goals as goal
 
 pub returns-clause-queue : goal.returns-clause-queue

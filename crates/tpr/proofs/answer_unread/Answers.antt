@@ -1,6 +1,6 @@
 -- The line comes through the buffer.
 use Rattle.std.specs.Io.Buffered.{writer_contents}
-use Rattle.tpr.proofs.Answered.{handed}
+use Rattle.tpr.proofs.AnswersThroughBuffers.{handed}
 use Rattle.tpr.proofs.answer_unread.Goals as goal
 
 pub returns : goal.returns

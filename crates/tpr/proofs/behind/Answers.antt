@@ -2,7 +2,7 @@
 use Rattle.std.proofs.Common.{sym, subst}
 use Rattle.std.specs.Io.Buffered.{writer_buffer, writer_contents}
 use Rattle.tpr.specs.Handed.{BeginsWith}
-use Rattle.tpr.proofs.Answered.{begins_with_got}
+use Rattle.tpr.proofs.AnswersThroughBuffers.{begins_with_got}
 use Rattle.tpr.proofs.behind.Goals as goal
 
 pub returns : goal.returns

@@ -1,7 +1,7 @@
 -- A buffer that can't be emptied holds what it held.
 use Rattle.std.specs.Io.Buffered.{writer_contents}
 use Rattle.tpr.specs.Handed.{BeginsWith}
-use Rattle.tpr.proofs.Answered.{begins_as_kept}
+use Rattle.tpr.proofs.AnswersThroughBuffers.{begins_as_kept}
 use Rattle.tpr.proofs.emptied.Goals as goal
 
 pub returns-in-Err-clause-front : goal.returns-in-Err-clause-front

@@ -4,8 +4,8 @@ use Rattle.tp_config.specs.Setup.{ports_at}
 use Rattle.tp_history.specs.Desks.{Journal}
 use Rattle.tp_behaviour.specs.Seen.{TraceGrew}
 use Rattle.tp_behaviour.specs.Workers.{role_of}
-use Rattle.tp_behaviour.proofs.Acted.{AreSoFar, few_ports, grew_further, grew_start, stepped_all}
-use Rattle.tp_behaviour.proofs.Consistent.{same_itself, same_then}
+use Rattle.tp_behaviour.proofs.PortOperationOutcomes.{AreSoFar, few_ports, grew_further, grew_start, stepped_all}
+use Rattle.tp_behaviour.proofs.WorkerInvariantOnArrivals.{same_itself, same_then}
 use Rattle.tp_behaviour.proofs.acting.all_ports.Goals as goal
 
 pub loop-port-init : goal.loop-port-init

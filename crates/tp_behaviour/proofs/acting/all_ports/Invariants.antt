@@ -3,7 +3,7 @@ use Rattle.std.proofs.Common.{◌≡◌}
 use Rattle.tp_behaviour.specs.Fresh.{HasOwn}
 use Rattle.tp_behaviour.specs.Seen.{TraceGrew}
 use Rattle.tp_behaviour.specs.Workers.{IsConsistent, KeepsInboxes, role_of}
-use Rattle.tp_behaviour.proofs.Acted.{AreSoFar}
+use Rattle.tp_behaviour.proofs.PortOperationOutcomes.{AreSoFar}
 use Rattle.tp_behaviour.proofs.acting.all_ports.Given as goal
 
 -- the operation was carried out on the ports so far, with nothing between

@@ -1,6 +1,6 @@
 -- The drain before the operation makes no moment, so that the operation is the only one.
 use Rattle.tp_behaviour.specs.Workers.{role_of}
-use Rattle.tp_behaviour.proofs.Acted.{stepped_control}
+use Rattle.tp_behaviour.proofs.PortOperationOutcomes.{stepped_control}
 use Rattle.tp_behaviour.proofs.acting.control.Goals as goal
 
 pub returns-clause-stepped : goal.returns-clause-stepped

@@ -4,8 +4,8 @@ use Rattle.tp_history.specs.Desks.{Journal}
 use Rattle.tp_behaviour.specs.Fresh.{HasOwn}
 use Rattle.tp_behaviour.specs.Paths.{operated}
 use Rattle.tp_behaviour.specs.Workers.{role_of}
-use Rattle.tp_behaviour.proofs.Acted.{own_more, plain_operated}
-use Rattle.tp_behaviour.proofs.Noted.{noted}
+use Rattle.tp_behaviour.proofs.PortOperationOutcomes.{own_more, plain_operated}
+use Rattle.tp_behaviour.proofs.WorkerInvariantOnActions.{noted}
 use Rattle.tp_behaviour.proofs.acting.operate_at.Goals as goal
 
 -- the operation neither sends nor takes what arrives, and sees all that the component has sent to itself

@@ -1,6 +1,6 @@
 -- The one entry is a path of the statement.
 use Rattle.tp_behaviour.specs.Workers.{role_of}
-use Rattle.tp_behaviour.proofs.Acted.{stepped_verdict}
+use Rattle.tp_behaviour.proofs.PortOperationOutcomes.{stepped_verdict}
 use Rattle.tp_behaviour.proofs.acting.set_verdict.Goals as goal
 
 pub returns-clause-stepped : goal.returns-clause-stepped

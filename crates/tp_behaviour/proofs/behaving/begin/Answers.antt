@@ -1,5 +1,5 @@
 -- One variable more.
-use Rattle.tp_behaviour.proofs.Begun.{none_more}
+use Rattle.tp_behaviour.proofs.BehaviourStartAndEnd.{none_more}
 use Rattle.tp_behaviour.proofs.behaving.begin.Goals as goal
 
 pub loop-variable-preserved : goal.loop-variable-preserved

@@ -4,8 +4,8 @@ use Rattle.tp_play.specs.Playable.{CanPlayAll}
 use Rattle.tp_behaviour.specs.Lasting.{AreLasting}
 use Rattle.tp_behaviour.specs.Outcomes.{stage_at}
 use Rattle.tp_behaviour.specs.Workers.{role_of}
-use Rattle.tp_behaviour.proofs.Begun.{has_ended, held_unset}
-use Rattle.tp_behaviour.proofs.Stayed.{waits_from}
+use Rattle.tp_behaviour.proofs.BehaviourStartAndEnd.{has_ended, held_unset}
+use Rattle.tp_behaviour.proofs.UnchangedWorkerPorts.{waits_from}
 use Rattle.tp_behaviour.proofs.behaving.behave.Goals as goal
 
 pub execute-requires-clause-held : goal.execute-requires-clause-held

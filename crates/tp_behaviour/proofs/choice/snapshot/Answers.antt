@@ -4,8 +4,8 @@ use Rattle.std.proofs.lemmas.List.{take_all}
 use Rattle.tp_behaviour.specs.Choices.{IsOpen, NoneOpen}
 use Rattle.tp_behaviour.specs.Looks.{Looked, Tried}
 use Rattle.tp_behaviour.specs.Views.{all_viewed, viewed}
-use Rattle.tp_behaviour.proofs.Looks.{looked, one_more}
-use Rattle.tp_behaviour.proofs.Viewed.{all_past, viewed_at}
+use Rattle.tp_behaviour.proofs.BranchLookOutcomes.{looked, one_more}
+use Rattle.tp_behaviour.proofs.GuardViewsByPlace.{all_past, viewed_at}
 use Rattle.tp_behaviour.proofs.choice.snapshot.Goals as goal
 
 -- a branch did something, and none before it is open

@@ -1,6 +1,6 @@
 -- The looks before `[else]` discarded messages, and the last one found no branch open.
 use Rattle.tp_behaviour.specs.Views.{all_viewed}
-use Rattle.tp_behaviour.proofs.Chosen.{chose_else}
+use Rattle.tp_behaviour.proofs.AltChoiceOutcomes.{chose_else}
 use Rattle.tp_behaviour.proofs.choosing.choose.Goals as goal
 
 -- what was discarded so far, and then `[else]`, no branch being open

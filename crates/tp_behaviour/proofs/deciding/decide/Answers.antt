@@ -3,8 +3,8 @@ use Rattle.std.proofs.Common.{◌∙◌, ap}
 use Rattle.tp_behaviour.specs.Outcomes.{depth_of}
 use Rattle.tp_behaviour.specs.Workers.{role_of, values_of}
 use Rattle.tp_behaviour.specs.Views.{all_viewed}
-use Rattle.tp_behaviour.proofs.Decided.{chose_within, entered, guards_within}
-use Rattle.tp_behaviour.proofs.Viewed.{viewed_within}
+use Rattle.tp_behaviour.proofs.AltChoicesWithinBounds.{chose_within, entered, guards_within}
+use Rattle.tp_behaviour.proofs.GuardViewsByPlace.{viewed_within}
 use Rattle.tp_behaviour.proofs.deciding.decide.Goals as goal
 
 pub choose-requires-clause-within : goal.choose-requires-clause-within

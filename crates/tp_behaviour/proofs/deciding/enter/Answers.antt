@@ -2,7 +2,7 @@
 use Rattle.std.proofs.Common.{get_or}
 use Rattle.std.proofs.lemmas.Option.{slice_get-get_or}
 use Rattle.tp_behaviour.specs.Outcomes.{depth_of, stage_at}
-use Rattle.tp_behaviour.proofs.Placed.{receives_at}
+use Rattle.tp_behaviour.proofs.PlayableBlocksAndBranches.{receives_at}
 use Rattle.tp_behaviour.proofs.deciding.enter.Goals as goal
 
 pub redirect-requires-clause-can : goal.redirect-requires-clause-can

@@ -4,8 +4,8 @@ use Rattle.std.specs.Prelude.{All}
 use Rattle.std.proofs.lemmas.List.{take_all}
 use Rattle.std.proofs.lemmas.Option.{slice_get-get_or}
 use Rattle.tp_behaviour.specs.Fixed.{IsFixed}
-use Rattle.tp_behaviour.proofs.FixedRules.{fixed_any, fixed_elements, fixed_exact, fixed_many, fixed_members, fixed_none_of, fixed_one_of, fixed_pattern, fixed_range}
-use Rattle.tp_behaviour.proofs.Looks.{one_more}
+use Rattle.tp_behaviour.proofs.FixedValueRules.{fixed_any, fixed_elements, fixed_exact, fixed_many, fixed_members, fixed_none_of, fixed_one_of, fixed_pattern, fixed_range}
+use Rattle.tp_behaviour.proofs.BranchLookOutcomes.{one_more}
 use Rattle.tp_behaviour.proofs.fixed.+fixed_template.Goals as goal
 
 pub is_fixed-returns-in-Exact : goal.is_fixed-returns-in-Exact

@@ -4,8 +4,8 @@ use Rattle.std.specs.Prelude.{All}
 use Rattle.std.proofs.lemmas.List.{take_all}
 use Rattle.std.proofs.lemmas.Option.{slice_get-get_or}
 use Rattle.tp_behaviour.specs.Fixed.{IsFixedValue}
-use Rattle.tp_behaviour.proofs.FixedRules.{fixed_bool, fixed_int, fixed_list, fixed_record, fixed_text}
-use Rattle.tp_behaviour.proofs.Looks.{one_more}
+use Rattle.tp_behaviour.proofs.FixedValueRules.{fixed_bool, fixed_int, fixed_list, fixed_record, fixed_text}
+use Rattle.tp_behaviour.proofs.BranchLookOutcomes.{one_more}
 use Rattle.tp_behaviour.proofs.fixed.+fixed_value.Goals as goal
 
 pub is_fixed_value-returns-in-Int : goal.is_fixed_value-returns-in-Int

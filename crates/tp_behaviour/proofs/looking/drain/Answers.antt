@@ -1,6 +1,6 @@
 -- What has arrived makes no moment, and the worker stays consistent.
 use Rattle.tp_behaviour.specs.Workers.{role_of}
-use Rattle.tp_behaviour.proofs.Consistent.{drained}
+use Rattle.tp_behaviour.proofs.WorkerInvariantOnArrivals.{drained}
 use Rattle.tp_behaviour.proofs.looking.drain.Goals as goal
 
 pub returns-clause-consistent : goal.returns-clause-consistent

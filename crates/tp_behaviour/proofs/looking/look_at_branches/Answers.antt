@@ -1,7 +1,7 @@
 -- What a look at the branches comes to, after the drain that it begins with.
 use Rattle.tp_behaviour.specs.Workers.{role_of}
 use Rattle.tp_behaviour.specs.Views.{all_viewed}
-use Rattle.tp_behaviour.proofs.Noted.{looked_at, saw_from}
+use Rattle.tp_behaviour.proofs.WorkerInvariantOnActions.{looked_at, saw_from}
 use Rattle.tp_behaviour.proofs.looking.look_at_branches.Goals as goal
 
 -- a look after the drain

@@ -1,6 +1,6 @@
 -- Where the outbox is level, all that the component has sent to itself is there.
 use Rattle.tp_behaviour.specs.Workers.{role_of}
-use Rattle.tp_behaviour.proofs.Consistent.{at_home, has_own}
+use Rattle.tp_behaviour.proofs.WorkerInvariantOnArrivals.{at_home, has_own}
 use Rattle.tp_behaviour.proofs.looking.look_in.Goals as goal
 
 -- what came is of routes into the inbox, and the component's own messages are all there

@@ -1,6 +1,6 @@
 -- An entry of the behaviour's own makes one moment, and the worker stays consistent.
 use Rattle.tp_behaviour.specs.Workers.{role_of}
-use Rattle.tp_behaviour.proofs.Noted.{noted, plain_timely}
+use Rattle.tp_behaviour.proofs.WorkerInvariantOnActions.{noted, plain_timely}
 use Rattle.tp_behaviour.proofs.looking.note.Goals as goal
 
 pub returns-clause-consistent : goal.returns-clause-consistent

@@ -3,7 +3,7 @@ use Rattle.std.proofs.Common.{◌<◌, Some, arith, length, subst}
 use Rattle.indexmap.specs.IndexMap.{Updates}
 use Rattle.tp_config.specs.declared.port_type.RouteId.{RouteId}
 use Rattle.tp_inbox.specs.Places.{route_eq}
-use Rattle.tp_behaviour.proofs.Filed.{file_next, others_next}
+use Rattle.tp_behaviour.proofs.SenderRouteTableGrowth.{file_next, others_next}
 use Rattle.tp_behaviour.proofs.outbox.file.Goals as goal
 
 pub loop-way-preserved : goal.loop-way-preserved

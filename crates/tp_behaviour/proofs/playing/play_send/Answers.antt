@@ -1,6 +1,6 @@
 -- A send that fails stops the behaviour.
 use Rattle.tp_behaviour.specs.Workers.{role_of, values_of}
-use Rattle.tp_behaviour.proofs.Stepped.{failed}
+use Rattle.tp_behaviour.proofs.StatementOutcomes.{failed}
 use Rattle.tp_behaviour.proofs.playing.play_send.Goals as goal
 
 -- the behaviour ends by the refusal that the send met

@@ -1,7 +1,7 @@
 -- Each branch can be entered, and so its operation can be carried out.
 use Rattle.std.proofs.Common.{subst, sym}
 use Rattle.tp_play.specs.Playable.{CanEnter}
-use Rattle.tp_play.proofs.PlayRules.{enters_each, enters_receive}
+use Rattle.tp_play.proofs.PlayableStatementRules.{enters_each, enters_receive}
 use Rattle.tp_behaviour.specs.Outcomes.{depth_of, stage_at}
 use Rattle.tp_behaviour.proofs.receiving.fill_guards.Goals as goal
 

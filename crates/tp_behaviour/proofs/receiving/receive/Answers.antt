@@ -10,7 +10,7 @@ use Rattle.tp_behaviour.specs.Paths.{IsStep}
 use Rattle.tp_behaviour.specs.Seen.{Chose, TraceGrew}
 use Rattle.tp_behaviour.specs.Workers.{role_of, values_of}
 use Rattle.tp_behaviour.specs.Views.{viewed}
-use Rattle.tp_behaviour.proofs.Received.{received, waits_for}
+use Rattle.tp_behaviour.proofs.ReceiveOutcomes.{received, waits_for}
 use Rattle.tp_behaviour.proofs.receiving.receive.Goals as goal
 
 pub returns-in-Branch-clause-ended : goal.returns-in-Branch-clause-ended

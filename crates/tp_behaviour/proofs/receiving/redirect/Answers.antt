@@ -2,7 +2,7 @@
 use Rattle.std.proofs.Common.{subst, sym}
 use Rattle.tp_behaviour.specs.Outcomes.{stage_at}
 use Rattle.tp_behaviour.specs.Workers.{AreHeld}
-use Rattle.tp_behaviour.proofs.Received.{sender_held, sender_within, value_held, value_within}
+use Rattle.tp_behaviour.proofs.ReceiveOutcomes.{sender_held, sender_within, value_held, value_within}
 use Rattle.tp_behaviour.proofs.receiving.redirect.Goals as goal
 
 pub keep-requires : goal.keep-requires

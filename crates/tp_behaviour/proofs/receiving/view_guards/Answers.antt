@@ -2,10 +2,10 @@
 use Rattle.std.proofs.Common.{arith, get_or, subst, sym}
 use Rattle.tp_play.specs.declared.body.Branch.{Branch}
 use Rattle.tp_play.specs.Playable.{CanEnter}
-use Rattle.tp_play.proofs.PlayRules.{enters_each, enters_receive}
+use Rattle.tp_play.proofs.PlayableStatementRules.{enters_each, enters_receive}
 use Rattle.tp_behaviour.specs.Lasting.{IsLastingBranch}
 use Rattle.tp_behaviour.specs.Outcomes.{depth_of, stage_at}
-use Rattle.tp_behaviour.proofs.LastingRules.{lasts_operation, zipped_get, zipped_long}
+use Rattle.tp_behaviour.proofs.LastingStatementRules.{lasts_operation, zipped_get, zipped_long}
 use Rattle.tp_behaviour.proofs.receiving.view_guards.Goals as goal
 
 pub bounds-lasting-place : goal.bounds-lasting-place

@@ -8,7 +8,7 @@ use Rattle.tp_behaviour.specs.Looks.{moment}
 use Rattle.tp_behaviour.specs.Moments.{moments}
 use Rattle.tp_inbox.specs.Ledgers.{end_of}
 use Rattle.tp_behaviour.specs.Workers.{role_of}
-use Rattle.tp_behaviour.proofs.Sent.{has_sent, same_ends}
+use Rattle.tp_behaviour.proofs.WorkerInvariantOnSends.{has_sent, same_ends}
 use Rattle.tp_behaviour.proofs.sending.send_on.Goals as goal
 
 pub returns-clause-consistent : goal.returns-clause-consistent

@@ -4,8 +4,8 @@ use Rattle.tp_value.specs.declared.message.Message.{Message}
 use Rattle.tp_inbox.specs.Routed.{absent_route}
 use Rattle.tp_behaviour.specs.Seen.{AddsEntry}
 use Rattle.tp_behaviour.specs.Sends.{next_sent}
-use Rattle.tp_behaviour.proofs.Consistent.{same_then}
-use Rattle.tp_behaviour.proofs.Routed.{routes_stay, sent_on_more}
+use Rattle.tp_behaviour.proofs.WorkerInvariantOnArrivals.{same_then}
+use Rattle.tp_behaviour.proofs.SendOutcomes.{routes_stay, sent_on_more}
 use Rattle.tp_behaviour.proofs.sending.send_on_each.Goals as goal
 
 -- the senders are on the same routes as at the start

@@ -2,7 +2,7 @@
 use Rattle.std.proofs.Common.{ℕ, take}
 use Rattle.tp_behaviour.specs.Paths.{IsStarted}
 use Rattle.tp_behaviour.specs.Workers.{IsConsistent, KeepsInboxes, role_of}
-use Rattle.tp_behaviour.proofs.Routed.{IsSentOnEach}
+use Rattle.tp_behaviour.proofs.SendOutcomes.{IsSentOnEach}
 use Rattle.tp_behaviour.proofs.sending.send_on_each.Given as goal
 
 -- the message went out on the routes so far

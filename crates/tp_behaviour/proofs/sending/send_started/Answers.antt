@@ -3,7 +3,7 @@ use Rattle.std.proofs.Common.{◌≡◌, Option, Some, None, inl, refl}
 use Rattle.std.specs.Prelude.{MatchOption}
 use Rattle.tp_behaviour.specs.Ends.{IsFailure}
 use Rattle.tp_behaviour.specs.Outcomes.{depth_of, stage_at}
-use Rattle.tp_behaviour.proofs.Variables.{can_fill, can_name}
+use Rattle.tp_behaviour.proofs.ValuesHeldByVariables.{can_fill, can_name}
 use Rattle.tp_behaviour.proofs.sending.send_started.Goals as goal
 
 pub message_of-requires : goal.message_of-requires

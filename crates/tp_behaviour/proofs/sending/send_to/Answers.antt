@@ -1,6 +1,6 @@
 -- The route that the configuration names has a sender; where it names none, its fault is the cause.
 use Rattle.tp_behaviour.specs.Workers.{role_of, values_of}
-use Rattle.tp_behaviour.proofs.Routed.{cause_route, sends_one}
+use Rattle.tp_behaviour.proofs.SendOutcomes.{cause_route, sends_one}
 use Rattle.tp_behaviour.proofs.sending.send_to.Goals as goal
 
 -- a route from a port of the component has a sender

@@ -8,20 +8,20 @@ use Rattle.tp_play.specs.declared.body.Statement.{Statement}
 use Rattle.tp_play.specs.declared.body.Statement.TheVariants as b
 use Rattle.tp_play.specs.Playable.{CanEnterAll, CanPlayAll}
 use Rattle.tp_play.specs.Sizes.{turns_between}
-use Rattle.tp_play.proofs.PlayRules.{plays_alt, plays_control, plays_else, plays_for, plays_receive, plays_send}
+use Rattle.tp_play.proofs.PlayableStatementRules.{plays_alt, plays_control, plays_else, plays_for, plays_receive, plays_send}
 use Rattle.tp_behaviour.specs.declared.outcome.Outcome.TheVariants as outcome
 use Rattle.tp_behaviour.specs.declared.deciding.Decision.TheVariants as decision
 use Rattle.tp_behaviour.specs.declared.lasting.Lasting.{out-Lasting}
 use Rattle.tp_behaviour.specs.Lasting.{AreLasting, AreLastingBranches, IsLasting, IsLastingBranch}
 use Rattle.tp_behaviour.specs.Outcomes.{Executed, Stepped, depth_of, stage_at}
 use Rattle.tp_behaviour.specs.Parts.{Decided, ExecutedIn, IsDecisionOf, Turned}
-use Rattle.tp_behaviour.proofs.Branched.{step_branch, step_else, step_for, step_waits}
-use Rattle.tp_behaviour.proofs.Executed.{passed_all, passed_more, passed_start, passed_stop}
-use Rattle.tp_behaviour.proofs.LastingRules.{lasts_alt, lasts_block, lasts_else, lasts_for, lasts_receive, zipped_get, zipped_long}
-use Rattle.tp_behaviour.proofs.Consistent.{same_then}
-use Rattle.tp_behaviour.proofs.Placed.{plays_at, plays_block}
-use Rattle.tp_behaviour.proofs.Stayed.{waits_from}
-use Rattle.tp_behaviour.proofs.Turned.{made_all, made_start, made_more, made_stop, none_there, turned_as, turned_empty}
+use Rattle.tp_behaviour.proofs.AltAndForOutcomes.{step_branch, step_else, step_for, step_waits}
+use Rattle.tp_behaviour.proofs.BlockPathGrowth.{passed_all, passed_more, passed_start, passed_stop}
+use Rattle.tp_behaviour.proofs.LastingStatementRules.{lasts_alt, lasts_block, lasts_else, lasts_for, lasts_receive, zipped_get, zipped_long}
+use Rattle.tp_behaviour.proofs.WorkerInvariantOnArrivals.{same_then}
+use Rattle.tp_behaviour.proofs.PlayableBlocksAndBranches.{plays_at, plays_block}
+use Rattle.tp_behaviour.proofs.UnchangedWorkerPorts.{waits_from}
+use Rattle.tp_behaviour.proofs.BlockTurnGrowth.{made_all, made_start, made_more, made_stop, none_there, turned_as, turned_empty}
 use Rattle.tp_behaviour.proofs.statements.+statements.Goals as goal
 
 -- one statement after the other

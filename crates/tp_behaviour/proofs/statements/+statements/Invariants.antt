@@ -5,8 +5,8 @@ use Rattle.tp_play.proofs.body.Branch.TheLaws.{the_size as branch_size}
 use Rattle.tp_play.proofs.body.Statement.TheLaws.{the_size}
 use Rattle.tp_behaviour.specs.Outcomes.{HoldsAsDeclared}
 use Rattle.tp_behaviour.specs.Workers.{IsConsistent, KeepsInboxes, role_of}
-use Rattle.tp_behaviour.proofs.Executed.{Passed}
-use Rattle.tp_behaviour.proofs.Turned.{TurnsMade}
+use Rattle.tp_behaviour.proofs.BlockPathGrowth.{Passed}
+use Rattle.tp_behaviour.proofs.BlockTurnGrowth.{TurnsMade}
 use Rattle.tp_behaviour.proofs.statements.+statements.Given as goal
 
 -- how deep what is left goes, and of several with the same block which calls the other

@@ -1,6 +1,6 @@
 -- What a variable for messages holds.
 use Rattle.std.proofs.Common.{◌∙◌, ap, Some}
-use Rattle.tp_behaviour.proofs.Variables.{read_at, read_same}
+use Rattle.tp_behaviour.proofs.ValuesHeldByVariables.{read_at, read_same}
 use Rattle.tp_behaviour.proofs.values.message_in.Goals as goal
 
 -- what was read is what the variable holds

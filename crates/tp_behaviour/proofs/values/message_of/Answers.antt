@@ -6,7 +6,7 @@ use Rattle.tp_play.specs.Fills.{filled}
 use Rattle.tp_behaviour.specs.declared.held.Held.TheVariants as held
 use Rattle.tp_behaviour.specs.Held.{Holds, IsSentAs}
 use Rattle.tp_behaviour.specs.Workers.{values_of}
-use Rattle.tp_behaviour.proofs.Variables.{sent_written}
+use Rattle.tp_behaviour.proofs.ValuesHeldByVariables.{sent_written}
 use Rattle.tp_behaviour.proofs.values.message_of.Goals as goal
 
 pub returns-in_ok-filled-in-Written : goal.returns-in_ok-filled-in-Written

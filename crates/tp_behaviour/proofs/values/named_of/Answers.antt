@@ -4,7 +4,7 @@ use Rattle.tp_config.specs.declared.port_type.CompId.{CompId}
 use Rattle.tp_play.specs.declared.body.Receiver.{Receiver}
 use Rattle.tp_behaviour.specs.Held.{IsNamed}
 use Rattle.tp_behaviour.specs.Workers.{role_of, values_of}
-use Rattle.tp_behaviour.proofs.Variables.{referred}
+use Rattle.tp_behaviour.proofs.ValuesHeldByVariables.{referred}
 use Rattle.tp_behaviour.proofs.values.named_of.Goals as goal
 
 pub returns-in-Nobody : goal.returns-in-Nobody

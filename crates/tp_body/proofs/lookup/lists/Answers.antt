@@ -1,6 +1,6 @@
 -- A type is found in the table of a list just where the list has it.
 use Rattle.std.proofs.Common.{◌∙◌, sym}
-use Rattle.tp_body.proofs.Listed.{listed, unlisted}
+use Rattle.tp_body.proofs.TypeListMembership.{listed, unlisted}
 use Rattle.tp_body.proofs.lookup.lists.Goals as goal
 
 pub returns : goal.returns

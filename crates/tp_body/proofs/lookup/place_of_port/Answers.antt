@@ -1,8 +1,8 @@
 -- A name stands in the table of ports where a port of this name is declared, or nowhere.
 use Rattle.std.proofs.Common.{string_bytes, ◌∙◌}
-use Rattle.tp_name.proofs.NameTables.{position_is_place, position_is_nowhere}
+use Rattle.tp_name.proofs.FirstPlacesOfNames.{position_is_place, position_is_nowhere}
 use Rattle.tp_body.specs.Scoping.{declared_port_names}
-use Rattle.tp_body.proofs.PortRules.{position_shown}
+use Rattle.tp_body.proofs.PortNamesGrowth.{position_shown}
 use Rattle.tp_body.proofs.lookup.place_of_port.Goals as goal
 
 pub returns-in-Some-clause-there : goal.returns-in-Some-clause-there

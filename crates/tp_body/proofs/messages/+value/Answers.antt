@@ -11,9 +11,9 @@ use Rattle.tp_body.specs.Placing.{IsPlacing}
 use Rattle.tp_body.specs.Messages.{IsValue, no_element, no_field, no_name, one_name_more, AreNamed}
 use Rattle.tp_body.specs.BrokenValues as b
 use Rattle.tp_body.specs.BrokenValues.{IsEntry}
-use Rattle.tp_body.proofs.Entries.{place_below, placed_entries, placed_name, filled_more, all_filled, in_order}
+use Rattle.tp_body.proofs.EntriesInDeclaredOrder.{place_below, placed_entries, placed_name, filled_more, all_filled, in_order}
 use Rattle.tp_body.proofs.ValueRules.{elements_more, fields_more, pushed}
-use Rattle.tp_body.proofs.Telling.{tells_at, tells_rule, told_rule}
+use Rattle.tp_body.proofs.RuleFaultPropagation.{tells_at, tells_rule, told_rule}
 use Rattle.tp_body.proofs.BrokenValueRules.{breaks_element, breaks_field, record_behind}
 use Rattle.tp_body.proofs.messages.+value.Goals as goal
 use Rattle.tp_body.proofs.messages.+value.Goals.{resolve_value-in_default-via-in-Some+in_default, resolve_value-in_default-via-in_default}

@@ -3,7 +3,7 @@ use Rattle.std.proofs.Common.{◌≡◌, length, take, string_bytes, All}
 use Rattle.tp_name.specs.Named.{texts}
 use Rattle.tp_body.specs.Messages.{AreElements, AreFields, IsValue}
 use Rattle.tp_body.specs.BrokenValues.{IsEntry}
-use Rattle.tp_body.proofs.Entries.{Filled}
+use Rattle.tp_body.proofs.EntriesInDeclaredOrder.{Filled}
 use Rattle.tp_body.proofs.messages.+value.Given as goal
 
 abbrev pub invariant-resolve_elements-loop-value : goal.invariant-resolve_elements-loop-value

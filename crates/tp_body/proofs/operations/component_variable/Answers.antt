@@ -2,7 +2,7 @@
 use Rattle.std.proofs.Common.{subst}
 use Rattle.tp_body.specs.Scoping.{IsVariable}
 use Rattle.tp_body.specs.BrokenOperations as b
-use Rattle.tp_body.proofs.Telling.{tells_at, told_rule}
+use Rattle.tp_body.proofs.RuleFaultPropagation.{tells_at, told_rule}
 use Rattle.tp_body.proofs.operations.component_variable.Goals as goal
 
 pub returns-in_err-place-clause-told : goal.returns-in_err-place-clause-told

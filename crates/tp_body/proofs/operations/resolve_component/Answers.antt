@@ -3,7 +3,7 @@ use Rattle.std.proofs.Common.{◌≡◌, Contains, String, Global, sym, ◌∙�
 use Rattle.tp_tree.specs.declared.tree.ComponentName.TheVariants as component_name
 use Rattle.tp_name.specs.Named.{IsAbsent, texts}
 use Rattle.tp_body.proofs.BrokenOperationRules.{nobody_told, variable_told}
-use Rattle.tp_body.proofs.Telling.{tells_at}
+use Rattle.tp_body.proofs.RuleFaultPropagation.{tells_at}
 use Rattle.tp_body.proofs.operations.resolve_component.Goals as goal
 use Rattle.tp_body.proofs.operations.resolve_component.Goals.{in-Named+else-is_variable, in_default}
 

@@ -1,6 +1,6 @@
 -- What is told of a part of a receiving operation is told of the whole, where the parts before it stand.
 use Rattle.tp_body.specs.BrokenOperations as b
-use Rattle.tp_body.proofs.Telling.{tells_at, told_rule}
+use Rattle.tp_body.proofs.RuleFaultPropagation.{tells_at, told_rule}
 use Rattle.tp_body.proofs.operations.resolve_receive.Goals as goal
 
 pub returns-in_default-clause-told : goal.returns-in_default-clause-told

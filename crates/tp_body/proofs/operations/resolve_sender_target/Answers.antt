@@ -1,6 +1,6 @@
 -- The name behind `sender` is that of a variable of components.
 use Rattle.tp_body.specs.BrokenOperations as b
-use Rattle.tp_body.proofs.Telling.{tells_at}
+use Rattle.tp_body.proofs.RuleFaultPropagation.{tells_at}
 use Rattle.tp_body.proofs.operations.resolve_sender_target.Goals as goal
 
 pub returns-in_err-place-clause-told : goal.returns-in_err-place-clause-told

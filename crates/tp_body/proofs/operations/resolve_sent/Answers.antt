@@ -2,7 +2,7 @@
 use Rattle.std.proofs.Common.{sym, ◌∙◌, true≢false}
 use Rattle.tp_name.specs.declared.fault.ModuleRule.TheVariants as rule
 use Rattle.tp_body.specs.BrokenOperations as b
-use Rattle.tp_body.proofs.Telling.{tells_at, tells_rule, told_rule}
+use Rattle.tp_body.proofs.RuleFaultPropagation.{tells_at, tells_rule, told_rule}
 use Rattle.tp_body.proofs.operations.resolve_sent.Goals as goal
 
 pub returns-in_err-written-in-Message-clause-told : goal.returns-in_err-written-in-Message-clause-told

@@ -2,7 +2,7 @@
 use Rattle.std.proofs.Common.{sym, ◌∙◌, true≢false}
 use Rattle.tp_name.specs.declared.fault.ModuleRule.TheVariants as rule
 use Rattle.tp_body.specs.BrokenOperations as b
-use Rattle.tp_body.proofs.Telling.{tells_at, told_rule}
+use Rattle.tp_body.proofs.RuleFaultPropagation.{tells_at, told_rule}
 use Rattle.tp_body.proofs.operations.resolve_wanted.Goals as goal
 
 pub returns-in_default-find_type-clause-told : goal.returns-in_default-find_type-clause-told

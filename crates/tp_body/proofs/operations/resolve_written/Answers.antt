@@ -1,7 +1,7 @@
 -- A message has one type, the port sends it, and its value has to fit it.
 use Rattle.std.proofs.Common.{sym, ◌∙◌, true≢false}
 use Rattle.tp_body.specs.BrokenOperations as b
-use Rattle.tp_body.proofs.Telling.{tells_at, told_rule}
+use Rattle.tp_body.proofs.RuleFaultPropagation.{tells_at, told_rule}
 use Rattle.tp_body.proofs.operations.resolve_written.Goals as goal
 
 pub returns-in_default-clause-told : goal.returns-in_default-clause-told

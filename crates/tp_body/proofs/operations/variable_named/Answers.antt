@@ -2,7 +2,7 @@
 use Rattle.tp_name.specs.Named.{texts}
 use Rattle.tp_body.specs.BrokenOperations as b
 use Rattle.tp_body.proofs.BrokenOperationRules.{no_variable_told}
-use Rattle.tp_body.proofs.Telling.{told_rule}
+use Rattle.tp_body.proofs.RuleFaultPropagation.{told_rule}
 use Rattle.tp_body.proofs.operations.variable_named.Goals as goal
 
 pub returns-in_default-clause-told : goal.returns-in_default-clause-told

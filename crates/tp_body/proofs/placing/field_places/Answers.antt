@@ -5,9 +5,9 @@ use Rattle.std.proofs.lemmas.Option.{slice_get-map, slice_get_read, slice_get_wi
 use Rattle.std.proofs.lemmas.List.{length-map, length-set}
 use Rattle.tp_name.specs.Named.{IsAbsent}
 use Rattle.tp_body.specs.Placing.{field_names}
-use Rattle.tp_body.proofs.Placed.{pairs_more, taken_more}
-use Rattle.tp_body.proofs.Telling.{told_rule}
-use Rattle.tp_body.proofs.Misplaced.{placed_more, no_unknown, no_second, none_missing}
+use Rattle.tp_body.proofs.PlacedEntriesGrowth.{pairs_more, taken_more}
+use Rattle.tp_body.proofs.RuleFaultPropagation.{told_rule}
+use Rattle.tp_body.proofs.NoFieldEntryRefused.{placed_more, no_unknown, no_second, none_missing}
 use Rattle.tp_body.proofs.placing.field_places.Goals as goal
 
 pub loop-index-preserved : goal.loop-index-preserved

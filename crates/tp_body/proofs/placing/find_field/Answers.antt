@@ -3,7 +3,7 @@ use Rattle.std.proofs.Common.{◌⊎◌, inl, inr, ◌≡◌, ℕ, List, [], map
 use Rattle.std.proofs.lemmas.List.{length-map}
 use Rattle.tp_name.specs.Named.{IsAbsent}
 use Rattle.tp_body.specs.Placing.{field_names}
-use Rattle.tp_body.proofs.FieldTables.{found_place, found_none}
+use Rattle.tp_body.proofs.FieldNameTables.{found_place, found_none}
 use Rattle.tp_body.proofs.placing.find_field.Goals as goal
 use Rattle.tp_body.proofs.placing.find_field.Goals.{then-is_empty+in_ok-list_names, else-is_empty}
 

@@ -1,6 +1,6 @@
 -- The name of the next field is none of those before, so it goes last.
 use Rattle.std.proofs.Common.{map, ap, ◌∙◌, arith}
-use Rattle.tp_body.proofs.FieldTables.{listed_more}
+use Rattle.tp_body.proofs.FieldNameTables.{listed_more}
 use Rattle.tp_body.proofs.placing.list_names.Goals as goal
 
 pub loop-field-preserved : goal.loop-field-preserved

@@ -1,7 +1,7 @@
 -- A text is one of another type, or a character of it can't be printed.
 use Rattle.std.proofs.Common.{sym, ◌∙◌, true≢false}
 use Rattle.tp_body.specs.BrokenValues.{no_charstring, unprintable}
-use Rattle.tp_body.proofs.Telling.{tells_rule, told_rule}
+use Rattle.tp_body.proofs.RuleFaultPropagation.{tells_rule, told_rule}
 use Rattle.tp_body.proofs.plain.resolve_text.Goals as goal
 
 pub returns-in_err-check_type-clause-told : goal.returns-in_err-check_type-clause-told

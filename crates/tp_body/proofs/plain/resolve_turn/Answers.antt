@@ -2,7 +2,7 @@
 use Rattle.tp_name.specs.Named.{texts}
 use Rattle.tp_body.specs.BrokenValues.{no_integer}
 use Rattle.tp_body.proofs.BrokenValueRules.{no_turn_told}
-use Rattle.tp_body.proofs.Telling.{tells_rule}
+use Rattle.tp_body.proofs.RuleFaultPropagation.{tells_rule}
 use Rattle.tp_body.proofs.plain.resolve_turn.Goals as goal
 
 pub returns-in_default-clause-told : goal.returns-in_default-clause-told

@@ -1,7 +1,7 @@
 -- A `for` is 1 and its block once for each turn, up to where counting stops.
 use Rattle.std.proofs.Common.{◌≡◌, ◌+◌, ◌*◌, ap, sym, ◌∙◌}
 use Rattle.tp_play.specs.Sizes.{capped, size_of, size_of_all, turns_between}
-use Rattle.tp_body.proofs.Counting.{size_for, cap_one, cap_product}
+use Rattle.tp_body.proofs.CappedStatementSizes.{size_for, cap_one, cap_product}
 use Rattle.tp_body.proofs.size.+size.Goals as goal
 
 pub count_statement-returns-in-For : goal.count_statement-returns-in-For

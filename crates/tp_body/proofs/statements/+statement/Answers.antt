@@ -11,7 +11,7 @@ use Rattle.tp_body.specs.Bodies.{IsBlock, no_statement, no_branch, branch}
 use Rattle.tp_body.proofs.StatementRules.{block_more, branches_more, statement_for}
 use Rattle.tp_body.specs.BrokenBodies as b
 use Rattle.tp_body.specs.BrokenBodies.{AfterBreaks, BlockBreaks, StatementBreaks}
-use Rattle.tp_body.proofs.Telling.{tells_from, tells_on, told_here, told_on}
+use Rattle.tp_body.proofs.RuleFaultPropagation.{tells_from, tells_on, told_here, told_on}
 use Rattle.tp_body.proofs.statements.+statement.Goals as goal
 
 pub resolve_block-loop-statement-init : goal.resolve_block-loop-statement-init

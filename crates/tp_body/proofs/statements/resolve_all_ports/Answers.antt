@@ -1,7 +1,7 @@
 -- An operation on all ports stands in no behaviour of the system under test.
 use Rattle.tp_name.specs.Named.{texts}
 use Rattle.tp_body.specs.BrokenBodies as b
-use Rattle.tp_body.proofs.Telling.{tells_here}
+use Rattle.tp_body.proofs.RuleFaultPropagation.{tells_here}
 use Rattle.tp_body.proofs.statements.resolve_all_ports.Goals as goal
 
 pub returns-in_err-check_not_in_sut-clause-told : goal.returns-in_err-check_not_in_sut-clause-told

@@ -13,11 +13,11 @@ use Rattle.tp_body.specs.Scoping.{IsSoundScope}
 use Rattle.tp_body.specs.Bodies.{IsBody}
 use Rattle.tp_body.specs.BrokenBodies as b
 use Rattle.tp_body.specs.BrokenBodies.{BodyBreaks}
-use Rattle.tp_body.proofs.Closed.{block_closed}
-use Rattle.tp_body.proofs.Played.{block_played}
-use Rattle.tp_body.proofs.Declaring.{typed_variables}
+use Rattle.tp_body.proofs.LoopVariablesInScope.{block_closed}
+use Rattle.tp_body.proofs.BodiesCanBePlayed.{block_played}
+use Rattle.tp_body.proofs.BodyVariableDeclarations.{typed_variables}
 use Rattle.tp_body.proofs.StatementExclusions.{body_excludes}
-use Rattle.tp_body.proofs.Telling.{broken_from, tells_on, told_here}
+use Rattle.tp_body.proofs.RuleFaultPropagation.{broken_from, tells_on, told_here}
 use Rattle.tp_body.proofs.statements.resolve_body.Goals as goal
 
 -- no loop variable is around the statements of a body

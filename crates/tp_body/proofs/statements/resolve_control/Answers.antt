@@ -4,7 +4,7 @@ use Rattle.tp_name.specs.Named.{texts}
 use Rattle.tp_tree.specs.declared.tree.Action.TheVariants as action
 use Rattle.tp_body.specs.BrokenBodies as b
 use Rattle.tp_body.specs.BrokenBodies.{StatementBreaks}
-use Rattle.tp_body.proofs.Telling.{tells_here, told_here}
+use Rattle.tp_body.proofs.RuleFaultPropagation.{tells_here, told_here}
 use Rattle.tp_body.proofs.statements.resolve_control.Goals as goal
 
 pub returns-in_err-check_not_in_sut-clause-told : goal.returns-in_err-check_not_in_sut-clause-told

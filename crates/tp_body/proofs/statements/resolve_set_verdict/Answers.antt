@@ -2,7 +2,7 @@
 use Rattle.tp_name.specs.declared.fault.ModuleRule.TheVariants as rule
 use Rattle.tp_name.specs.Named.{texts}
 use Rattle.tp_body.specs.BrokenBodies as b
-use Rattle.tp_body.proofs.Telling.{tells_here}
+use Rattle.tp_body.proofs.RuleFaultPropagation.{tells_here}
 use Rattle.tp_body.proofs.statements.resolve_set_verdict.Goals as goal
 
 pub returns-in_err-check_not_in_sut-clause-told : goal.returns-in_err-check_not_in_sut-clause-told

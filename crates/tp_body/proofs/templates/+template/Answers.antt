@@ -12,10 +12,10 @@ use Rattle.tp_body.specs.Placing.{IsPlacing}
 use Rattle.tp_body.specs.Messages.{IsTemplate, no_member, no_element_template, no_field_template, no_name_template, one_name_template_more, AreNamedTemplates}
 use Rattle.tp_body.specs.BrokenTemplates as b
 use Rattle.tp_body.specs.BrokenTemplates.{IsTemplateEntry}
-use Rattle.tp_body.proofs.Entries.{place_below, placed_entries, placed_name, filled_more, all_filled, in_order}
+use Rattle.tp_body.proofs.EntriesInDeclaredOrder.{place_below, placed_entries, placed_name, filled_more, all_filled, in_order}
 use Rattle.tp_body.proofs.ValueRules.{pushed}
 use Rattle.tp_body.proofs.TemplateRules.{members_more, element_templates_more, field_templates_more}
-use Rattle.tp_body.proofs.Telling.{tells_at, tells_rule, told_at, told_rule}
+use Rattle.tp_body.proofs.RuleFaultPropagation.{tells_at, tells_rule, told_at, told_rule}
 use Rattle.tp_body.proofs.BrokenValueRules.{record_behind}
 use Rattle.tp_body.proofs.BrokenTemplateRules.{breaks_element, breaks_field, breaks_member}
 use Rattle.tp_body.proofs.templates.+template.Goals as goal

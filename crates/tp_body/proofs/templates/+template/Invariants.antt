@@ -3,7 +3,7 @@ use Rattle.std.proofs.Common.{◌≡◌, length, take, string_bytes, All}
 use Rattle.tp_name.specs.Named.{texts}
 use Rattle.tp_body.specs.Messages.{AreMembers, AreElementTemplates, AreFieldTemplates, IsTemplate}
 use Rattle.tp_body.specs.BrokenTemplates.{IsTemplateEntry}
-use Rattle.tp_body.proofs.Entries.{Filled}
+use Rattle.tp_body.proofs.EntriesInDeclaredOrder.{Filled}
 use Rattle.tp_body.proofs.templates.+template.Given as goal
 
 abbrev pub invariant-resolve_element_templates-loop-member : goal.invariant-resolve_element_templates-loop-member

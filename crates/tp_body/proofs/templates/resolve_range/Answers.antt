@@ -1,7 +1,7 @@
 -- A range is one of another type, or its bounds are in the wrong order.
 use Rattle.std.proofs.Common.{sym, ◌∙◌, true≢false}
 use Rattle.tp_body.specs.BrokenTemplates as b
-use Rattle.tp_body.proofs.Telling.{tells_rule, told_rule}
+use Rattle.tp_body.proofs.RuleFaultPropagation.{tells_rule, told_rule}
 use Rattle.tp_body.proofs.templates.resolve_range.Goals as goal
 
 pub returns-in_err-check_type-clause-told : goal.returns-in_err-check_type-clause-told

@@ -5,8 +5,8 @@ use Rattle.std.proofs.lemmas.Option.{slice_get-map, slice_get_within}
 use Rattle.tp_config.specs.declared.port_type.PortType.{PortType}
 use Rattle.tp_config.specs.declared.port_type.CompType.{CompType}
 use Rattle.tp_body.specs.Scoping.{declared_port_names}
-use Rattle.tp_body.proofs.Fixed.{absent_place, contained_at}
-use Rattle.tp_body.proofs.PortRules.{ports_more}
+use Rattle.tp_body.proofs.NameLookupsAreUnique.{absent_place, contained_at}
+use Rattle.tp_body.proofs.PortNamesGrowth.{ports_more}
 use Rattle.tp_body.proofs.variables.are_no_ports.Goals as goal
 
 -- the name of the port at this place

@@ -6,8 +6,8 @@ use Rattle.tp_name.specs.declared.fault.ModuleRule.TheVariants as rule
 use Rattle.tp_body.specs.Bodies.{AreVariables, no_variable, one_variable_more}
 use Rattle.tp_body.proofs.ValueRules.{pushed}
 use Rattle.tp_body.specs.BrokenBodies.{VariablesBreak, in_variable, no_type, not_new, too_many}
-use Rattle.tp_body.proofs.Fixed.{absent_contained}
-use Rattle.tp_body.proofs.Telling.{tells_from, told_here}
+use Rattle.tp_body.proofs.NameLookupsAreUnique.{absent_contained}
+use Rattle.tp_body.proofs.RuleFaultPropagation.{tells_from, told_here}
 use Rattle.tp_body.proofs.variables.resolve_variables.Goals as goal
 
 pub loop-variable-init : goal.loop-variable-init

@@ -1,7 +1,7 @@
 -- The role of its component decides whether a port is one of the test system interface.
 use Rattle.std.proofs.Common.{◌∙◌, ap, sym}
 use Rattle.std.specs.Option.{option_copied}
-use Rattle.tp_config.proofs.Look.{system_some, system_none}
+use Rattle.tp_config.proofs.PortLookupByFields.{system_some, system_none}
 use Rattle.tp_config.proofs.component.is_system.Goals as goal
 
 pub returns-in-Some : goal.returns-in-Some

@@ -3,7 +3,7 @@ use Rattle.std.proofs.Common.{◌∙◌, ap, sym, Some, None}
 use Rattle.std.specs.Prelude.{option_map}
 use Rattle.std.specs.Option.{option_copied}
 use Rattle.tp_config.specs.Shape.{types_of_port_type}
-use Rattle.tp_config.proofs.Look.{outs_by}
+use Rattle.tp_config.proofs.PortLookupByFields.{outs_by}
 use Rattle.tp_config.proofs.component.outs.Goals as goal
 
 pub returns-in-Some : goal.returns-in-Some

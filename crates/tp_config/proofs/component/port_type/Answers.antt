@@ -1,5 +1,5 @@
 -- A port has the port type that its component's type declares for it.
-use Rattle.tp_config.proofs.Look.{types_none, types_entry}
+use Rattle.tp_config.proofs.PortLookupByFields.{types_none, types_entry}
 use Rattle.tp_config.proofs.component.port_type.Goals as goal
 
 pub returns-in_default : goal.returns-in_default

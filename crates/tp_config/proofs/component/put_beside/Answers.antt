@@ -1,6 +1,6 @@
 -- With another list beside a port, the components are the same, and so is what stands elsewhere.
 use Rattle.std.proofs.Common.{refl}
-use Rattle.tp_config.proofs.Places.{members_put, links_put}
+use Rattle.tp_config.proofs.StoredPortLinks.{members_put, links_put}
 use Rattle.tp_config.specs.Shape.{member_of}
 use Rattle.tp_config.proofs.component.put_beside.Goals as goal
 

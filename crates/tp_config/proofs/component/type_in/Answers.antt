@@ -1,7 +1,7 @@
 -- A component has the ports of its type, and one that isn't there has none.
 use Rattle.std.proofs.Common.{◌∙◌, ap, sym}
 use Rattle.std.specs.Option.{option_copied}
-use Rattle.tp_config.proofs.Look.{ports_none, ports_some}
+use Rattle.tp_config.proofs.PortLookupByFields.{ports_none, ports_some}
 use Rattle.tp_config.proofs.component.type_in.Goals as goal
 
 pub returns-in_default : goal.returns-in_default

@@ -1,6 +1,6 @@
 -- The components have the names that contracts see.
 use Rattle.std.proofs.Common.{◌∙◌}
-use Rattle.tp_config.proofs.Made.{names_made}
+use Rattle.tp_config.proofs.FieldsWithNewComponent.{names_made}
 use Rattle.tp_config.proofs.creating.has_name.Goals as goal
 
 pub returns : goal.returns

@@ -1,6 +1,6 @@
 -- The components have the roles that contracts see.
 use Rattle.std.proofs.Common.{◌∙◌}
-use Rattle.tp_config.proofs.Made.{roles_made}
+use Rattle.tp_config.proofs.FieldsWithNewComponent.{roles_made}
 use Rattle.tp_config.proofs.creating.has_system.Goals as goal
 
 pub returns : goal.returns

@@ -1,6 +1,6 @@
 -- Whether each type is among others is the same for a list and for its types, each once.
 use Rattle.std.proofs.Common.{◌∙◌}
-use Rattle.tp_config.proofs.Among.{among_alike}
+use Rattle.tp_config.proofs.TypeListInclusion.{among_alike}
 use Rattle.tp_config.proofs.directions.are_among.Goals as goal
 
 pub returns : goal.returns

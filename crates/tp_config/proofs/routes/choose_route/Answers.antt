@@ -1,6 +1,6 @@
 -- The first port of the component named gives the route to it; with none there is no such route.
 use Rattle.std.proofs.Common.{◌∙◌, sym}
-use Rattle.tp_config.proofs.Finds.{found_to, none_to}
+use Rattle.tp_config.proofs.RouteSearchOutcomes.{found_to, none_to}
 use Rattle.tp_config.proofs.routes.choose_route.Goals as goal
 
 pub returns-in-Some-port_beside-clause-route : goal.returns-in-Some-port_beside-clause-route

@@ -1,5 +1,5 @@
 -- Each route is one of the senders', and its count is the one that is filed.
-use Rattle.tp_exec.proofs.Counted.{all_filed, counted}
+use Rattle.tp_exec.proofs.RouteMessageCounts.{all_filed, counted}
 use Rattle.tp_exec.proofs.counting.count_all.Goals as goal
 
 pub in_order-requires : goal.in_order-requires

@@ -1,6 +1,6 @@
 -- With each turn one route more is filed, up to the last.
 use Rattle.std.proofs.Common.{arith}
-use Rattle.tp_exec.proofs.Counted.{filed_next, filed_none, filed_whole}
+use Rattle.tp_exec.proofs.RouteMessageCounts.{filed_next, filed_none, filed_whole}
 use Rattle.tp_exec.proofs.counting.file.Goals as goal
 
 pub loop-way-init : goal.loop-way-init

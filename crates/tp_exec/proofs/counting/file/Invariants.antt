@@ -1,5 +1,5 @@
 -- As many routes are filed as there were turns.
-use Rattle.tp_exec.proofs.Counted.{AreFirstFiled}
+use Rattle.tp_exec.proofs.RouteMessageCounts.{AreFirstFiled}
 use Rattle.tp_exec.proofs.counting.file.Given as goal
 
 abbrev pub invariant-loop-way : goal.invariant-loop-way

@@ -1,5 +1,5 @@
 -- With each turn the routes of one sender more are filed.
-use Rattle.tp_exec.proofs.Counted.{below_next}
+use Rattle.tp_exec.proofs.RouteMessageCounts.{below_next}
 use Rattle.tp_exec.proofs.counting.file_all.Goals as goal
 
 pub loop-sender-preserved : goal.loop-sender-preserved

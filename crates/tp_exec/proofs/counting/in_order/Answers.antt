@@ -6,8 +6,8 @@ use Rattle.std.proofs.lemmas.List.Elements.{All-head, All-nil, All-push, All-tai
 use Rattle.indexmap.specs.IndexMap.{get}
 use Rattle.tp_config.specs.declared.port_type.RouteId.{RouteId}
 use Rattle.tp_inbox.specs.Places.{route_eq}
-use Rattle.tp_exec.proofs.Counted.{one_counted}
-use Rattle.tp_exec.proofs.Holding.{no_rest}
+use Rattle.tp_exec.proofs.RouteMessageCounts.{one_counted}
+use Rattle.tp_exec.proofs.OneSenderReturns.{no_rest}
 use Rattle.tp_exec.proofs.counting.in_order.Goals as goal
 
 abbrev Counted : Type 0

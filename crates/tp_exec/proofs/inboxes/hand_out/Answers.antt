@@ -2,7 +2,7 @@
 use Rattle.std.proofs.Common.{List, subst}
 use Rattle.std.specs.Vec.Iter.{into_iter_items}
 use Rattle.tp_inbox.specs.Ledgers.{SenderLedger}
-use Rattle.tp_exec.proofs.Dealing.{AreDealt, dealt_within, dealt_apart, dealt_next, dealt_last, no_rest}
+use Rattle.tp_exec.proofs.SendersGivenToWorkers.{AreDealt, dealt_within, dealt_apart, dealt_next, dealt_last, no_rest}
 use Rattle.tp_exec.proofs.inboxes.hand_out.Goals as goal
 
 pub hand_to-requires-clause-within : goal.hand_to-requires-clause-within

@@ -1,5 +1,5 @@
 -- The opened inboxes with their senders handed out are the workers of the run.
-use Rattle.tp_exec.proofs.HandedOut.{senders_apart, senders_within, are_workers, have_not_begun}
+use Rattle.tp_exec.proofs.WorkersWithSenders.{senders_apart, senders_within, are_workers, have_not_begun}
 use Rattle.tp_exec.proofs.inboxes.make_workers.Goals as goal
 
 pub hand_out-requires-clause-within : goal.hand_out-requires-clause-within

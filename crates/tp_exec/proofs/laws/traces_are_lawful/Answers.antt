@@ -1,6 +1,6 @@
 -- What the report promises of each port, of each route that something came on, and of its order.
 use Rattle.tp_exec.proofs.LawfulTraces.{lawful_route}
-use Rattle.tp_exec.proofs.NoCircle.{no_circle}
+use Rattle.tp_exec.proofs.NoHappenedBeforeCircle.{no_circle}
 use Rattle.tp_exec.proofs.laws.traces_are_lawful.Goals as goal
 
 pub returns : goal.returns

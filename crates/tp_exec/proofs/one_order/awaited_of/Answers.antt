@@ -6,7 +6,7 @@ use Rattle.tp_exec.specs.declared.kind.AwaitedArrival.{AwaitedArrival}
 use Rattle.tp_exec.specs.declared.kind.EntryKind.TheVariants as kind
 use Rattle.tp_exec.specs.OrderProgress.{awaited_sources}
 use Rattle.tp_exec.specs.Greedy.{AreAfter}
-use Rattle.tp_exec.proofs.OrderProgress.{awaited_more, awaited_still}
+use Rattle.tp_exec.proofs.OrderProgressGrowth.{awaited_more, awaited_still}
 use Rattle.tp_exec.proofs.AwaitedArrivals.{IsAfter, after_came, after_looked, after_none, after_on}
 use Rattle.tp_exec.proofs.one_order.awaited_of.Goals as goal
 use Rattle.tp_exec.proofs.one_order.awaited_of.Goals.{in-Came+in_ok-push-in-Came, in-Looked, in-Sent}

@@ -1,6 +1,6 @@
 -- There is less to do.
 use Rattle.std.proofs.Common.{length, map, sum, arith}
-use Rattle.tp_exec.proofs.OrderProgress.{less_to_do, places_within}
+use Rattle.tp_exec.proofs.OrderProgressGrowth.{less_to_do, places_within}
 use Rattle.tp_exec.proofs.one_order.go_all.Goals as goal
 
 pub loop-c-smaller : goal.loop-c-smaller

@@ -1,7 +1,7 @@
 -- Fewer things are left to do.
 use Rattle.std.proofs.Common.{length, ap, ◌∙◌, arith}
 use Rattle.std.proofs.lemmas.List.{length_push}
-use Rattle.tp_exec.proofs.OrderProgress.{places_within}
+use Rattle.tp_exec.proofs.OrderProgressGrowth.{places_within}
 use Rattle.tp_exec.proofs.one_order.go_on.Goals as goal
 
 pub loop-c-smaller : goal.loop-c-smaller

@@ -2,8 +2,8 @@
 use Rattle.std.proofs.Common.{ℕ, List, length, replicate, slice_index, sym, subst}
 use Rattle.tp_exec.specs.OneOrder.{logs_of}
 use Rattle.tp_exec.specs.Greedy.{IsProgressBy}
-use Rattle.tp_exec.proofs.OrderProgress.{begun, ended}
-use Rattle.tp_exec.proofs.Stuck.{all_gone}
+use Rattle.tp_exec.proofs.OrderProgressGrowth.{begun, ended}
+use Rattle.tp_exec.proofs.NoOrderWhereStuck.{all_gone}
 use Rattle.tp_exec.proofs.one_order.has_one_order.Goals as goal
 
 pub go_all-requires-clause-progress : goal.go_all-requires-clause-progress

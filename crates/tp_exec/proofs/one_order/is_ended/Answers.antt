@@ -2,7 +2,7 @@
 use Rattle.std.proofs.Common.{◌<◌, length, sym, ap, ◌∙◌, below_more, arith}
 use Rattle.std.proofs.lemmas.Bool.{false≢true}
 use Rattle.std.proofs.lemmas.Grind.{get_or_default_zero}
-use Rattle.tp_exec.proofs.OrderProgress.{log_is}
+use Rattle.tp_exec.proofs.OrderProgressGrowth.{log_is}
 use Rattle.tp_exec.proofs.one_order.is_ended.Goals as goal
 
 pub returns-then-index-log : goal.returns-then-index-log

@@ -8,7 +8,7 @@ use Rattle.tp_report.specs.declared.report.CompReport.{CompReport}
 use Rattle.tp_exec.specs.OneOrder.{logs_of}
 use Rattle.tp_exec.specs.OrderProgress.{sent_then}
 use Rattle.tp_exec.specs.Greedy.{IsProgressBy}
-use Rattle.tp_exec.proofs.OrderProgress.{done, log_is}
+use Rattle.tp_exec.proofs.OrderProgressGrowth.{done, log_is}
 use Rattle.tp_exec.proofs.one_order.step.Goals as goal
 
 pub returns-clause-progress : goal.returns-clause-progress

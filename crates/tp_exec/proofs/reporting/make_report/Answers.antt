@@ -8,7 +8,7 @@ use Rattle.tp_exec.specs.declared.ended.EndedComponent.{EndedComponent}
 use Rattle.tp_report.specs.declared.report.CompReport.{CompReport}
 use Rattle.tp_exec.specs.OneOrder.{HasOneOrder, logs_of}
 use Rattle.tp_exec.specs.Reporting.{IsAtRest, IsReportedAs, IsWithoutOrder}
-use Rattle.tp_exec.proofs.Reported.{all_there, report_of, reportable, waits_within}
+use Rattle.tp_exec.proofs.ReportMatchesRun.{all_there, report_of, reportable, waits_within}
 use Rattle.tp_exec.proofs.reporting.make_report.Goals as goal
 
 -- these are reported, and one order gives their histories; or none does

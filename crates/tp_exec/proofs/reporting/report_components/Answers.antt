@@ -7,7 +7,7 @@ use Rattle.std.proofs.lemmas.List.Elements.{All-rest}
 use Rattle.tp_config.specs.Setup.{IsComponent}
 use Rattle.tp_exec.specs.declared.ended.EndedComponent.{EndedComponent}
 use Rattle.tp_exec.specs.Reporting.{IsReportedAs}
-use Rattle.tp_exec.proofs.Reported.{space_more, zip_all, zip_more}
+use Rattle.tp_exec.proofs.ReportMatchesRun.{space_more, zip_all, zip_more}
 use Rattle.tp_exec.proofs.reporting.report_components.Goals as goal
 
 pub loop-component-preserved : goal.loop-component-preserved

@@ -2,7 +2,7 @@
 use Rattle.std.proofs.Common.{ap, ◌∙◌, sym, subst}
 use Rattle.std.proofs.lemmas.Bool.{false≢true}
 use Rattle.tp_exec.specs.OneOrder.{HasOneOrder, logs_of}
-use Rattle.tp_exec.proofs.Reported.{same_logs}
+use Rattle.tp_exec.proofs.ReportMatchesRun.{same_logs}
 use Rattle.tp_exec.proofs.reporting.report_in_order.Goals as goal
 
 pub returns-else-branch : goal.returns-else-branch

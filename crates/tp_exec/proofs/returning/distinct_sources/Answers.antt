@@ -2,7 +2,7 @@
 use Rattle.std.proofs.Common.{◌≡◌, ◌+◌, length, ap, ◌∙◌, arith}
 use Rattle.std.proofs.lemmas.List.{take_all}
 use Rattle.tp_inbox.specs.Routed.{sources_of}
-use Rattle.tp_exec.proofs.Senders.{next_source}
+use Rattle.tp_exec.proofs.RoutesBySourceComponent.{next_source}
 use Rattle.tp_exec.proofs.returning.distinct_sources.Goals as goal
 
 pub loop-place-init : goal.loop-place-init

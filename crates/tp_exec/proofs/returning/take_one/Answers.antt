@@ -1,7 +1,7 @@
 -- The component that has the sender has it as its next.
 use Rattle.std.proofs.Common.{arith}
 use Rattle.tp_exec.specs.Rounds.{link_by}
-use Rattle.tp_exec.proofs.Holding.{gives_one, inside, leaves_others}
+use Rattle.tp_exec.proofs.OneSenderReturns.{gives_one, inside, leaves_others}
 use Rattle.tp_exec.proofs.returning.take_one.Goals as goal
 
 pub index_mut-requires : goal.index_mut-requires

@@ -4,10 +4,10 @@ use Rattle.std.proofs.Common.{subst}
 use Rattle.std.proofs.lemmas.Result.{err_from_is_err_and}
 use Rattle.tp_config.specs.Setup.{Setup}
 use Rattle.tp_exec.specs.Settlings.{AreSettled}
-use Rattle.tp_exec.proofs.NoCircle.{ordered}
-use Rattle.tp_exec.proofs.Overtaking.{keeps_order}
-use Rattle.tp_exec.proofs.Refused.{by_threads, no_report}
-use Rattle.tp_exec.proofs.Runs.{of_a_run}
+use Rattle.tp_exec.proofs.NoHappenedBeforeCircle.{ordered}
+use Rattle.tp_exec.proofs.NoMessageOvertakes.{keeps_order}
+use Rattle.tp_exec.proofs.ReasonsForNoReport.{by_threads, no_report}
+use Rattle.tp_exec.proofs.RunOutcomes.{of_a_run}
 use Rattle.tp_exec.proofs.run.run.Goals as goal
 
 pub make_report-requires : goal.make_report-requires

@@ -7,7 +7,7 @@ use Rattle.tp_value.specs.declared.message.Message.{Message}
 use Rattle.tp_history.specs.Desks.{Journal, adding_all}
 use Rattle.tp_inbox.specs.Routed.{rest_arrivals}
 use Rattle.tp_history.specs.declared.entry.Entry.TheVariants as entry
-use Rattle.tp_inbox.proofs.Owned.{adding_twice}
+use Rattle.tp_inbox.proofs.OwnerDrainedEnvelopes.{adding_twice}
 use Rattle.tp_exec.proofs.settling.append.Goals as goal
 
 abbrev Rest : Type 0

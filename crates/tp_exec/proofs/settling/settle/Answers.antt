@@ -4,8 +4,8 @@ use Rattle.tp_event.specs.declared.event.Env.{Env}
 use Rattle.tp_value.specs.declared.message.Message.{Message}
 use Rattle.tp_inbox.specs.Routed.{AreDelivered, AreArrivalsNumbered, IsArrivalOn, rest_arrivals}
 use Rattle.tp_inbox.specs.Ledgers.{Inbox, put_by}
-use Rattle.tp_inbox.proofs.Rests.{rest_within}
-use Rattle.tp_exec.proofs.Coming.{all_routed}
+use Rattle.tp_inbox.proofs.InboxRestAfterHistory.{rest_within}
+use Rattle.tp_exec.proofs.AllInboxSendersReturn.{all_routed}
 use Rattle.tp_exec.proofs.settling.settle.Goals as goal
 
 pub returns-in-Ok-clause-delivered : goal.returns-in-Ok-clause-delivered

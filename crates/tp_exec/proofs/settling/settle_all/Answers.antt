@@ -4,13 +4,13 @@ use Rattle.std.specs.List.{AllZip}
 use Rattle.std.specs.Vec.Iter.{into_iter_items}
 use Rattle.std.proofs.lemmas.List.{append-nil}
 use Rattle.std.proofs.lemmas.List.Elements.{All-head, All-tail}
-use Rattle.tp_inbox.proofs.Gathering.{move_one}
+use Rattle.tp_inbox.proofs.RoutesAfterSendersJoin.{move_one}
 use Rattle.tp_exec.specs.declared.ended.EndedComponent.{EndedComponent}
 use Rattle.tp_exec.specs.declared.idle.Idle.{Idle}
 use Rattle.tp_exec.specs.Held.{AreAtHand, HasEndedWithAll, IsIdleComponent, idle_of, log_at, links_to}
-use Rattle.tp_exec.proofs.Holding.{no_rest}
-use Rattle.tp_exec.proofs.Parting.{all_held, all_idle}
-use Rattle.tp_exec.proofs.Settled.{all_settled}
+use Rattle.tp_exec.proofs.OneSenderReturns.{no_rest}
+use Rattle.tp_exec.proofs.SendersAfterBehaviours.{all_held, all_idle}
+use Rattle.tp_exec.proofs.SettledRunOutcomes.{all_settled}
 use Rattle.tp_exec.proofs.settling.settle_all.Goals as goal
 
 pub loop-idle-init : goal.loop-idle-init

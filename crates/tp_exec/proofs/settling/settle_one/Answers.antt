@@ -4,7 +4,7 @@ use Rattle.tp_history.specs.Desks.{Journal, adding_all}
 use Rattle.tp_history.specs.History.{arrivals}
 use Rattle.tp_inbox.specs.Ledgers.{put_by}
 use Rattle.tp_inbox.specs.Routed.{AreDelivered, AreArrivalsNumbered, IsArrivalOn, rest_arrivals}
-use Rattle.tp_exec.proofs.Coming.{are_senders, has_all}
+use Rattle.tp_exec.proofs.AllInboxSendersReturn.{are_senders, has_all}
 use Rattle.tp_exec.proofs.settling.settle_one.Goals as goal
 
 pub settle-requires-clause-senders : goal.settle-requires-clause-senders

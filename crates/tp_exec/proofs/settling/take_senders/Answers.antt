@@ -10,7 +10,7 @@ use Rattle.tp_inbox.specs.Routed.{sources_of}
 use Rattle.tp_behaviour.specs.Outboxes.{routes_of}
 use Rattle.tp_exec.specs.Held.{CanTake, Gives, Leaves, ShareNone, links_by}
 use Rattle.tp_exec.specs.Rounds.{links_in}
-use Rattle.tp_exec.proofs.Coming.{are_senders, have_all, share_none}
+use Rattle.tp_exec.proofs.AllInboxSendersReturn.{are_senders, have_all, share_none}
 use Rattle.tp_exec.proofs.settling.take_senders.Goals as goal
 
 -- where these are the components with routes into the inbox

@@ -2,7 +2,7 @@
 use Rattle.std.proofs.Common.{◌∷◌, [], All, length, ap, sym, subst, arith, true≢false}
 use Rattle.std.specs.Vec.Iter.{into_iter_items}
 use Rattle.std.proofs.lemmas.List.Elements.{All-nil, All-cons, All-append, All-head, All-rest}
-use Rattle.tp_inbox.proofs.Senders.{moved}
+use Rattle.tp_inbox.proofs.SenderListGrowth.{moved}
 use Rattle.tp_exec.specs.declared.played.Played.{Played}
 use Rattle.tp_exec.specs.Returns.{HasReturned, identity_of}
 use Rattle.tp_exec.specs.Children.{IsChild, identity_at}

@@ -4,7 +4,7 @@ use Rattle.std.proofs.lemmas.Result.{IfOk-weaker}
 use Rattle.tp_config.specs.declared.port_type.CompId.{CompId}
 use Rattle.tp_play.specs.TestCases.{behaviour_at}
 use Rattle.tp_exec.specs.Returns.{IsTaskOf}
-use Rattle.tp_exec.proofs.Returned.{behaved_back, desk_comp, waiting_begins}
+use Rattle.tp_exec.proofs.BehavioursBackFromThreads.{behaved_back, desk_comp, waiting_begins}
 use Rattle.tp_exec.proofs.threads.live.Goals as goal
 
 pub task_of-task-requires : goal.task_of-task-requires

@@ -6,7 +6,7 @@ use Rattle.tp_behaviour.specs.declared.worker.Worker.{Worker}
 use Rattle.tp_exec.specs.declared.played.Played.{Played}
 use Rattle.tp_exec.specs.Returns.{HasReturned, identity_of, identities_of}
 use Rattle.tp_exec.specs.Rounds.{ArePlayed, AreWorkers, workers_of}
-use Rattle.tp_exec.proofs.AllPlayed.{all_played, all_workers, all_waiting}
+use Rattle.tp_exec.proofs.ComponentsAfterThreads.{all_played, all_workers, all_waiting}
 use Rattle.tp_exec.proofs.threads.play_all.Goals as goal
 
 module _ {E : Type 0} (made : Made) (workers : List Worker) (are : AreWorkers made.config workers) where

@@ -1,9 +1,9 @@
 -- The component has nothing to do, or goes into its thread with all that it needs there.
 use denote.Param.Send.{sendable}
 use Rattle.std.proofs.Crossing.{crosses}
-use Rattle.tp_play.proofs.Crossing.{test_case_sync}
-use Rattle.tp_exec.proofs.Crossing.{context_sync, worker_send, played_send}
-use Rattle.tp_exec.proofs.Returned.{busy_where_some, nothing_where_none}
+use Rattle.tp_play.proofs.TestCaseThreadSafety.{test_case_sync}
+use Rattle.tp_exec.proofs.WorkerThreadSafety.{context_sync, worker_send, played_send}
+use Rattle.tp_exec.proofs.BehavioursBackFromThreads.{busy_where_some, nothing_where_none}
 use Rattle.tp_exec.proofs.threads.set_out.Goals as goal
 
 pub returns-then-is_none-clause-child : goal.returns-then-is_none-clause-child

@@ -1,6 +1,6 @@
 -- The next component is at rest.
 use Rattle.tp_exec.specs.Reporting.{IsAtRest}
-use Rattle.tp_exec.proofs.Openings.{passes}
+use Rattle.tp_exec.proofs.OpenBranchConditions.{passes}
 use Rattle.tp_exec.proofs.waiting.are_at_rest.Goals as goal
 
 pub loop-component-preserved : goal.loop-component-preserved

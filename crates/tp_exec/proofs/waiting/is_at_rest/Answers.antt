@@ -1,5 +1,5 @@
 -- A component that waits is at rest where none of its branches is open.
-use Rattle.tp_exec.proofs.Openings.{rest_as}
+use Rattle.tp_exec.proofs.OpenBranchConditions.{rest_as}
 use Rattle.tp_exec.proofs.waiting.is_at_rest.Goals as goal
 
 pub returns-in-Waiting : goal.returns-in-Waiting

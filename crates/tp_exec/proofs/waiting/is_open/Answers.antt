@@ -1,7 +1,7 @@
 -- A branch is open by the top of its port.
 use Rattle.std.proofs.Common.{sym, ◌∙◌}
 use Rattle.std.proofs.lemmas.Bool.{false≢true}
-use Rattle.tp_exec.proofs.Openings.{by_top, discards, shut}
+use Rattle.tp_exec.proofs.OpenBranchConditions.{by_top, discards, shut}
 use Rattle.tp_exec.proofs.waiting.is_open.Goals as goal
 
 pub returns-in-None : goal.returns-in-None

@@ -2,7 +2,7 @@
 use Rattle.std.proofs.Common.{sym, ◌∙◌}
 use Rattle.std.proofs.lemmas.Bool.{false≢true}
 use Rattle.tp_behaviour.specs.Choices.{IsOpen}
-use Rattle.tp_exec.proofs.Openings.{fails, passes}
+use Rattle.tp_exec.proofs.OpenBranchConditions.{fails, passes}
 use Rattle.tp_exec.proofs.waiting.none_open.Goals as goal
 
 pub returns-then-is_open : goal.returns-then-is_open

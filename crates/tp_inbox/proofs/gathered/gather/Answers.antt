@@ -13,10 +13,10 @@ use Rattle.tp_inbox.specs.Routed.{AreRoutes, arrivals_of, posted_of, rest_arriva
 use Rattle.tp_inbox.specs.Ledgers.{Draining, Inbox, SenderLedger, IsSenderInto, put_by}
 use Rattle.tp_inbox.specs.Ends.{inbox_of, sent_by}
 use Rattle.tp_inbox.specs.Gathers.{IsPutOf}
-use Rattle.tp_inbox.proofs.Steps.{joins_as}
-use Rattle.tp_inbox.proofs.Owned.{owner_arrivals}
-use Rattle.tp_inbox.proofs.Sources.{from_routes}
-use Rattle.tp_inbox.proofs.Gathering.{Knowing, all_head, all_tail, begun_at, joined, taken_apart, hand_routed, front_and_back, move_one, sent-push, known-push, known_none, few_senders}
+use Rattle.tp_inbox.proofs.StepsKeepDeliveryRule.{joins_as}
+use Rattle.tp_inbox.proofs.OwnerDrainedEnvelopes.{owner_arrivals}
+use Rattle.tp_inbox.proofs.SendersBySourceComponent.{from_routes}
+use Rattle.tp_inbox.proofs.RoutesAfterSendersJoin.{Knowing, all_head, all_tail, begun_at, joined, taken_apart, hand_routed, front_and_back, move_one, sent-push, known-push, known_none, few_senders}
 use Rattle.tp_inbox.proofs.gathered.gather.Goals as goal
 
 pub loop-sender-init : goal.loop-sender-init

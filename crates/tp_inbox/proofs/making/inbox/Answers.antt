@@ -3,8 +3,8 @@ use Rattle.std.proofs.Common.{subst, sym}
 use Rattle.std.specs.Arc.{arc_value}
 use Rattle.tp_inbox.specs.Ends.{inbox_of}
 use Rattle.tp_inbox.specs.Ledgers.{Inbox, AreSenders}
-use Rattle.tp_inbox.proofs.Steps.{begins}
-use Rattle.tp_inbox.proofs.Made.{new_are_senders}
+use Rattle.tp_inbox.proofs.StepsKeepDeliveryRule.{begins}
+use Rattle.tp_inbox.proofs.NewInboxContents.{new_are_senders}
 use Rattle.tp_inbox.proofs.making.inbox.Goals as goal
 
 pub with_rule-requires : goal.with_rule-requires

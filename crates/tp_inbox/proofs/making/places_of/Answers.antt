@@ -1,7 +1,7 @@
 -- With each turn one route more is filed at its place, up to the last.
 use Rattle.std.proofs.Common.{◌≡◌, ℕ, length, subst, arith}
 use Rattle.tp_inbox.specs.Places.{AreFiled}
-use Rattle.tp_inbox.proofs.Places.{filed_none, filed_next}
+use Rattle.tp_inbox.proofs.RoutePlaceTableGrowth.{filed_none, filed_next}
 use Rattle.tp_inbox.proofs.making.places_of.Goals as goal
 
 pub loop-place-init : goal.loop-place-init

@@ -1,5 +1,5 @@
 -- The routes of a configuration differ, and lead to ports of the component.
-use Rattle.tp_inbox.proofs.Made.{routes_are}
+use Rattle.tp_inbox.proofs.NewInboxContents.{routes_are}
 use Rattle.tp_inbox.proofs.making.routes_of.Goals as goal
 
 pub returns-clause-are : goal.returns-clause-are

@@ -2,8 +2,8 @@
 use Rattle.std.proofs.Common.{◌≡◌, length, arith}
 use Rattle.std.specs.Arc.{arc_value}
 use Rattle.tp_inbox.specs.Ends.{inbox_of}
-use Rattle.tp_inbox.proofs.Steps.{splits_as}
-use Rattle.tp_inbox.proofs.Sources.{made_all}
+use Rattle.tp_inbox.proofs.StepsKeepDeliveryRule.{splits_as}
+use Rattle.tp_inbox.proofs.SendersBySourceComponent.{made_all}
 use Rattle.tp_inbox.proofs.making.split.Goals as goal
 
 pub another-theirs-requires-clause-rule : goal.another-theirs-requires-clause-rule

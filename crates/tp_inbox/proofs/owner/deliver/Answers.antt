@@ -4,7 +4,7 @@ use Rattle.tp_history.specs.declared.entry.Entry.{Entry}
 use Rattle.tp_history.specs.declared.entry.Entry.TheVariants as entry
 use Rattle.tp_history.specs.Desks.{adding}
 use Rattle.tp_inbox.specs.Routed.{arrival_of}
-use Rattle.tp_inbox.proofs.Owned.{port_within}
+use Rattle.tp_inbox.proofs.OwnerDrainedEnvelopes.{port_within}
 use Rattle.tp_inbox.proofs.owner.deliver.Goals as goal
 
 pub arrive-requires : goal.arrive-requires

@@ -1,6 +1,6 @@
 -- To take out, or to find the queue empty, is a step of the rule, and what is known of the owner's pass is kept.
-use Rattle.tp_inbox.proofs.Steps.{takes_as, learns_as}
-use Rattle.tp_inbox.proofs.Owners.{sound_after}
+use Rattle.tp_inbox.proofs.StepsKeepDeliveryRule.{takes_as, learns_as}
+use Rattle.tp_inbox.proofs.OwnerStepInvariants.{sound_after}
 use Rattle.tp_inbox.proofs.owner.take_out.Goals as goal
 
 pub pop_as-requires-clause-rule : goal.pop_as-requires-clause-rule

@@ -8,8 +8,8 @@ use Rattle.tp_order.specs.Order.{IsBelow, IsOrder}
 use Rattle.tp_judge.specs.Before.{HappensBefore}
 use Rattle.tp_judge.specs.Demands.{demands_of}
 use Rattle.tp_judge.specs.OneRun.{IsLeastOf}
-use Rattle.tp_judge.proofs.Befores.{demands_below, leads_before, ordered_no_circle}
-use Rattle.tp_judge.proofs.Rounds.{lies_on_circle}
+use Rattle.tp_judge.proofs.HappensBeforeByDemands.{demands_below, leads_before, ordered_no_circle}
+use Rattle.tp_judge.proofs.NumbersLieOnCircles.{lies_on_circle}
 use Rattle.tp_judge.proofs.circles.circle_place.Goals as goal
 
 pub order_or_circle-requires : goal.order_or_circle-requires

@@ -4,7 +4,7 @@ use Rattle.std.proofs.lemmas.List.Elements.{All-same}
 use Rattle.std.proofs.lemmas.Option.{slice_get-get_or}
 use Rattle.tp_judge.specs.Delivered.{NamesParcel}
 use Rattle.tp_judge.specs.Gathered.{lines_at}
-use Rattle.tp_judge.proofs.Named.{names_sent, names_came, route_found}
+use Rattle.tp_judge.proofs.RouteLinesNameParcels.{names_sent, names_came, route_found}
 use Rattle.tp_judge.proofs.delivery.place_on.Goals as goal
 
 pub route_place-requires-clause-sent : goal.route_place-requires-clause-sent

@@ -4,9 +4,9 @@ use Rattle.std.proofs.lemmas.Grind.{common_steps}
 use Rattle.tp_judge.specs.declared.place.UnlawfulPlace.{UnlawfulPlace}
 use Rattle.tp_judge.specs.Delivered.{IsDeliveredAt, IsUnlawfulOn}
 use Rattle.tp_judge.specs.ToldOf.{OneForEach, of_none, next_lawful, next_unlawful}
-use Rattle.tp_judge.proofs.Collecting.{each_found, none_exactly}
-use Rattle.tp_judge.proofs.Deliveries.{unlawful_route}
-use Rattle.tp_judge.proofs.OneOnRoute.{one_on_route}
+use Rattle.tp_judge.proofs.CollectedUnlawfulPlaces.{each_found, none_exactly}
+use Rattle.tp_judge.proofs.UnlawfulRouteExclusions.{unlawful_route}
+use Rattle.tp_judge.proofs.UniqueUnlawfulRoutePlace.{one_on_route}
 use Rattle.tp_judge.proofs.delivery.route_places.Goals as goal
 use Rattle.tp_judge.proofs.delivery.route_places.Goals.{in-None, in-Some+in_ok-push-in-Some}
 

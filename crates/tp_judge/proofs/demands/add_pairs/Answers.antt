@@ -1,6 +1,6 @@
 -- One pair more, up to the last.
 use Rattle.std.proofs.Common.{ap, ◌∙◌, ◌++◌, arith}
-use Rattle.tp_judge.proofs.Pairs.{pairs_all, pairs_more}
+use Rattle.tp_judge.proofs.DemandsOfLinePairs.{pairs_all, pairs_more}
 use Rattle.tp_judge.proofs.demands.add_pairs.Goals as goal
 
 pub loop-place-preserved : goal.loop-place-preserved

@@ -7,8 +7,8 @@ use Rattle.tp_order.specs.Circle.{IsCircle, LiesOnCircle}
 use Rattle.tp_order.specs.Order.{IsBelow, IsOrder}
 use Rattle.tp_judge.specs.declared.trace.IndexedTrace.{IndexedTrace}
 use Rattle.tp_judge.specs.OneRun.{IsLeastOf}
-use Rattle.tp_judge.proofs.Deciding.{delayed_of, one_run_of, run_demands_below}
-use Rattle.tp_judge.proofs.Noting.{line_read}
+use Rattle.tp_judge.proofs.OneRunDecision.{delayed_of, one_run_of, run_demands_below}
+use Rattle.tp_judge.proofs.DemandMakingGrowth.{line_read}
 use Rattle.tp_judge.proofs.one_run.one_run.Goals as goal
 
 -- as many lines as were counted

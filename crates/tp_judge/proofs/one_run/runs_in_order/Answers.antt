@@ -1,7 +1,7 @@
 -- Where no demand goes back the text is a run.
 use Rattle.std.proofs.Common.{arith}
 use Rattle.std.proofs.lemmas.List.{nil_from_length}
-use Rattle.tp_judge.proofs.TextRuns.{text_run}
+use Rattle.tp_judge.proofs.TextOrderIsRun.{text_run}
 use Rattle.tp_judge.proofs.one_run.runs_in_order.Goals as goal
 
 pub returns : goal.returns

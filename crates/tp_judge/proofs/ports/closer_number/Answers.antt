@@ -1,6 +1,6 @@
 -- The line says that the component ended, or none does and it is the last.
 use Rattle.std.proofs.Common.{◌-◌, length, arith}
-use Rattle.tp_judge.proofs.Leaving.{closer_here, closer_last, no_end_more}
+use Rattle.tp_judge.proofs.LeftMessagesByLine.{closer_here, closer_last, no_end_more}
 use Rattle.tp_judge.proofs.ports.closer_number.Goals as goal
 
 pub returns-in-End : goal.returns-in-End

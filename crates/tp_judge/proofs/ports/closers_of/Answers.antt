@@ -5,7 +5,7 @@ use Rattle.std.proofs.lemmas.Option.{slice_get-get_or}
 use Rattle.tp_judge.specs.Gathered.{lines_at}
 use Rattle.tp_judge.specs.Lawful.{IsCloserOf}
 use Rattle.tp_judge.specs.PortRows.{AreClosers}
-use Rattle.tp_judge.proofs.Zips.{zip_next}
+use Rattle.tp_judge.proofs.PairedItemsGrowth.{zip_next}
 use Rattle.tp_judge.proofs.ports.closers_of.Goals as goal
 
 pub loop-row-init : goal.loop-row-init

@@ -10,8 +10,8 @@ use Rattle.tp_judge.specs.declared.line.MessageId.{MessageId}
 use Rattle.tp_judge.specs.Gathered.{lines_at}
 use Rattle.tp_judge.specs.Lawful.{IsCloserNumber}
 use Rattle.tp_judge.specs.Lines.{envelope_of, left_of}
-use Rattle.tp_judge.proofs.Leaving.{TellsFirst, tells_missing, tells_one, tells_none, tells_wrong, not_left}
-use Rattle.tp_judge.proofs.Unlawful.{first_there}
+use Rattle.tp_judge.proofs.LeftMessagesByLine.{TellsFirst, tells_missing, tells_one, tells_none, tells_wrong, not_left}
+use Rattle.tp_judge.proofs.UnlawfulPortExclusions.{first_there}
 use Rattle.tp_judge.proofs.ports.left_place.Goals as goal
 use Rattle.tp_judge.proofs.ports.left_place.Goals.{in-Left+else-not-is_queued, in_default-act}
 

@@ -1,5 +1,5 @@
 -- What is told so far is queued, at its places.
-use Rattle.tp_judge.proofs.Leaving.{TellsFirst}
+use Rattle.tp_judge.proofs.LeftMessagesByLine.{TellsFirst}
 use Rattle.tp_judge.proofs.ports.left_place.Given as goal
 
 abbrev pub invariant-loop-line : goal.invariant-loop-line

@@ -4,9 +4,9 @@ use Rattle.std.proofs.lemmas.Grind.{common_steps}
 use Rattle.tp_judge.specs.declared.place.UnlawfulPlace.{UnlawfulPlace}
 use Rattle.tp_judge.specs.Lawful.{IsLawfulAt, IsUnlawfulAt}
 use Rattle.tp_judge.specs.ToldOf.{OneForEach, of_none, next_lawful, next_unlawful}
-use Rattle.tp_judge.proofs.Collecting.{each_found, none_exactly}
-use Rattle.tp_judge.proofs.Unlawful.{unlawful_port}
-use Rattle.tp_judge.proofs.OneAtPort.{one_at_port}
+use Rattle.tp_judge.proofs.CollectedUnlawfulPlaces.{each_found, none_exactly}
+use Rattle.tp_judge.proofs.UnlawfulPortExclusions.{unlawful_port}
+use Rattle.tp_judge.proofs.UniqueUnlawfulPortPlace.{one_at_port}
 use Rattle.tp_judge.proofs.ports.port_places.Goals as goal
 use Rattle.tp_judge.proofs.ports.port_places.Goals.{in-None, in-Some+in_ok-push-in-Some}
 

@@ -1,6 +1,6 @@
 -- That the top is found changes nothing.
 use Rattle.std.proofs.Common.{refl}
-use Rattle.tp_queue.proofs.Queues.{found_stands}
+use Rattle.tp_queue.proofs.QueueStateTransitions.{found_stands}
 use Rattle.tp_judge.proofs.replaying.find.Goals as goal
 
 pub returns : goal.returns

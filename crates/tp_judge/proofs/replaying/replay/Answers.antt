@@ -1,5 +1,5 @@
 -- One line more is replayed, or breaks a rule behind those that were.
-use Rattle.tp_judge.proofs.Replays.{broken_here, replayed_more}
+use Rattle.tp_judge.proofs.BrokenPortReplays.{broken_here, replayed_more}
 use Rattle.tp_judge.proofs.replaying.replay.Goals as goal
 
 pub returns-in-Some : goal.returns-in-Some

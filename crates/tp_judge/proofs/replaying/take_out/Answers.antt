@@ -1,6 +1,6 @@
 -- What is taken out is the top; to the queue it is one whether it was received or discarded.
 use Rattle.std.proofs.Common.{refl, true, false}
-use Rattle.tp_judge.proofs.Replays.{taken_out}
+use Rattle.tp_judge.proofs.BrokenPortReplays.{taken_out}
 use Rattle.tp_judge.proofs.replaying.take_out.Goals as goal
 
 pub returns-clause-took : goal.returns-clause-took

@@ -1,7 +1,7 @@
 -- Behind what was sent nothing agrees with what came.
 use Rattle.std.proofs.Common.{◌∙◌, arith}
 use Rattle.std.proofs.lemmas.Bool.{false≢true}
-use Rattle.tp_judge.proofs.Parcels.{named_within}
+use Rattle.tp_judge.proofs.LinesNameOneParcel.{named_within}
 use Rattle.tp_judge.proofs.routes.agrees.Goals as goal
 
 pub returns-then-place-sent : goal.returns-then-place-sent

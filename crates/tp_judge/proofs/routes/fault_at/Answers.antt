@@ -4,8 +4,8 @@ use Rattle.std.proofs.lemmas.Option.{slice_get_within}
 use Rattle.std.specs.Prelude.{slice_get}
 use Rattle.tp_judge.specs.Gathered.{lines_at}
 use Rattle.tp_judge.specs.Delivered.{parcels, invented, changed}
-use Rattle.tp_judge.proofs.Parcels.{named_within}
-use Rattle.tp_judge.proofs.Deliveries.{doubled_here, first_arrival, same_parcel}
+use Rattle.tp_judge.proofs.LinesNameOneParcel.{named_within}
+use Rattle.tp_judge.proofs.UnlawfulRouteExclusions.{doubled_here, first_arrival, same_parcel}
 use Rattle.tp_judge.proofs.routes.fault_at.Goals as goal
 
 pub returns-then-parcel-sent : goal.returns-then-parcel-sent

@@ -1,6 +1,6 @@
 -- No parcel is behind the last line.
 use Rattle.std.proofs.Common.{arith}
-use Rattle.tp_judge.proofs.Parcels.{named_within}
+use Rattle.tp_judge.proofs.LinesNameOneParcel.{named_within}
 use Rattle.tp_judge.proofs.routes.find_from.Goals as goal
 
 pub returns : goal.returns

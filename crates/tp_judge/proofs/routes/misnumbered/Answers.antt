@@ -1,6 +1,6 @@
 -- No parcel is behind the last line.
 use Rattle.std.proofs.Common.{arith}
-use Rattle.tp_judge.proofs.Parcels.{named_within}
+use Rattle.tp_judge.proofs.LinesNameOneParcel.{named_within}
 use Rattle.tp_judge.proofs.routes.misnumbered.Goals as goal
 
 pub returns-clause-numbered : goal.returns-clause-numbered

@@ -2,8 +2,8 @@
 use Rattle.std.proofs.Common.{◌≡◌, sym, subst, arith}
 use Rattle.tp_judge.specs.Gathered.{lines_at}
 use Rattle.tp_judge.specs.Delivered.{IsFirstArrival, changed_later, reordered}
-use Rattle.tp_judge.proofs.Parcels.{named_within}
-use Rattle.tp_judge.proofs.Deliveries.{later_arrival, lost_overtaken, same_parcel}
+use Rattle.tp_judge.proofs.LinesNameOneParcel.{named_within}
+use Rattle.tp_judge.proofs.UnlawfulRouteExclusions.{later_arrival, lost_overtaken, same_parcel}
 use Rattle.tp_judge.proofs.routes.overtaken_at.Goals as goal
 
 pub returns-in-None : goal.returns-in-None

@@ -1,8 +1,8 @@
 -- Each of these lines names a parcel.
 use Rattle.std.proofs.Common.{sym, ◌∙◌}
 use Rattle.tp_judge.specs.Gathered.{lines_at}
-use Rattle.tp_judge.proofs.Stepping.{seen_at}
-use Rattle.tp_judge.proofs.Parcels.{named_at, names_none}
+use Rattle.tp_judge.proofs.ReferencedLinesGrowth.{seen_at}
+use Rattle.tp_judge.proofs.LinesNameOneParcel.{named_at, names_none}
 use Rattle.tp_judge.proofs.routes.parcel_at.Goals as goal
 
 pub unreachable-requires : goal.unreachable-requires

@@ -2,8 +2,8 @@
 use Rattle.std.proofs.Common.{length, ◌∙◌, arith}
 use Rattle.tp_judge.specs.Gathered.{lines_at}
 use Rattle.tp_judge.specs.Delivered.{different, numbering, parcels}
-use Rattle.tp_judge.proofs.Parcels.{length-parcels, length-seen, named_there, named_within}
-use Rattle.tp_judge.proofs.Deliveries.{lost_behind, same_lists}
+use Rattle.tp_judge.proofs.LinesNameOneParcel.{length-parcels, length-seen, named_there, named_within}
+use Rattle.tp_judge.proofs.UnlawfulRouteExclusions.{lost_behind, same_lists}
 use Rattle.tp_judge.proofs.routes.route_place.Goals as goal
 
 pub returns-in-Some : goal.returns-in-Some

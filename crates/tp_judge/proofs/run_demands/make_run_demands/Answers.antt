@@ -1,7 +1,7 @@
 -- All demands are made.
 use Rattle.std.proofs.Common.{length}
 use Rattle.std.proofs.lemmas.Result.{IfOk-weaker}
-use Rattle.tp_judge.proofs.TextRuns.{all_made}
+use Rattle.tp_judge.proofs.TextOrderIsRun.{all_made}
 use Rattle.tp_judge.proofs.run_demands.make_run_demands.Goals as goal
 
 pub returns : goal.returns

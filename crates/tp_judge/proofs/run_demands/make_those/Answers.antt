@@ -1,7 +1,7 @@
 -- At first none is asked for, and in the end each line asked.
 use Rattle.std.proofs.Common.{refl, rules, arith}
 use Rattle.std.proofs.lemmas.Grind.{common_steps}
-use Rattle.tp_judge.proofs.TextRuns.{all_lines, none_made}
+use Rattle.tp_judge.proofs.TextOrderIsRun.{all_lines, none_made}
 use Rattle.tp_judge.proofs.run_demands.make_those.Goals as goal
 
 pub loop-place-init : goal.loop-place-init

@@ -1,5 +1,5 @@
 -- One line more, by what it says.
-use Rattle.tp_judge.proofs.Noting.{line_read, made_left, own_at}
+use Rattle.tp_judge.proofs.DemandMakingGrowth.{line_read, made_left, own_at}
 use Rattle.tp_judge.proofs.run_demands.note.Goals as goal
 
 pub note_own-requires-clause-own : goal.note_own-requires-clause-own

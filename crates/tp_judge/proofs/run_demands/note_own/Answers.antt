@@ -1,7 +1,7 @@
 -- One line of its own more.
 use Rattle.std.proofs.Common.{ap, refl, set}
 use Rattle.std.proofs.lemmas.Option.{slice_get_within}
-use Rattle.tp_judge.proofs.Noting.{line_read, made_own}
+use Rattle.tp_judge.proofs.DemandMakingGrowth.{line_read, made_own}
 use Rattle.tp_judge.proofs.run_demands.note_own.Goals as goal
 
 pub returns-clause-made : goal.returns-clause-made

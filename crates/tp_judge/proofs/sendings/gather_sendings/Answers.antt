@@ -3,7 +3,7 @@ use Rattle.std.proofs.Common.{◌+◌, ℕ, List, ap, sym, subst, ◌∙◌}
 use Rattle.std.specs.declared.vec.Vec.{Vec}
 use Rattle.std.specs.declared.alloc.Global.{Global}
 use Rattle.tp_judge.specs.Sendings.{AreSendingRows}
-use Rattle.tp_judge.proofs.SendingRows.{line_of, sendings_more, sendings_same, sent_below}
+use Rattle.tp_judge.proofs.SendingRowsGrowth.{line_of, sendings_more, sendings_same, sent_below}
 use Rattle.tp_judge.proofs.sendings.gather_sendings.Goals as goal
 use Rattle.tp_judge.proofs.sendings.gather_sendings.Goals.{in-Some+in_ok-push, in_default}
 

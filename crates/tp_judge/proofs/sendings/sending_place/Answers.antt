@@ -6,7 +6,7 @@ use Rattle.std.specs.declared.vec.Vec.{Vec}
 use Rattle.std.specs.declared.alloc.Global.{Global}
 use Rattle.tp_judge.specs.OneRun.{IsSentAt}
 use Rattle.tp_judge.specs.Sendings.{IsSendingsRow}
-use Rattle.tp_judge.proofs.SentCame.{row_has}
+use Rattle.tp_judge.proofs.SendingOfEachArrival.{row_has}
 use Rattle.tp_judge.proofs.sendings.sending_place.Goals as goal
 
 pub index-requires : goal.index-requires

@@ -1,6 +1,6 @@
 -- One line more has a greater number.
 use Rattle.std.proofs.Common.{arith}
-use Rattle.tp_judge.proofs.TextOrders.{ascend_more}
+use Rattle.tp_judge.proofs.TextOrderWithoutCircle.{ascend_more}
 use Rattle.tp_judge.proofs.text_order.are_ascending.Goals as goal
 
 pub loop-line-init : goal.loop-line-init

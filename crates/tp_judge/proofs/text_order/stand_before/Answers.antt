@@ -1,6 +1,6 @@
 -- One pair more, up to the last.
 use Rattle.std.proofs.Common.{arith}
-use Rattle.tp_judge.proofs.TextOrders.{stand_all, stand_more}
+use Rattle.tp_judge.proofs.TextOrderWithoutCircle.{stand_all, stand_more}
 use Rattle.tp_judge.proofs.text_order.stand_before.Goals as goal
 
 pub loop-place-preserved : goal.loop-place-preserved

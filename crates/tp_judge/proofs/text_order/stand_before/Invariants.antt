@@ -1,6 +1,6 @@
 -- The pairs so far stand so.
 use Rattle.tp_judge.specs.Gathered.{lines_at}
-use Rattle.tp_judge.proofs.TextOrders.{StandBelow}
+use Rattle.tp_judge.proofs.TextOrderWithoutCircle.{StandBelow}
 use Rattle.tp_judge.proofs.text_order.stand_before.Given as goal
 
 abbrev pub invariant-loop-place : goal.invariant-loop-place

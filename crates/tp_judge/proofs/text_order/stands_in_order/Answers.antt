@@ -1,7 +1,7 @@
 -- Nothing happens before itself where all happens in the order of the text.
 use Rattle.std.proofs.Common.{subst}
 use Rattle.tp_judge.specs.TextOrder.{AreAscending}
-use Rattle.tp_judge.proofs.TextOrders.{ahead_no_circle}
+use Rattle.tp_judge.proofs.TextOrderWithoutCircle.{ahead_no_circle}
 use Rattle.tp_judge.proofs.text_order.stands_in_order.Goals as goal
 
 pub returns : goal.returns

@@ -1,7 +1,7 @@
 -- The next name is the one that is looked for or is not, and after the last there is none.
 use Rattle.std.proofs.Common.{arith, sym, ◌∙◌}
 use Rattle.std.proofs.lemmas.Option.{slice_get-get_or}
-use Rattle.tp_name.proofs.Places.{one_more, found, nowhere}
+use Rattle.tp_name.proofs.NameSearchGrowth.{one_more, found, nowhere}
 use Rattle.tp_name.proofs.name.find.Goals as goal
 
 pub returns-then-is_called-clause-there : goal.returns-then-is_called-clause-there

@@ -2,7 +2,7 @@
 use Rattle.std.proofs.Common.{map, length, ap, ◌∙◌, arith, rules}
 use Rattle.tp_play.specs.declared.body.SendValue.TheViews.{the_lemmas}
 use Rattle.tp_play.specs.Fills.{greatest, needed}
-use Rattle.tp_play.proofs.Filling.{needed_record, needed_list, enough_for_each}
+use Rattle.tp_play.proofs.FilledValueEquations.{needed_record, needed_list, enough_for_each}
 use Rattle.tp_play.proofs.fill.+fill.Goals as goal
 
 pub fill_value-fill_values-requires : goal.fill_value-fill_values-requires

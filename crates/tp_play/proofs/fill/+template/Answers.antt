@@ -2,7 +2,7 @@
 use Rattle.std.proofs.Common.{map, length, ap, ◌∙◌, arith, rules}
 use Rattle.tp_play.specs.declared.body.RecvTemplate.TheViews.{the_lemmas}
 use Rattle.tp_play.specs.Fills.{greatest, needed_by_template}
-use Rattle.tp_play.proofs.Filling.{needed_by_one_of, needed_by_none_of, needed_by_record, needed_by_list, enough_for_each}
+use Rattle.tp_play.proofs.FilledValueEquations.{needed_by_one_of, needed_by_none_of, needed_by_record, needed_by_list, enough_for_each}
 use Rattle.tp_play.proofs.fill.+template.Goals as goal
 
 pub fill_one-fill_all-requires : goal.fill_one-fill_all-requires

@@ -1,6 +1,6 @@
 -- One more entry of the queue stands in the text.
 use Rattle.tp_port.specs.Replay.{envelope_text}
-use Rattle.tp_port.proofs.Entries.{text_next}
+use Rattle.tp_port.proofs.LeftEntryTextGrowth.{text_next}
 use Rattle.tp_port.proofs.answers.write_left.Goals as goal
 
 pub loop-place-preserved : goal.loop-place-preserved

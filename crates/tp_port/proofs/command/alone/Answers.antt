@@ -2,7 +2,7 @@
 use Rattle.std.proofs.Common.{ap}
 use Rattle.std.specs.Option.{option_copied}
 use Rattle.tp_text.specs.Cutting.{words_after}
-use Rattle.tp_port.proofs.Verbs.{alone_words}
+use Rattle.tp_port.proofs.QueueLinesByVerb.{alone_words}
 use Rattle.tp_port.proofs.command.alone.Goals as goal
 
 pub returns-in-Some : goal.returns-in-Some

@@ -1,7 +1,7 @@
 -- The decimal form of an integer begins as one.
 use Rattle.std.proofs.Common.{sym, subst, arith, List, ℕ}
 use Rattle.tp_port.specs.Line.{BeginsAsInteger}
-use Rattle.tp_port.proofs.Numbers.{integer_begins}
+use Rattle.tp_port.proofs.IntegerTextRoundTrip.{integer_begins}
 use Rattle.tp_port.proofs.command.integer_of.Goals as goal
 
 pub returns-else-begins_as_integer : goal.returns-else-begins_as_integer

@@ -1,5 +1,5 @@
 -- A name is text.
-use Rattle.tp_port.proofs.Numbers.{name_text}
+use Rattle.tp_port.proofs.IntegerTextRoundTrip.{name_text}
 use Rattle.tp_port.proofs.command.name_of.Goals as goal
 
 pub returns-then-is_name : goal.returns-then-is_name

@@ -2,7 +2,7 @@
 use Rattle.std.proofs.Common.{◌∙◌, ap, sym, ◌∷◌}
 use Rattle.std.specs.Option.{option_copied}
 use Rattle.tp_text.specs.Cutting.{words_after}
-use Rattle.tp_port.proofs.Splits.{more_words}
+use Rattle.tp_port.proofs.SplitTextHasWords.{more_words}
 use Rattle.tp_port.proofs.command.only_word.Goals as goal
 
 pub returns-in-Some : goal.returns-in-Some

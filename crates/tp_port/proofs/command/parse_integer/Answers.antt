@@ -3,7 +3,7 @@ use Rattle.std.proofs.Common.{◌∙◌, ap, sym, subst, List, ℕ}
 use Rattle.std.specs.Str.{IsUtf8}
 use Rattle.std.proofs.lemmas.Str.{IsUtf8-from_ascii}
 use Rattle.std.specs.Result.{result_ok}
-use Rattle.tp_port.proofs.Numbers.{IsAscii-integer, parse_integer, decimal_read}
+use Rattle.tp_port.proofs.IntegerTextRoundTrip.{IsAscii-integer, parse_integer, decimal_read}
 use Rattle.tp_port.proofs.command.parse_integer.Goals as goal
 
 pub returns-in_err-text-clause-every : goal.returns-in_err-text-clause-every

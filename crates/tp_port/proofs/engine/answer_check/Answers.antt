@@ -6,7 +6,7 @@ use Rattle.tp_event.specs.declared.event.Env.{Env}
 use Rattle.tp_event.specs.declared.event.Event.TheVariants as event
 use Rattle.tp_queue.specs.Queues.{StandsFor}
 use Rattle.tp_port.specs.Replay.{envelope_or_no}
-use Rattle.tp_port.proofs.Meeting.{checks_found, checked_is}
+use Rattle.tp_port.proofs.IntegerQueueAnswers.{checks_found, checked_is}
 use Rattle.tp_port.proofs.engine.answer_check.Goals as goal
 
 pub returns-clause-history : goal.returns-clause-history

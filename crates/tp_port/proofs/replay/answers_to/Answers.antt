@@ -2,7 +2,7 @@
 use Rattle.std.proofs.Common.{◌≡◌, ◌∙◌, arith, length, refl}
 use Rattle.std.proofs.lemmas.Bool.Decides.{nat_tests}
 use Rattle.tp_port.specs.Replay.{after, first_progress}
-use Rattle.tp_port.proofs.Judging.{Goes-first, Goes-more, Goes-end}
+use Rattle.tp_port.proofs.LineAnswersFromFront.{Goes-first, Goes-more, Goes-end}
 use Rattle.tp_port.proofs.replay.answers_to.Goals as goal
 
 pub loop-rest-init : goal.loop-rest-init

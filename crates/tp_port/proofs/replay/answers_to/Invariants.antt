@@ -3,7 +3,7 @@ use Rattle.std.proofs.Common.{◌-◌, ◌≤◌, length}
 use Rattle.std.specs.Prelude.{string_bytes}
 use Rattle.tp_port.specs.Carried.{HasReached, HasCounted}
 use Rattle.tp_port.specs.Replay.{Progress}
-use Rattle.tp_port.proofs.Judging.{Goes}
+use Rattle.tp_port.proofs.LineAnswersFromFront.{Goes}
 use Rattle.tp_port.proofs.replay.answers_to.Given as goal
 
 abbrev pub invariant-loop-rest : goal.invariant-loop-rest

@@ -1,7 +1,7 @@
 -- A bad line behind good ones is the first bad one; with no line left, all are good.
 use Rattle.std.proofs.Common.{◌≡◌, ◌∙◌, ap, ◌++◌, arith, length}
 use Rattle.std.proofs.lemmas.Bool.Decides.{nat_tests}
-use Rattle.tp_port.proofs.Judging.{first_bad_here, good_more, good_all}
+use Rattle.tp_port.proofs.LineAnswersFromFront.{first_bad_here, good_more, good_all}
 use Rattle.tp_port.proofs.replay.first_bad.Goals as goal
 
 pub returns-in-None : goal.returns-in-None

@@ -1,5 +1,5 @@
 -- What is answered, or refused, of the text that was read is so of what the reader had.
-use Rattle.tp_port.proofs.Judging.{on_ok, read_faults, read_replayed}
+use Rattle.tp_port.proofs.LineAnswersFromFront.{on_ok, read_faults, read_replayed}
 use Rattle.tp_port.proofs.replay.replay.Goals as goal
 
 pub returns-in-Ok-clause-fault : goal.returns-in-Ok-clause-fault

@@ -1,5 +1,5 @@
 -- Where only the writing failed, all lines of the text are good.
-use Rattle.tp_port.proofs.Judging.{says_good}
+use Rattle.tp_port.proofs.LineAnswersFromFront.{says_good}
 use Rattle.tp_port.proofs.replay.replay_text.Goals as goal
 
 pub returns-then-has_failed-clause-fault : goal.returns-then-has_failed-clause-fault

@@ -4,7 +4,7 @@ use Rattle.std.specs.Prelude.{◌↔◌, IsTrue}
 use Rattle.std.proofs.lemmas.List.{take_all}
 use Rattle.std.proofs.lemmas.Option.{slice_get-get_or}
 use Rattle.tp_referee.specs.Joining.{AreJoinedBy, IsJoinedBy}
-use Rattle.tp_referee.proofs.Zips.{zip_next}
+use Rattle.tp_referee.proofs.ZippedPrefixGrowth.{zip_next}
 use Rattle.tp_referee.proofs.joining.joined_of.Goals as goal
 
 pub loop-route-init : goal.loop-route-init

@@ -5,8 +5,8 @@ use Rattle.std.proofs.lemmas.List.{take_all}
 use Rattle.std.proofs.lemmas.Option.{slice_get-get_or}
 use Rattle.tp_trace.specs.Tree.{names_of}
 use Rattle.tp_referee.specs.Joining.{AreSections}
-use Rattle.tp_referee.proofs.Naming.{section_below}
-use Rattle.tp_referee.proofs.Zips.{zip_next}
+use Rattle.tp_referee.proofs.SectionComponentsFirst.{section_below}
+use Rattle.tp_referee.proofs.ZippedPrefixGrowth.{zip_next}
 use Rattle.tp_referee.proofs.joining.sections_of.Goals as goal
 
 pub loop-number-init : goal.loop-number-init

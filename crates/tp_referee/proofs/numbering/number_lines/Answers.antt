@@ -1,7 +1,7 @@
 -- Each line is taken in its turn.
 use Rattle.std.proofs.Common.{arith, refl, sym, ◌∙◌}
-use Rattle.tp_referee.proofs.Beginning.{begun_none, begun_one, begun_there}
-use Rattle.tp_referee.proofs.Turning.{Numbered-first, Numbered-more, all_numbered, known_here}
+use Rattle.tp_referee.proofs.BegunSectionCounts.{begun_none, begun_one, begun_there}
+use Rattle.tp_referee.proofs.NumberedLineGrowth.{Numbered-first, Numbered-more, all_numbered, known_here}
 use Rattle.tp_referee.proofs.numbering.number_lines.Goals as goal
 use Rattle.tp_referee.proofs.numbering.number_lines.Goals.{then-is_beginning, else-is_beginning}
 

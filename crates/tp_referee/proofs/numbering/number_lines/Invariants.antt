@@ -1,8 +1,8 @@
 -- The lines so far are numbered, by tables that are whole.
 use Rattle.std.proofs.Common.{◌≡◌, ◌≤◌, take}
 use Rattle.tp_referee.specs.Turns.{IsWhole}
-use Rattle.tp_referee.proofs.Beginning.{begun_by}
-use Rattle.tp_referee.proofs.Turning.{Numbered}
+use Rattle.tp_referee.proofs.BegunSectionCounts.{begun_by}
+use Rattle.tp_referee.proofs.NumberedLineGrowth.{Numbered}
 use Rattle.tp_referee.proofs.numbering.number_lines.Given as goal
 
 abbrev pub invariant-loop-place : goal.invariant-loop-place

@@ -4,7 +4,7 @@ use Rattle.tp_judge.specs.declared.trace.IndexedTrace.{IndexedTrace}
 use Rattle.tp_referee.specs.declared.tables.PortKey.{PortKey}
 use Rattle.tp_referee.specs.declared.tables.RouteKey.{RouteKey}
 use Rattle.tp_referee.specs.Joining.{AreJoinedBy}
-use Rattle.tp_referee.proofs.Making.{Made, made_numbering, made_routed, made_within}
+use Rattle.tp_referee.proofs.NumberingFromParts.{Made, made_numbering, made_routed, made_within}
 use Rattle.tp_referee.proofs.numbering.number_trace.Goals as goal
 
 pub returns : goal.returns

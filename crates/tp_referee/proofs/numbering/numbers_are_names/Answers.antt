@@ -1,5 +1,5 @@
 -- No table has anything twice.
-use Rattle.tp_referee.proofs.OneToOne.{one_to_one}
+use Rattle.tp_referee.proofs.NumbersIdentifyNames.{one_to_one}
 use Rattle.tp_referee.proofs.numbering.numbers_are_names.Goals as goal
 
 pub returns : goal.returns

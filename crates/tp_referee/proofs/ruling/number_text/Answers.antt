@@ -1,7 +1,7 @@
 -- What is numbered is what was read, which has few lines since the text has few bytes.
 use Rattle.std.proofs.Common.{inl, inr, length, arith}
 use Rattle.std.proofs.lemmas.Bool.{cases_lt}
-use Rattle.tp_referee.proofs.Lengths.{trace_short}
+use Rattle.tp_referee.proofs.LineCountWithinBytes.{trace_short}
 use Rattle.tp_referee.proofs.ruling.number_text.Goals as goal
 
 pub number_trace-requires : goal.number_trace-requires

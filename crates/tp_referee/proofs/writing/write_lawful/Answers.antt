@@ -1,5 +1,5 @@
 -- The first line, and then the second.
-use Rattle.tp_text.proofs.Writing.{writes_both}
+use Rattle.tp_text.proofs.WatchedWriterGrowth.{writes_both}
 use Rattle.tp_referee.proofs.writing.write_lawful.Goals as goal
 
 pub returns : goal.returns

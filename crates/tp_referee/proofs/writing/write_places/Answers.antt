@@ -4,7 +4,7 @@ use Rattle.std.proofs.lemmas.List.{get_or_default}
 use Rattle.tp_judge.specs.declared.place.UnlawfulPlace.{UnlawfulPlace}
 use Rattle.tp_judge.specs.declared.place.Rule.TheVariants as rule
 use Rattle.tp_referee.specs.Answers.{place_text}
-use Rattle.tp_text.proofs.Writing.{nothing_yet, one_more}
+use Rattle.tp_text.proofs.WatchedWriterGrowth.{nothing_yet, one_more}
 use Rattle.tp_referee.proofs.writing.write_places.Goals as goal
 
 pub loop-place-init : goal.loop-place-init

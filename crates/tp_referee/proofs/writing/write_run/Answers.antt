@@ -1,5 +1,5 @@
 -- The words of the line, one after the other.
-use Rattle.tp_text.proofs.Writing.{writes_both}
+use Rattle.tp_text.proofs.WatchedWriterGrowth.{writes_both}
 use Rattle.tp_referee.proofs.writing.write_run.Goals as goal
 
 pub returns-in-Delayed : goal.returns-in-Delayed

@@ -1,7 +1,7 @@
 -- What stands from there on is the bytes, and what stood behind the place.
 use Rattle.std.proofs.Common.{ℕ, ◌-◌, List, length, drop, ap, ◌∙◌, arith}
 use borrow.Rule.Slice.PartMut.{put_mid}
-use Rattle.tp_report.proofs.Behind.{put_before}
+use Rattle.tp_report.proofs.TextBuiltBackwards.{put_before}
 use Rattle.tp_report.proofs.backward.put_bytes.Goals as goal
 
 pub returns-clause-written : goal.returns-clause-written

@@ -7,8 +7,8 @@ use Rattle.tp_config.specs.Setup.{IsComponent, IsPort, ports_at}
 use Rattle.tp_config.specs.Allowed.{IsSetup}
 use Rattle.tp_config.proofs.RouteLaws.{few_at}
 use Rattle.tp_report.specs.Lines.{component_port, sender_of}
-use Rattle.tp_report.proofs.Known.{port_there, senders}
-use Rattle.tp_report.proofs.Pieces.{left_more}
+use Rattle.tp_report.proofs.EntryNamesInConfiguration.{port_there, senders}
+use Rattle.tp_report.proofs.PiecewiseWrittenText.{left_more}
 use Rattle.tp_report.proofs.left.write_left.Goals as goal
 
 pub overflow_cast-port : goal.overflow_cast-port

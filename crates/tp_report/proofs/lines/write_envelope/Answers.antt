@@ -1,5 +1,5 @@
 -- How the line begins, and the rest of it.
-use Rattle.tp_text.proofs.Writing.{writes_both}
+use Rattle.tp_text.proofs.WatchedWriterGrowth.{writes_both}
 use Rattle.std.proofs.Common.{append_assoc}
 use Rattle.tp_report.proofs.lines.write_envelope.Goals as goal
 

@@ -1,6 +1,6 @@
 -- The last piece ends with the array, and each other one where the next begins.
 use Rattle.std.proofs.Common.{arith}
-use Rattle.tp_report.proofs.Behind.{all_put}
+use Rattle.tp_report.proofs.TextBuiltBackwards.{all_put}
 use Rattle.tp_report.proofs.opening.put_pieces.Goals as goal
 
 pub returns : goal.returns

@@ -1,5 +1,5 @@
 -- The pieces, one after the other.
-use Rattle.tp_text.proofs.Writing.{writes_both}
+use Rattle.tp_text.proofs.WatchedWriterGrowth.{writes_both}
 use Rattle.tp_report.proofs.opening.write_pieces.Goals as goal
 
 pub returns : goal.returns

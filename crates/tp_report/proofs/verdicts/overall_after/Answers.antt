@@ -1,7 +1,7 @@
 -- A component that waits makes the overall verdict `error`; another one joins its own.
 use Rattle.std.proofs.Common.{◌∙◌, ap}
 use Rattle.tp_value.specs.Verdicts.{worse}
-use Rattle.tp_report.proofs.Worst.{after_waiting, after_end}
+use Rattle.tp_report.proofs.WorstVerdictGrowth.{after_waiting, after_end}
 use Rattle.tp_report.proofs.verdicts.overall_after.Goals as goal
 
 pub returns-in-Waiting : goal.returns-in-Waiting

@@ -1,6 +1,6 @@
 -- The bytes of a component's name are its text.
 use Rattle.std.proofs.Common.{◌∙◌}
-use Rattle.tp_report.proofs.Naming.{component_is}
+use Rattle.tp_report.proofs.ComponentAndPortNames.{component_is}
 use Rattle.tp_report.proofs.words.component_name.Goals as goal
 
 pub returns : goal.returns

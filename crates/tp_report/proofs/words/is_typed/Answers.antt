@@ -1,6 +1,6 @@
 -- The test and the definition are true of the same messages.
 use Rattle.std.specs.Bool.{one_answer}
-use Rattle.tp_report.proofs.Deciding.{typed}
+use Rattle.tp_report.proofs.TypeTestIsExact.{typed}
 use Rattle.tp_report.proofs.words.is_typed.Goals as goal
 
 pub returns : goal.returns

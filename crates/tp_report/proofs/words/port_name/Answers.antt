@@ -2,7 +2,7 @@
 use Rattle.std.proofs.Common.{◌∙◌, ap, []}
 use Rattle.std.specs.Option.{option_map_or}
 use Rattle.std.specs.String.{string_bytes}
-use Rattle.tp_report.proofs.Naming.{component_of, port_is}
+use Rattle.tp_report.proofs.ComponentAndPortNames.{component_of, port_is}
 use Rattle.tp_report.proofs.words.port_name.Goals as goal
 
 pub comp_type-requires : goal.comp_type-requires

@@ -1,8 +1,8 @@
 -- The text is that of a value that has its type, or of one that hasn't.
 use Rattle.std.proofs.Common.{◌∙◌, sym, List, ℕ, subst}
 use Rattle.tp_text.specs.Watching.{Writes}
-use Rattle.tp_text.proofs.Writing.{writes_both}
-use Rattle.tp_report.proofs.Pieces.{typed_text, untyped_text}
+use Rattle.tp_text.proofs.WatchedWriterGrowth.{writes_both}
+use Rattle.tp_report.proofs.PiecewiseWrittenText.{typed_text, untyped_text}
 use Rattle.tp_report.proofs.words.write_message.Goals as goal
 
 pub returns-then-not-is_typed : goal.returns-then-not-is_typed

@@ -3,7 +3,7 @@ use Rattle.std.proofs.Common.{rules, subst, arith}
 use Rattle.tp_text.specs.Watching.{Writes}
 use Rattle.std.specs.Fmt.{decimal}
 use Rattle.std.proofs.lemmas.Fmt.{length-decimal-le}
-use Rattle.tp_report.proofs.Spaced.{between}
+use Rattle.tp_report.proofs.NumberBetweenSpaces.{between}
 use Rattle.tp_report.proofs.words.write_spaced.Goals as goal
 
 pub write_digits-start-requires : goal.write_digits-start-requires

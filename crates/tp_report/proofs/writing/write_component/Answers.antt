@@ -1,5 +1,5 @@
 -- Its pieces, one after the other, are the text of the component.
-use Rattle.tp_report.proofs.Pieces.{whole_component}
+use Rattle.tp_report.proofs.PiecewiseWrittenText.{whole_component}
 use Rattle.tp_report.proofs.writing.write_component.Goals as goal
 
 pub returns : goal.returns

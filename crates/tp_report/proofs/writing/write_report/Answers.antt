@@ -2,8 +2,8 @@
 use Rattle.std.proofs.Common.{subst, sym}
 use Rattle.std.specs.Prelude.{All}
 use Rattle.tp_report.specs.Reports.{IsPresent}
-use Rattle.tp_report.proofs.Known.{present}
-use Rattle.tp_report.proofs.Pieces.{whole_report}
+use Rattle.tp_report.proofs.EntryNamesInConfiguration.{present}
+use Rattle.tp_report.proofs.PiecewiseWrittenText.{whole_report}
 use Rattle.tp_report.proofs.writing.write_report.Goals as goal
 
 pub write_components-requires : goal.write_components-requires

@@ -3,12 +3,12 @@ use Rattle.std.proofs.Common.{arith, sym, subst}
 use Rattle.std.specs.List.{AllZip}
 use Rattle.tp_script.specs.Instances.{known_in}
 use Rattle.tp_script.specs.Scopes.{IsFunctionBody}
-use Rattle.tp_script.proofs.Functions.{no_function, one_function, one_refused, own_parameters}
-use Rattle.tp_script.proofs.Refusing.{handed_on}
+use Rattle.tp_script.proofs.FunctionBodyGrowth.{no_function, one_function, one_refused, own_parameters}
+use Rattle.tp_script.proofs.RulesBrokenByParts.{handed_on}
 use Rattle.tp_name.specs.Refused.{Tells}
-use Rattle.tp_setup.proofs.Telling.{handed}
+use Rattle.tp_setup.proofs.ModuleFaultPropagation.{handed}
 use Rattle.tp_script.specs.BrokenModules.{FunctionsBreak}
-use Rattle.tp_script.proofs.ModulesTold.{can_run, function_told}
+use Rattle.tp_script.proofs.ModuleFaultsTold.{can_run, function_told}
 use Rattle.tp_script.proofs.bodies.resolve_functions.Goals as goal
 
 pub loop-definition-preserved-in_default : goal.loop-definition-preserved-in_default

@@ -4,11 +4,11 @@ use Rattle.std.specs.List.{AllZip}
 use Rattle.tp_setup.specs.Definitions.{functions}
 use Rattle.tp_script.specs.Scopes.{IsMainBody, IsFunctionBody}
 use Rattle.tp_script.specs.TestCases.{IsTestCaseOf, size_of_test_case}
-use Rattle.tp_script.proofs.Assembling.{kinds, known_is, test_case_of}
-use Rattle.tp_script.proofs.Readiness.{ready}
+use Rattle.tp_script.proofs.TestCaseFromPasses.{kinds, known_is, test_case_of}
+use Rattle.tp_script.proofs.ExecutableTestCases.{ready}
 use Rattle.tp_name.specs.Refused.{Tells}
 use Rattle.tp_setup.specs.Broken.{DeclarationsBreak}
-use Rattle.tp_setup.proofs.Telling.{handed, tells_map}
+use Rattle.tp_setup.proofs.ModuleFaultPropagation.{handed, tells_map}
 use Rattle.tp_script.specs.BrokenModules.{ModuleBreaks, declarations}
 use Rattle.tp_script.proofs.checking.check.Goals as goal
 

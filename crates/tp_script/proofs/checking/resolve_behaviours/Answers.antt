@@ -5,16 +5,16 @@ use Rattle.tp_play.specs.Behaviours.{size_of_behaviour}
 use Rattle.tp_play.specs.Instances.{behaviour_of}
 use Rattle.tp_play.specs.declared.instance.Instance.{Instance}
 use Rattle.tp_script.specs.TestCases.{WellFormed}
-use Rattle.tp_script.proofs.Declared.{own_names}
-use Rattle.tp_script.proofs.Refusing.{handed_on, no_memory}
-use Rattle.tp_script.proofs.Sound.{sound_known}
-use Rattle.tp_script.proofs.Whole.{are_few, has_bodies, is_small}
+use Rattle.tp_script.proofs.DefinitionNamesDiffer.{own_names}
+use Rattle.tp_script.proofs.RulesBrokenByParts.{handed_on, no_memory}
+use Rattle.tp_script.proofs.SoundBodyScopes.{sound_known}
+use Rattle.tp_script.proofs.PreparedModulesKeepRules.{are_few, has_bodies, is_small}
 use Rattle.std.proofs.Common.{◌≡◌, ◌<◌}
 use Rattle.tp_name.specs.Refused.{Tells, TellsAt}
 use Rattle.tp_name.specs.declared.fault.ModuleRule.TheVariants as module_rule
-use Rattle.tp_setup.proofs.Telling.{handed, tells_memory}
+use Rattle.tp_setup.proofs.ModuleFaultPropagation.{handed, tells_memory}
 use Rattle.tp_script.specs.BrokenModules.{ModuleBreaks}
-use Rattle.tp_script.proofs.ModulesTold.{all_run, bodies_told, main_runs, size_told}
+use Rattle.tp_script.proofs.ModuleFaultsTold.{all_run, bodies_told, main_runs, size_told}
 use Rattle.tp_script.proofs.checking.resolve_behaviours.Goals as goal
 
 pub returns-in_err-bodies-clause-refused : goal.returns-in_err-bodies-clause-refused

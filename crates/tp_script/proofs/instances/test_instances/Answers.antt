@@ -5,7 +5,7 @@ use Rattle.std.proofs.lemmas.List.{length_push}
 use Rattle.std.proofs.lemmas.Option.{slice_get-get_or}
 use Rattle.tp_script.specs.Behaviours.{AreReferences}
 use Rattle.tp_script.specs.Instances.{IsInstance, main}
-use Rattle.tp_script.proofs.Numbering.{instances_none, instances_more}
+use Rattle.tp_script.proofs.ComponentInstanceGrowth.{instances_none, instances_more}
 use Rattle.tp_script.proofs.instances.test_instances.Goals as goal
 
 pub loop-place-init : goal.loop-place-init

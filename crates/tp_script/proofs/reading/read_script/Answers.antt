@@ -1,5 +1,5 @@
 -- What is refused isn't read as a module; or it is, and doesn't obey the rules; or memory was wanting.
-use Rattle.tp_script.proofs.Faults.{checked_fault, unread_fault}
+use Rattle.tp_script.proofs.ParseAndCheckFaults.{checked_fault, unread_fault}
 use Rattle.tp_script.proofs.reading.read_script.Goals as goal
 
 pub returns-in_err-parsed-clause-fault : goal.returns-in_err-parsed-clause-fault

@@ -3,9 +3,9 @@ use Rattle.std.proofs.Common.{◌≡◌, ◌∙◌, inr, ap, map, sum, arith}
 use Rattle.tp_play.specs.Sizes.{capped, size_of_body}
 use Rattle.tp_play.specs.Behaviours.{size_of_behaviour}
 use Rattle.tp_play.specs.Instances.{behaviour_of}
-use Rattle.tp_script.proofs.Totals.{sums, few, many}
+use Rattle.tp_script.proofs.SumOfComponentSizes.{sums, few, many}
 use Rattle.std.proofs.Common.{refl}
-use Rattle.tp_script.proofs.ModulesTold.{above}
+use Rattle.tp_script.proofs.ModuleFaultsTold.{above}
 use Rattle.tp_script.proofs.total.check_size.Goals as goal
 
 pub returns-clause-few : goal.returns-clause-few

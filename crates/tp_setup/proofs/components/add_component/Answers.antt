@@ -1,11 +1,11 @@
 -- A component is refused where the configuration can't have it.
-use Rattle.tp_setup.proofs.Adding.{create_broken}
+use Rattle.tp_setup.proofs.AddableComponents.{create_broken}
 use Rattle.std.proofs.Common.{refl}
 use Rattle.tp_name.specs.Refused.{TellsAt}
-use Rattle.tp_name.proofs.Numbering.{place_unknown}
+use Rattle.tp_name.proofs.NameSetLookups.{place_unknown}
 use Rattle.tp_setup.specs.Additions.{AdditionBreaks, addition_unknown}
-use Rattle.tp_setup.proofs.CreationsTold.{addition_told}
-use Rattle.tp_setup.proofs.Telling.{handed}
+use Rattle.tp_setup.proofs.CreationFaultsTold.{addition_told}
+use Rattle.tp_setup.proofs.ModuleFaultPropagation.{handed}
 use Rattle.tp_setup.proofs.components.add_component.Goals as goal
 
 pub returns-in-Err-clause-refused : goal.returns-in-Err-clause-refused

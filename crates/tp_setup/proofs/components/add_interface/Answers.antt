@@ -1,15 +1,15 @@
 -- Where there is a `system` clause, one component is added, of the type behind it.
 use Rattle.std.proofs.Common.{[]}
 use Rattle.tp_setup.specs.Components.{CanAdd, interface}
-use Rattle.tp_setup.proofs.Adding.{interface_is, only_one}
-use Rattle.tp_setup.proofs.Refusing.{handed_on}
-use Rattle.tp_setup.proofs.Creating.{adds_more, adds_none}
+use Rattle.tp_setup.proofs.AddableComponents.{interface_is, only_one}
+use Rattle.tp_setup.proofs.ModuleRefusalPropagation.{handed_on}
+use Rattle.tp_setup.proofs.CreatedComponentGrowth.{adds_more, adds_none}
 use Rattle.std.proofs.Common.{codes, string_bytes}
 use Rattle.tp_config.specs.declared.port_type.Role.TheVariants as role
 use Rattle.tp_name.specs.Refused.{TellsAt}
 use Rattle.tp_setup.specs.Additions.{AdditionBreaks, AwaitsInterface, InterfaceBreaks}
-use Rattle.tp_setup.proofs.CreationsTold.{interface_told}
-use Rattle.tp_setup.proofs.Telling.{at_map, handed}
+use Rattle.tp_setup.proofs.CreationFaultsTold.{interface_told}
+use Rattle.tp_setup.proofs.ModuleFaultPropagation.{at_map, handed}
 use Rattle.tp_setup.proofs.components.add_interface.Goals as goal
 
 pub returns-clause-added : goal.returns-clause-added

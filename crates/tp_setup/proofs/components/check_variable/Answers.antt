@@ -2,14 +2,14 @@
 use Rattle.tp_setup.specs.BrokenNames.{NameBreaks}
 use Rattle.tp_setup.specs.BrokenSetup.{CreationBreaks}
 use Rattle.tp_setup.specs.Components.{variable_name}
-use Rattle.tp_setup.proofs.CreationsTold.{taken_told}
-use Rattle.tp_setup.proofs.Telling.{at_map, name_told}
+use Rattle.tp_setup.proofs.CreationFaultsTold.{taken_told}
+use Rattle.tp_setup.proofs.ModuleFaultPropagation.{at_map, name_told}
 use Rattle.std.proofs.Common.{◌≡◌, ◌++◌, ◌∷◌, [], ◌∙◌, Bool, true, false, Contains, ap, arith, length, not, refl, subst, sym, true≢false}
 use Rattle.std.proofs.lemmas.List.{length_push}
 use Rattle.std.proofs.lemmas.Slice.Eq.{bytes_eq-Decides}
 use Rattle.tp_name.specs.Tables.{AreDistinct}
 use Rattle.tp_setup.specs.BrokenSetup.{many, other_type, port, unknown_type}
-use Rattle.tp_setup.proofs.Naming.{repeated}
+use Rattle.tp_setup.proofs.DistinctNamesInParts.{repeated}
 use Rattle.tp_setup.proofs.components.check_variable.Goals as goal
 
 pub returns-in-Err-clause-told : goal.returns-in-Err-clause-told

@@ -5,8 +5,8 @@ use Rattle.tp_name.specs.Tables.{IsNumbered}
 use Rattle.tp_setup.specs.Additions.{AdditionBreaks, HasRoomForVariables}
 use Rattle.tp_setup.specs.BrokenSetup.{CreationBreaks}
 use Rattle.tp_setup.specs.Components.{created}
-use Rattle.tp_setup.proofs.CreationsTold.{component_told}
-use Rattle.tp_setup.proofs.Telling.{at_map, handed}
+use Rattle.tp_setup.proofs.CreationFaultsTold.{component_told}
+use Rattle.tp_setup.proofs.ModuleFaultPropagation.{at_map, handed}
 use Rattle.tp_setup.proofs.components.create.Goals as goal
 
 pub returns-in_err-check_variable-clause-told : goal.returns-in_err-check_variable-clause-told

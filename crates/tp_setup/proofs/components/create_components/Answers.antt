@@ -1,12 +1,12 @@
 -- A statement that makes no component leaves all as it is, and the next `var` adds a sound one.
 use Rattle.std.proofs.Common.{◌+◌, ◌++◌, ◌∷◌, [], ◌∙◌, ap, arith, drop, map, subst, sym, take}
 use Rattle.std.proofs.lemmas.List.{map_push, take-append-drop}
-use Rattle.tp_setup.proofs.Adding.{create_part}
-use Rattle.tp_setup.proofs.Lookups.{creation_among}
-use Rattle.tp_setup.proofs.Refusing.{breaks_part}
+use Rattle.tp_setup.proofs.AddableComponents.{create_part}
+use Rattle.tp_setup.proofs.StartLookups.{creation_among}
+use Rattle.tp_setup.proofs.ModuleRefusalPropagation.{breaks_part}
 use Rattle.tp_setup.specs.Components.{AddsAll, created, creations, variable_name}
-use Rattle.tp_setup.proofs.Creating.{adds_more, no_creation, one_creation, sound_more}
-use Rattle.tp_setup.proofs.CreationsTold.{room_more, stops_told}
+use Rattle.tp_setup.proofs.CreatedComponentGrowth.{adds_more, no_creation, one_creation, sound_more}
+use Rattle.tp_setup.proofs.CreationFaultsTold.{room_more, stops_told}
 use Rattle.tp_setup.proofs.components.create_components.Goals as goal
 
 pub loop-i-preserved-in_default : goal.loop-i-preserved-in_default

@@ -2,13 +2,13 @@
 use Rattle.std.proofs.Common.{inr, ◌≡◌, ◌++◌, ◌∙◌, Some, ap, map, slice_get, string_bytes, sym}
 use Rattle.tp_setup.specs.Definitions.{declared_ports}
 use Rattle.tp_setup.specs.Sorted.{component_types_in}
-use Rattle.tp_name.proofs.Numbering.{named_at}
+use Rattle.tp_name.proofs.NameSetLookups.{named_at}
 use Rattle.tp_tree.specs.declared.tree.ComponentType.{ComponentType}
 use Rattle.tp_name.specs.Tables.{IsNumbered}
-use Rattle.tp_name.proofs.Numbering.{place_unknown}
-use Rattle.tp_setup.proofs.Lookups.{all_got, item_there, named_there}
-use Rattle.tp_setup.proofs.Refusing.{handed_on}
-use Rattle.tp_setup.proofs.Steps.{contains_at}
+use Rattle.tp_name.proofs.NameSetLookups.{place_unknown}
+use Rattle.tp_setup.proofs.StartLookups.{all_got, item_there, named_there}
+use Rattle.tp_setup.proofs.ModuleRefusalPropagation.{handed_on}
+use Rattle.tp_setup.proofs.ListPrefixGrowth.{contains_at}
 use Rattle.tp_setup.proofs.components.ports_of_type.Goals as goal
 
 pub returns-clause-ports : goal.returns-clause-ports

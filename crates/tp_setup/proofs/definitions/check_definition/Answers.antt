@@ -2,17 +2,17 @@
 use Rattle.std.proofs.Common.{◌≡◌, ◌∙◌, true, option_map, string_bytes}
 use Rattle.std.proofs.lemmas.Result.{IfErr-weaker}
 use Rattle.tp_setup.specs.Sorted.{IsSoundIn}
-use Rattle.tp_setup.proofs.Refusing.{handed_fact}
-use Rattle.tp_setup.proofs.Sound.{sound_component, sound_function, unsound_component, unsound_port}
+use Rattle.tp_setup.proofs.ModuleRefusalPropagation.{handed_fact}
+use Rattle.tp_setup.proofs.SoundDefinitionRules.{sound_component, sound_function, unsound_component, unsound_port}
 use Rattle.std.proofs.Common.{IsTrue, subst, sym}
 use Rattle.tp_name.specs.Refused.{TellsAt}
 use Rattle.tp_tree.specs.declared.tree.Defined.{Defined}
 use Rattle.tp_tree.specs.declared.tree.Defined.TheVariants as defined
 use Rattle.tp_setup.specs.BrokenDefinitions.{DefinitionBreaks, unknown_component_type, unknown_type}
 use Rattle.tp_setup.specs.Rules.{AreComponentTypesKnown, AreTypesKnown}
-use Rattle.tp_setup.proofs.DefinitionsTold.{component_type_told, unknown_told}
-use Rattle.tp_setup.proofs.Known.{messages_there}
-use Rattle.tp_setup.proofs.Telling.{handed}
+use Rattle.tp_setup.proofs.DefinitionFaultsTold.{component_type_told, unknown_told}
+use Rattle.tp_setup.proofs.KnownNamesByLookup.{messages_there}
+use Rattle.tp_setup.proofs.ModuleFaultPropagation.{handed}
 use Rattle.tp_setup.proofs.definitions.check_definition.Goals as goal
 
 pub returns-in_ok-check_component-in-Component-clause-sound : goal.returns-in_ok-check_component-in-Component-clause-sound

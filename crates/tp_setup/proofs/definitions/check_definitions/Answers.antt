@@ -1,12 +1,12 @@
 -- The next definition obeys the rules, and at the end each does.
 use Rattle.std.proofs.Common.{arith, option_map, string_bytes}
 use Rattle.tp_setup.specs.Sorted.{AreSound, IsSoundIn}
-use Rattle.tp_setup.proofs.Refusing.{all_at, handed_fact}
-use Rattle.tp_setup.proofs.Steps.{all_more, all_whole}
+use Rattle.tp_setup.proofs.ModuleRefusalPropagation.{all_at, handed_fact}
+use Rattle.tp_setup.proofs.ListPrefixGrowth.{all_more, all_whole}
 use Rattle.tp_name.specs.Refused.{Tells}
 use Rattle.tp_setup.specs.BrokenDefinitions.{DefinitionsBreak}
-use Rattle.tp_setup.proofs.DefinitionsTold.{definition_among}
-use Rattle.tp_setup.proofs.Telling.{handed}
+use Rattle.tp_setup.proofs.DefinitionFaultsTold.{definition_among}
+use Rattle.tp_setup.proofs.ModuleFaultPropagation.{handed}
 use Rattle.tp_setup.proofs.definitions.check_definitions.Goals as goal
 
 pub loop-definition-preserved : goal.loop-definition-preserved

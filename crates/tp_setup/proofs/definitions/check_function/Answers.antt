@@ -1,12 +1,12 @@
 -- The type of a parameter is unknown, and why a function is refused.
 use Rattle.std.proofs.Common.{◌∙◌, option_map, refl, string_bytes, sym, true≢false}
 use Rattle.tp_setup.specs.Rules.{IsSoundFunction}
-use Rattle.tp_setup.proofs.Known.{each_known, each_there}
-use Rattle.tp_setup.proofs.Refusing.{handed_fact}
+use Rattle.tp_setup.proofs.KnownNamesByLookup.{each_known, each_there}
+use Rattle.tp_setup.proofs.ModuleRefusalPropagation.{handed_fact}
 use Rattle.tp_name.specs.Refused.{TellsAt}
 use Rattle.tp_tree.specs.declared.tree.Defined.TheVariants as defined
 use Rattle.tp_setup.specs.BrokenDefinitions.{DefinitionBreaks, no_system, unknown_component_type}
-use Rattle.tp_setup.proofs.Telling.{handed}
+use Rattle.tp_setup.proofs.ModuleFaultPropagation.{handed}
 use Rattle.tp_setup.proofs.definitions.check_function.Goals as goal
 
 pub returns-in_err-known-2-clause-refused : goal.returns-in_err-known-2-clause-refused

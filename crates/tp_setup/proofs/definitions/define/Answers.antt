@@ -1,12 +1,12 @@
 -- What is made of definitions that obey the rules is refused for want of memory alone.
 use Rattle.tp_setup.specs.Rules.{HasUniqueNames}
 use Rattle.tp_setup.specs.Sorted.{HasSoundDefinitions}
-use Rattle.tp_setup.proofs.OfKinds.{sorted_sound}
-use Rattle.tp_setup.proofs.Refusing.{handed_on}
+use Rattle.tp_setup.proofs.SoundSortedDefinitions.{sorted_sound}
+use Rattle.tp_setup.proofs.ModuleRefusalPropagation.{handed_on}
 use Rattle.tp_name.specs.Refused.{Tells}
 use Rattle.tp_setup.specs.BrokenDefinitions.{DefinitionsOfBreak}
 use Rattle.tp_setup.specs.Sorted.{IsSortedSound}
-use Rattle.tp_setup.proofs.Telling.{handed, memory_left, tells_memory}
+use Rattle.tp_setup.proofs.ModuleFaultPropagation.{handed, memory_left, tells_memory}
 use Rattle.tp_setup.proofs.definitions.define.Goals as goal
 
 pub returns-in_err-types-clause-refused : goal.returns-in_err-types-clause-refused

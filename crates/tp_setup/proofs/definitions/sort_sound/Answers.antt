@@ -3,12 +3,12 @@ use Rattle.std.proofs.Common.{option_map, string_bytes, subst, sym}
 use Rattle.tp_setup.specs.Definitions.{type_names, port_type_names, component_type_names}
 use Rattle.tp_setup.specs.Rules.{HasUniqueNames}
 use Rattle.tp_setup.specs.Sorted.{AreSound, HasSoundDefinitions}
-use Rattle.tp_setup.proofs.Refusing.{handed_break, handed_on}
-use Rattle.tp_setup.proofs.Sound.{sound_all}
+use Rattle.tp_setup.proofs.ModuleRefusalPropagation.{handed_break, handed_on}
+use Rattle.tp_setup.proofs.SoundDefinitionRules.{sound_all}
 use Rattle.tp_name.specs.Refused.{Tells}
 use Rattle.tp_setup.specs.BrokenDefinitions.{DefinitionsBreak, DefinitionsOfBreak}
-use Rattle.tp_setup.proofs.DefinitionsTold.{told_all}
-use Rattle.tp_setup.proofs.Telling.{handed, memory_left, tells_memory}
+use Rattle.tp_setup.proofs.DefinitionFaultsTold.{told_all}
+use Rattle.tp_setup.proofs.ModuleFaultPropagation.{handed, memory_left, tells_memory}
 use Rattle.tp_setup.proofs.definitions.sort_sound.Goals as goal
 
 pub returns-clause-sound : goal.returns-clause-sound

@@ -3,8 +3,8 @@ use Rattle.std.proofs.Common.{◌++◌, ◌∷◌, [], ◌∙◌, Contains, ap, 
 use Rattle.tp_config.specs.Setup.{PortDecl}
 use Rattle.tp_config.specs.Shape.{decl_of, ports_of}
 use Rattle.tp_setup.specs.Definitions.{declared}
-use Rattle.tp_setup.proofs.Naming.{repeated}
-use Rattle.tp_setup.proofs.Declaring.{is_there, names_declared, names_in, not_there, port_added, same_declaration}
+use Rattle.tp_setup.proofs.DistinctNamesInParts.{repeated}
+use Rattle.tp_setup.proofs.ComponentTypePortGrowth.{is_there, names_declared, names_in, not_there, port_added, same_declaration}
 use Rattle.tp_setup.proofs.ports.add_port.Goals as goal
 
 pub returns-clause-added : goal.returns-clause-added

@@ -6,8 +6,8 @@ use Rattle.tp_config.specs.Shape.{ports_of}
 use Rattle.tp_name.specs.Tables.{AreDistinct}
 use Rattle.tp_setup.specs.Definitions.{declared}
 use Rattle.tp_setup.specs.Resolved.{port_decl}
-use Rattle.tp_setup.proofs.Naming.{distinct_first, map_twice}
-use Rattle.tp_setup.proofs.Refusing.{handed_on, mapped_behind}
+use Rattle.tp_setup.proofs.DistinctNamesInParts.{distinct_first, map_twice}
+use Rattle.tp_setup.proofs.ModuleRefusalPropagation.{handed_on, mapped_behind}
 use Rattle.tp_setup.proofs.ports.add_ports.Goals as goal
 
 pub returns-in_err-add_port-clause-refused : goal.returns-in_err-add_port-clause-refused

@@ -3,7 +3,7 @@ use Rattle.std.proofs.Common.{◌++◌, ◌∷◌, [], arith, append-nil, subst,
 use Rattle.std.specs.List.{AllZip}
 use Rattle.std.proofs.lemmas.List.{take_all}
 use Rattle.tp_setup.specs.Resolved.{IsTypeNamed}
-use Rattle.tp_setup.proofs.Steps.{behind_more, zip_push}
+use Rattle.tp_setup.proofs.ListPrefixGrowth.{behind_more, zip_push}
 use Rattle.tp_setup.proofs.ports.add_types.Goals as goal
 
 pub loop-name-init : goal.loop-name-init

@@ -1,7 +1,7 @@
 -- What was made at the place of the name is that of the port type of this name.
 use Rattle.std.proofs.Common.{sym}
 use Rattle.tp_setup.specs.Sorted.{port_types_in}
-use Rattle.tp_setup.proofs.Made.{made_of, made_there}
+use Rattle.tp_setup.proofs.PortTypesAsDeclared.{made_of, made_there}
 use Rattle.tp_setup.proofs.ports.find_made.Goals as goal
 
 pub returns-clause-found : goal.returns-clause-found

@@ -10,10 +10,10 @@ use Rattle.tp_setup.specs.Definitions.{declared, declared_ports}
 use Rattle.tp_setup.specs.Resolved.{IsPortDecl, port_decl}
 use Rattle.tp_setup.specs.Sorted.{port_types_in}
 use Rattle.tp_setup.specs.Rules.{IsSoundComponent}
-use Rattle.tp_setup.proofs.Made.{ports_named}
-use Rattle.tp_setup.proofs.Naming.{distinct_first}
-use Rattle.tp_setup.proofs.Refusing.{all_at, flat_behind, handed_on}
-use Rattle.tp_setup.proofs.Steps.{flat_more, zip_append, zip_maps}
+use Rattle.tp_setup.proofs.PortTypesAsDeclared.{ports_named}
+use Rattle.tp_setup.proofs.DistinctNamesInParts.{distinct_first}
+use Rattle.tp_setup.proofs.ModuleRefusalPropagation.{all_at, flat_behind, handed_on}
+use Rattle.tp_setup.proofs.ListPrefixGrowth.{flat_more, zip_append, zip_maps}
 use Rattle.tp_setup.proofs.ports.make_component.Goals as goal
 
 pub loop-declaration-init : goal.loop-declaration-init

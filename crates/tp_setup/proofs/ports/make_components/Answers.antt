@@ -4,8 +4,8 @@ use Rattle.tp_setup.specs.Resolved.{IsComponentType}
 use Rattle.tp_setup.specs.Sorted.{port_types_in}
 use Rattle.tp_setup.specs.Rules.{IsSoundComponent}
 use Rattle.tp_setup.specs.Sorted.{component_types_in}
-use Rattle.tp_setup.proofs.Refusing.{all_at_map, handed_on}
-use Rattle.tp_setup.proofs.Steps.{all_push, zip_map_more}
+use Rattle.tp_setup.proofs.ModuleRefusalPropagation.{all_at_map, handed_on}
+use Rattle.tp_setup.proofs.ListPrefixGrowth.{all_push, zip_map_more}
 use Rattle.tp_setup.proofs.ports.make_components.Goals as goal
 
 pub loop-component-preserved : goal.loop-component-preserved

@@ -2,8 +2,8 @@
 use Rattle.std.proofs.Common.{All, arith, map}
 use Rattle.tp_setup.specs.Resolved.{IsMade}
 use Rattle.tp_setup.specs.Rules.{AreMessagesKnown}
-use Rattle.tp_setup.proofs.Refusing.{all_at_map, handed_on}
-use Rattle.tp_setup.proofs.Steps.{zip_map_more}
+use Rattle.tp_setup.proofs.ModuleRefusalPropagation.{all_at_map, handed_on}
+use Rattle.tp_setup.proofs.ListPrefixGrowth.{zip_map_more}
 use Rattle.tp_setup.proofs.ports.make_port_types.Goals as goal
 
 pub loop-port_type-preserved : goal.loop-port_type-preserved

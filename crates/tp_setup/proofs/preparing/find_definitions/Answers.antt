@@ -1,13 +1,13 @@
 -- A module that is refused for its names or its test case isn't well declared.
 use Rattle.tp_setup.specs.Prepared.{IsWellDeclared}
-use Rattle.tp_setup.proofs.Refusing.{handed_on}
+use Rattle.tp_setup.proofs.ModuleRefusalPropagation.{handed_on}
 use Rattle.std.proofs.lemmas.Result.{IfErr-weaker}
 use Rattle.tp_name.specs.Refused.{Tells}
 use Rattle.tp_setup.specs.Broken.{DeclarationsBreak, definitions, names}
 use Rattle.tp_setup.specs.BrokenDefinitions.{DefinitionsOfBreak}
 use Rattle.tp_setup.specs.BrokenNames.{NamesBreak}
-use Rattle.tp_setup.proofs.PreparedTold.{begins_kept}
-use Rattle.tp_setup.proofs.Telling.{handed, tells_map}
+use Rattle.tp_setup.proofs.PreparationFaultsTold.{begins_kept}
+use Rattle.tp_setup.proofs.ModuleFaultPropagation.{handed, tells_map}
 use Rattle.tp_setup.proofs.preparing.find_definitions.Goals as goal
 
 pub returns-in_err-case-clause-refused : goal.returns-in_err-case-clause-refused

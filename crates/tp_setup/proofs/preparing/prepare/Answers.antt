@@ -7,13 +7,13 @@ use Rattle.tp_setup.specs.Definitions.{component_types}
 use Rattle.tp_setup.specs.Configuring.{AreSoundVariables, IsSetUp}
 use Rattle.tp_setup.specs.Starting.{AreStarts}
 use Rattle.tp_setup.specs.Prepared.{IsConfigOf}
-use Rattle.tp_setup.proofs.OneModule.{declared_part, own_made}
-use Rattle.tp_setup.proofs.Refusing.{handed_on}
+use Rattle.tp_setup.proofs.UniqueComponentTypes.{declared_part, own_made}
+use Rattle.tp_setup.proofs.ModuleRefusalPropagation.{handed_on}
 use Rattle.tp_name.specs.Refused.{Tells}
 use Rattle.tp_setup.specs.Broken.{DeclarationsBreak, ThirdPassBreaks, third_pass}
 use Rattle.tp_setup.specs.Sorted.{component_types_in, functions_in}
-use Rattle.tp_setup.proofs.PreparedTold.{case_known, third_told}
-use Rattle.tp_setup.proofs.Telling.{handed, tells_map}
+use Rattle.tp_setup.proofs.PreparationFaultsTold.{case_known, third_told}
+use Rattle.tp_setup.proofs.ModuleFaultPropagation.{handed, tells_map}
 use Rattle.tp_setup.proofs.preparing.prepare.Goals as goal
 
 pub set_up_and_start-requires-clause-components : goal.set_up_and_start-requires-clause-components

@@ -6,7 +6,7 @@ use Rattle.tp_setup.specs.Broken.{ThirdPassBreaks, on_setup, on_starts}
 use Rattle.tp_setup.specs.BrokenSetup.{CaseSetupBreaks}
 use Rattle.tp_setup.specs.BrokenStarts.{StartsBreak}
 use Rattle.tp_setup.specs.Sorted.{component_types_in, functions_in}
-use Rattle.tp_setup.proofs.Telling.{handed, tells_map}
+use Rattle.tp_setup.proofs.ModuleFaultPropagation.{handed, tells_map}
 use Rattle.tp_setup.proofs.preparing.set_up_and_start.Goals as goal
 
 pub returns-in_err-made-clause-told : goal.returns-in_err-made-clause-told

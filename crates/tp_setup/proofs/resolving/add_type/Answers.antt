@@ -1,6 +1,6 @@
 -- A name that is there can't have a number of its own.
 use Rattle.std.proofs.Common.{◌∙◌, Contains, inr, map, refl, subst}
-use Rattle.tp_setup.proofs.Naming.{repeated}
+use Rattle.tp_setup.proofs.DistinctNamesInParts.{repeated}
 use Rattle.tp_setup.proofs.resolving.add_type.Goals as goal
 
 pub returns-in-Err-Duplicate-clause-refused : goal.returns-in-Err-Duplicate-clause-refused

@@ -1,7 +1,7 @@
 -- The next field has its own name, and the type that it names.
 use Rattle.std.proofs.Common.{arith}
 use Rattle.tp_setup.specs.Resolved.{IsField}
-use Rattle.tp_setup.proofs.Steps.{zip_more}
+use Rattle.tp_setup.proofs.ListPrefixGrowth.{zip_more}
 use Rattle.tp_setup.proofs.resolving.make_fields.Goals as goal
 
 pub loop-field-preserved : goal.loop-field-preserved

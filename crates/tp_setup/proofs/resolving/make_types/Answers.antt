@@ -4,9 +4,9 @@ use Rattle.tp_setup.specs.Resolved.{IsNamedType}
 use Rattle.std.specs.Prelude.{IsSome}
 use Rattle.tp_setup.specs.Definitions.{type_of}
 use Rattle.tp_setup.specs.Rules.{AreSoundTypes, AreTypesKnown}
-use Rattle.tp_setup.proofs.Naming.{type_numbered}
-use Rattle.tp_setup.proofs.Refusing.{all_at_map, handed_on}
-use Rattle.tp_setup.proofs.Steps.{zip_map_more}
+use Rattle.tp_setup.proofs.DistinctNamesInParts.{type_numbered}
+use Rattle.tp_setup.proofs.ModuleRefusalPropagation.{all_at_map, handed_on}
+use Rattle.tp_setup.proofs.ListPrefixGrowth.{zip_map_more}
 use Rattle.tp_setup.proofs.resolving.make_types.Goals as goal
 
 pub loop-defined-preserved : goal.loop-defined-preserved

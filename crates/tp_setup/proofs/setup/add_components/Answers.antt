@@ -6,17 +6,17 @@ use Rattle.indexmap.proofs.MapLemmas.{OnOk-map}
 use Rattle.tp_setup.specs.Components.{main_component}
 use Rattle.tp_setup.specs.Configuring.{AreOwnPorts, CanSetUp}
 use Rattle.tp_setup.specs.Sorted.{component_types_in}
-use Rattle.tp_setup.proofs.Ready.{main_added, main_can}
-use Rattle.tp_setup.proofs.Refusing.{handed_on}
-use Rattle.tp_setup.proofs.Setting.{adds_main}
-use Rattle.tp_setup.proofs.TypePorts.{have_ports}
+use Rattle.tp_setup.proofs.RulesOfAddedComponents.{main_added, main_can}
+use Rattle.tp_setup.proofs.ModuleRefusalPropagation.{handed_on}
+use Rattle.tp_setup.proofs.SetupStatementOutcomes.{adds_main}
+use Rattle.tp_setup.proofs.PortsOfComponentTypes.{have_ports}
 use Rattle.tp_name.specs.Refused.{Tells}
 use Rattle.tp_tree.specs.declared.tree.Defined.TheVariants as defined
 use Rattle.tp_setup.specs.BrokenSetup.{CaseSetupBreaks}
 use Rattle.tp_setup.specs.Components.{CanAdd}
 use Rattle.tp_setup.specs.Rules.{AreComponentTypesKnown}
-use Rattle.tp_setup.proofs.SetupTold.{main_free}
-use Rattle.tp_setup.proofs.Telling.{handed, memory_left, tells_memory}
+use Rattle.tp_setup.proofs.SetupFaultsTold.{main_free}
+use Rattle.tp_setup.proofs.ModuleFaultPropagation.{handed, memory_left, tells_memory}
 use Rattle.tp_setup.proofs.setup.add_components.Goals as goal
 
 pub returns-clause-added : goal.returns-clause-added

@@ -5,18 +5,18 @@ use Rattle.tp_setup.specs.Configuring.{HaveOwnPorts}
 use Rattle.indexmap.proofs.MapLemmas.{OnOk-map}
 use Rattle.tp_setup.specs.Components.{component_number}
 use Rattle.tp_setup.specs.Sorted.{component_types_in}
-use Rattle.tp_setup.proofs.Ready.{all_ready, interface_ready}
-use Rattle.tp_setup.proofs.Refusing.{breaks_part, handed_on}
-use Rattle.tp_setup.proofs.Setting.{set_up_is}
-use Rattle.tp_setup.proofs.TypePorts.{have_ports}
+use Rattle.tp_setup.proofs.RulesOfAddedComponents.{all_ready, interface_ready}
+use Rattle.tp_setup.proofs.ModuleRefusalPropagation.{breaks_part, handed_on}
+use Rattle.tp_setup.proofs.SetupStatementOutcomes.{set_up_is}
+use Rattle.tp_setup.proofs.PortsOfComponentTypes.{have_ports}
 use Rattle.std.proofs.Common.{[], append-nil, map, ◌∷◌}
 use Rattle.tp_name.specs.Refused.{Tells}
 use Rattle.tp_config.specs.Setup.{Setup, empty_setup}
 use Rattle.tp_setup.specs.Additions.{InterfaceBreaks}
 use Rattle.tp_setup.specs.BrokenSetup.{CaseSetupBreaks, PairsBreak}
 use Rattle.tp_setup.specs.Components.{AddsAll, created, creations, main_component}
-use Rattle.tp_setup.proofs.SetupTold.{awaits, beside_told, interface_breaks, pairs_told, small_variables}
-use Rattle.tp_setup.proofs.Telling.{handed, tells_from}
+use Rattle.tp_setup.proofs.SetupFaultsTold.{awaits, beside_told, interface_breaks, pairs_told, small_variables}
+use Rattle.tp_setup.proofs.ModuleFaultPropagation.{handed, tells_from}
 use Rattle.tp_setup.proofs.setup.configure.Goals as goal
 
 pub returns-clause-config : goal.returns-clause-config

@@ -2,14 +2,14 @@
 use Rattle.std.proofs.Common.{arith, subst, sym, take}
 use Rattle.tp_setup.specs.Components.{component_number}
 use Rattle.tp_setup.specs.Configuring.{nothing}
-use Rattle.tp_setup.proofs.Connecting.{makes_more, variables_more}
-use Rattle.tp_setup.proofs.Making.{makes_types, next_step}
-use Rattle.tp_setup.proofs.Refusing.{handed_on}
+use Rattle.tp_setup.proofs.SetupStatementGrowth.{makes_more, variables_more}
+use Rattle.tp_setup.proofs.UniqueConfigurations.{makes_types, next_step}
+use Rattle.tp_setup.proofs.ModuleRefusalPropagation.{handed_on}
 use Rattle.tp_setup.specs.Configuring.{HaveOwnPorts}
 use Rattle.tp_name.specs.Refused.{Tells}
 use Rattle.tp_setup.specs.BrokenSetup.{PairsBreak}
-use Rattle.tp_setup.proofs.PairsTold.{numbered_next, pair_among}
-use Rattle.tp_setup.proofs.Telling.{handed}
+use Rattle.tp_setup.proofs.PairFaultsTold.{numbered_next, pair_among}
+use Rattle.tp_setup.proofs.ModuleFaultPropagation.{handed}
 use Rattle.tp_setup.proofs.setup.connect_all.Goals as goal
 
 pub loop-setup-init : goal.loop-setup-init

@@ -1,10 +1,10 @@
 -- A connect is refused where the two ports can't be connected.
 use Rattle.tp_setup.specs.Components.{component_number}
-use Rattle.tp_setup.proofs.Ends.{connect_broken}
+use Rattle.tp_setup.proofs.PortsOfPairEnds.{connect_broken}
 use Rattle.tp_name.specs.Refused.{TellsAt}
 use Rattle.tp_setup.specs.BrokenSetup.{ConnectBreaks, EndsBreak, connect_ends}
-use Rattle.tp_setup.proofs.PairsTold.{connect_told}
-use Rattle.tp_setup.proofs.Telling.{at_map, handed}
+use Rattle.tp_setup.proofs.PairFaultsTold.{connect_told}
+use Rattle.tp_setup.proofs.ModuleFaultPropagation.{at_map, handed}
 use Rattle.tp_setup.proofs.setup.connect_ends.Goals as goal
 
 pub returns-in-Err-clause-refused : goal.returns-in-Err-clause-refused

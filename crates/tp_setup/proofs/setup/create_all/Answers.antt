@@ -1,14 +1,14 @@
 -- The ports of the main component are those of its type.
 use Rattle.std.proofs.lemmas.Result.{IfErr-weaker}
 use Rattle.tp_setup.specs.Sorted.{component_types_in}
-use Rattle.tp_setup.proofs.Refusing.{breaks_part, handed_on}
-use Rattle.tp_setup.proofs.TypePorts.{can_beside, have_ports}
+use Rattle.tp_setup.proofs.ModuleRefusalPropagation.{breaks_part, handed_on}
+use Rattle.tp_setup.proofs.PortsOfComponentTypes.{can_beside, have_ports}
 use Rattle.std.proofs.Common.{string_bytes, List, ℕ}
 use Rattle.tp_name.specs.Refused.{Tells}
 use Rattle.tp_setup.specs.BrokenSetup.{CaseSetupBreaks, SetupBreaks}
 use Rattle.tp_setup.specs.Components.{HasPorts}
-use Rattle.tp_setup.proofs.SetupTold.{beside_told, ports_there}
-use Rattle.tp_setup.proofs.Telling.{handed, memory_left, tells_memory}
+use Rattle.tp_setup.proofs.SetupFaultsTold.{beside_told, ports_there}
+use Rattle.tp_setup.proofs.ModuleFaultPropagation.{handed, memory_left, tells_memory}
 use Rattle.tp_setup.proofs.setup.create_all.Goals as goal
 
 pub returns-in_err-ports-clause-refused : goal.returns-in_err-ports-clause-refused

@@ -1,13 +1,13 @@
 -- Where making the components stopped, the first fault is told.
 use Rattle.std.proofs.Common.{subst}
 use Rattle.tp_setup.specs.Configuring.{CanSetUpBeside, HavePorts}
-use Rattle.tp_setup.proofs.Ready.{beside_can, has_first}
-use Rattle.tp_setup.proofs.Refusing.{breaks_part}
+use Rattle.tp_setup.proofs.RulesOfAddedComponents.{beside_can, has_first}
+use Rattle.tp_setup.proofs.ModuleRefusalPropagation.{breaks_part}
 use Rattle.std.proofs.Common.{codes, sym, ◌∷◌, []}
 use Rattle.tp_name.specs.Refused.{Tells}
 use Rattle.tp_setup.specs.Additions.{StopsCreating}
 use Rattle.tp_setup.specs.BrokenSetup.{SetupBreaks}
-use Rattle.tp_setup.proofs.SetupTold.{room_first}
+use Rattle.tp_setup.proofs.SetupFaultsTold.{room_first}
 use Rattle.tp_setup.proofs.setup.create_beside.Goals as goal
 
 pub first_fault-requires : goal.first_fault-requires

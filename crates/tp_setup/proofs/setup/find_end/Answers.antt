@@ -1,7 +1,7 @@
 -- The component has no port of this name.
 use Rattle.std.proofs.Common.{inr}
 use Rattle.tp_setup.specs.Components.{component_number}
-use Rattle.tp_setup.proofs.Ends.{no_port}
+use Rattle.tp_setup.proofs.PortsOfPairEnds.{no_port}
 use Rattle.tp_setup.proofs.setup.find_end.Goals as goal
 
 pub returns-in_default-port_of-clause-refused : goal.returns-in_default-port_of-clause-refused

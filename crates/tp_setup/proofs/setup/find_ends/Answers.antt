@@ -4,7 +4,7 @@ use Rattle.tp_name.specs.declared.fault.ModuleRule.TheVariants.{Unknown}
 use Rattle.tp_name.specs.Refused.{TellsAt}
 use Rattle.tp_setup.specs.BrokenSetup.{EndsBreak, IsEndKnown, first_end, second_end}
 use Rattle.tp_setup.specs.Components.{component_number}
-use Rattle.tp_setup.proofs.Telling.{handed, really_broken}
+use Rattle.tp_setup.proofs.ModuleFaultPropagation.{handed, really_broken}
 use Rattle.tp_setup.proofs.setup.find_ends.Goals as goal
 
 pub returns-in_err-p-clause-told : goal.returns-in_err-p-clause-told

@@ -2,13 +2,13 @@
 use Rattle.std.proofs.Common.{subst, sym}
 use Rattle.tp_setup.specs.Components.{component_number}
 use Rattle.tp_setup.specs.Configuring.{HaveOwnPorts}
-use Rattle.tp_setup.proofs.Ready.{interface_can}
-use Rattle.tp_setup.proofs.Refusing.{breaks_part}
-use Rattle.tp_setup.proofs.Stopping.{before_can}
+use Rattle.tp_setup.proofs.RulesOfAddedComponents.{interface_can}
+use Rattle.tp_setup.proofs.ModuleRefusalPropagation.{breaks_part}
+use Rattle.tp_setup.proofs.SetupBeforeRefusedCreate.{before_can}
 use Rattle.tp_setup.specs.Additions.{InterfaceBreaks, StopsCreating}
 use Rattle.tp_setup.specs.BrokenSetup.{SetupBreaks}
-use Rattle.tp_setup.proofs.SetupTold.{awaits, interface_breaks, pairs_told, small_variables, stopped_told}
-use Rattle.tp_setup.proofs.Telling.{tells_from}
+use Rattle.tp_setup.proofs.SetupFaultsTold.{awaits, interface_breaks, pairs_told, small_variables, stopped_told}
+use Rattle.tp_setup.proofs.ModuleFaultPropagation.{tells_from}
 use Rattle.tp_setup.proofs.setup.first_fault.Goals as goal
 use Rattle.tp_setup.proofs.setup.first_fault.Goals.{in-Ok-connect_all, in-Err-connect_all}
 

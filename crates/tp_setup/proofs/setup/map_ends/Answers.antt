@@ -1,10 +1,10 @@
 -- A map is refused where the two ports can't be mapped.
 use Rattle.tp_setup.specs.Components.{component_number}
-use Rattle.tp_setup.proofs.Ends.{map_broken}
+use Rattle.tp_setup.proofs.PortsOfPairEnds.{map_broken}
 use Rattle.tp_name.specs.Refused.{TellsAt}
 use Rattle.tp_setup.specs.BrokenSetup.{MapBreaks, EndsBreak, map_ends}
-use Rattle.tp_setup.proofs.PairsTold.{map_told}
-use Rattle.tp_setup.proofs.Telling.{at_map, handed}
+use Rattle.tp_setup.proofs.PairFaultsTold.{map_told}
+use Rattle.tp_setup.proofs.ModuleFaultPropagation.{at_map, handed}
 use Rattle.tp_setup.proofs.setup.map_ends.Goals as goal
 
 pub returns-in-Err-clause-refused : goal.returns-in-Err-clause-refused

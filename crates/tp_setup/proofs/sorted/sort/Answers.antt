@@ -7,8 +7,8 @@ use Rattle.tp_tree.specs.declared.tree.PortType.{PortType}
 use Rattle.tp_name.specs.Tables.{IsNumbered}
 use Rattle.tp_setup.specs.Definitions.{of_kind, component_type_of, function_of, name_of, port_type_of, type_of}
 use Rattle.tp_setup.specs.Rules.{HasUniqueNames}
-use Rattle.tp_setup.proofs.Naming.{component_named, function_named, numbered_among, port_named, type_named}
-use Rattle.tp_setup.proofs.Refusing.{handed_on}
+use Rattle.tp_setup.proofs.DistinctNamesInParts.{component_named, function_named, numbered_among, port_named, type_named}
+use Rattle.tp_setup.proofs.ModuleRefusalPropagation.{handed_on}
 use Rattle.tp_setup.proofs.sorted.sort.Goals as goal
 
 pub returns-in_err-type_names-clause-refused : goal.returns-in_err-type_names-clause-refused

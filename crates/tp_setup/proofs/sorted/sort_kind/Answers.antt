@@ -2,9 +2,9 @@
 use Rattle.std.proofs.Common.{◌+◌, ◌++◌, ◌∷◌, [], ◌∙◌, ap, arith, map, refl, subst, sym}
 use Rattle.std.proofs.lemmas.List.{map_push}
 use Rattle.tp_name.specs.Tables.{IsNumbered}
-use Rattle.tp_setup.proofs.Naming.{numbered_kind_first}
-use Rattle.tp_setup.proofs.Refusing.{name_refused}
-use Rattle.tp_setup.proofs.Sorting.{same_kind, more_kind}
+use Rattle.tp_setup.proofs.DistinctNamesInParts.{numbered_kind_first}
+use Rattle.tp_setup.proofs.ModuleRefusalPropagation.{name_refused}
+use Rattle.tp_setup.proofs.SortedDefinitionGrowth.{same_kind, more_kind}
 use Rattle.tp_setup.proofs.sorted.sort_kind.Goals as goal
 
 pub loop-definition-preserved-in_default : goal.loop-definition-preserved-in_default

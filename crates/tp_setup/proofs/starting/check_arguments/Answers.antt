@@ -2,14 +2,14 @@
 use Rattle.std.proofs.Common.{ap, arith, inr, length, map}
 use Rattle.std.proofs.lemmas.Slice.Zip.{AllZip-long}
 use Rattle.tp_setup.specs.Starting.{HasParameterType, IsArgument}
-use Rattle.tp_setup.proofs.Refusing.{handed_on}
-use Rattle.tp_setup.proofs.Steps.{zip_more}
-use Rattle.tp_setup.proofs.Zips.{zip_both}
+use Rattle.tp_setup.proofs.ModuleRefusalPropagation.{handed_on}
+use Rattle.tp_setup.proofs.ListPrefixGrowth.{zip_more}
+use Rattle.tp_setup.proofs.UniqueZipsAndPlaces.{zip_both}
 use Rattle.std.proofs.Common.{◌≡◌, ◌∙◌, refl}
 use Rattle.tp_name.specs.Refused.{TellsAt}
 use Rattle.tp_setup.specs.BrokenStarts.{ArgumentsBreak, count}
-use Rattle.tp_setup.proofs.StartsTold.{argument_among}
-use Rattle.tp_setup.proofs.Telling.{handed}
+use Rattle.tp_setup.proofs.StartFaultsTold.{argument_among}
+use Rattle.tp_setup.proofs.ModuleFaultPropagation.{handed}
 use Rattle.tp_setup.proofs.starting.check_arguments.Goals as goal
 
 pub loop-i-preserved : goal.loop-i-preserved

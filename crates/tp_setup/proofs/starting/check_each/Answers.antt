@@ -5,16 +5,16 @@ use Rattle.tp_tree.specs.declared.tree.ComponentStart.{ComponentStart}
 use Rattle.tp_setup.specs.Sorted.{functions_in}
 use Rattle.tp_setup.specs.Starting.{IsStartOf}
 use Rattle.tp_name.specs.Tables.{IsNumbered}
-use Rattle.tp_name.proofs.Numbering.{place_known}
-use Rattle.tp_setup.proofs.Naming.{numbered_first}
-use Rattle.tp_setup.proofs.Refusing.{handed_on, mapped_behind}
-use Rattle.tp_setup.proofs.Steps.{pushed, zip_more}
-use Rattle.tp_setup.proofs.Zips.{zip_here}
+use Rattle.tp_name.proofs.NameSetLookups.{place_known}
+use Rattle.tp_setup.proofs.DistinctNamesInParts.{numbered_first}
+use Rattle.tp_setup.proofs.ModuleRefusalPropagation.{handed_on, mapped_behind}
+use Rattle.tp_setup.proofs.ListPrefixGrowth.{pushed, zip_more}
+use Rattle.tp_setup.proofs.UniqueZipsAndPlaces.{zip_here}
 use Rattle.tp_name.specs.Refused.{Tells}
 use Rattle.tp_setup.specs.BrokenStarts.{StartBreaksAmong}
-use Rattle.tp_setup.proofs.Naming.{repeated}
-use Rattle.tp_setup.proofs.StartsTold.{start_among}
-use Rattle.tp_setup.proofs.Telling.{handed}
+use Rattle.tp_setup.proofs.DistinctNamesInParts.{repeated}
+use Rattle.tp_setup.proofs.StartFaultsTold.{start_among}
+use Rattle.tp_setup.proofs.ModuleFaultPropagation.{handed}
 use Rattle.tp_setup.proofs.starting.check_each.Goals as goal
 
 pub loop-start-preserved : goal.loop-start-preserved

@@ -3,17 +3,17 @@ use Rattle.std.proofs.Common.{◌≡◌, ◌+◌, ◌∙◌, ℕ, Option, None, 
 use Rattle.std.specs.Option.{option_map}
 use Rattle.std.proofs.lemmas.Option.{same_Some}
 use Rattle.tp_name.specs.Tables.{place_of_name}
-use Rattle.tp_name.proofs.Numbering.{named_at}
+use Rattle.tp_name.proofs.NameSetLookups.{named_at}
 use Rattle.tp_setup.specs.Sorted.{functions_in}
 use Rattle.tp_tree.specs.declared.tree.Function.{Function}
-use Rattle.tp_setup.proofs.Lookups.{given_there, item_there, no_function, runs_there}
-use Rattle.tp_setup.proofs.Refusing.{handed_on}
+use Rattle.tp_setup.proofs.StartLookups.{given_there, item_there, no_function, runs_there}
+use Rattle.tp_setup.proofs.ModuleRefusalPropagation.{handed_on}
 use Rattle.tp_name.specs.Refused.{TellsAt}
-use Rattle.tp_name.proofs.Numbering.{place_known, place_unknown}
+use Rattle.tp_name.proofs.NameSetLookups.{place_known, place_unknown}
 use Rattle.std.proofs.Common.{Contains, subst}
 use Rattle.tp_setup.specs.BrokenStarts.{ArgumentsBreak, IsStartFunction, StartBreaks, other_arguments, other_type, starts_sut, unknown_function, unknown_variable}
-use Rattle.tp_setup.proofs.StartsTold.{start_function}
-use Rattle.tp_setup.proofs.Telling.{at_map, handed}
+use Rattle.tp_setup.proofs.StartFaultsTold.{start_function}
+use Rattle.tp_setup.proofs.ModuleFaultPropagation.{at_map, handed}
 use Rattle.tp_setup.proofs.starting.check_start.Goals as goal
 
 -- the place of the name of a component variable, whose component is the one behind it

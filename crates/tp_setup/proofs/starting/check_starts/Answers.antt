@@ -6,7 +6,7 @@ use Rattle.tp_setup.specs.BrokenStarts.{AfterStartsBreaks, AreStarted, StartBrea
 use Rattle.tp_setup.specs.Components.{variables}
 use Rattle.tp_setup.specs.Sorted.{functions_in}
 use Rattle.tp_setup.specs.Starting.{started_names, type_names_of}
-use Rattle.tp_setup.proofs.Telling.{handed, tells_map}
+use Rattle.tp_setup.proofs.ModuleFaultPropagation.{handed, tells_map}
 use Rattle.tp_setup.proofs.starting.check_starts.Goals as goal
 
 pub returns-clause-starts : goal.returns-clause-starts

@@ -3,7 +3,7 @@ use Rattle.std.proofs.Common.{◌++◌, ◌∷◌, [], ◌∙◌, ap, arith, map
 use Rattle.std.proofs.lemmas.List.{map_push}
 use Rattle.tp_tree.specs.declared.tree.Creation.{Creation}
 use Rattle.tp_setup.specs.Components.{creations}
-use Rattle.tp_setup.proofs.Creating.{no_creation, one_creation}
+use Rattle.tp_setup.proofs.CreatedComponentGrowth.{no_creation, one_creation}
 use Rattle.tp_setup.proofs.starting.component_types.Goals as goal
 
 pub loop-setup-preserved-in_default : goal.loop-setup-preserved-in_default

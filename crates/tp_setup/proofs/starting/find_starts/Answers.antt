@@ -4,12 +4,12 @@ use Rattle.std.specs.List.{AllZip}
 use Rattle.std.proofs.lemmas.List.{map_push}
 use Rattle.tp_setup.specs.Components.{creations, variable_name}
 use Rattle.tp_setup.specs.Starting.{IsStartPlace}
-use Rattle.tp_setup.proofs.Creating.{no_creation, one_creation}
-use Rattle.tp_setup.proofs.Steps.{zip_push}
-use Rattle.tp_setup.proofs.Lookups.{not_started}
+use Rattle.tp_setup.proofs.CreatedComponentGrowth.{no_creation, one_creation}
+use Rattle.tp_setup.proofs.ListPrefixGrowth.{zip_push}
+use Rattle.tp_setup.proofs.StartLookups.{not_started}
 use Rattle.std.proofs.Common.{refl}
-use Rattle.tp_name.proofs.Numbering.{place_unknown}
-use Rattle.tp_setup.proofs.StartsTold.{never_among}
+use Rattle.tp_name.proofs.NameSetLookups.{place_unknown}
+use Rattle.tp_setup.proofs.StartFaultsTold.{never_among}
 use Rattle.tp_setup.proofs.starting.find_starts.Goals as goal
 
 pub loop-setup-preserved-in_default : goal.loop-setup-preserved-in_default

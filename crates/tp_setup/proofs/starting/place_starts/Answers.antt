@@ -10,8 +10,8 @@ use Rattle.tp_name.specs.declared.fault.ModuleRule.{ModuleRule}
 use Rattle.tp_name.specs.declared.fault.ModuleRule.TheVariants.{NotStarted}
 use Rattle.tp_name.specs.Refused.{Tells}
 use Rattle.tp_setup.specs.BrokenStarts.{AfterStartsBreaks, IsNeverStarted, never_started, no_done}
-use Rattle.tp_setup.proofs.StartsTold.{all_started, some_creations}
-use Rattle.tp_setup.proofs.Telling.{handed, tells_map}
+use Rattle.tp_setup.proofs.StartFaultsTold.{all_started, some_creations}
+use Rattle.tp_setup.proofs.ModuleFaultPropagation.{handed, tells_map}
 use Rattle.tp_setup.proofs.starting.place_starts.Goals as goal
 
 pub returns-clause-places : goal.returns-clause-places

@@ -3,7 +3,7 @@ use Rattle.tp_name.specs.Refused.{Tells}
 use Rattle.tp_setup.specs.BrokenStarts.{StartBreaksAmong}
 use Rattle.tp_setup.specs.Sorted.{functions_in}
 use Rattle.tp_setup.specs.Starting.{type_names_of}
-use Rattle.tp_setup.proofs.Telling.{handed, tells_memory}
+use Rattle.tp_setup.proofs.ModuleFaultPropagation.{handed, tells_memory}
 use Rattle.tp_setup.proofs.starting.start_all.Goals as goal
 
 pub returns-clause-started : goal.returns-clause-started

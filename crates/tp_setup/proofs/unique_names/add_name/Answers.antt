@@ -1,6 +1,6 @@
 -- A name that isn't added tells why.
 use Rattle.tp_setup.specs.Definitions.{declared}
-use Rattle.tp_setup.proofs.Telling.{name_told}
+use Rattle.tp_setup.proofs.ModuleFaultPropagation.{name_told}
 use Rattle.tp_setup.proofs.unique_names.add_name.Goals as goal
 
 pub returns-in-Err-clause-told : goal.returns-in-Err-clause-told

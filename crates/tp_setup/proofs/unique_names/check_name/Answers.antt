@@ -4,7 +4,7 @@ use Rattle.tp_name.specs.Refused.{Tells}
 use Rattle.tp_name.specs.Tables.{IsNumbered}
 use Rattle.tp_setup.specs.BrokenNames.{DeclaringBreaks, GivenNamesBreak, NameBreaks, inner_declared, inner_name, own_name}
 use Rattle.tp_setup.specs.Definitions.{name_of}
-use Rattle.tp_setup.proofs.Telling.{handed, name_told, tells_from, tells_map}
+use Rattle.tp_setup.proofs.ModuleFaultPropagation.{handed, name_told, tells_from, tells_map}
 use Rattle.tp_setup.proofs.unique_names.check_name.Goals as goal
 
 pub returns-in-Err-clause-told : goal.returns-in-Err-clause-told

@@ -7,10 +7,10 @@ use Rattle.tp_setup.specs.BrokenNames.{DefinitionNamesBreak, NamesBreak, in_defi
 use Rattle.tp_setup.specs.Cases.{cases_of}
 use Rattle.tp_setup.specs.Definitions.{of_kind, case_of, inner_names, name_of, test_cases}
 use Rattle.tp_setup.specs.Rules.{AreNamed, HasOneTestCase, HasUniqueNames}
-use Rattle.tp_setup.proofs.CasesTold.{some_case}
-use Rattle.tp_setup.proofs.Telling.{handed, tells_map}
-use Rattle.tp_setup.proofs.Naming.{no_case}
-use Rattle.tp_setup.proofs.Refusing.{handed_on}
+use Rattle.tp_setup.proofs.TestCaseFaultsTold.{some_case}
+use Rattle.tp_setup.proofs.ModuleFaultPropagation.{handed, tells_map}
+use Rattle.tp_setup.proofs.DistinctNamesInParts.{no_case}
+use Rattle.tp_setup.proofs.ModuleRefusalPropagation.{handed_on}
 use Rattle.tp_setup.proofs.unique_names.check_names.Goals as goal
 
 pub returns-in-Some-clause-names : goal.returns-in-Some-clause-names

@@ -2,12 +2,12 @@
 use Rattle.std.proofs.Common.{◌+◌, arith, drop, map, subst}
 use Rattle.tp_name.specs.Tables.{IsNumbered}
 use Rattle.tp_setup.specs.Definitions.{declared}
-use Rattle.tp_setup.proofs.Naming.{numbered_first}
-use Rattle.tp_setup.proofs.Refusing.{handed_on, mapped_behind}
+use Rattle.tp_setup.proofs.DistinctNamesInParts.{numbered_first}
+use Rattle.tp_setup.proofs.ModuleRefusalPropagation.{handed_on, mapped_behind}
 use Rattle.tp_setup.specs.BrokenNames.{DeclaringBreaks}
 use Rattle.tp_name.specs.Refused.{Tells}
-use Rattle.tp_setup.proofs.NamesTold.{name_among}
-use Rattle.tp_setup.proofs.Telling.{handed}
+use Rattle.tp_setup.proofs.NameFaultsTold.{name_among}
+use Rattle.tp_setup.proofs.ModuleFaultPropagation.{handed}
 use Rattle.tp_setup.proofs.unique_names.declare_fields.Goals as goal
 
 pub returns-in_err-add_name-clause-refused : goal.returns-in_err-add_name-clause-refused

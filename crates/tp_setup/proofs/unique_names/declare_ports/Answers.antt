@@ -3,12 +3,12 @@ use Rattle.std.proofs.Common.{◌+◌, arith, drop, map, subst}
 use Rattle.tp_tree.specs.declared.tree.PortDeclaration.{PortDeclaration}
 use Rattle.tp_name.specs.Tables.{IsNumbered}
 use Rattle.tp_setup.specs.Definitions.{declared, declared_ports}
-use Rattle.tp_setup.proofs.Naming.{numbered_first}
-use Rattle.tp_setup.proofs.Refusing.{flat_behind, handed_on}
+use Rattle.tp_setup.proofs.DistinctNamesInParts.{numbered_first}
+use Rattle.tp_setup.proofs.ModuleRefusalPropagation.{flat_behind, handed_on}
 use Rattle.tp_setup.specs.BrokenNames.{DeclaringBreaks, port_name_list}
 use Rattle.tp_name.specs.Refused.{Tells}
-use Rattle.tp_setup.proofs.NamesTold.{port_among}
-use Rattle.tp_setup.proofs.Telling.{handed}
+use Rattle.tp_setup.proofs.NameFaultsTold.{port_among}
+use Rattle.tp_setup.proofs.ModuleFaultPropagation.{handed}
 use Rattle.tp_setup.proofs.unique_names.declare_ports.Goals as goal
 
 pub returns-in_err-declare_all-clause-refused : goal.returns-in_err-declare_all-clause-refused

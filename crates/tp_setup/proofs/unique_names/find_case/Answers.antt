@@ -9,11 +9,11 @@ use Rattle.tp_name.specs.Refused.{Tells}
 use Rattle.tp_setup.specs.BrokenNames.{DefinitionNamesBreak, GivenNamesBreak}
 use Rattle.tp_setup.specs.Definitions.{BeginsAmong, of_kind, case_of, inner_names, name_of}
 use Rattle.tp_setup.specs.Rules.{AreNamed}
-use Rattle.tp_setup.proofs.CasesTold.{begins_more, given_told, second_told}
-use Rattle.tp_setup.proofs.Telling.{handed, tells_map}
-use Rattle.tp_setup.proofs.Naming.{many_cases, numbered_first}
-use Rattle.tp_setup.proofs.Refusing.{all_at, handed_break, handed_on, mapped_behind}
-use Rattle.tp_setup.proofs.Steps.{all_more, kept_more, pushed}
+use Rattle.tp_setup.proofs.TestCaseFaultsTold.{begins_more, given_told, second_told}
+use Rattle.tp_setup.proofs.ModuleFaultPropagation.{handed, tells_map}
+use Rattle.tp_setup.proofs.DistinctNamesInParts.{many_cases, numbered_first}
+use Rattle.tp_setup.proofs.ModuleRefusalPropagation.{all_at, handed_break, handed_on, mapped_behind}
+use Rattle.tp_setup.proofs.ListPrefixGrowth.{all_more, kept_more, pushed}
 use Rattle.tp_setup.proofs.unique_names.find_case.Goals as goal
 
 pub loop-definition-preserved : goal.loop-definition-preserved

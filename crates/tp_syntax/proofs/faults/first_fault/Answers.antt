@@ -2,7 +2,7 @@
 use Rattle.std.proofs.Common.{◌≡◌, ◌≤◌, ℕ, subst, sym, arith}
 use Rattle.std.proofs.lemmas.Bool.{iff_false}
 use Rattle.tp_syntax.specs.Faults.{input_of}
-use Rattle.tp_syntax.proofs.Allowed.{HasGone, few_behind, limit_there, none_gone, one_gone, syntax_at_end, syntax_there}
+use Rattle.tp_syntax.proofs.TokensPassedWithinLimits.{HasGone, few_behind, limit_there, none_gone, one_gone, syntax_at_end, syntax_there}
 use Rattle.tp_syntax.proofs.faults.first_fault.Goals as goal
 
 pub more-init : goal.more-init

@@ -1,6 +1,6 @@
 -- The tokens up to this place are within the limits.
 use Rattle.std.proofs.Common.{◌≤◌, ◌-◌}
-use Rattle.tp_syntax.proofs.Allowed.{HasGone}
+use Rattle.tp_syntax.proofs.TokensPassedWithinLimits.{HasGone}
 use Rattle.tp_syntax.specs.Faults.{input_of}
 use Rattle.tp_syntax.proofs.faults.first_fault.Given as goal
 

@@ -6,7 +6,7 @@ use Rattle.tp_token.specs.declared.fault.ScriptFault.TheVariants.{Refused, Memor
 use Rattle.tp_token.specs.declared.token.Placed.{Placed}
 use Rattle.tp_token.specs.Lexeme.{Lexeme, PlacedLexeme, placed_lexeme}
 use Rattle.tp_token.specs.Cut.{AreTokens, newlines}
-use Rattle.tp_token.proofs.Unique.{tokens_are_unique}
+use Rattle.tp_token.proofs.UniqueTokens.{tokens_are_unique}
 use Rattle.tp_tree.specs.declared.tree.Module.{Module}
 use Rattle.tp_syntax.specs.declared.stuck.Stuck.{Stuck}
 use Rattle.tp_syntax.specs.declared.stuck.Stuck.TheVariants.{Next}
@@ -19,8 +19,8 @@ use Rattle.tp_syntax.specs.Lines.{Noted, AreNoted, module_notes}
 use Rattle.tp_syntax.specs.Nesting.{module_depth}
 use Rattle.tp_syntax.specs.Refusals.{HasTokens, IsOfGrammar, IsUnread}
 use Rattle.tp_syntax.specs.Stuck.{IsForMemory}
-use Rattle.tp_syntax.proofs.Lines.{tokens_of_lines}
-use Rattle.tp_syntax.proofs.Reading.{none_ahead}
+use Rattle.tp_syntax.proofs.LinesOfPassedTokens.{tokens_of_lines}
+use Rattle.tp_syntax.proofs.FirstTokensAhead.{none_ahead}
 use Rattle.tp_syntax.proofs.parser.parse.Goals as goal
 
 nothing_left : (a b : List Lexeme) (ps : List Placed) → length ps ≡ 0 → a ≡ b ++ ahead ps → a ≡ b

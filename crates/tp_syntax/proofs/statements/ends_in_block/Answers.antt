@@ -1,6 +1,6 @@
 -- Which statements end in a block, variant by variant.
 use Rattle.std.proofs.Common.{refl}
-use Rattle.tp_syntax.proofs.Grammar.{action_send, action_receive, action_control, action_all_ports, action_set_verdict, action_alt, action_for, counted_out}
+use Rattle.tp_syntax.proofs.GrammarEquations.{action_send, action_receive, action_control, action_all_ports, action_set_verdict, action_alt, action_for, counted_out}
 use Rattle.tp_syntax.proofs.statements.ends_in_block.Goals as goal
 
 pub returns-in-Send : goal.returns-in-Send

@@ -1,6 +1,6 @@
 -- A block ends in a `}`, variant by variant.
 use Rattle.std.proofs.Common.{refl}
-use Rattle.tp_syntax.proofs.Grammar.{body_nothing, body_block}
+use Rattle.tp_syntax.proofs.GrammarEquations.{body_nothing, body_block}
 use Rattle.tp_syntax.proofs.statements.is_block.Goals as goal
 
 pub returns-in-Block : goal.returns-in-Block

@@ -1,8 +1,8 @@
 -- An owner, its desk and a sender may go into a thread.
 use denote.Param.Send.{sendable}
 use Rattle.std.proofs.Crossing.{crosses}
-use Rattle.tp_history.proofs.Crossing.{desk_send}
-use Rattle.tp_inbox.proofs.Crossing.{owner_send, sender_send}
+use Rattle.tp_history.proofs.DeskThreadSafety.{desk_send}
+use Rattle.tp_inbox.proofs.InboxThreadSafety.{owner_send, sender_send}
 use Rattle.tp_tests.proofs.wakings.three.Goals as goal
 
 pub join-requires-send-F : goal.join-requires-send-F

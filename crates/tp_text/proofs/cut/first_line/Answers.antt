@@ -1,8 +1,8 @@
 -- The first line ends at the first byte 10, and is the whole text where there is none.
 use Rattle.std.proofs.Common.{◌+◌, length, sym, ◌∙◌, arith}
 use Rattle.std.specs.Prelude.{◌==◌}
-use Rattle.tp_text.proofs.Lines.{line_at, line_whole}
-use Rattle.tp_text.proofs.Places.{found_within, front_all, front_at, left_at}
+use Rattle.tp_text.proofs.FirstLineOfText.{line_at, line_whole}
+use Rattle.tp_text.proofs.BytePlacesInText.{found_within, front_all, front_at, left_at}
 use Rattle.tp_text.proofs.cut.first_line.Goals as goal
 
 pub returns-in-Some-clause-lines : goal.returns-in-Some-clause-lines

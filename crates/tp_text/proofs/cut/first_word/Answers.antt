@@ -1,6 +1,6 @@
 -- The first word ends at the first space, and is the whole line where there is none.
 use Rattle.std.proofs.Common.{sym, ◌∙◌}
-use Rattle.tp_text.proofs.Words.{whole_lacks, word_at, word_lacks, word_parts, word_whole}
+use Rattle.tp_text.proofs.FirstWordOfLine.{whole_lacks, word_at, word_lacks, word_parts, word_whole}
 use Rattle.tp_text.proofs.cut.first_word.Goals as goal
 
 pub returns-in-Some-clause-words : goal.returns-in-Some-clause-words

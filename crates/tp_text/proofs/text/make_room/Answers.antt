@@ -1,7 +1,7 @@
 -- The room is one that there may be, and the text so far stays.
 use Rattle.std.proofs.Common.{sym, subst}
 use Rattle.tp_text.specs.Reading.{IsRoom}
-use Rattle.tp_text.proofs.Taking.{either_room}
+use Rattle.tp_text.proofs.ReadBytesAndRoom.{either_room}
 use Rattle.tp_text.proofs.text.make_room.Goals as goal
 
 pub returns-clause-doubled : goal.returns-clause-doubled

@@ -1,6 +1,6 @@
 -- The next room is the first, or the one doubled, up to one byte beyond the limit.
 use Rattle.std.proofs.Common.{◌+◌, ◌∙◌, ap, min}
-use Rattle.tp_text.proofs.Taking.{doubled_room, first_room}
+use Rattle.tp_text.proofs.ReadBytesAndRoom.{doubled_room, first_room}
 use Rattle.tp_text.proofs.text.next_room.Goals.{else-size-eq0, then-size-eq0}
 use Rattle.tp_text.proofs.text.next_room.Goals as goal
 

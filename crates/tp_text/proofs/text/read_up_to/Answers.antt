@@ -3,7 +3,7 @@ use Rattle.std.proofs.Common.{Some, rules, length-take-le, sym, subst}
 use Rattle.std.proofs.lemmas.List.{places}
 use Rattle.tp_text.specs.Reading.{EndsAt}
 use Rattle.std.proofs.KnownBytes.{Consumes-kept}
-use Rattle.tp_text.proofs.Taking.{ends_before, taken_more}
+use Rattle.tp_text.proofs.ReadBytesAndRoom.{ends_before, taken_more}
 use Rattle.tp_text.proofs.text.read_up_to.Goals as goal
 
 pub loop-size-preserved : goal.loop-size-preserved

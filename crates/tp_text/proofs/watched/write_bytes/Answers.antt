@@ -2,7 +2,7 @@
 use Rattle.std.proofs.Common.{subst}
 use Rattle.std.proofs.lemmas.List.{take_all}
 use Rattle.tp_text.specs.Watching.{Writes}
-use Rattle.tp_text.proofs.Writing.{all_parts, writes_both}
+use Rattle.tp_text.proofs.WatchedWriterGrowth.{all_parts, writes_both}
 use Rattle.tp_text.proofs.watched.write_bytes.Goals as goal
 
 pub returns-then-count-bytes : goal.returns-then-count-bytes

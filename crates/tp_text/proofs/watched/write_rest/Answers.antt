@@ -1,6 +1,6 @@
 -- Each write takes some more of the bytes, or fails; what is written in the end is a front of them.
 use Rattle.std.proofs.Common.{ℕ, refl, sym, subst, arith}
-use Rattle.tp_text.proofs.Writing.{HasWritten, ends_written, no_more_written, none_written, some_written, not_both}
+use Rattle.tp_text.proofs.WatchedWriterGrowth.{HasWritten, ends_written, no_more_written, none_written, some_written, not_both}
 use Rattle.tp_text.proofs.watched.write_rest.Goals as goal
 use Rattle.tp_text.proofs.watched.write_rest.Goals.{then-out-via-then-out, then-out-via-else-out+then-at-bytes, in-Ok, in_default}
 

@@ -1,5 +1,5 @@
 -- The first bytes are written; a writer that had failed before has written nothing.
-use Rattle.tp_text.proofs.Writing.{HasWritten}
+use Rattle.tp_text.proofs.WatchedWriterGrowth.{HasWritten}
 use Rattle.tp_text.proofs.watched.write_rest.Given as goal
 
 abbrev pub invariant-loop : goal.invariant-loop

@@ -1,6 +1,6 @@
 -- The writer takes a front of the bytes, or nothing.
 use Rattle.std.proofs.Common.{refl}
-use Rattle.tp_text.proofs.Writing.{took_nothing, took_some, writes_nothing}
+use Rattle.tp_text.proofs.WatchedWriterGrowth.{took_nothing, took_some, writes_nothing}
 use Rattle.tp_text.proofs.watched.write_some.Goals as goal
 
 pub returns-then-out-clause-written : goal.returns-then-out-clause-written

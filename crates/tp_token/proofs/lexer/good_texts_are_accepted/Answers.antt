@@ -1,5 +1,5 @@
 -- A text with tokens within the limits is refused for want of memory alone.
-use Rattle.tp_token.proofs.Accepted.{good_texts_are_accepted}
+use Rattle.tp_token.proofs.AcceptedTokenTexts.{good_texts_are_accepted}
 use Rattle.tp_token.proofs.lexer.good_texts_are_accepted.Goals as goal
 
 pub returns : goal.returns

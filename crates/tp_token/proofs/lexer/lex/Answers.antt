@@ -4,11 +4,11 @@ use Rattle.std.proofs.lemmas.List.{nil_from_length}
 use Rattle.tp_token.specs.Lexeme.{Lexeme, lexeme_of, placed_lexeme, PlacedLexeme}
 use Rattle.std.specs.Option.{option_map}
 use Rattle.tp_token.specs.Cut.{piece_bytes, newlines, Cuts, placed, token_of, tokens_in, line_after}
-use Rattle.tp_token.proofs.Cutting.{line_after_push, tokens_in_push, cut_more, within_more}
+use Rattle.tp_token.proofs.CutPieceGrowth.{line_after_push, tokens_in_push, cut_more, within_more}
 use Rattle.std.proofs.lemmas.Result.{err_from_is_err_and}
 use Rattle.tp_token.specs.Fault.{AreWithinLimits}
-use Rattle.tp_token.proofs.Faults.{first_fault}
-use Rattle.tp_token.proofs.Lines.{piece_lines}
+use Rattle.tp_token.proofs.TokenFaults.{first_fault}
+use Rattle.tp_token.proofs.TokensWithoutLineEnds.{piece_lines}
 use Rattle.tp_token.proofs.lexer.lex.Goals as goal
 
 pub lines_in-line-requires : goal.lines_in-line-requires

@@ -1,5 +1,5 @@
 -- A word is found exactly by its spelling.
-use Rattle.tp_token.proofs.Words.{words_are_spelled}
+use Rattle.tp_token.proofs.ReservedWordsByLength.{words_are_spelled}
 use Rattle.tp_token.proofs.lexer.words_are_spelled.Goals as goal
 
 pub returns : goal.returns

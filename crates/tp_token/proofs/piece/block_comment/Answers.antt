@@ -1,7 +1,7 @@
 -- The first `*/` that is met is the first that there is; where none is met, there is none.
 use Rattle.std.proofs.Common.{arith, add-one}
-use Rattle.tp_token.proofs.Faults.{no_end_all}
-use Rattle.tp_token.proofs.Pieces.{no_end}
+use Rattle.tp_token.proofs.TokenFaults.{no_end_all}
+use Rattle.tp_token.proofs.PieceAtFront.{no_end}
 use Rattle.tp_token.proofs.piece.block_comment.Goals as goal
 
 pub returns-then-bytes-n-eq47-clause-first : goal.returns-then-bytes-n-eq47-clause-first

@@ -1,8 +1,8 @@
 -- A comment ends with its line or at the first `*/`; what else begins with a `/` is refused.
 use Rattle.std.proofs.Common.{arith, sym, ◌∙◌, ap}
 use Rattle.std.specs.List.{prefix_len}
-use Rattle.tp_token.proofs.Faults.{refused_syntax, slash_alone, slash_other, slash_open}
-use Rattle.tp_token.proofs.Pieces.{line_at, block_at}
+use Rattle.tp_token.proofs.TokenFaults.{refused_syntax, slash_alone, slash_other, slash_open}
+use Rattle.tp_token.proofs.PieceAtFront.{line_at, block_at}
 use Rattle.tp_token.specs.Byte.{is_in_line}
 use Rattle.tp_token.proofs.piece.comment.Goals as goal
 

@@ -4,9 +4,9 @@ use Rattle.std.proofs.lemmas.Result.{err_from_is_err_and}
 use Rattle.tp_token.specs.Byte.{is_digit}
 use Rattle.tp_token.specs.Lexeme.{number}
 use Rattle.tp_token.specs.Spelling.{value_on}
-use Rattle.tp_token.proofs.Runs.{run_front}
-use Rattle.tp_token.proofs.Longest.{number_at}
-use Rattle.tp_token.proofs.Faults.{refused_limit, beyond, beyond_greatest}
+use Rattle.tp_token.proofs.LongestByteRuns.{run_front}
+use Rattle.tp_token.proofs.LongestTokens.{number_at}
+use Rattle.tp_token.proofs.TokenFaults.{refused_limit, beyond, beyond_greatest}
 use Rattle.tp_token.proofs.piece.number.Goals as goal
 
 pub spelled_number-requires : goal.spelled_number-requires

@@ -1,6 +1,6 @@
 -- Where a `_` stands at the front, or a byte that begins no symbol, no piece can stand.
 use Rattle.tp_token.specs.declared.byte.Kind.TheVariants.{Underscore, Other}
-use Rattle.tp_token.proofs.Faults.{no_underscore, no_symbol, refused_syntax, starts_kind}
+use Rattle.tp_token.proofs.TokenFaults.{no_underscore, no_symbol, refused_syntax, starts_kind}
 use Rattle.tp_token.proofs.piece.piece.Goals as goal
 
 pub returns-in-Underscore-clause-refused : goal.returns-in-Underscore-clause-refused

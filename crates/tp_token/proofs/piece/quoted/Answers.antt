@@ -1,8 +1,8 @@
 -- The next character or doubled quote is of the text; where no quote can close it, it is open.
 use Rattle.std.proofs.Common.{sym, ◌∙◌, arith, refl}
 use Rattle.tp_token.specs.Byte.{is_printable}
-use Rattle.tp_token.proofs.Faults.{refused_open, open_at, open_end}
-use Rattle.tp_token.proofs.Quotes.{run_push, one_more, quote_more}
+use Rattle.tp_token.proofs.TokenFaults.{refused_open, open_at, open_end}
+use Rattle.tp_token.proofs.QuotedTextSpelling.{run_push, one_more, quote_more}
 use Rattle.tp_token.proofs.piece.quoted.Goals as goal
 
 pub loop-at-preserved-then-bytes-at-eq34 : goal.loop-at-preserved-then-bytes-at-eq34

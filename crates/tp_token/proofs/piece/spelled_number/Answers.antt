@@ -1,6 +1,6 @@
 -- Above a tenth of the greatest number, one digit more makes a number too great.
 use Rattle.std.proofs.Common.{◌<◌, subst}
-use Rattle.tp_token.proofs.Faults.{too_great}
+use Rattle.tp_token.proofs.TokenFaults.{too_great}
 use Rattle.tp_token.proofs.piece.spelled_number.Goals as goal
 
 pub returns-then-value-clause-great : goal.returns-then-value-clause-great

@@ -1,9 +1,9 @@
 -- The characters between the quotes are the token, and a text that isn't closed is refused.
 use Rattle.std.proofs.Common.{sym}
 use Rattle.std.proofs.lemmas.Result.{err_from_is_err_and}
-use Rattle.tp_token.proofs.Faults.{refused_text}
-use Rattle.tp_token.proofs.Quotes.{text_at}
-use Rattle.tp_token.proofs.Pieces.{starts_some, starts_quote}
+use Rattle.tp_token.proofs.TokenFaults.{refused_text}
+use Rattle.tp_token.proofs.QuotedTextSpelling.{text_at}
+use Rattle.tp_token.proofs.PieceAtFront.{starts_some, starts_quote}
 use Rattle.tp_token.proofs.piece.text.Goals as goal
 
 pub split_at-requires : goal.split_at-requires

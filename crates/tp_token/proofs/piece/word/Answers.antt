@@ -5,9 +5,9 @@ use Rattle.tp_token.specs.Word.{word_of}
 use Rattle.std.proofs.lemmas.List.Sums.{prefix_len-le-length}
 use Rattle.std.proofs.lemmas.Str.{IsUtf8-from_ascii}
 use Rattle.tp_token.specs.Byte.{is_word_byte}
-use Rattle.tp_token.proofs.Faults.{run_ascii, refused_limit, beyond, beyond_longest}
-use Rattle.tp_token.proofs.Runs.{run_front}
-use Rattle.tp_token.proofs.Longest.{word_at}
+use Rattle.tp_token.proofs.TokenFaults.{run_ascii, refused_limit, beyond, beyond_longest}
+use Rattle.tp_token.proofs.LongestByteRuns.{run_front}
+use Rattle.tp_token.proofs.LongestTokens.{word_at}
 use Rattle.tp_token.proofs.piece.word.Goals as goal
 
 pub returns-in-Some-clause-token : goal.returns-in-Some-clause-token

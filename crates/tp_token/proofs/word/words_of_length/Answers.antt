@@ -1,7 +1,7 @@
 -- Each part of the table has all the words of its length: a text of that length has none elsewhere.
 use Rattle.std.proofs.Common.{◌∙◌, rules}
 use Rattle.tp_token.specs.Word.{reserved}
-use Rattle.tp_token.proofs.Words.{two, three, four, five, six, seven, eight, nine, ten, others}
+use Rattle.tp_token.proofs.ReservedWordsByLength.{two, three, four, five, six, seven, eight, nine, ten, others}
 use Rattle.tp_token.proofs.word.words_of_length.Goals as goal
 
 pub returns-in-2 : goal.returns-in-2

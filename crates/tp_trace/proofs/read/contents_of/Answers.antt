@@ -4,7 +4,7 @@ use Rattle.std.specs.Option.{option_copied}
 use Rattle.std.proofs.lemmas.Option.{same_Some}
 use Rattle.std.proofs.lemmas.Bool.Decides.{nat_tests}
 use Rattle.tp_trace.specs.Read.{contents_text}
-use Rattle.tp_trace.proofs.Messages.{contents_cut}
+use Rattle.tp_trace.proofs.MessagePartsFromBytes.{contents_cut}
 use Rattle.tp_trace.proofs.read.contents_of.Goals as goal
 
 pub returns-in_err-number : goal.returns-in_err-number

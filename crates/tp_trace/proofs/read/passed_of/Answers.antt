@@ -4,7 +4,7 @@ use Rattle.std.specs.Option.{option_copied}
 use Rattle.std.proofs.lemmas.Bool.Decides.{nat_tests}
 use Rattle.std.proofs.lemmas.Option.{same_Some}
 use Rattle.tp_trace.specs.Line.{IsPortName, IsComponentName, contents}
-use Rattle.tp_trace.proofs.Messages.{port_cut, sender_cut}
+use Rattle.tp_trace.proofs.MessagePartsFromBytes.{port_cut, sender_cut}
 use Rattle.tp_trace.proofs.read.passed_of.Goals.{then-not-is_port-via-then-not-is_port, then-not-is_port-via-else-not-is_port+then-not-is_word}
 use Rattle.tp_trace.proofs.read.passed_of.Goals as goal
 

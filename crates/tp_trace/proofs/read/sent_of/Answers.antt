@@ -4,8 +4,8 @@ use Rattle.std.specs.Option.{option_copied}
 use Rattle.std.proofs.lemmas.Bool.Decides.{nat_tests}
 use Rattle.tp_text.specs.Cutting.{lacks}
 use Rattle.tp_trace.specs.Line.{IsPortName, IsComponentName}
-use Rattle.tp_trace.proofs.Cuts.{lacks_none, last_only, undotted}
-use Rattle.tp_trace.proofs.Messages.{sent_cut}
+use Rattle.tp_trace.proofs.UniqueByteCuts.{lacks_none, last_only, undotted}
+use Rattle.tp_trace.proofs.MessagePartsFromBytes.{sent_cut}
 use Rattle.tp_trace.proofs.read.sent_of.Goals.{then-not-is_word-via-then-not-is_word, then-not-is_word-via-else-not-is_word+then-not-is_port}
 use Rattle.tp_trace.proofs.read.sent_of.Goals as goal
 

@@ -3,12 +3,12 @@ use Rattle.std.proofs.Common.{◌≡◌, ◌+◌, ◌∷◌, ◌++◌, [], ◌�
 use Rattle.std.specs.Prelude.{All}
 use Rattle.std.proofs.lemmas.List.Elements.{All-push}
 use Rattle.tp_trace.specs.Spans.{IsSpanOf, span_text, span_texts}
-use Rattle.tp_trace.proofs.Pieces.{left_on}
+use Rattle.tp_trace.proofs.LineSpansInText.{left_on}
 use Rattle.std.proofs.lemmas.Bool.Decides.{nat_tests}
 use Rattle.std.proofs.lemmas.List.{length-append, map_push}
 use Rattle.tp_trace.specs.Line.{Told}
 use Rattle.tp_trace.specs.Tree.{IsTraceOf}
-use Rattle.tp_trace.proofs.Standing.{Taken-more, first_bad_here, holds_taken, trace_taken}
+use Rattle.tp_trace.proofs.TraceLineGrowth.{Taken-more, first_bad_here, holds_taken, trace_taken}
 use Rattle.tp_trace.proofs.reading.read_trace.Goals as goal
 
 pub returns-in-None-clause-fault : goal.returns-in-None-clause-fault

@@ -3,7 +3,7 @@ use Rattle.std.proofs.Common.{◌≡◌, ◌+◌, ◌≤◌, length, vec_len}
 use Rattle.std.specs.Prelude.{All}
 use Rattle.tp_text.specs.Cutting.{IsLeftOf}
 use Rattle.tp_trace.specs.Spans.{IsSpanOf, span_texts}
-use Rattle.tp_trace.proofs.Standing.{Taken}
+use Rattle.tp_trace.proofs.TraceLineGrowth.{Taken}
 use Rattle.tp_trace.proofs.reading.read_trace.Given as goal
 
 abbrev pub invariant-loop-rest : goal.invariant-loop-rest

@@ -1,6 +1,6 @@
 -- The line lies where the rest begins.
 use Rattle.std.proofs.Common.{arith}
-use Rattle.tp_trace.proofs.Pieces.{piece_is, span_within}
+use Rattle.tp_trace.proofs.LineSpansInText.{piece_is, span_within}
 use Rattle.tp_trace.proofs.reading.span_of.Goals as goal
 
 pub returns-clause-piece : goal.returns-clause-piece

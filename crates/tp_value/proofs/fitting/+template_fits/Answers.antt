@@ -1,8 +1,8 @@
 -- A template of each kind fits as its layer says, and fields fit only where there are as many.
 use Rattle.std.proofs.Common.{rules, arith, ◌≡◌, length}
 use Rattle.std.proofs.lemmas.Grind.{common_steps}
-use Rattle.tp_value.proofs.Typed.{FieldsHave-length}
-use Rattle.tp_value.proofs.Fitted.{fits_exact, fits_any, fits_many, fits_one_of, fits_none_of, fits_range, fits_pattern, fits_record, fits_list}
+use Rattle.tp_value.proofs.HasTypeEquations.{FieldsHave-length}
+use Rattle.tp_value.proofs.FitsEquations.{fits_exact, fits_any, fits_many, fits_one_of, fits_none_of, fits_range, fits_pattern, fits_record, fits_list}
 use Rattle.tp_value.proofs.fitting.+template_fits.Goals as goal
 
 pub fields_fit-returns-then-declared-members : goal.fields_fit-returns-then-declared-members

@@ -1,7 +1,7 @@
 -- A value of each kind has the type as its layer says, a record only where it has as many fields.
 use Rattle.std.proofs.Common.{rules, ◌≡◌, length, arith}
 use Rattle.std.proofs.lemmas.Grind.{common_steps}
-use Rattle.tp_value.proofs.Typed.{has_int, has_bool, has_text, has_record, has_list, FieldsHave-length}
+use Rattle.tp_value.proofs.HasTypeEquations.{has_int, has_bool, has_text, has_record, has_list, FieldsHave-length}
 use Rattle.tp_value.proofs.typing.+has_type.Goals as goal
 
 pub fields_have-returns-then-declared-values : goal.fields_have-returns-then-declared-values

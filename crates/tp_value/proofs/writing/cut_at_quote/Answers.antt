@@ -1,5 +1,5 @@
 -- Up to the first quote the text is written as it is, then another quote; without one, all is.
-use Rattle.tp_value.proofs.Written.{escaped_to_quote, escaped_no_quote}
+use Rattle.tp_value.proofs.WrittenValueTexts.{escaped_to_quote, escaped_no_quote}
 use Rattle.tp_value.proofs.writing.cut_at_quote.Goals as goal
 
 pub returns-in-None-clause-cut : goal.returns-in-None-clause-cut

@@ -1,5 +1,5 @@
 -- The words of the line, one after the other.
-use Rattle.tp_text.proofs.Writing.{writes_both}
+use Rattle.tp_text.proofs.WatchedWriterGrowth.{writes_both}
 use Rattle.tp_verdicts.proofs.writing.write_always.Goals as goal
 
 pub returns : goal.returns

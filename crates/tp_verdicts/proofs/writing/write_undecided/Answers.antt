@@ -1,8 +1,8 @@
 -- The first line, and then the second, where there is one.
 use Rattle.std.proofs.Common.{subst}
 use Rattle.tp_text.specs.Watching.{Writes}
-use Rattle.tp_text.proofs.Writing.{writes_both}
-use Rattle.tp_verdicts.proofs.Texts.{seen_is}
+use Rattle.tp_text.proofs.WatchedWriterGrowth.{writes_both}
+use Rattle.tp_verdicts.proofs.SeenVerdictLines.{seen_is}
 use Rattle.tp_verdicts.proofs.writing.write_undecided.Goals as goal
 
 pub returns-then-not-is_empty : goal.returns-then-not-is_empty

@@ -1,5 +1,5 @@
 -- What is said, the number of states, and the orders, one after the other.
-use Rattle.tp_text.proofs.Writing.{writes_both}
+use Rattle.tp_text.proofs.WatchedWriterGrowth.{writes_both}
 use Rattle.tp_verdicts.specs.Texts.{verdicts_text}
 use Rattle.tp_verdicts.proofs.writing.write_verdicts.Goals as goal
 

@@ -1,7 +1,7 @@
 -- What is said of a script belongs to what was read.
 use Rattle.std.proofs.Common.{List, ℕ, subst}
 use Rattle.tp_script.specs.Scripts.{IsScriptOf}
-use Rattle.tpr.proofs.Reading.{checking_fault, read_right}
+use Rattle.tpr.proofs.CheckedScriptFaults.{checking_fault, read_right}
 use Rattle.tpr.proofs.checking.check_script.Goals as goal
 
 pub returns-clause-right : goal.returns-clause-right

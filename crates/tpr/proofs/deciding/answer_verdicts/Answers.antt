@@ -1,7 +1,7 @@
 -- What is printed of the script's fault, or of its test case's verdicts; and what `always` says of each run.
 use Rattle.std.proofs.Common.{inl, inr}
-use Rattle.tpr.proofs.Answered.{answered_as, answered_more}
-use Rattle.tpr.proofs.Always.{kept}
+use Rattle.tpr.proofs.AnswersThroughBuffers.{answered_as, answered_more}
+use Rattle.tpr.proofs.AlwaysMeansEachReport.{kept}
 use Rattle.tpr.proofs.deciding.answer_verdicts.Goals as goal
 
 pub returns-in-Err-clause-answer : goal.returns-in-Err-clause-answer

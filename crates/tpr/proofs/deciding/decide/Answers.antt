@@ -1,6 +1,6 @@
 -- The verdicts, or that memory was refused.
 use Rattle.std.proofs.Common.{inl, inr}
-use Rattle.tpr.proofs.Answered.{answered_more}
+use Rattle.tpr.proofs.AnswersThroughBuffers.{answered_more}
 use Rattle.tpr.proofs.deciding.decide.Goals as goal
 
 pub returns-in-Ok : goal.returns-in-Ok

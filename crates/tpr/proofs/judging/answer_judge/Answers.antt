@@ -1,6 +1,6 @@
 -- What is printed may be.
 use Rattle.std.proofs.Common.{inl, inr}
-use Rattle.tpr.proofs.Answered.{answered_as}
+use Rattle.tpr.proofs.AnswersThroughBuffers.{answered_as}
 use Rattle.tpr.proofs.judging.answer_judge.Goals as goal
 
 pub returns-in-Err : goal.returns-in-Err

@@ -1,5 +1,5 @@
 -- What is said, and then nothing more.
-use Rattle.tpr.proofs.Answered.{answered}
+use Rattle.tpr.proofs.AnswersThroughBuffers.{answered}
 use Rattle.tpr.proofs.judging.answer_ruling.Goals as goal
 
 pub returns : goal.returns

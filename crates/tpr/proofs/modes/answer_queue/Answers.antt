@@ -1,6 +1,6 @@
 -- The answers or the line of a fault, whole but where the writer has failed.
 use Rattle.std.proofs.Common.{Err, ap}
-use Rattle.tpr.proofs.Answered.{not_replayed, replayed}
+use Rattle.tpr.proofs.AnswersThroughBuffers.{not_replayed, replayed}
 use Rattle.tpr.proofs.modes.answer_queue.Goals as goal
 
 pub returns-in-Ok : goal.returns-in-Ok

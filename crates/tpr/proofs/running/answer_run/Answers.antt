@@ -1,6 +1,6 @@
 -- What is printed of the script's fault, or of a run of its test case.
 use Rattle.std.proofs.Common.{inl, inr}
-use Rattle.tpr.proofs.Answered.{answered_as, answered_more}
+use Rattle.tpr.proofs.AnswersThroughBuffers.{answered_as, answered_more}
 use Rattle.tpr.proofs.running.answer_run.Goals as goal
 
 pub returns-in-Err : goal.returns-in-Err

@@ -1,5 +1,5 @@
 -- The line, and then nothing more.
-use Rattle.tpr.proofs.Answered.{answered}
+use Rattle.tpr.proofs.AnswersThroughBuffers.{answered}
 use Rattle.tpr.proofs.running.answer_run_fault.Goals as goal
 
 pub returns : goal.returns

@@ -1,5 +1,5 @@
 -- The first orders are written, one after the other.
-use Rattle.tpr_ordered.proofs.Written.{AreFirst}
+use Rattle.tpr_ordered.proofs.WrittenOrdersGrowth.{AreFirst}
 use Rattle.tpr_ordered.proofs.ordering.write_orders.Given as goal
 
 abbrev pub invariant-loop-order : goal.invariant-loop-order

@@ -3,7 +3,7 @@ use Rattle.std.proofs.Common.{◌≡◌, ◌∙◌, ◌++◌, ◌∷◌, [], ℕ
 use Rattle.std.specs.Prelude.{◌≢◌}
 use Rattle.tp_inbox.specs.Ledgers.{SenderLedger}
 use Rattle.tp_behaviour.specs.Outboxes.{AreSendersFiled, IsListed}
-use Rattle.tp_behaviour.proofs.Outboxes.{filed_more, filed_still}
+use Rattle.tp_behaviour.proofs.OutboxSendersByRoute.{filed_more, filed_still}
 use Rattle.tp_behaviour.proofs.outbox.Outbox.add.Goals as goal
 
 -- some of its routes may be filed, which are none of the others'

@@ -2,7 +2,7 @@
 use Rattle.std.proofs.Common.{◌≡◌, ◌∙◌, sym, subst, Some, slice_get}
 use Rattle.std.proofs.lemmas.Option.{same_Some}
 use Rattle.tp_behaviour.specs.declared.outbox.RoutePlace.{RoutePlace}
-use Rattle.tp_behaviour.proofs.Outboxes.{below_length, standing}
+use Rattle.tp_behaviour.proofs.OutboxSendersByRoute.{below_length, standing}
 use Rattle.tp_behaviour.proofs.outbox.Outbox.route_place.Goals as goal
 
 -- a sender has the route, and the table its place

@@ -12,7 +12,7 @@ use Rattle.tp_inbox.specs.Routed.{absent_route, route_at}
 use Rattle.tp_behaviour.specs.Outboxes.{HasPut}
 use Rattle.tp_inbox.specs.declared.sender.PutFault.{PutFault}
 use Rattle.tp_inbox.specs.declared.sender.PutFault.TheVariants as put_fault
-use Rattle.tp_behaviour.proofs.Outboxes.{contained, filed_put, full_on, has_put, leads_there, same_way}
+use Rattle.tp_behaviour.proofs.OutboxSendersByRoute.{contained, filed_put, full_on, has_put, leads_there, same_way}
 use Rattle.tp_behaviour.proofs.outbox.Outbox.send.Goals as goal
 
 -- the sender that was found has the route, and only what it has put changes

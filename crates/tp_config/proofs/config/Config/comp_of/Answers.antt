@@ -3,7 +3,7 @@ use Rattle.std.proofs.Common.{◌∙◌, refl, sym}
 use Rattle.std.specs.Str.{bytes_eq}
 use Rattle.tp_config.specs.Setup.{names_of_components}
 use Rattle.tp_config.specs.Shape.{setup_of}
-use Rattle.tp_config.proofs.Named.{comp_place, name_known, name_there, name_unknown, tells_name}
+use Rattle.tp_config.proofs.ComponentAndPortLookups.{comp_place, name_known, name_there, name_unknown, tells_name}
 use Rattle.tp_config.proofs.config.Config.comp_of.Goals as goal
 
 pub returns-in-Some-clause-there : goal.returns-in-Some-clause-there

@@ -3,7 +3,7 @@ use Rattle.std.proofs.Common.{◌<◌, ◌∙◌, ap, arith, length, refl, subst
 use Rattle.std.proofs.lemmas.List.{length-map}
 use Rattle.tp_config.specs.Setup.{Setup, ports_at}
 use Rattle.tp_config.specs.Shape.{ports_of, setup_of}
-use Rattle.tp_config.proofs.Named.{kind_at, member_at, ports_by}
+use Rattle.tp_config.proofs.ComponentAndPortLookups.{kind_at, member_at, ports_by}
 use Rattle.tp_config.proofs.config.Config.comp_type.Goals as goal
 
 pub index-requires-2 : goal.index-requires-2

@@ -5,9 +5,9 @@ use Rattle.tp_config.specs.Shape.{setup_of, links_of}
 use Rattle.tp_config.specs.Allowed.{CanConnect}
 use Rattle.tp_config.specs.Causes.{ConnectRefused, connect_order}
 use Rattle.tp_config.specs.Tests.{connect_test}
-use Rattle.tp_config.proofs.Connect.{connect_refused, can_connect}
-use Rattle.tp_config.proofs.Joined.{after_connect, port_in_row}
-use Rattle.tp_config.proofs.Seen.{seen}
+use Rattle.tp_config.proofs.AllowedConnectOperations.{connect_refused, can_connect}
+use Rattle.tp_config.proofs.InvariantsAfterNewPair.{after_connect, port_in_row}
+use Rattle.tp_config.proofs.ConfigurationsAsRead.{seen}
 use Rattle.tp_config.proofs.config.Config.connect.Goals as goal
 
 pub returns-in-Some-clause-err : goal.returns-in-Some-clause-err

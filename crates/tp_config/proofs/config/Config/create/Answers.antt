@@ -1,8 +1,8 @@
 -- The first cause that holds refuses the component; where none does, all is still allowed.
 use Rattle.std.proofs.Common.{◌∙◌, ap, map, refl, string_bytes, sym}
 use Rattle.tp_config.specs.Shape.{links_of, member, setup_of}
-use Rattle.tp_config.proofs.Created.{after_create, can_create, create_refused}
-use Rattle.tp_config.proofs.Made.{count_is, kind_below, links_made, members_made, same_lengths, tested, tested_now}
+use Rattle.tp_config.proofs.InvariantsAfterNewComponent.{after_create, can_create, create_refused}
+use Rattle.tp_config.proofs.FieldsWithNewComponent.{count_is, kind_below, links_made, members_made, same_lengths, tested, tested_now}
 use Rattle.tp_config.proofs.config.Config.create.Goals as goal
 
 pub returns-in-Some-clause-err : goal.returns-in-Some-clause-err

@@ -1,7 +1,7 @@
 -- The number of the type is the one of the component at this place.
 use Rattle.std.proofs.Common.{refl}
 use Rattle.tp_config.specs.Shape.{setup_of}
-use Rattle.tp_config.proofs.Named.{member_at, kind_is}
+use Rattle.tp_config.proofs.ComponentAndPortLookups.{member_at, kind_is}
 use Rattle.tp_config.proofs.config.Config.kind.Goals as goal
 
 pub returns : goal.returns

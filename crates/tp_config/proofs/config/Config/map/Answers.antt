@@ -5,9 +5,9 @@ use Rattle.tp_config.specs.Shape.{setup_of, links_of}
 use Rattle.tp_config.specs.Allowed.{CanMap}
 use Rattle.tp_config.specs.Causes.{MapRefused, map_order}
 use Rattle.tp_config.specs.Tests.{map_test}
-use Rattle.tp_config.proofs.Map.{map_refused, can_map}
-use Rattle.tp_config.proofs.Joined.{after_map, port_in_row}
-use Rattle.tp_config.proofs.Seen.{seen}
+use Rattle.tp_config.proofs.AllowedMapOperations.{map_refused, can_map}
+use Rattle.tp_config.proofs.InvariantsAfterNewPair.{after_map, port_in_row}
+use Rattle.tp_config.proofs.ConfigurationsAsRead.{seen}
 use Rattle.tp_config.proofs.config.Config.map.Goals as goal
 
 pub returns-in-Some-clause-err : goal.returns-in-Some-clause-err

@@ -1,7 +1,7 @@
 -- The name is the one of the component at this place.
 use Rattle.std.proofs.Common.{◌∙◌, Some, ap, refl, sym}
 use Rattle.tp_config.specs.Shape.{setup_of}
-use Rattle.tp_config.proofs.Named.{member_at, name_at}
+use Rattle.tp_config.proofs.ComponentAndPortLookups.{member_at, name_at}
 use Rattle.tp_config.proofs.config.Config.name.Goals as goal
 
 pub returns : goal.returns

@@ -1,5 +1,5 @@
 -- A configuration with no component and no pair is allowed.
-use Rattle.tp_config.proofs.Created.{keeps_empty}
+use Rattle.tp_config.proofs.InvariantsAfterNewComponent.{keeps_empty}
 use Rattle.tp_config.proofs.config.Config.new.Goals as goal
 
 pub invariant_of-result : goal.invariant_of-result

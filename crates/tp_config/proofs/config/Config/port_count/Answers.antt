@@ -1,6 +1,6 @@
 -- A component has as many ports as its type in the configuration that contracts see.
 use Rattle.std.proofs.Common.{◌∙◌, ap, length}
-use Rattle.tp_config.proofs.Named.{seen_ports}
+use Rattle.tp_config.proofs.ComponentAndPortLookups.{seen_ports}
 use Rattle.tp_config.proofs.config.Config.port_count.Goals as goal
 
 pub returns : goal.returns

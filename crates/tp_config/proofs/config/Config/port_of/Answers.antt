@@ -3,9 +3,9 @@ use Rattle.std.proofs.Common.{◌∙◌, ap, arith, length, refl}
 use Rattle.std.specs.Str.{bytes_eq}
 use Rattle.tp_config.specs.Setup.{port_names}
 use Rattle.tp_config.specs.Shape.{setup_of}
-use Rattle.tp_config.proofs.Look.{length_ports}
+use Rattle.tp_config.proofs.PortLookupByFields.{length_ports}
 use Rattle.tp_config.proofs.RouteLaws.{few_at}
-use Rattle.tp_config.proofs.Named.{name_known, name_there, name_unknown, named_port, port_place, seen_ports, tells_back}
+use Rattle.tp_config.proofs.ComponentAndPortLookups.{name_known, name_there, name_unknown, named_port, port_place, seen_ports, tells_back}
 use Rattle.tp_config.proofs.config.Config.port_of.Goals as goal
 
 pub overflow_cast-result : goal.overflow_cast-result

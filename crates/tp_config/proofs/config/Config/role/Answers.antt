@@ -1,7 +1,7 @@
 -- The role is the one of the component at this place.
 use Rattle.std.proofs.Common.{refl}
 use Rattle.tp_config.specs.Shape.{setup_of}
-use Rattle.tp_config.proofs.Named.{member_at, role_at}
+use Rattle.tp_config.proofs.ComponentAndPortLookups.{member_at, role_at}
 use Rattle.tp_config.proofs.config.Config.role.Goals as goal
 
 pub returns : goal.returns

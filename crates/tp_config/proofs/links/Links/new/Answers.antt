@@ -1,6 +1,6 @@
 -- One more port has nothing beside it, up to the last.
 use Rattle.std.proofs.Common.{◌∙◌, [], ◌++◌, ◌∷◌, ap, arith, replicate}
-use Rattle.tp_config.proofs.Places.{replicate_more}
+use Rattle.tp_config.proofs.StoredPortLinks.{replicate_more}
 use Rattle.tp_config.proofs.links.Links.new.Goals as goal
 
 pub loop-preserved : goal.loop-preserved

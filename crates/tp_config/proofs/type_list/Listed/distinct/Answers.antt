@@ -2,7 +2,7 @@
 use Rattle.std.proofs.Common.{◌∙◌, ap}
 use Rattle.std.specs.List.{list_any}
 use Rattle.tp_config.specs.Types.{same_type}
-use Rattle.tp_config.proofs.Among.{distinct_types}
+use Rattle.tp_config.proofs.TypeListInclusion.{distinct_types}
 use Rattle.tp_config.proofs.type_list.Listed.distinct.Goals as goal
 
 pub returns-clause-same : goal.returns-clause-same

@@ -2,7 +2,7 @@
 use Rattle.std.proofs.Common.{◌∙◌, ap}
 use Rattle.std.specs.List.{list_any}
 use Rattle.tp_config.specs.Types.{same_type}
-use Rattle.tp_config.proofs.Listing.{any_alike}
+use Rattle.tp_config.proofs.TypeSetMembership.{any_alike}
 use Rattle.tp_config.proofs.type_list.Listed.has.Goals as goal
 
 pub returns : goal.returns

@@ -1,7 +1,7 @@
 -- A turn of the floor's rule: the place of the pass changes as the number that rests does.
 use Rattle.std.proofs.Common.{◌+◌, ◌-◌, rules, arith}
 use Rattle.crossbeam_utils.specs.Seq.{cell_view}
-use Rattle.tp_floor.proofs.Standing.{turns, alike}
+use Rattle.tp_floor.proofs.CountsKeepFloorRule.{turns, alike}
 use Rattle.tp_floor.proofs.floor.Floor.exchange.Goals as goal
 
 pub compare_exchange_as-done-requires : goal.compare_exchange_as-done-requires

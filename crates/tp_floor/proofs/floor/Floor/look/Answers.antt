@@ -1,6 +1,6 @@
 -- A look at the counts keeps the floor's rule.
 use Rattle.std.proofs.Common.{rules}
-use Rattle.tp_floor.proofs.Standing.{looks}
+use Rattle.tp_floor.proofs.CountsKeepFloorRule.{looks}
 use Rattle.tp_floor.proofs.floor.Floor.look.Goals as goal
 
 pub load_as-requires : goal.load_as-requires

@@ -5,7 +5,7 @@ use Rattle.tp_queue.specs.Queues.{StandsFor}
 use Rattle.tp_value.specs.declared.message.Message.{Message}
 use Rattle.tp_history.specs.declared.entry.Entry.TheVariants as entry
 use Rattle.tp_history.specs.Desks.{Journal, at_port}
-use Rattle.tp_history.proofs.Ports.{adding_is, grown_by, kept_by_find, stands_in}
+use Rattle.tp_history.proofs.PortQueuesMatchLog.{adding_is, grown_by, kept_by_find, stands_in}
 use Rattle.tp_history.proofs.desk.Desk.check.Goals as goal
 
 pub invariant_of-self-2 : goal.invariant_of-self-2

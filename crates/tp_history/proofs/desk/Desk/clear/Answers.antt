@@ -3,7 +3,7 @@ use Rattle.std.proofs.Common.{ap, refl, arith}
 use Rattle.tp_event.specs.declared.event.Event.TheVariants as event
 use Rattle.tp_history.specs.declared.entry.Entry.TheVariants as entry
 use Rattle.tp_history.specs.Desks.{Journal}
-use Rattle.tp_history.proofs.Ports.{kept_at, grown_by}
+use Rattle.tp_history.proofs.PortQueuesMatchLog.{kept_at, grown_by}
 use Rattle.tp_history.proofs.desk.Desk.clear.Goals as goal
 
 pub invariant_of-self-2 : goal.invariant_of-self-2

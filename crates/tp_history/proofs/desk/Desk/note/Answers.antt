@@ -2,7 +2,7 @@
 use Rattle.std.proofs.Common.{◌∙◌, ap, max, refl, subst, sym}
 use Rattle.tp_history.specs.Desks.{Journal}
 use Rattle.tp_history.specs.History.{IsTimely}
-use Rattle.tp_history.proofs.Ports.{kept_by_note, grown_by}
+use Rattle.tp_history.proofs.PortQueuesMatchLog.{kept_by_note, grown_by}
 use Rattle.tp_history.proofs.desk.Desk.note.Goals as goal
 
 pub invariant_of-self-2 : goal.invariant_of-self-2

@@ -4,7 +4,7 @@ use Rattle.tp_history.specs.declared.stamped.Stamped.{Stamped}
 use Rattle.tp_history.specs.declared.entry.Entry.TheVariants as entry
 use Rattle.tp_history.specs.Desks.{Journal}
 use Rattle.tp_history.specs.History.{clock_of}
-use Rattle.tp_history.proofs.Ports.{kept_by_note, grown_by}
+use Rattle.tp_history.proofs.PortQueuesMatchLog.{kept_by_note, grown_by}
 use Rattle.tp_history.proofs.desk.Desk.note_sending.Goals as goal
 
 -- the stamp is one above the clock, so that it may follow, and is the clock from then on

@@ -7,7 +7,7 @@ use Rattle.tp_queue.specs.Queues.{StandsFor}
 use Rattle.tp_value.specs.declared.message.Message.{Message}
 use Rattle.tp_history.specs.declared.entry.Entry.TheVariants as entry
 use Rattle.tp_history.specs.Desks.{Journal, at_port}
-use Rattle.tp_history.proofs.Ports.{adding_is, grown_by, kept_at, receives_at, stands_in, taken_is}
+use Rattle.tp_history.proofs.PortQueuesMatchLog.{adding_is, grown_by, kept_at, receives_at, stands_in, taken_is}
 use Rattle.tp_history.proofs.desk.Desk.receive.Goals as goal
 
 port_is : (g : _) (c : goal.After-push_reserved g) → c.args.port < length c.self.inside.ports.items

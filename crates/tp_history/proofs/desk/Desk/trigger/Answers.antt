@@ -8,7 +8,7 @@ use Rattle.tp_value.specs.declared.message.Message.{Message}
 use Rattle.tp_history.specs.declared.entry.Entry.TheVariants as entry
 use Rattle.tp_history.specs.Desks.{Journal, at_port}
 use Rattle.tp_history.specs.History.{history_of}
-use Rattle.tp_history.proofs.Ports.{adding_is, grown_by, kept_at, same_top, stands_at, stands_in}
+use Rattle.tp_history.proofs.PortQueuesMatchLog.{adding_is, grown_by, kept_at, same_top, stands_at, stands_in}
 use Rattle.tp_history.proofs.desk.Desk.trigger.Goals as goal
 
 pub invariant_of-self-in-Took : goal.invariant_of-self-in-Took

@@ -1,8 +1,8 @@
 -- New queues stand for the history in which nothing has happened.
 use Rattle.std.proofs.Common.{ap, ◌∙◌}
 use Rattle.tp_history.specs.History.{arrivals}
-use Rattle.tp_history.proofs.Clocks.{arrivals_none}
-use Rattle.tp_history.proofs.Ports.{kept_at_start}
+use Rattle.tp_history.proofs.HistoryClockGrowth.{arrivals_none}
+use Rattle.tp_history.proofs.PortQueuesMatchLog.{kept_at_start}
 use Rattle.tp_history.proofs.desk.Desk.with_ports.Goals as goal
 
 pub invariant_of-result : goal.invariant_of-result

@@ -1,7 +1,7 @@
 -- The history and the clock are as before the sending.
 use Rattle.std.proofs.Common.{◌∙◌, ◌-◌, arith, length, refl, subst, sym}
 use Rattle.tp_history.specs.Desks.{IsKept}
-use Rattle.tp_history.proofs.Ports.{noted_before, withdrawn}
+use Rattle.tp_history.proofs.PortQueuesMatchLog.{noted_before, withdrawn}
 use Rattle.tp_history.proofs.desk.Desk.withdraw.Goals as goal
 
 pub overflow_sub-self : goal.overflow_sub-self

@@ -10,8 +10,8 @@ use Rattle.tp_inbox.specs.Routed.{AreDelivered, AreArrivalsNumbered, arrivals_of
 use Rattle.tp_inbox.specs.Ledgers.{Gathering}
 use Rattle.tp_inbox.specs.Ends.{sent_by}
 use Rattle.tp_inbox.specs.Gathers.{IsPutOf}
-use Rattle.tp_inbox.proofs.Owners.{routed_rest}
-use Rattle.tp_inbox.proofs.Gathering.{Knowing, Sent, begun_at, delivered_at, numbered_at, rest_at, front_and_back}
+use Rattle.tp_inbox.proofs.OwnerStepInvariants.{routed_rest}
+use Rattle.tp_inbox.proofs.RoutesAfterSendersJoin.{Knowing, Sent, begun_at, delivered_at, numbered_at, rest_at, front_and_back}
 use Rattle.tp_inbox.proofs.gathered.Gathered.settle.Goals as goal
 
 pub returns-then-is_err-clause-begun : goal.returns-then-is_err-clause-begun

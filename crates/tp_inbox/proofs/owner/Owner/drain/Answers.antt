@@ -1,7 +1,7 @@
 -- What was moved more is in the desk, and was drained.
 use Rattle.std.proofs.Common.{◌++◌, ap, ◌∙◌, append_assoc}
 use Rattle.tp_history.specs.Desks.{Journal, adding_all}
-use Rattle.tp_inbox.proofs.Owned.{adding_twice, arrivals_more}
+use Rattle.tp_inbox.proofs.OwnerDrainedEnvelopes.{adding_twice, arrivals_more}
 use Rattle.tp_inbox.proofs.owner.Owner.drain.Goals as goal
 
 pub loop-preserved : goal.loop-preserved

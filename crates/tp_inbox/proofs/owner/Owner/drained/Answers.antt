@@ -1,7 +1,7 @@
 -- A route that is found has its own count, and of one that isn't nothing has come.
 use Rattle.std.proofs.Common.{◌<◌, length, arith, sym}
 use Rattle.std.proofs.lemmas.List.{get_or_read}
-use Rattle.tp_inbox.proofs.Owned.{counted_at, none_counted}
+use Rattle.tp_inbox.proofs.OwnerDrainedEnvelopes.{counted_at, none_counted}
 use Rattle.tp_inbox.proofs.owner.Owner.drained.Goals as goal
 
 -- what is found is a place of the counts

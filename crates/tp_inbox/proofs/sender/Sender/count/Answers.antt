@@ -1,7 +1,7 @@
 -- What is counted for a route is what was put on it.
 use Rattle.std.proofs.Common.{◌<◌, length, refl, arith}
 use Rattle.std.proofs.lemmas.List.{get_or_read_under}
-use Rattle.tp_inbox.proofs.Putting.{told_at, on_way}
+use Rattle.tp_inbox.proofs.SenderPutInvariants.{told_at, on_way}
 use Rattle.tp_inbox.proofs.sender.Sender.count.Goals as goal
 
 pub returns : goal.returns

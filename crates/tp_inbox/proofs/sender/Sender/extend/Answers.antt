@@ -1,7 +1,7 @@
 -- A pass that has put nothing gives its route over, by a step of the rule.
 use Rattle.std.proofs.Common.{rules, ◌≡◌, ◌∷◌, [], ◌++◌}
-use Rattle.tp_inbox.proofs.Steps.{pairs_as}
-use Rattle.tp_inbox.proofs.Putting.{widened}
+use Rattle.tp_inbox.proofs.StepsKeepDeliveryRule.{pairs_as}
+use Rattle.tp_inbox.proofs.SenderPutInvariants.{widened}
 use Rattle.tp_inbox.proofs.sender.Sender.extend.Goals as goal
 
 pub absorb-requires-clause-rule : goal.absorb-requires-clause-rule

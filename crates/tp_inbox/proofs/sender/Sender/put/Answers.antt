@@ -3,8 +3,8 @@ use Rattle.std.proofs.Common.{◌≡◌, true, rules, length, get_or, refl, sym,
 use Rattle.std.proofs.lemmas.List.{get_or_read_under}
 use Rattle.tp_inbox.specs.declared.envelope.Envelope.{Envelope}
 use Rattle.tp_inbox.specs.Envelopes.{of, has}
-use Rattle.tp_inbox.proofs.Steps.{sends_as}
-use Rattle.tp_inbox.proofs.Putting.{on_way, has-at, grown, ledger_after}
+use Rattle.tp_inbox.proofs.StepsKeepDeliveryRule.{sends_as}
+use Rattle.tp_inbox.proofs.SenderPutInvariants.{on_way, has-at, grown, ledger_after}
 use Rattle.tp_inbox.proofs.sender.Sender.put.Goals as goal
 
 pub push_as-requires-clause-rule : goal.push_as-requires-clause-rule

@@ -1,5 +1,5 @@
 -- What the rule of the queue says of a sender's routes.
-use Rattle.tp_inbox.proofs.Putting.{ways_aimed, ways_apart}
+use Rattle.tp_inbox.proofs.SenderPutInvariants.{ways_aimed, ways_apart}
 use Rattle.tp_inbox.proofs.sender.Sender.ways.Goals as goal
 
 pub returns-clause-aimed : goal.returns-clause-aimed

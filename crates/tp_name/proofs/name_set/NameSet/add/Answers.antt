@@ -2,7 +2,7 @@
 use Rattle.std.proofs.Common.{◌++◌, ◌∷◌, [], ◌∙◌, ◌≡◌, ◌<◌, ◌^◌, Contains, ap, map, subst, sym, true≢false, length, arith}
 use Rattle.std.proofs.lemmas.List.{length_push, length-map}
 use Rattle.tp_name.specs.Tables.{AreDistinct, IsNumbered}
-use Rattle.tp_name.proofs.Numbering.{key_added, distinct_more}
+use Rattle.tp_name.proofs.NameSetLookups.{key_added, distinct_more}
 use Rattle.tp_name.proofs.name_set.NameSet.add.Goals as goal
 
 pub returns-clause-ok : goal.returns-clause-ok

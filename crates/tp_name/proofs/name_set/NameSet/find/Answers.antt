@@ -2,8 +2,8 @@
 use Rattle.std.proofs.Common.{◌∙◌, ap, subst}
 use Rattle.std.specs.Str.{bytes_eq}
 use Rattle.tp_name.specs.Tables.{AreDistinct, place_of_name}
-use Rattle.tp_name.proofs.Numbering.{position_map, place_known, place_unknown}
-use Rattle.tp_name.proofs.NameTables.{position_is_place, position_is_nowhere}
+use Rattle.tp_name.proofs.NameSetLookups.{position_map, place_known, place_unknown}
+use Rattle.tp_name.proofs.FirstPlacesOfNames.{position_is_place, position_is_nowhere}
 use Rattle.tp_name.proofs.name_set.NameSet.find.Goals as goal
 
 pub returns-in-Some-clause-place : goal.returns-in-Some-clause-place

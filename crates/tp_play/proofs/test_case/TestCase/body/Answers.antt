@@ -5,7 +5,7 @@ use Rattle.tp_play.specs.Instances.{behaviour_of}
 use Rattle.tp_play.specs.TestCases.{Made}
 use Rattle.tp_play.specs.Ready.{CanDo}
 use Rattle.tp_play.specs.Seen.{as_behaviour}
-use Rattle.tp_play.proofs.Doing.{can_at}
+use Rattle.tp_play.proofs.PlayableBehaviours.{can_at}
 use Rattle.tp_play.proofs.test_case.TestCase.body.Goals as goal
 
 -- what the component does is its behaviour, which it can do in every test case

@@ -4,7 +4,7 @@ use Rattle.std.specs.Prelude.{ℤ}
 use Rattle.std.proofs.lemmas.Int.{to_z-of_z}
 use Rattle.tp_event.specs.declared.event.Event.TheVariants as event
 use Rattle.tp_queue.specs.Queues.{StandsFor}
-use Rattle.tp_port.proofs.Carrying.{carries_arrive}
+use Rattle.tp_port.proofs.ReplayedLineOutcomes.{carries_arrive}
 use Rattle.tp_port.proofs.engine.Engine.arrive.Goals as goal
 
 pub returns-in_ok-push_str-in-Ok : goal.returns-in_ok-push_str-in-Ok

@@ -2,7 +2,7 @@
 use Rattle.std.proofs.Common.{refl, arith}
 use Rattle.tp_event.specs.declared.event.Event.TheVariants as event
 use Rattle.tp_port.specs.Line.{stop}
-use Rattle.tp_port.proofs.Carrying.{carries_quiet, quiet_one}
+use Rattle.tp_port.proofs.ReplayedLineOutcomes.{carries_quiet, quiet_one}
 use Rattle.tp_port.proofs.engine.Engine.stop.Goals as goal
 
 pub returns : goal.returns

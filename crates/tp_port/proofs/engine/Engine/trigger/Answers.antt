@@ -1,7 +1,7 @@
 -- What became of the top is in the history and in the answer, and the wanted sender is seen.
 use Rattle.std.proofs.Common.{refl}
 use Rattle.tp_port.specs.Command.{wish_of}
-use Rattle.tp_port.proofs.Carrying.{carries_trigger}
+use Rattle.tp_port.proofs.ReplayedLineOutcomes.{carries_trigger}
 use Rattle.tp_port.proofs.engine.Engine.trigger.Goals as goal
 
 pub returns : goal.returns

@@ -4,7 +4,7 @@ use Rattle.std.specs.Option.{option_copied}
 use Rattle.tp_event.specs.declared.event.Event.{Event}
 use Rattle.tp_queue.specs.History.{Lawful}
 use Rattle.tp_queue.specs.Answers.{Checks, checked}
-use Rattle.tp_port.proofs.Checked.{check_done}
+use Rattle.tp_port.proofs.CheckAnswerIsFound.{check_done}
 use Rattle.tp_port.proofs.port_queue.PortQueue.check.Goals as goal
 
 pub returns : goal.returns

@@ -1,7 +1,7 @@
 -- A sender's number is its place by first sight; a new name goes behind the others.
 use Rattle.std.proofs.Common.{◌∙◌, ap, map, sym}
 use Rattle.tp_port.specs.Replay.{sender_number, with_sender}
-use Rattle.tp_port.proofs.Sightings.{seen_keys, number_key}
+use Rattle.tp_port.proofs.SeenSenderNumbers.{seen_keys, number_key}
 use Rattle.tp_port.proofs.senders.Senders.number.Goals as goal
 
 pub returns-clause-seen : goal.returns-clause-seen

@@ -1,5 +1,5 @@
 -- What is gone is within what may have been received.
-use Rattle.tp_queue.proofs.Queues.{within}
+use Rattle.tp_queue.proofs.QueueStateTransitions.{within}
 use Rattle.tp_queue.proofs.queue.Queue.ahead.Goals as goal
 
 pub returns-in-Started-clause-within : goal.returns-in-Started-clause-within

@@ -2,7 +2,7 @@
 use Rattle.std.proofs.Common.{arith, refl, ◌≡◌, ◌∷◌, ◌++◌, []}
 use Rattle.std.proofs.lemmas.Grind.{common_steps}
 use Rattle.tp_event.specs.declared.event.Event.TheVariants as event
-use Rattle.tp_queue.proofs.Queues.{arrive_stands, goes_on}
+use Rattle.tp_queue.proofs.QueueStateTransitions.{arrive_stands, goes_on}
 use Rattle.tp_queue.proofs.queue.Queue.arrive.Goals as goal
 
 pub invariant_of-self-2 : goal.invariant_of-self-2

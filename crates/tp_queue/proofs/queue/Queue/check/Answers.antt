@@ -1,5 +1,5 @@
 -- The answer is the top, which meets the criteria, and that it was found changes nothing.
-use Rattle.tp_queue.proofs.Calls.{checked_stands, checks_found}
+use Rattle.tp_queue.proofs.ReceivingCallAnswers.{checked_stands, checks_found}
 use Rattle.tp_queue.proofs.queue.Queue.check.Goals as goal
 
 pub returns : goal.returns

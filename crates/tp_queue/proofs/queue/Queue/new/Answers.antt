@@ -1,6 +1,6 @@
 -- A new queue stands for the history in which nothing has happened.
 use Rattle.std.proofs.Common.{[]}
-use Rattle.tp_queue.proofs.Queues.{none_stands}
+use Rattle.tp_queue.proofs.QueueStateTransitions.{none_stands}
 use Rattle.tp_queue.proofs.queue.Queue.new.Goals as goal
 
 pub invariant_of-result : goal.invariant_of-result

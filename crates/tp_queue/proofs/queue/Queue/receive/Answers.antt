@@ -1,5 +1,5 @@
 -- What is taken out is the top, which meets the criteria; else there is no such top.
-use Rattle.tp_queue.proofs.Calls.{receives_taken}
+use Rattle.tp_queue.proofs.ReceivingCallAnswers.{receives_taken}
 use Rattle.tp_queue.proofs.queue.Queue.receive.Goals as goal
 
 pub returns-then-offers : goal.returns-then-offers

@@ -1,7 +1,7 @@
 -- The queue stands for the history with the stop behind it.
 use Rattle.std.proofs.Common.{refl}
 use Rattle.tp_event.specs.declared.event.Event.TheVariants as event
-use Rattle.tp_queue.proofs.Queues.{stop_stands, goes_on}
+use Rattle.tp_queue.proofs.QueueStateTransitions.{stop_stands, goes_on}
 use Rattle.tp_queue.proofs.queue.Queue.stop.Goals as goal
 
 pub invariant_of-self : goal.invariant_of-self

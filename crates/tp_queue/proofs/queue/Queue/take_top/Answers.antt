@@ -1,7 +1,7 @@
 -- The queue stands for the history with the top taken or dropped, and the top is what is given.
 use Rattle.std.proofs.Common.{arith, sym}
 use Rattle.std.proofs.lemmas.Grind.{common_steps}
-use Rattle.tp_queue.proofs.Queues.{ahead_of, left_has_history, taken_out, top_absent}
+use Rattle.tp_queue.proofs.QueueStateTransitions.{ahead_of, left_has_history, taken_out, top_absent}
 use Rattle.tp_queue.proofs.queue.Queue.take_top.Goals as goal
 
 pub returns-then-ahead-eq0 : goal.returns-then-ahead-eq0

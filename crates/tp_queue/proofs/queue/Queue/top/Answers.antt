@@ -3,7 +3,7 @@ use Rattle.std.proofs.Common.{arith, ◌∙◌, ◌≡◌}
 use Rattle.std.specs.Prelude.{slice_get}
 use Rattle.std.specs.Option.{option_copied}
 use Rattle.std.proofs.lemmas.Grind.{common_steps}
-use Rattle.tp_queue.proofs.Queues.{ahead_of, top_absent, top_there}
+use Rattle.tp_queue.proofs.QueueStateTransitions.{ahead_of, top_absent, top_there}
 use Rattle.tp_queue.proofs.queue.Queue.top.Goals as goal
 
 pub returns-then-ahead-eq0 : goal.returns-then-ahead-eq0

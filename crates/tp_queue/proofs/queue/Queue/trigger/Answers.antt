@@ -1,5 +1,5 @@
 -- What is taken out is the top, received where it meets the criteria and else discarded.
-use Rattle.tp_queue.proofs.Calls.{triggers}
+use Rattle.tp_queue.proofs.ReceivingCallAnswers.{triggers}
 use Rattle.tp_queue.proofs.queue.Queue.trigger.Goals as goal
 
 pub returns-in-Some : goal.returns-in-Some

@@ -3,7 +3,7 @@ use Rattle.std.proofs.Common.{◌≡◌, ◌≢◌, ◌++◌, length, subst, ap,
 use Rattle.std.specs.Prelude.{AllPairs}
 use Rattle.std.proofs.lemmas.List.{length-append}
 use Rattle.tp_trace.specs.Tree.{names_of}
-use Rattle.tp_referee.proofs.Naming.{apart_behind}
+use Rattle.tp_referee.proofs.SectionComponentsFirst.{apart_behind}
 use Rattle.tp_referee.proofs.components.Components.len.Goals as goal
 
 pub returns-clause-distinct : goal.returns-clause-distinct

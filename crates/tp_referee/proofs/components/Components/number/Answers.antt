@@ -3,10 +3,10 @@ use Rattle.std.proofs.Common.{◌≡◌, ◌+◌, ◌++◌, ◌∙◌, Some, len
 use Rattle.std.proofs.lemmas.List.{length-append}
 use Rattle.std.proofs.lemmas.Option.{slice_get_within}
 use Rattle.tp_trace.specs.Tree.{names_of}
-use Rattle.tp_trace.proofs.Places.{place_unknown}
+use Rattle.tp_trace.proofs.SectionNamePlaces.{place_unknown}
 use Rattle.tp_referee.specs.Kept.{Keeps}
-use Rattle.tp_referee.proofs.Keeping.{kept_append}
-use Rattle.tp_referee.proofs.Naming.{kept_behind, section_there, still_others, there_behind}
+use Rattle.tp_referee.proofs.KeySetGrowth.{kept_append}
+use Rattle.tp_referee.proofs.SectionComponentsFirst.{kept_behind, section_there, still_others, there_behind}
 use Rattle.tp_referee.proofs.components.Components.number.Goals as goal
 
 pub returns-in-Some-clause-there : goal.returns-in-Some-clause-there

@@ -1,8 +1,8 @@
 -- A component more, and ports keep theirs.
 use Rattle.std.proofs.Common.{[], arith}
 use Rattle.std.proofs.lemmas.Result.{on_ok_weaker}
-use Rattle.tp_referee.proofs.Growing.{kept_length}
-use Rattle.tp_referee.proofs.Keeping.{from_both}
+use Rattle.tp_referee.proofs.NumberTableGrowth.{kept_length}
+use Rattle.tp_referee.proofs.KeySetGrowth.{from_both}
 use Rattle.tp_referee.proofs.tables.Tables.component.Goals as goal
 
 pub returns-clause-grows : goal.returns-clause-grows

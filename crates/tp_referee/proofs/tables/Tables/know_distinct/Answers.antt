@@ -1,5 +1,5 @@
 -- No table has anything twice.
-use Rattle.tp_referee.proofs.Apart.{ports_apart, routes_apart}
+use Rattle.tp_referee.proofs.PortAndRouteEquality.{ports_apart, routes_apart}
 use Rattle.tp_referee.proofs.tables.Tables.know_distinct.Goals as goal
 
 pub returns : goal.returns

@@ -1,6 +1,6 @@
 -- The numbers of port, route and message stay as the tables grow.
 use Rattle.std.proofs.Common.{arith, refl}
-use Rattle.tp_referee.proofs.Growing.{Grows-then, port_grows}
+use Rattle.tp_referee.proofs.NumberTableGrowth.{Grows-then, port_grows}
 use Rattle.tp_referee.proofs.tables.Tables.mention.Goals as goal
 
 pub returns-clause-mention : goal.returns-clause-mention

@@ -1,6 +1,6 @@
 -- A message more.
 use Rattle.std.proofs.Common.{arith}
-use Rattle.tp_referee.proofs.Keeping.{from_both}
+use Rattle.tp_referee.proofs.KeySetGrowth.{from_both}
 use Rattle.tp_referee.proofs.tables.Tables.message.Goals as goal
 
 pub returns-clause-grows : goal.returns-clause-grows

@@ -1,6 +1,6 @@
 -- A name more.
 use Rattle.std.proofs.Common.{arith}
-use Rattle.tp_referee.proofs.Keeping.{from_both}
+use Rattle.tp_referee.proofs.KeySetGrowth.{from_both}
 use Rattle.tp_referee.proofs.tables.Tables.name.Goals as goal
 
 pub returns-clause-grows : goal.returns-clause-grows

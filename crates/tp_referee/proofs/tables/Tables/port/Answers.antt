@@ -1,8 +1,8 @@
 -- The name's number stays when the port gets its own.
 use Rattle.std.proofs.Common.{[], arith}
 use Rattle.std.proofs.lemmas.Result.{on_ok_weaker}
-use Rattle.tp_referee.proofs.Growing.{Grows-then, kept_length}
-use Rattle.tp_referee.proofs.Keeping.{from_both}
+use Rattle.tp_referee.proofs.NumberTableGrowth.{Grows-then, kept_length}
+use Rattle.tp_referee.proofs.KeySetGrowth.{from_both}
 use Rattle.tp_referee.proofs.tables.Tables.port.Goals as goal
 
 pub returns-clause-there : goal.returns-clause-there

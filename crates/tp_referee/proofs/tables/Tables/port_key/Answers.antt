@@ -3,9 +3,9 @@ use Rattle.std.proofs.Common.{◌≡◌, ◌∙◌, Some, ap, length, subst, sym
 use Rattle.std.proofs.lemmas.Result.{IfOk-weaker, on_ok_weaker}
 use Rattle.tp_referee.specs.Kept.{Keeps}
 use Rattle.tp_referee.specs.declared.tables.PortKey.{PortKey}
-use Rattle.tp_referee.proofs.Apart.{port_eq, port_same}
-use Rattle.tp_referee.proofs.Growing.{whole_more}
-use Rattle.tp_referee.proofs.Keeping.{few_key, kept_key}
+use Rattle.tp_referee.proofs.PortAndRouteEquality.{port_eq, port_same}
+use Rattle.tp_referee.proofs.NumberTableGrowth.{whole_more}
+use Rattle.tp_referee.proofs.KeySetGrowth.{few_key, kept_key}
 use Rattle.tp_referee.proofs.tables.Tables.port_key.Goals as goal
 
 pub returns-clause-there : goal.returns-clause-there

@@ -3,8 +3,8 @@ use Rattle.std.proofs.Common.{◌∙◌, Some, ap, length, subst, sym, arith}
 use Rattle.std.proofs.lemmas.Result.{IfOk-weaker, on_ok_weaker}
 use Rattle.tp_referee.specs.Kept.{Keeps}
 use Rattle.tp_referee.specs.declared.tables.RouteKey.{RouteKey}
-use Rattle.tp_referee.proofs.Apart.{route_eq, route_same}
-use Rattle.tp_referee.proofs.Keeping.{few_key, kept_key}
+use Rattle.tp_referee.proofs.PortAndRouteEquality.{route_eq, route_same}
+use Rattle.tp_referee.proofs.KeySetGrowth.{few_key, kept_key}
 use Rattle.tp_referee.proofs.tables.Tables.route.Goals as goal
 
 pub returns-clause-there : goal.returns-clause-there

@@ -1,7 +1,7 @@
 -- The component of a port is one of the configuration.
 use Rattle.std.proofs.Common.{subst}
 use Rattle.tp_report.specs.LineOpenings.{NamesKnown}
-use Rattle.tp_report.proofs.Naming.{component_of}
+use Rattle.tp_report.proofs.ComponentAndPortNames.{component_of}
 use Rattle.tp_report.proofs.opening.Opening.pieces.Goals as goal
 
 pub component_name-requires : goal.component_name-requires

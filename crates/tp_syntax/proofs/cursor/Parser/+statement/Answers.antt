@@ -6,28 +6,28 @@ use Rattle.tp_token.specs.Lexeme.{Lexeme, word, symbol}
 use Rattle.tp_syntax.specs.Sequences.{braced, end_lexemes}
 use Rattle.tp_syntax.specs.Statements.{statement_lexemes, branch_lexemes, statements_lexemes, turns_lexemes, receive_lexemes, otherwise_lexemes, send_lexemes, control_lexemes, all_ports_lexemes, set_verdict_lexemes}
 use Rattle.tp_syntax.proofs.StatementTokens.{counted_made, else_branch_made, for_append}
-use Rattle.tp_syntax.proofs.Commas.{push_read_all}
+use Rattle.tp_syntax.proofs.ReadSequenceGrowth.{push_read_all}
 use Rattle.tp_syntax.specs.Nesting.{branch_depth, statement_depth, statements_depth, branches_depth, otherwise_depth}
-use Rattle.tp_syntax.proofs.Nesting.{counted_depth_made, else_branch_depth_made, push_nests}
+use Rattle.tp_syntax.proofs.NestingEquations.{counted_depth_made, else_branch_depth_made, push_nests}
 use Rattle.std.proofs.lemmas.Bool.{and_from, false≢true, iff_false}
 use Rattle.tp_syntax.specs.Grammar.{are_parts, body_part, branch_part, branches_parts, has_one, is_64_bit, is_template_part, otherwise_parts, statement_part, statements_parts}
-use Rattle.tp_syntax.proofs.Grammar as grammar
-use Rattle.tp_syntax.proofs.Standing.{between_one, between_parts, between_push, between_then, bracket_goes_on, between_none}
-use Rattle.tp_syntax.proofs.Branches.{alt_of_branches, alt_of_else}
+use Rattle.tp_syntax.proofs.GrammarEquations as grammar
+use Rattle.tp_syntax.proofs.PassedPartGrowth.{between_one, between_parts, between_push, between_then, bracket_goes_on, between_none}
+use Rattle.tp_syntax.proofs.AltHasOneBranch.{alt_of_branches, alt_of_else}
 use Rattle.std.proofs.lemmas.Grind.{common_steps}
-use Rattle.tp_syntax.proofs.Reading.{handed, end_at, branch_first, first_is}
-use Rattle.tp_syntax.proofs.Remaining.{RemainAll, all_next, all_last, all_deep, parts_stand}
+use Rattle.tp_syntax.proofs.FirstTokensAhead.{handed, end_at, branch_first, first_is}
+use Rattle.tp_syntax.proofs.PartsLeftToRead.{RemainAll, all_next, all_last, all_deep, parts_stand}
 use Rattle.tp_syntax.specs.Reading.{is_branch_ahead, MayStandBefore, may_end_before}
 use Rattle.tp_syntax.proofs.StatementParts.{branch_at, body_next, body_none, no_otherwise, otherwise_next, branches_stand, otherwise_stands, otherwise_no_branch, alt_read, zero_length, Says}
-use Rattle.tp_syntax.proofs.StatementGiven.{action_given, alt_given, branch_ends, branch_given, counted_given, statement_ends, statement_given}
+use Rattle.tp_syntax.proofs.RightStatementsAhead.{action_given, alt_given, branch_ends, branch_given, counted_given, statement_ends, statement_given}
 use Rattle.tp_syntax.proofs.StatementReading.{statement_begins, statement_goes, branch_begins, action_no_zero}
 use Rattle.tp_tree.specs.declared.tree.Statement.{out-Statement}
 use Rattle.tp_tree.specs.declared.tree.Branch.{out-Branch}
 use Rattle.tp_tree.specs.declared.tree.Counted.{out-Counted}
 use Rattle.tp_syntax.specs.Values.{int_lexemes}
 use Rattle.tp_syntax.specs.Ahead.{starts_zero}
-use Rattle.tp_syntax.proofs.Lines.{passes_at, passes_next, passes_none, passes_one, passes_push, passes_then, passes_unnoted}
-use Rattle.tp_syntax.proofs.Notes as notes
+use Rattle.tp_syntax.proofs.LinesOfPassedTokens.{passes_at, passes_next, passes_none, passes_one, passes_push, passes_then, passes_unnoted}
+use Rattle.tp_syntax.proofs.StatementNotes as notes
 use Rattle.tp_syntax.specs.Lines.{branch_notes, statement_notes}
 use Rattle.tp_syntax.proofs.cursor.Parser.+statement.Goals as goal
 use Rattle.tp_syntax.proofs.cursor.Parser.+statement.Goals.{alt-else-is_empty-via-then-is_empty+else-is_none, alt-else-is_empty-via-else-is_empty}

@@ -7,7 +7,7 @@ use Rattle.tp_syntax.specs.Standing.{GoesOver}
 use Rattle.tp_syntax.specs.Nesting.{branches_depth, statements_depth, statement_depth, branch_depth}
 use Rattle.tp_token.specs.Lexeme.{Lexeme}
 use Rattle.tp_syntax.specs.Reading.{AllStand, is_end_ahead, is_branch_ahead}
-use Rattle.tp_syntax.proofs.Remaining.{RemainAll}
+use Rattle.tp_syntax.proofs.PartsLeftToRead.{RemainAll}
 use Rattle.tp_tree.specs.declared.tree.Statement.{Statement}
 use Rattle.tp_tree.specs.declared.tree.Branch.{Branch}
 use Rattle.tp_syntax.specs.Lines.{branch_notes, noted_in_order, statement_notes}

@@ -1,17 +1,17 @@
 -- One more template or field of a template is read behind its comma.
 use Rattle.std.proofs.Common.{◌∙◌, map, refl, arith, length-append, sym, subst, rules, ◌≡◌, ◌≤◌, true, inl, inr, ap, append_assoc, [], ◌∷◌}
 use Rattle.std.proofs.lemmas.Bool.{and_from, iff_false}
-use Rattle.tp_syntax.proofs.Ranges.{list_no_range, range_at}
+use Rattle.tp_syntax.proofs.RangeReading.{list_no_range, range_at}
 use Rattle.tp_syntax.specs.Templates.{template_lexemes, template_field_lexemes}
-use Rattle.tp_syntax.proofs.Commas.{push_read}
+use Rattle.tp_syntax.proofs.ReadSequenceGrowth.{push_read}
 use Rattle.tp_syntax.specs.Nesting.{deepest, template_depth, template_field_depth}
-use Rattle.tp_syntax.proofs.Nesting.{push_nests, template_field_depth_out}
+use Rattle.tp_syntax.proofs.NestingEquations.{push_nests, template_field_depth_out}
 use Rattle.tp_syntax.specs.Grammar.{is_bound, is_template, is_template_field}
-use Rattle.tp_syntax.proofs.Grammar.{template_int, template_bool, template_text, template_name, template_any, template_any_or_none, template_one_of, template_complement, template_range, template_list, template_record, template_field_out}
-use Rattle.tp_syntax.proofs.Standing.{each_of_one, push_right}
+use Rattle.tp_syntax.proofs.GrammarEquations.{template_int, template_bool, template_text, template_name, template_any, template_any_or_none, template_one_of, template_complement, template_range, template_list, template_record, template_field_out}
+use Rattle.tp_syntax.proofs.PassedPartGrowth.{each_of_one, push_right}
 use Rattle.std.proofs.lemmas.Grind.{common_steps}
-use Rattle.tp_syntax.proofs.Reading.{handed, same_ahead}
-use Rattle.tp_syntax.proofs.Remaining.{Remain, comma_first, comma_next, comma_last, one_right, one_of, none_of, some_of}
+use Rattle.tp_syntax.proofs.FirstTokensAhead.{handed, same_ahead}
+use Rattle.tp_syntax.proofs.PartsLeftToRead.{Remain, comma_first, comma_next, comma_last, one_right, one_of, none_of, some_of}
 use Rattle.tp_token.specs.declared.token.Token.TheVariants as token
 use Rattle.tp_token.specs.declared.word.Word.TheVariants as w
 use Rattle.tp_token.specs.Lexeme.{name, word, number, text, symbol, lexeme_of}
@@ -21,7 +21,7 @@ use Rattle.tp_syntax.specs.declared.cursor.Parser.{Parser}
 use Rattle.tp_syntax.specs.Ahead.{ahead, lexemes_from}
 use Rattle.tp_syntax.specs.Sequences.{by_commas}
 use Rattle.tp_syntax.specs.Reading.{first}
-use Rattle.tp_syntax.proofs.Entries.{list_no_field, field_at, each_one, too_great}
+use Rattle.tp_syntax.proofs.BracedFieldsOrList.{list_no_field, field_at, each_one, too_great}
 use Rattle.tp_syntax.proofs.TemplateReading.{template_behind, template_minus, template_some, template_token, is_template_token, template_no_brace, template_field_no_brace, template_named, template_field_starts, template_field_opens}
 use Rattle.tp_tree.specs.declared.message.TemplateField.{out-TemplateField}
 use Rattle.tp_syntax.proofs.cursor.Parser.+template.Goals as goal

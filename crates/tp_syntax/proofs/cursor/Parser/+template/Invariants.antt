@@ -7,7 +7,7 @@ use Rattle.tp_syntax.specs.Grammar.{one_and_each, is_template, is_template_field
 use Rattle.tp_syntax.specs.Nesting.{deepest, template_depth, template_field_depth}
 use Rattle.tp_token.specs.Lexeme.{Lexeme}
 use Rattle.tp_syntax.specs.Reading.{Stops}
-use Rattle.tp_syntax.proofs.Remaining.{Remain}
+use Rattle.tp_syntax.proofs.PartsLeftToRead.{Remain}
 use Rattle.tp_tree.specs.declared.message.Template.{Template}
 use Rattle.tp_tree.specs.declared.message.TemplateField.{TemplateField}
 use Rattle.tp_syntax.specs.Forward.{GoesForward}

@@ -1,15 +1,15 @@
 -- One more value or field of a value is read behind its comma.
 use Rattle.std.proofs.Common.{◌∙◌, map, refl, arith, length-append, sym, subst, rules, ◌≡◌, ◌≤◌, true, inl, inr, ap, append_assoc, [], ◌∷◌}
 use Rattle.tp_syntax.specs.Values.{value_lexemes, value_field_lexemes}
-use Rattle.tp_syntax.proofs.Commas.{push_read}
+use Rattle.tp_syntax.proofs.ReadSequenceGrowth.{push_read}
 use Rattle.tp_syntax.specs.Nesting.{value_depth, value_field_depth}
-use Rattle.tp_syntax.proofs.Nesting.{push_nests, value_field_depth_out}
+use Rattle.tp_syntax.proofs.NestingEquations.{push_nests, value_field_depth_out}
 use Rattle.tp_syntax.specs.Grammar.{is_value, is_value_field}
-use Rattle.tp_syntax.proofs.Grammar.{value_int, value_bool, value_text, value_name, value_list, value_record, value_field_out}
-use Rattle.tp_syntax.proofs.Standing.{each_of_one, push_right}
+use Rattle.tp_syntax.proofs.GrammarEquations.{value_int, value_bool, value_text, value_name, value_list, value_record, value_field_out}
+use Rattle.tp_syntax.proofs.PassedPartGrowth.{each_of_one, push_right}
 use Rattle.std.proofs.lemmas.Grind.{common_steps}
-use Rattle.tp_syntax.proofs.Reading.{handed, same_ahead}
-use Rattle.tp_syntax.proofs.Remaining.{Remain, comma_first, comma_next, comma_last, one_right, one_of, none_of, some_of}
+use Rattle.tp_syntax.proofs.FirstTokensAhead.{handed, same_ahead}
+use Rattle.tp_syntax.proofs.PartsLeftToRead.{Remain, comma_first, comma_next, comma_last, one_right, one_of, none_of, some_of}
 use Rattle.std.proofs.lemmas.Bool.{iff_false}
 use Rattle.tp_token.specs.declared.token.Token.TheVariants as token
 use Rattle.tp_token.specs.declared.word.Word.TheVariants as w
@@ -20,7 +20,7 @@ use Rattle.tp_syntax.specs.declared.cursor.Parser.{Parser}
 use Rattle.tp_syntax.specs.Ahead.{ahead, lexemes_from}
 use Rattle.tp_syntax.specs.Sequences.{by_commas}
 use Rattle.tp_syntax.specs.Reading.{first}
-use Rattle.tp_syntax.proofs.Entries.{list_no_field, field_at, each_one, too_great}
+use Rattle.tp_syntax.proofs.BracedFieldsOrList.{list_no_field, field_at, each_one, too_great}
 use Rattle.tp_syntax.proofs.ValueReading.{value_behind, value_minus, value_some, value_token, is_value_token, value_no_brace, value_field_no_brace, value_named, value_field_starts, value_field_opens}
 use Rattle.tp_tree.specs.declared.message.ValueField.{out-ValueField}
 use Rattle.tp_syntax.proofs.cursor.Parser.+value.Goals as goal

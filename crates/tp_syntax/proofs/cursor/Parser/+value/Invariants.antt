@@ -7,7 +7,7 @@ use Rattle.tp_syntax.specs.Grammar.{one_and_each, is_value, is_value_field}
 use Rattle.tp_syntax.specs.Nesting.{deepest, value_depth, value_field_depth}
 use Rattle.tp_token.specs.Lexeme.{Lexeme}
 use Rattle.tp_syntax.specs.Reading.{Stops}
-use Rattle.tp_syntax.proofs.Remaining.{Remain}
+use Rattle.tp_syntax.proofs.PartsLeftToRead.{Remain}
 use Rattle.tp_tree.specs.declared.message.Value.{Value}
 use Rattle.tp_tree.specs.declared.message.ValueField.{ValueField}
 use Rattle.tp_syntax.specs.Forward.{GoesForward}

@@ -2,8 +2,8 @@
 use Rattle.std.proofs.Common.{refl}
 use Rattle.std.proofs.lemmas.Bool.{iff_false}
 use Rattle.tp_syntax.proofs.DefinitionReading.{no_done, done_next}
-use Rattle.tp_syntax.proofs.Reading.{handed}
-use Rattle.tp_syntax.proofs.Standing.{between_one, word_goes_on}
+use Rattle.tp_syntax.proofs.FirstTokensAhead.{handed}
+use Rattle.tp_syntax.proofs.PassedPartGrowth.{between_one, word_goes_on}
 use Rattle.tp_syntax.proofs.cursor.Parser.all_done.Goals as goal
 
 pub returns-clause-grammatical : goal.returns-clause-grammatical

@@ -1,12 +1,12 @@
 -- One more argument of a start is read behind its comma.
 use Rattle.std.proofs.Common.{arith, length-append, sym, subst, ap, ◌∙◌, rules}
 use Rattle.tp_syntax.specs.Statements.{component_lexemes}
-use Rattle.tp_syntax.proofs.Commas.{push_read}
+use Rattle.tp_syntax.proofs.ReadSequenceGrowth.{push_read}
 use Rattle.std.proofs.lemmas.Grind.{common_steps}
-use Rattle.tp_syntax.proofs.Reading.{handed, same_ahead, paren_at, paren_first}
-use Rattle.tp_syntax.proofs.Remaining.{Remain, comma_first, comma_next, comma_last, all_any, none_of, some_of}
+use Rattle.tp_syntax.proofs.FirstTokensAhead.{handed, same_ahead, paren_at, paren_first}
+use Rattle.tp_syntax.proofs.PartsLeftToRead.{Remain, comma_first, comma_next, comma_last, all_any, none_of, some_of}
 use Rattle.tp_syntax.specs.Reading.{first, ends_operation}
-use Rattle.tp_syntax.proofs.Begins.{component_no_paren}
+use Rattle.tp_syntax.proofs.FirstTokensOfParts.{component_no_paren}
 use Rattle.std.proofs.lemmas.Bool.{iff_false}
 use Rattle.tp_syntax.proofs.cursor.Parser.arguments.Goals as goal
 

@@ -1,12 +1,12 @@
 -- Each declaration of ports but the last has its `;`.
 use Rattle.std.proofs.Common.{map, append_assoc, append_assoc, refl}
 use Rattle.tp_syntax.specs.Grammar.{port_declaration_part}
-use Rattle.tp_syntax.proofs.Standing.{between_parts}
-use Rattle.tp_syntax.proofs.Reading.{handed}
+use Rattle.tp_syntax.proofs.PassedPartGrowth.{between_parts}
+use Rattle.tp_syntax.proofs.FirstTokensAhead.{handed}
 use Rattle.tp_syntax.specs.Definitions.{component_type_lexemes}
 use Rattle.tp_syntax.proofs.DefinitionReading.{ports_stand}
 use Rattle.tp_syntax.specs.Lines.{component_type_notes}
-use Rattle.tp_syntax.proofs.Lines.{passes_next, passes_one, passes_then}
+use Rattle.tp_syntax.proofs.LinesOfPassedTokens.{passes_next, passes_one, passes_then}
 use Rattle.tp_syntax.proofs.cursor.Parser.component_type.Goals as goal
 
 pub returns-clause-grammatical : goal.returns-clause-grammatical

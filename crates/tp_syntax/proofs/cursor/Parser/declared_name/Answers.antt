@@ -1,7 +1,7 @@
 -- A name is passed on its line.
 use Rattle.std.proofs.Common.{ap}
 use Rattle.tp_syntax.specs.Ahead.{starts_zero}
-use Rattle.tp_syntax.proofs.Lines.{passes_at, passes_one}
+use Rattle.tp_syntax.proofs.LinesOfPassedTokens.{passes_at, passes_one}
 use Rattle.tp_syntax.proofs.cursor.Parser.declared_name.Goals as goal
 
 pub returns-clause-lines : goal.returns-clause-lines

@@ -1,7 +1,7 @@
 -- The first token tells what is defined.
 use Rattle.std.proofs.lemmas.Bool.{iff_false}
-use Rattle.tp_syntax.proofs.CaseReading.{function_of, test_case_of, type_of}
-use Rattle.tp_syntax.proofs.Reading.{handed}
+use Rattle.tp_syntax.proofs.TestCaseReading.{function_of, test_case_of, type_of}
+use Rattle.tp_syntax.proofs.FirstTokensAhead.{handed}
 use Rattle.tp_syntax.specs.Lines.{defined_notes}
 use Rattle.tp_syntax.proofs.cursor.Parser.defined.Goals as goal
 

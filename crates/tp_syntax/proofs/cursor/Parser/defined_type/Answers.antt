@@ -1,10 +1,10 @@
 -- The first three tokens tell which type is defined.
 use Rattle.std.proofs.lemmas.Bool.{iff_false}
 use Rattle.tp_syntax.proofs.DefinitionReading.{port_of, component_of, list_of, record_of}
-use Rattle.tp_syntax.proofs.Reading.{handed}
+use Rattle.tp_syntax.proofs.FirstTokensAhead.{handed}
 use Rattle.tp_syntax.specs.Definitions.{port_type_lexemes, list_type_lexemes}
 use Rattle.tp_syntax.specs.Lines.{defined_notes}
-use Rattle.tp_syntax.proofs.Lines.{passes_unnoted}
+use Rattle.tp_syntax.proofs.LinesOfPassedTokens.{passes_unnoted}
 use Rattle.tp_syntax.proofs.cursor.Parser.defined_type.Goals as goal
 
 pub returns-in_err-port-clause-reads : goal.returns-in_err-port-clause-reads

@@ -4,11 +4,11 @@ use Rattle.tp_token.specs.Lexeme.{Lexeme}
 use Rattle.tp_syntax.specs.Sequences.{end_lexemes}
 use Rattle.tp_syntax.specs.Definitions.{defined_lexemes}
 use Rattle.tp_syntax.specs.Reading.{MayStandBefore}
-use Rattle.tp_syntax.proofs.CaseReading.{same_closed}
-use Rattle.tp_syntax.proofs.Reading.{handed}
+use Rattle.tp_syntax.proofs.TestCaseReading.{same_closed}
+use Rattle.tp_syntax.proofs.FirstTokensAhead.{handed}
 use Rattle.tp_syntax.specs.Ahead.{starts_zero}
-use Rattle.tp_syntax.proofs.Lines.{passes_at, passes_then, passes_unnoted}
-use Rattle.tp_syntax.proofs.Begins.{defined_no_zero}
+use Rattle.tp_syntax.proofs.LinesOfPassedTokens.{passes_at, passes_then, passes_unnoted}
+use Rattle.tp_syntax.proofs.FirstTokensOfParts.{defined_no_zero}
 use Rattle.tp_syntax.proofs.cursor.Parser.definition.Goals as goal
 
 pub returns-in_err-defined-clause-reads : goal.returns-in_err-defined-clause-reads

@@ -2,19 +2,19 @@
 use Rattle.std.proofs.Common.{arith, sym, subst, ap, ◌∙◌, rules, ◌≤◌}
 use Rattle.tp_syntax.specs.Definitions.{definition_lexemes}
 use Rattle.tp_syntax.specs.Grammar.{definition_part}
-use Rattle.tp_syntax.proofs.Commas.{push_read_all}
+use Rattle.tp_syntax.proofs.ReadSequenceGrowth.{push_read_all}
 use Rattle.std.proofs.lemmas.Bool.{iff_false}
-use Rattle.tp_syntax.proofs.Standing.{between_push, between_none}
+use Rattle.tp_syntax.proofs.PassedPartGrowth.{between_push, between_none}
 use Rattle.tp_tree.specs.declared.tree.Definition.{Definition}
 use Rattle.tp_syntax.specs.Nesting.{defined_depth}
-use Rattle.tp_syntax.proofs.Nesting.{push_nests}
+use Rattle.tp_syntax.proofs.NestingEquations.{push_nests}
 use Rattle.std.proofs.lemmas.Grind.{common_steps}
-use Rattle.tp_syntax.proofs.Reading.{handed, brace_at, brace_first}
-use Rattle.tp_syntax.proofs.Remaining.{RemainAll, all_next, all_last, no_brace, all_deep}
-use Rattle.tp_syntax.proofs.Begins.{definition_begins}
+use Rattle.tp_syntax.proofs.FirstTokensAhead.{handed, brace_at, brace_first}
+use Rattle.tp_syntax.proofs.PartsLeftToRead.{RemainAll, all_next, all_last, no_brace, all_deep}
+use Rattle.tp_syntax.proofs.FirstTokensOfParts.{definition_begins}
 use Rattle.tp_syntax.specs.Reading.{first}
 use Rattle.tp_syntax.specs.Lines.{definition_notes}
-use Rattle.tp_syntax.proofs.Lines.{passes_none, passes_push}
+use Rattle.tp_syntax.proofs.LinesOfPassedTokens.{passes_none, passes_push}
 use Rattle.tp_syntax.proofs.cursor.Parser.definitions.Goals as goal
 
 pub more-preserved : goal.more-preserved

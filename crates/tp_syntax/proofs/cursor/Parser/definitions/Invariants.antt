@@ -7,7 +7,7 @@ use Rattle.tp_syntax.specs.Grammar.{definition_part}
 use Rattle.tp_syntax.specs.Standing.{GoesOver}
 use Rattle.tp_token.specs.Lexeme.{Lexeme, symbol}
 use Rattle.tp_syntax.specs.Reading.{AllStand, first}
-use Rattle.tp_syntax.proofs.Remaining.{RemainAll}
+use Rattle.tp_syntax.proofs.PartsLeftToRead.{RemainAll}
 use Rattle.tp_tree.specs.declared.tree.Definition.{Definition}
 use Rattle.tp_token.specs.declared.token.Symbol.TheVariants.{RightBrace}
 use Rattle.tp_syntax.specs.Lines.{noted_in_order, definition_notes}

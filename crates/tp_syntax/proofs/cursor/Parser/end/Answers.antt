@@ -8,7 +8,7 @@ use Rattle.tp_syntax.specs.declared.cursor.Parser.{Parser}
 use Rattle.tp_syntax.specs.Ahead.{ahead, token_at}
 use Rattle.tp_syntax.specs.Sequences.{end_lexemes}
 use Rattle.tp_syntax.specs.Reading.{first, may_end_before, MayStandBefore}
-use Rattle.tp_syntax.proofs.Reading.{brace_at}
+use Rattle.tp_syntax.proofs.FirstTokensAhead.{brace_at}
 use Rattle.tp_syntax.proofs.cursor.Parser.end.Goals as goal
 
 -- a part that isn't ended stands before a `}`

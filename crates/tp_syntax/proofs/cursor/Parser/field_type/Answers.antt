@@ -1,6 +1,6 @@
 -- A field is passed with the line of its name.
 use Rattle.tp_syntax.specs.Values.{type_lexemes}
-use Rattle.tp_syntax.proofs.Lines.{passes_then, passes_unnoted}
+use Rattle.tp_syntax.proofs.LinesOfPassedTokens.{passes_then, passes_unnoted}
 use Rattle.tp_syntax.proofs.cursor.Parser.field_type.Goals as goal
 
 pub returns-clause-lines : goal.returns-clause-lines

@@ -1,14 +1,14 @@
 -- Each variable and statement but the last of them has its `;`, or ends in a `}`.
 use Rattle.std.proofs.Common.{◌++◌, map, append_assoc, append_assoc, refl, ◌∷◌, arith}
 use Rattle.tp_syntax.specs.Grammar.{statements_parts, variable_part}
-use Rattle.tp_syntax.proofs.Standing.{between_parts, between_then}
-use Rattle.tp_syntax.proofs.Reading.{handed}
+use Rattle.tp_syntax.proofs.PassedPartGrowth.{between_parts, between_then}
+use Rattle.tp_syntax.proofs.FirstTokensAhead.{handed}
 use Rattle.tp_syntax.specs.Definitions.{function_lexemes}
-use Rattle.tp_syntax.proofs.CaseReading.{function_variables, function_statements, statements_no_var}
+use Rattle.tp_syntax.proofs.TestCaseReading.{function_variables, function_statements, statements_no_var}
 use Rattle.tp_token.specs.Lexeme.{symbol}
 use Rattle.tp_token.specs.declared.token.Symbol.TheVariants.{RightBrace}
 use Rattle.tp_syntax.specs.Lines.{function_notes}
-use Rattle.tp_syntax.proofs.Lines.{passes_next, passes_one, passes_then}
+use Rattle.tp_syntax.proofs.LinesOfPassedTokens.{passes_next, passes_one, passes_then}
 use Rattle.tp_syntax.proofs.cursor.Parser.function.Goals as goal
 
 pub returns-clause-grammatical : goal.returns-clause-grammatical

@@ -4,7 +4,7 @@ use Rattle.std.proofs.lemmas.Bool.{iff_false}
 use Rattle.tp_syntax.specs.Grammar.{is_bound}
 use Rattle.tp_syntax.specs.Templates.{low_lexemes}
 use Rattle.tp_syntax.proofs.DefinitionReading.{low_none, low_some}
-use Rattle.tp_syntax.proofs.Reading.{handed}
+use Rattle.tp_syntax.proofs.FirstTokensAhead.{handed}
 use Rattle.tp_syntax.proofs.cursor.Parser.low.Goals as goal
 
 pub returns-in_err-symbol-clause-reads : goal.returns-in_err-symbol-clause-reads

@@ -1,16 +1,16 @@
 -- Each definition but the last has its `;`, or ends in a `}`.
 use Rattle.std.proofs.Common.{map, append_assoc, append_assoc, refl, ◌∷◌, ◌++◌, arith, ap}
 use Rattle.tp_syntax.specs.Grammar.{definition_part}
-use Rattle.tp_syntax.proofs.Standing.{between_parts}
-use Rattle.tp_syntax.proofs.Reading.{handed}
-use Rattle.tp_syntax.proofs.CaseReading.{ended_stands}
+use Rattle.tp_syntax.proofs.PassedPartGrowth.{between_parts}
+use Rattle.tp_syntax.proofs.FirstTokensAhead.{handed}
+use Rattle.tp_syntax.proofs.TestCaseReading.{ended_stands}
 use Rattle.tp_token.specs.Lexeme.{symbol}
 use Rattle.tp_token.specs.declared.token.Symbol.TheVariants.{RightBrace}
-use Rattle.tp_syntax.proofs.Remaining.{parts_stand}
+use Rattle.tp_syntax.proofs.PartsLeftToRead.{parts_stand}
 use Rattle.tp_syntax.specs.Sequences.{end_lexemes}
 use Rattle.tp_syntax.specs.Reading.{first}
 use Rattle.tp_syntax.specs.Ahead.{starts_zero}
-use Rattle.tp_syntax.proofs.Lines.{passes_at, passes_next, passes_one, passes_then, passes_unnoted}
+use Rattle.tp_syntax.proofs.LinesOfPassedTokens.{passes_at, passes_next, passes_one, passes_then, passes_unnoted}
 use Rattle.tp_syntax.proofs.cursor.Parser.module.Goals as goal
 
 pub returns-clause-grammatical : goal.returns-clause-grammatical

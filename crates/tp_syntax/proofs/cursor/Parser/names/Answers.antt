@@ -1,13 +1,13 @@
 -- One more name of a port is read behind its comma.
 use Rattle.std.proofs.Common.{ap, arith, length-append, sym, subst, rules, string_bytes}
 use Rattle.tp_syntax.specs.Definitions.{declared_name_lexemes}
-use Rattle.tp_syntax.proofs.Commas.{push_read}
+use Rattle.tp_syntax.proofs.ReadSequenceGrowth.{push_read}
 use Rattle.std.proofs.lemmas.Grind.{common_steps}
-use Rattle.tp_syntax.proofs.Reading.{handed, same_ahead}
-use Rattle.tp_syntax.proofs.Remaining.{Remain, comma_first, comma_next, comma_last, all_any}
+use Rattle.tp_syntax.proofs.FirstTokensAhead.{handed, same_ahead}
+use Rattle.tp_syntax.proofs.PartsLeftToRead.{Remain, comma_first, comma_next, comma_last, all_any}
 use Rattle.tp_syntax.specs.declared.cursor.Parser.{Parser}
 use Rattle.tp_syntax.specs.Lines.{declared_name_notes}
-use Rattle.tp_syntax.proofs.Lines.{passes_comma, passes_first, passes_one, passes_same}
+use Rattle.tp_syntax.proofs.LinesOfPassedTokens.{passes_comma, passes_first, passes_one, passes_same}
 use Rattle.tp_syntax.proofs.cursor.Parser.names.Goals as goal
 
 pub more-preserved : goal.more-preserved

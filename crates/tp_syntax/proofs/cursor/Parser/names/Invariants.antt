@@ -4,7 +4,7 @@ use Rattle.tp_syntax.specs.Ahead.{ahead}
 use Rattle.tp_syntax.specs.Definitions.{declared_names_lexemes, declared_name_lexemes}
 use Rattle.tp_token.specs.Lexeme.{Lexeme}
 use Rattle.tp_syntax.specs.Reading.{Stops}
-use Rattle.tp_syntax.proofs.Remaining.{Remain}
+use Rattle.tp_syntax.proofs.PartsLeftToRead.{Remain}
 use Rattle.tp_tree.specs.declared.tree.DeclaredName.{DeclaredName}
 use Rattle.tp_syntax.specs.Grammar.{has_one}
 use Rattle.tp_syntax.specs.Lines.{noted_by_commas, declared_name_notes}

@@ -1,5 +1,5 @@
 -- A parameter is passed with the line of its name.
-use Rattle.tp_syntax.proofs.Lines.{passes_next}
+use Rattle.tp_syntax.proofs.LinesOfPassedTokens.{passes_next}
 use Rattle.tp_syntax.proofs.cursor.Parser.parameter.Goals as goal
 
 pub returns-clause-lines : goal.returns-clause-lines

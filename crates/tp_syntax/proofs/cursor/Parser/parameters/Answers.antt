@@ -1,16 +1,16 @@
 -- One more parameter of a function is read behind its comma.
 use Rattle.std.proofs.Common.{arith, length-append, sym, subst, ap, ◌∙◌, rules}
 use Rattle.tp_syntax.specs.Definitions.{parameter_lexemes}
-use Rattle.tp_syntax.proofs.Commas.{push_read}
+use Rattle.tp_syntax.proofs.ReadSequenceGrowth.{push_read}
 use Rattle.std.proofs.lemmas.Grind.{common_steps}
-use Rattle.tp_syntax.proofs.Reading.{handed, same_ahead, paren_at, paren_first}
-use Rattle.tp_syntax.proofs.Remaining.{Remain, comma_first, comma_next, comma_last, all_any, none_of, some_of}
+use Rattle.tp_syntax.proofs.FirstTokensAhead.{handed, same_ahead, paren_at, paren_first}
+use Rattle.tp_syntax.proofs.PartsLeftToRead.{Remain, comma_first, comma_next, comma_last, all_any, none_of, some_of}
 use Rattle.tp_syntax.specs.Reading.{first, ends_operation}
-use Rattle.tp_syntax.proofs.Begins.{parameter_no_paren}
+use Rattle.tp_syntax.proofs.FirstTokensOfParts.{parameter_no_paren}
 use Rattle.std.proofs.lemmas.Bool.{iff_false}
 use Rattle.tp_syntax.specs.declared.cursor.Parser.{Parser}
 use Rattle.tp_syntax.specs.Lines.{parameter_notes}
-use Rattle.tp_syntax.proofs.Lines.{passes_comma, passes_first, passes_none, passes_one, passes_same}
+use Rattle.tp_syntax.proofs.LinesOfPassedTokens.{passes_comma, passes_first, passes_none, passes_one, passes_same}
 use Rattle.tp_syntax.proofs.cursor.Parser.parameters.Goals as goal
 
 pub more-preserved : goal.more-preserved

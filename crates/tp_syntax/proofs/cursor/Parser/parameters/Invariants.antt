@@ -4,7 +4,7 @@ use Rattle.tp_syntax.specs.Ahead.{ahead}
 use Rattle.tp_syntax.specs.Definitions.{parameters_lexemes, parameter_lexemes}
 use Rattle.tp_token.specs.Lexeme.{Lexeme, symbol}
 use Rattle.tp_syntax.specs.Reading.{first}
-use Rattle.tp_syntax.proofs.Remaining.{Remain}
+use Rattle.tp_syntax.proofs.PartsLeftToRead.{Remain}
 use Rattle.tp_tree.specs.declared.tree.Parameter.{Parameter}
 use Rattle.tp_token.specs.declared.token.Symbol.TheVariants.{RightParen}
 use Rattle.tp_syntax.specs.Lines.{noted_by_commas, parameter_notes}

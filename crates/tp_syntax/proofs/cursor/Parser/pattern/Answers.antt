@@ -2,7 +2,7 @@
 use Rattle.std.proofs.Common.{ℕ, List, ap, sym, ◌∙◌}
 use Rattle.std.specs.List.{list_all}
 use Rattle.tp_syntax.specs.Grammar.{is_plain}
-use Rattle.tp_syntax.proofs.Grammar.{template_pattern}
+use Rattle.tp_syntax.proofs.GrammarEquations.{template_pattern}
 use Rattle.tp_syntax.proofs.cursor.Parser.pattern.Goals as goal
 
 pub returns-in_ok-characters-in-Text-clause-grammatical : goal.returns-in_ok-characters-in-Text-clause-grammatical

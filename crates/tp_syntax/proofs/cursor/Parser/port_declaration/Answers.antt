@@ -1,7 +1,7 @@
 -- A declaration of ports is passed with the lines of its names.
 use Rattle.tp_syntax.specs.Sequences.{end_lexemes}
 use Rattle.tp_syntax.specs.Lines.{port_declaration_notes}
-use Rattle.tp_syntax.proofs.Lines.{passes_next, passes_then, passes_unnoted}
+use Rattle.tp_syntax.proofs.LinesOfPassedTokens.{passes_next, passes_then, passes_unnoted}
 use Rattle.tp_syntax.proofs.cursor.Parser.port_declaration.Goals as goal
 
 pub returns-clause-lines : goal.returns-clause-lines

@@ -3,8 +3,8 @@ use Rattle.std.proofs.Common.{◌≡◌, ◌<◌, length, map, arith, append_ass
 use Rattle.std.proofs.lemmas.Bool.{and_from, and_parts}
 use Rattle.tp_syntax.proofs.OperationReading.{directions_read}
 use Rattle.tp_syntax.specs.Grammar.{are_parts, direction_part, has_one}
-use Rattle.tp_syntax.proofs.Standing.{between_parts, has_one_of}
-use Rattle.tp_syntax.proofs.Reading.{handed}
+use Rattle.tp_syntax.proofs.PassedPartGrowth.{between_parts, has_one_of}
+use Rattle.tp_syntax.proofs.FirstTokensAhead.{handed}
 use Rattle.tp_syntax.specs.Definitions.{port_type_lexemes}
 use Rattle.tp_syntax.proofs.DefinitionReading.{directions_stand}
 use Rattle.tp_syntax.proofs.cursor.Parser.port_type.Goals as goal

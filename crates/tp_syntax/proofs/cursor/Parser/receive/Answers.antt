@@ -6,7 +6,7 @@ use Rattle.tp_event.specs.declared.operation.ReceiveKind.{ReceiveKind}
 use Rattle.tp_syntax.specs.Nesting.{operation_depth, part_depth}
 use Rattle.tp_syntax.specs.Statements.{receive_lexemes, received_lexemes}
 use Rattle.tp_syntax.proofs.OperationReading.{check_of}
-use Rattle.tp_syntax.proofs.Reading.{handed}
+use Rattle.tp_syntax.proofs.FirstTokensAhead.{handed}
 use Rattle.tp_syntax.proofs.cursor.Parser.receive.Goals as goal
 
 pub returns-in_err-symbol-2-clause-reads : goal.returns-in_err-symbol-2-clause-reads

@@ -1,6 +1,6 @@
 -- A record type is passed with the lines of its fields.
 use Rattle.tp_syntax.specs.Lines.{record_type_notes}
-use Rattle.tp_syntax.proofs.Lines.{passes_next, passes_one, passes_then}
+use Rattle.tp_syntax.proofs.LinesOfPassedTokens.{passes_next, passes_one, passes_then}
 use Rattle.tp_syntax.proofs.cursor.Parser.record_type.Goals as goal
 
 pub returns-clause-lines : goal.returns-clause-lines

@@ -4,8 +4,8 @@ use Rattle.tp_token.specs.Lexeme.{Lexeme}
 use Rattle.tp_syntax.specs.Ahead.{starts_zero}
 use Rattle.tp_syntax.specs.Sequences.{end_lexemes}
 use Rattle.tp_syntax.specs.Definitions.{setup_action_lexemes}
-use Rattle.tp_syntax.proofs.Lines.{passes_at, passes_unnoted, unnoted_then}
-use Rattle.tp_syntax.proofs.Begins.{setup_no_zero}
+use Rattle.tp_syntax.proofs.LinesOfPassedTokens.{passes_at, passes_unnoted, unnoted_then}
+use Rattle.tp_syntax.proofs.FirstTokensOfParts.{setup_no_zero}
 use Rattle.tp_syntax.proofs.cursor.Parser.setup.Goals as goal
 
 pub returns-clause-lines : goal.returns-clause-lines

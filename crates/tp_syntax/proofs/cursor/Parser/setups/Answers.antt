@@ -2,16 +2,16 @@
 use Rattle.std.proofs.Common.{arith, sym, subst, ap, ◌∙◌, rules, refl}
 use Rattle.tp_syntax.specs.Definitions.{setup_lexemes}
 use Rattle.tp_syntax.specs.Grammar.{setup_part}
-use Rattle.tp_syntax.proofs.Commas.{push_read_all}
-use Rattle.tp_syntax.proofs.Standing.{between_push, between_none}
+use Rattle.tp_syntax.proofs.ReadSequenceGrowth.{push_read_all}
+use Rattle.tp_syntax.proofs.PassedPartGrowth.{between_push, between_none}
 use Rattle.std.proofs.lemmas.Grind.{common_steps}
-use Rattle.tp_syntax.proofs.Reading.{handed, setup_first}
-use Rattle.tp_syntax.proofs.Remaining.{RemainAll, all_next, all_last, all_any}
-use Rattle.tp_syntax.proofs.Begins.{setup_begins, setup_at}
+use Rattle.tp_syntax.proofs.FirstTokensAhead.{handed, setup_first}
+use Rattle.tp_syntax.proofs.PartsLeftToRead.{RemainAll, all_next, all_last, all_any}
+use Rattle.tp_syntax.proofs.FirstTokensOfParts.{setup_begins, setup_at}
 use Rattle.tp_syntax.specs.Reading.{is_setup_ahead}
 use Rattle.std.proofs.lemmas.Bool.{false≢true}
 use Rattle.tp_syntax.specs.Lines.{setup_notes}
-use Rattle.tp_syntax.proofs.Lines.{passes_none, passes_push}
+use Rattle.tp_syntax.proofs.LinesOfPassedTokens.{passes_none, passes_push}
 use Rattle.tp_syntax.proofs.cursor.Parser.setups.Goals as goal
 
 pub more-preserved : goal.more-preserved

@@ -6,7 +6,7 @@ use Rattle.tp_syntax.specs.Grammar.{setup_part}
 use Rattle.tp_syntax.specs.Standing.{GoesOver}
 use Rattle.tp_token.specs.Lexeme.{Lexeme}
 use Rattle.tp_syntax.specs.Reading.{AllStand, is_setup_ahead}
-use Rattle.tp_syntax.proofs.Remaining.{RemainAll}
+use Rattle.tp_syntax.proofs.PartsLeftToRead.{RemainAll}
 use Rattle.tp_tree.specs.declared.tree.SetupStatement.{SetupStatement}
 use Rattle.tp_syntax.specs.Lines.{noted_in_order, setup_notes}
 use Rattle.tp_syntax.specs.Forward.{PassesNoted}

@@ -4,7 +4,7 @@ use Rattle.tp_token.specs.Lexeme.{Lexeme, symbol}
 use Rattle.tp_syntax.specs.Ahead.{starts_zero}
 use Rattle.tp_syntax.specs.Sequences.{end_lexemes}
 use Rattle.tp_syntax.specs.Definitions.{arguments_lexemes, start_lexemes}
-use Rattle.tp_syntax.proofs.Lines.{passes_at, passes_next, passes_one, passes_unnoted, unnoted_then}
+use Rattle.tp_syntax.proofs.LinesOfPassedTokens.{passes_at, passes_next, passes_one, passes_unnoted, unnoted_then}
 use Rattle.tp_token.specs.declared.token.Symbol.TheVariants.{RightParen}
 use Rattle.tp_syntax.proofs.cursor.Parser.start.Goals as goal
 

@@ -6,7 +6,7 @@ use Rattle.tp_syntax.specs.Grammar.{start_part}
 use Rattle.tp_syntax.specs.Standing.{GoesOver}
 use Rattle.tp_token.specs.Lexeme.{Lexeme}
 use Rattle.tp_syntax.specs.Reading.{AllStand, is_start_ahead}
-use Rattle.tp_syntax.proofs.Remaining.{RemainAll}
+use Rattle.tp_syntax.proofs.PartsLeftToRead.{RemainAll}
 use Rattle.tp_tree.specs.declared.tree.ComponentStart.{ComponentStart}
 use Rattle.tp_syntax.specs.Lines.{noted_in_order, start_notes}
 use Rattle.tp_syntax.specs.Forward.{PassesNoted}

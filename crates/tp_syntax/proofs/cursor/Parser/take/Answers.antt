@@ -1,5 +1,5 @@
 -- What is left behind the token that is passed is a tail.
-use Rattle.tp_syntax.proofs.Lines.{next_tail}
+use Rattle.tp_syntax.proofs.LinesOfPassedTokens.{next_tail}
 use Rattle.tp_syntax.proofs.cursor.Parser.take.Goals as goal
 
 pub returns-clause-forward : goal.returns-clause-forward

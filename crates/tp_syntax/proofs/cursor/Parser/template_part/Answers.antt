@@ -2,7 +2,7 @@
 use Rattle.std.proofs.Common.{◌<◌, arith}
 use Rattle.std.proofs.lemmas.Bool.{iff_false}
 use Rattle.tp_syntax.proofs.OperationReading.{no_template, template_next}
-use Rattle.tp_syntax.proofs.Reading.{handed}
+use Rattle.tp_syntax.proofs.FirstTokensAhead.{handed}
 use Rattle.tp_syntax.proofs.cursor.Parser.template_part.Goals as goal
 
 pub returns-then-not-is_symbol_at-clause-reads : goal.returns-then-not-is_symbol_at-clause-reads

@@ -1,12 +1,12 @@
 -- Each part of a test case but the last has its `;`, or ends in a `}`.
 use Rattle.std.proofs.Common.{◌++◌, map, append_assoc, append_assoc, refl, arith}
 use Rattle.tp_syntax.specs.Grammar.{all_done_parts, setup_part, start_part, statements_parts, variable_part}
-use Rattle.tp_syntax.proofs.Standing.{between_parts, between_then}
-use Rattle.tp_syntax.proofs.Reading.{handed}
+use Rattle.tp_syntax.proofs.PassedPartGrowth.{between_parts, between_then}
+use Rattle.tp_syntax.proofs.FirstTokensAhead.{handed}
 use Rattle.tp_syntax.specs.Definitions.{test_case_lexemes, behaviour_lexemes, all_done_lexemes, system_lexemes}
-use Rattle.tp_syntax.proofs.CaseReading.{case_stands, case_no_setup, case_no_start, case_no_var, case_ends, behind_setups, behind_starts, behind_variables, behind_statements}
+use Rattle.tp_syntax.proofs.TestCaseReading.{case_stands, case_no_setup, case_no_start, case_no_var, case_ends, behind_setups, behind_starts, behind_variables, behind_statements}
 use Rattle.tp_syntax.specs.Lines.{test_case_notes, behaviour_notes}
-use Rattle.tp_syntax.proofs.Lines.{passes_next, passes_one, passes_then, passes_unnoted}
+use Rattle.tp_syntax.proofs.LinesOfPassedTokens.{passes_next, passes_one, passes_then, passes_unnoted}
 use Rattle.tp_syntax.proofs.cursor.Parser.test_case.Goals as goal
 
 pub returns-clause-grammatical : goal.returns-clause-grammatical

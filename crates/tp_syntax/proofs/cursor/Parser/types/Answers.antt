@@ -1,10 +1,10 @@
 -- One more type that may pass through a port is read behind its comma.
 use Rattle.std.proofs.Common.{arith, length-append, sym, subst, rules}
 use Rattle.tp_syntax.specs.Values.{type_lexemes}
-use Rattle.tp_syntax.proofs.Commas.{push_read}
+use Rattle.tp_syntax.proofs.ReadSequenceGrowth.{push_read}
 use Rattle.std.proofs.lemmas.Grind.{common_steps}
-use Rattle.tp_syntax.proofs.Reading.{handed, same_ahead}
-use Rattle.tp_syntax.proofs.Remaining.{Remain, comma_first, comma_next, comma_last, all_any}
+use Rattle.tp_syntax.proofs.FirstTokensAhead.{handed, same_ahead}
+use Rattle.tp_syntax.proofs.PartsLeftToRead.{Remain, comma_first, comma_next, comma_last, all_any}
 use Rattle.tp_syntax.proofs.cursor.Parser.types.Goals as goal
 
 pub more-preserved : goal.more-preserved

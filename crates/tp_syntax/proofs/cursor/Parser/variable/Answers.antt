@@ -4,7 +4,7 @@ use Rattle.tp_token.specs.Lexeme.{Lexeme, name}
 use Rattle.tp_syntax.specs.Ahead.{starts_zero}
 use Rattle.tp_syntax.specs.Sequences.{end_lexemes}
 use Rattle.tp_syntax.specs.Values.{type_lexemes}
-use Rattle.tp_syntax.proofs.Lines.{passes_at, passes_next, passes_one, passes_unnoted, unnoted_then}
+use Rattle.tp_syntax.proofs.LinesOfPassedTokens.{passes_at, passes_next, passes_one, passes_unnoted, unnoted_then}
 use Rattle.tp_syntax.proofs.cursor.Parser.variable.Goals as goal
 
 pub returns-clause-lines : goal.returns-clause-lines

@@ -3,17 +3,17 @@ use Rattle.std.proofs.Common.{arith, sym, subst, ap, ◌∙◌, rules, refl}
 use Rattle.tp_token.specs.declared.word.Word.TheVariants as w
 use Rattle.tp_syntax.specs.Statements.{variable_lexemes}
 use Rattle.tp_syntax.specs.Grammar.{variable_part}
-use Rattle.tp_syntax.proofs.Commas.{push_read_all}
-use Rattle.tp_syntax.proofs.Standing.{between_push, word_goes_on, between_none}
+use Rattle.tp_syntax.proofs.ReadSequenceGrowth.{push_read_all}
+use Rattle.tp_syntax.proofs.PassedPartGrowth.{between_push, word_goes_on, between_none}
 use Rattle.std.proofs.lemmas.Grind.{common_steps}
-use Rattle.tp_syntax.proofs.Reading.{handed, word_first, at_0}
-use Rattle.tp_syntax.proofs.Remaining.{RemainAll, all_next, all_last, all_any}
-use Rattle.tp_syntax.proofs.Begins.{variable_begins}
+use Rattle.tp_syntax.proofs.FirstTokensAhead.{handed, word_first, at_0}
+use Rattle.tp_syntax.proofs.PartsLeftToRead.{RemainAll, all_next, all_last, all_any}
+use Rattle.tp_syntax.proofs.FirstTokensOfParts.{variable_begins}
 use Rattle.tp_token.specs.Lexeme.{word}
 use Rattle.tp_syntax.specs.Reading.{first}
 use Rattle.std.proofs.lemmas.Bool.{iff_false}
 use Rattle.tp_syntax.specs.Lines.{variable_notes}
-use Rattle.tp_syntax.proofs.Lines.{passes_none, passes_push}
+use Rattle.tp_syntax.proofs.LinesOfPassedTokens.{passes_none, passes_push}
 use Rattle.tp_syntax.proofs.cursor.Parser.variables.Goals as goal
 
 pub more-preserved : goal.more-preserved

@@ -7,7 +7,7 @@ use Rattle.tp_syntax.specs.Grammar.{variable_part}
 use Rattle.tp_syntax.specs.Standing.{GoesOver}
 use Rattle.tp_token.specs.Lexeme.{Lexeme, word}
 use Rattle.tp_syntax.specs.Reading.{AllStand, first}
-use Rattle.tp_syntax.proofs.Remaining.{RemainAll}
+use Rattle.tp_syntax.proofs.PartsLeftToRead.{RemainAll}
 use Rattle.tp_tree.specs.declared.tree.Variable.{Variable}
 use Rattle.tp_syntax.specs.Lines.{noted_in_order, variable_notes}
 use Rattle.tp_syntax.specs.Forward.{PassesNoted}

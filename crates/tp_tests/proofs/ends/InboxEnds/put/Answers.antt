@@ -1,6 +1,6 @@
 -- A sender that has put more is still the inbox's.
 use Rattle.std.proofs.Common.{◌<◌, length, arith}
-use Rattle.tp_inbox.proofs.Senders.{senders_set}
+use Rattle.tp_inbox.proofs.SenderListGrowth.{senders_set}
 use Rattle.tp_tests.proofs.ends.InboxEnds.put.Goals as goal
 
 pub invariant_of-self : goal.invariant_of-self

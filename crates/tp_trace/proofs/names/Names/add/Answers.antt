@@ -1,7 +1,7 @@
 -- A name that is not there goes behind the others.
 use Rattle.std.proofs.Common.{◌≡◌, ◌++◌, ◌∷◌, [], Contains, map, subst}
 use Rattle.std.specs.Bool.{MatchBool}
-use Rattle.tp_trace.proofs.Places.{name_inserted}
+use Rattle.tp_trace.proofs.SectionNamePlaces.{name_inserted}
 use Rattle.tp_trace.proofs.names.Names.add.Goals as goal
 
 pub returns-clause-added : goal.returns-clause-added

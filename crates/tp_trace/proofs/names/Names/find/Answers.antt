@@ -2,7 +2,7 @@
 use Rattle.std.proofs.Common.{◌∙◌, ap}
 use Rattle.std.specs.Str.{bytes_eq}
 use Rattle.tp_trace.specs.Tree.{section_named}
-use Rattle.tp_trace.proofs.Places.{position_map, place_known, place_unknown}
+use Rattle.tp_trace.proofs.SectionNamePlaces.{position_map, place_known, place_unknown}
 use Rattle.tp_trace.proofs.names.Names.find.Goals as goal
 
 pub returns-in-Some-clause-place : goal.returns-in-Some-clause-place

@@ -5,7 +5,7 @@ use Rattle.std.proofs.lemmas.List.{length-map}
 use Rattle.std.proofs.lemmas.Option.{get_or_from_slice_get, slice_get-get_or, slice_get-map}
 use Rattle.tp_trace.specs.Spans.{span_text, span_texts}
 use Rattle.tp_trace.specs.Tree.{TellsSomething, told_in, told_of}
-use Rattle.tp_trace.proofs.Telling.{told_read}
+use Rattle.tp_trace.proofs.UniqueLineMeanings.{told_read}
 use Rattle.tp_trace.proofs.tree.Trace.line.Goals as goal
 
 pub unreachable-requires : goal.unreachable-requires

@@ -1,7 +1,7 @@
 -- A name that isn't there yet comes behind the others, with its definition.
 use Rattle.std.proofs.Common.{◌++◌, ◌∷◌, [], ◌∙◌, Contains, ap, string_bytes, subst, sym, true≢false}
 use Rattle.tp_value.specs.Types.{names_of_types}
-use Rattle.tp_value.proofs.Naming.{shown, entry_added}
+use Rattle.tp_value.proofs.TypeNameLookups.{shown, entry_added}
 use Rattle.tp_value.proofs.types.Types.add.Goals as goal
 
 pub returns-clause-ok : goal.returns-clause-ok

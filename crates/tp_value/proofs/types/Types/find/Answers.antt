@@ -1,6 +1,6 @@
 -- The place of a name among the entries is the number of its type.
 use Rattle.std.proofs.Common.{string_bytes, ◌∙◌}
-use Rattle.tp_value.proofs.Naming.{number_is, name_there, name_known, name_unknown}
+use Rattle.tp_value.proofs.TypeNameLookups.{number_is, name_there, name_known, name_unknown}
 use Rattle.tp_value.proofs.types.Types.find.Goals as goal
 
 pub returns-in-Some-clause-number : goal.returns-in-Some-clause-number

@@ -1,7 +1,7 @@
 -- The name at this place among the entries is the one of the type of this number.
 use Rattle.std.proofs.Common.{List, ℕ, Some, string_bytes, ap, sym, ◌∙◌}
 use Rattle.std.specs.Option.{option_map}
-use Rattle.tp_value.proofs.Naming.{name_at}
+use Rattle.tp_value.proofs.TypeNameLookups.{name_at}
 use Rattle.tp_value.proofs.types.Types.name.Goals as goal
 
 pub returns-in-Some : goal.returns-in-Some

@@ -6,7 +6,7 @@ use Rattle.std.specs.Vec.Iter.{into_iter_items, into_iter_len}
 use Rattle.std.proofs.lemmas.List.{append-nil}
 use Rattle.std.proofs.lemmas.List.Elements.{All-nil, All-cons, All-append, All-rest}
 use Rattle.std.proofs.lemmas.Result.{IfOk-weaker}
-use Rattle.tp_inbox.proofs.Senders.{moved}
+use Rattle.tp_inbox.proofs.SenderListGrowth.{moved}
 use Rattle.tp_behaviour.specs.declared.worker.Worker.{Worker}
 use Rattle.tp_exec.specs.Returns.{IsYetToBegin, identity_of}
 use Rattle.tp_exec.specs.Children.{IsChild, identity_at}

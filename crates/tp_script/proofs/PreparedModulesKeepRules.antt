@@ -1,0 +1,107 @@
+-- What a module that obeys the rules has, is had by what was made of it.
+use Rattle.std.proofs.Common.{◌≡◌, ◌<◌, ◌≤◌, List, Option, None, Some, is_some, if◌then◌else◌, All, length, map, sum, get_or, string_bytes, sym, ap, ◌∙◌, subst, arith}
+use Rattle.std.specs.List.{AllZip}
+use Rattle.std.specs.declared.alloc.Global.{Global}
+use Rattle.std.specs.declared.string.String.{String}
+use Rattle.std.proofs.lemmas.List.{length-map}
+use Rattle.std.proofs.lemmas.Option.{slice_get-get_or, slice_get_within}
+use Rattle.std.proofs.lemmas.Slice.Zip.{AllZip-long}
+use Rattle.tp_tree.specs.declared.tree.Module.{Module}
+use Rattle.tp_tree.specs.declared.tree.TestCase.{TestCase}
+use Rattle.tp_tree.specs.declared.tree.ComponentStart.{ComponentStart}
+use Rattle.tp_value.specs.declared.types.Types.{Types}
+use Rattle.tp_config.specs.Setup.{PortDecl}
+use Rattle.tp_name.proofs.NameSetLookups.{place_there}
+use Rattle.tp_setup.specs.declared.prepared.Prepared.{Prepared}
+use Rattle.tp_setup.specs.Definitions.{component_type_names, functions}
+use Rattle.tp_setup.specs.Components.{creations, variable_name, variables}
+use Rattle.tp_setup.specs.Configuring.{most_variables}
+use Rattle.tp_setup.specs.Starting.{IsStartPlace, IsStartOf, started_names, type_names_of}
+use Rattle.tp_setup.specs.Prepared.{IsPreparedOf, IsWellDeclared}
+use Rattle.tp_setup.proofs.ListPrefixGrowth.{zip_at}
+use Rattle.tp_play.specs.declared.bodies.Bodies.{Bodies}
+use Rattle.tp_play.specs.declared.instance.Instance.{Instance}
+use Rattle.tp_play.specs.Behaviours.{size_of_behaviour}
+use Rattle.tp_play.specs.Instances.{behaviour_of}
+use Rattle.tp_play.specs.TestCases.{Made}
+use Rattle.tp_script.specs.Instances.{AreFew, AreInstances, instance_count, known_in}
+use Rattle.tp_script.specs.Scopes.{HasBodies, IsFunctionBody, IsMainBody, Known}
+use Rattle.tp_script.specs.TestCases.{HasSoundBodies, WellFormed, known_of}
+use Rattle.tp_script.proofs.TestCaseFromPasses.{kinds, known_is, test_case_of}
+use Rattle.tp_script.proofs.DefinitionNamesDiffer.{apart}
+use Rattle.tp_script.proofs.TypesFixedByModule.{kinds_fixed, one_case, types_fixed}
+use Rattle.tp_script.proofs.OneTestCaseSize.{one_size}
+
+module _ (m : Module) (p : Prepared) (of : IsPreparedOf m p) (rules : IsWellDeclared m) where
+  abbrev speaks : TestCase → List (List PortDecl) → Types → Known
+  speaks case ports types =
+      record { types = types; component_types = component_type_names m; ports = ports; components = variables case.setups.items }
+
+  -- what bodies may speak of is what was made
+  same_known : (h : HasSoundBodies m) → known_of m h.case h.config h.types ≡ known_in p
+  same_known h =
+      ap (λ c. speaks c h.config.types h.types) (one_case m h.case p.case.case.now h.one_test_case of.one_test_case)
+      ∙ ap (λ k. speaks p.case.case.now k h.types) (kinds_fixed m (apart m rules) h.config.types p.config.types h.kinds (kinds m p of))
+      ∙ ap (λ t. speaks p.case.case.now p.config.types t) (types_fixed m h.types p.types h.types_are of.types)
+      ∙ sym (known_is m p of)
+
+  -- so that there are bodies of that
+  pub has_bodies : WellFormed m → HasBodies (known_in p) p.case.case.now (functions m)
+  has_bodies whole =
+      let h = whole.bodies in
+      record {
+        main = h.main;
+        main_body =
+            subst (λ k. IsMainBody k p.case.case.now h.main) (same_known h)
+            (subst (λ c. IsMainBody (known_of m h.case h.config h.types) c h.main) (one_case m h.case p.case.case.now h.one_test_case of.one_test_case) h.main_body);
+        bodies = h.bodies;
+        function_bodies = subst (λ k. AllZip (IsFunctionBody k) (functions m) h.bodies) (same_known h) h.function_bodies;
+      }
+
+  few_at_most : (case : TestCase) → most_variables case ≤ 63
+  few_at_most case = by case.system where
+    by : (o : Option (String Global)) → (if is_some o then 62 else 63) ≤ 63
+    by None = omega arith
+    by (Some s) = omega arith
+
+  -- there are few component variables, and each is started
+  pub are_few : AreFew p
+  are_few = record {
+    few =
+        let same = one_case m rules.case p.case.case.now rules.one_test_case of.one_test_case in
+        omega (
+          arith,
+          ap length of.variables_are,
+          length-map (creations p.case.case.now.setups.items) variable_name,
+          ap (λ (c : TestCase). length (creations c.setups.items)) same,
+          rules.variables.sound.few,
+          few_at_most rules.case,
+        );
+    as_many =
+        AllZip-long (IsStartPlace (started_names p.case.case.now.starts.items)) (variables p.case.case.now.setups.items) p.starts.places.items of.starts.all
+        ∙ ap length (sym of.variables_are);
+    started = started;
+  } where
+    started : All (λ place. place < length p.starts.starts.items) p.starts.places.items
+    started k d below =
+        let names = started_names p.case.case.now.starts.items in
+        let place = get_or p.starts.places.items k d in
+        let v = zip_at (IsStartPlace names) (variables p.case.case.now.setups.items) p.starts.places.items k place of.starts.all
+        (slice_get-get_or p.starts.places.items k d below) in
+        omega (
+          arith,
+          slice_get_within names place v.0 (place_there names v.0 place (sym v.2)),
+          length-map p.case.case.now.starts.items (λ (x : ComponentStart). string_bytes x.component),
+          AllZip-long (IsStartOf (functions m) (variables p.case.case.now.setups.items) (type_names_of p.case.case.now)) p.case.case.now.starts.items
+              p.starts.starts.items of.starts.starts,
+        )
+
+  -- what the components do is as small as in any test case of the module
+  pub is_small : (bodies : Bodies) → IsMainBody (known_in p) p.case.case.now bodies.main
+      → AllZip (IsFunctionBody (known_in p)) (functions m) bodies.functions.items → (list : List (Option Instance)) → AreInstances p list
+      → length list ≡ instance_count p → WellFormed m → sum (map size_of_behaviour (map (behaviour_of bodies) list)) ≤ 100000
+  is_small bodies own others list each count whole =
+      let made : Made = record { config = p.config; types = p.types; behaviours = map (behaviour_of bodies) list } in
+      subst (λ n. n ≤ 100000)
+      (one_size m rules (apart m rules) whole.small.made made whole.small.test_case (test_case_of m p of bodies own others list each count))
+      whole.small.few

@@ -1,0 +1,106 @@
+-- What the checks of bodies rely on holds of what was made of a module whose names are its own.
+use Rattle.std.proofs.Common.{◌≡◌, ◌≤◌, ℕ, List, [], ◌∷◌, Option, None, Some, All, length, map, slice_get, option_map, get_or, refl, sym, ap, ◌∙◌, subst}
+use Rattle.std.specs.List.{AllZip}
+use Rattle.std.proofs.lemmas.List.Elements.{All-map, All-contains}
+use Rattle.std.proofs.lemmas.Option.{slice_get_within, get_or_from_slice_get, same_Some}
+use Rattle.tp_tree.specs.declared.tree.Module.{Module}
+use Rattle.tp_tree.specs.declared.tree.Definition.{Definition}
+use Rattle.tp_tree.specs.declared.tree.Defined.{Defined}
+use Rattle.tp_tree.specs.declared.tree.Defined.TheVariants as definition
+use Rattle.tp_tree.specs.declared.tree.FieldType.{FieldType}
+use Rattle.tp_value.specs.declared.types.Ty.{Ty}
+use Rattle.tp_value.specs.declared.types.Ty.TheVariants as ty
+use Rattle.tp_value.specs.declared.types.Field.{Field}
+use Rattle.tp_value.specs.declared.types.TypeDef.{TypeDef}
+use Rattle.tp_value.specs.declared.types.TypeDef.TheVariants as type_def
+use Rattle.tp_value.specs.declared.types.Types.{Types}
+use Rattle.tp_value.specs.Types.{named}
+use Rattle.tp_config.specs.Setup.{PortDecl}
+use Rattle.tp_config.specs.Shape.{ports_of}
+use Rattle.tp_name.specs.Tables.{AreDistinct, IsNumbered}
+use Rattle.tp_setup.specs.declared.prepared.Prepared.{Prepared}
+use Rattle.tp_setup.specs.Definitions.{declared, inner_names, type_definitions, type_names, type_of}
+use Rattle.tp_setup.specs.Resolved.{IsField, IsNamedType, IsTypeDef}
+use Rattle.tp_setup.specs.Prepared.{IsPreparedOf}
+use Rattle.tp_setup.proofs.ListPrefixGrowth.{contains_at, zip_at}
+use Rattle.tp_body.specs.declared.scope.BehaviourKind.{BehaviourKind}
+use Rattle.tp_body.specs.declared.scope.Scope.{Scope}
+use Rattle.tp_body.specs.Placing.{field_names}
+use Rattle.tp_body.specs.Scoping.{IsSoundScope}
+use Rattle.tp_script.specs.Instances.{known_in}
+use Rattle.tp_script.specs.Scopes.{HaveOwnNames, IsScope, IsSoundKnown, Known}
+use Rattle.tp_script.proofs.TestCaseFromPasses.{kinds_are}
+use Rattle.tp_script.proofs.TypesFixedByModule.{behind}
+use Rattle.tp_script.proofs.ExecutableTestCases.{port_declarations}
+
+-- what stands at a place obeys what each item obeys
+at_place : {A : Type 0} (P : A → Type 0) (xs : List A) (k : ℕ) (x : A) → All P xs → slice_get xs k ≡ Some x → P x
+at_place P xs k x each e = subst P (get_or_from_slice_get xs k x x e) (each k x (slice_get_within xs k x e))
+
+-- a scope is as sound as what it may speak of
+pub sound_scope : (known : Known) (plays : BehaviourKind) (runs_on : List ℕ) (names : List (List ℕ)) (scope : Scope) → IsSoundKnown known
+    → IsScope known plays runs_on names scope → IsSoundScope scope
+sound_scope known plays runs_on names scope sound is = record {
+  few_ports =
+      subst (λ n. n ≤ 64) (port_declarations scope.ports.now)
+      (at_place (λ (ports : List PortDecl). length ports ≤ 64) known.ports is.kind (ports_of scope.ports.now) sound.few_ports is.ports);
+  own_names = λ u fields e. sound.own_names u fields (ap (λ types. named types u) (sym is.types) ∙ e);
+}
+
+-- a record or a record of among the definitions is the definition itself
+type_itself : (x y : Defined) → type_of x ≡ Some y → x ≡ y
+type_itself (definition.Record r) y e = same_Some (definition.Record r) y e
+type_itself (definition.List l) y e = same_Some (definition.List l) y e
+type_itself (definition.Port p) y e = absurd (cc)
+type_itself (definition.Component c) y e = absurd (cc)
+type_itself (definition.Function f) y e = absurd (cc)
+type_itself (definition.TestCase c) y e = absurd (cc)
+
+names_of_fields : (types : List (List ℕ)) (xs : List FieldType) (fields : List Field) → AllZip (IsField types) xs fields
+    → map (λ (f : FieldType). declared f.name) xs ≡ field_names fields
+names_of_fields types [] [] h = refl
+names_of_fields types [] (f ∷ fs) h = absurd h
+names_of_fields types (x ∷ xs) [] h = absurd h
+names_of_fields types (x ∷ xs) (f ∷ fs) h =
+    ap (λ n. n ∷ map (λ (f : FieldType). declared f.name) xs) (sym h.0.0) ∙ ap (λ l. f.name ∷ l) (names_of_fields types xs fs h.1)
+
+-- a record type has the names of its definition
+own_fields : (types : List (List ℕ)) (x : Defined) (fields : List Field) → IsTypeDef types x (type_def.Record fields) → AreDistinct (inner_names x)
+    → AreDistinct (field_names fields)
+own_fields types (definition.Record r) fields h apart = subst AreDistinct (names_of_fields types r.fields.items fields h) apart
+own_fields types (definition.List l) fields h apart = absurd h
+own_fields types (definition.Port p) fields h apart = absurd h
+own_fields types (definition.Component c) fields h apart = absurd h
+own_fields types (definition.Function f) fields h apart = absurd h
+own_fields types (definition.TestCase c) fields h apart = absurd h
+
+-- the type that a type names stands among the types
+type_at : (types : Types) (u : Ty) (d : TypeDef) → named types u ≡ Some d
+    → (k : ℕ) × (t : List ℕ × TypeDef) × (slice_get types k ≡ Some t) × (t.1 ≡ d)
+type_at types ty.Integer d e = absurd (cc)
+type_at types ty.Boolean d e = absurd (cc)
+type_at types ty.Charstring d e = absurd (cc)
+type_at types (ty.Named k) d e = by (slice_get types k) refl e where
+  by : (o : Option (List ℕ × TypeDef)) → slice_get types k ≡ o → option_map (λ (t : List ℕ × TypeDef). t.1) o ≡ Some d
+      → (k : ℕ) × (t : List ℕ × TypeDef) × (slice_get types k ≡ Some t) × (t.1 ≡ d)
+  by None is made = absurd (cc)
+  by (Some t) is made = (k, t, is, same_Some t.1 d made)
+
+module _ (m : Module) (p : Prepared) (of : IsPreparedOf m p) (own : HaveOwnNames m.definitions.items) where
+  own_names : (u : Ty) (fields : List Field) → named p.types u ≡ Some (type_def.Record fields) → AreDistinct (field_names fields)
+  own_names u fields e =
+      let t = type_at p.types u (type_def.Record fields) e in
+      let x = zip_at (IsNamedType (type_names m)) (type_definitions m) p.types t.0 t.1 of.types t.2 in
+      let y = behind type_of m.definitions.items x.0 (contains_at (type_definitions m) t.0 x.0 x.1) in
+      let numbered : IsNumbered (inner_names y.0.defined) = All-contains (λ (d : Definition). IsNumbered (inner_names d.defined)) m.definitions.items y.0 own y.1 in
+      own_fields (type_names m) x.0 fields (subst (IsTypeDef (type_names m) x.0) t.3 x.2.1)
+      (subst (λ d. AreDistinct (inner_names d)) (type_itself y.0.defined x.0 y.2) numbered.distinct)
+
+  few_ports : All (λ (ports : List PortDecl). length ports ≤ 64) p.config.types
+  few_ports =
+      subst (All (λ (ports : List PortDecl). length ports ≤ 64)) (sym (kinds_are m p of))
+      (All-map (λ (ports : List PortDecl). length ports ≤ 64) ports_of of.config.types
+      (λ k d below. subst (λ n. n ≤ 64) (sym (port_declarations (get_or of.config.types k d))) (of.config.few_ports k d below)))
+
+  pub sound_known : IsSoundKnown (known_in p)
+  sound_known = record { few_ports = few_ports; own_names = own_names }

@@ -1,0 +1,169 @@
+-- From what the passes make to the test case.
+use Rattle.std.proofs.Common.{◌≡◌, ℕ, zero, suc, ◌+◌, List, [], ◌∷◌, Option, None, Some, IsSome, is_some, if◌then◌else◌, Contains, length, map, slice_get, option_map, string_bytes, refl, sym, ap, ◌∙◌, subst, arith, add-one}
+use Rattle.std.specs.List.{AllZip}
+use Rattle.std.specs.declared.alloc.Global.{Global}
+use Rattle.std.specs.declared.string.String.{String}
+use Rattle.std.proofs.lemmas.List.{length-map, length-append}
+use Rattle.std.proofs.lemmas.Option.{slice_get-map, same_Some}
+use Rattle.std.proofs.lemmas.Slice.Zip.{AllZip-long}
+use Rattle.tp_tree.specs.declared.tree.Module.{Module}
+use Rattle.tp_tree.specs.declared.tree.TestCase.{TestCase}
+use Rattle.tp_tree.specs.declared.tree.Function.{Function}
+use Rattle.tp_tree.specs.declared.tree.SetupStatement.{SetupStatement}
+use Rattle.tp_tree.specs.declared.tree.SetupAction.{SetupAction}
+use Rattle.tp_tree.specs.declared.tree.SetupAction.TheVariants as a
+use Rattle.tp_config.specs.Setup.{Setup}
+use Rattle.tp_config.specs.Shape.{ports_of}
+use Rattle.tp_name.proofs.NameSetLookups.{place_there, place_unknown}
+use Rattle.tp_setup.specs.declared.prepared.Prepared.{Prepared}
+use Rattle.tp_setup.specs.Definitions.{component_type_names, functions}
+use Rattle.tp_setup.specs.Rules.{sut}
+use Rattle.tp_setup.specs.Components.{IsMember, component_list, creations, created, interface, main_component, variable_name, variables}
+use Rattle.tp_setup.specs.Configuring.{IsStep, Makes, nothing, one_more, interface_number}
+use Rattle.tp_setup.specs.Starting.{IsStartPlace, IsStartOf, started_names, type_names_of}
+use Rattle.tp_setup.specs.Prepared.{IsPreparedOf}
+use Rattle.tp_setup.proofs.ListPrefixGrowth.{zip_at}
+use Rattle.tp_play.specs.declared.body.Body.{Body}
+use Rattle.tp_play.specs.declared.bodies.Bodies.{Bodies}
+use Rattle.tp_play.specs.declared.instance.Instance.{Instance}
+use Rattle.tp_script.specs.Scopes.{IsMainBody, IsFunctionBody}
+use Rattle.tp_script.specs.Behaviours as d
+use Rattle.tp_play.specs.Behaviours.{Behaviour}
+use Rattle.tp_script.specs.Behaviours.{Does}
+use Rattle.tp_script.specs.Instances as instances
+use Rattle.tp_play.specs.Instances.{body_in, behaviour_of}
+use Rattle.tp_script.specs.Instances.{known_in, IsInstance, AreInstances, instance_count}
+use Rattle.tp_script.specs.TestCases.{known_of, AreKinds, IsTestCaseOf}
+
+-- a setup statement leaves the component types and the components
+step_keeps : (s t : Setup) (names : List (List ℕ)) (system : Option ℕ) (x : SetupAction) → IsStep s names system x t
+    → (t.types ≡ s.types) × (length t.components ≡ length s.components)
+step_keeps s t names system (a.Create c) e = (ap (λ (u : Setup). u.types) e, ap (λ (u : Setup). length u.components) e)
+step_keeps s t names system (a.Connect p q) e = (ap (λ (u : Setup). u.types) e.connected, ap (λ (u : Setup). length u.components) e.connected)
+step_keeps s t names system (a.Map p q) e = (ap (λ (u : Setup). u.types) e.mapped, ap (λ (u : Setup). length u.components) e.mapped)
+
+makes_keeps : (system : Option ℕ) (start : Setup) (xs : List SetupStatement) (s : Setup) → Makes system start xs s
+    → (s.types ≡ start.types) × (length s.components ≡ length start.components)
+makes_keeps system start xs s nothing = (refl, refl)
+makes_keeps system start xs s (one_more ys r x t before step) =
+    let earlier = makes_keeps system start ys r before in
+    let here = step_keeps r t (variables ys) system x.action step in
+    (here.0 ∙ earlier.0, here.1 ∙ earlier.1)
+
+-- what stands in the other list at the place of an item
+pub zip_from : {A B : Type 0} (R : A → B → Type 0) (xs : List A) (ys : List B) (k : ℕ) (x : A) → AllZip R xs ys → slice_get xs k ≡ Some x
+    → (y : B) × (slice_get ys k ≡ Some y) × R x y
+zip_from R [] ys k x each e = absurd (cc)
+zip_from R (a ∷ xs) [] k x each e = absurd each
+zip_from R (a ∷ xs) (b ∷ ys) zero x each e = (b, refl, subst (λ z. R z b) (same_Some a x e) each.0)
+zip_from R (a ∷ xs) (b ∷ ys) (suc k) x each e = zip_from R xs ys k x each.1 e
+
+-- what an item of a list was made of
+pub mapped_from : {A B : Type 0} (f : A → B) (xs : List A) (k : ℕ) (y : B) → slice_get (map f xs) k ≡ Some y → (x : A) × (slice_get xs k ≡ Some x) × (f x ≡ y)
+mapped_from {A} {B} f xs k y e = by (slice_get xs k) refl (sym (slice_get-map f xs k) ∙ e) where
+  by : (o : Option A) → slice_get xs k ≡ o → option_map f o ≡ Some y → (x : A) × (slice_get xs k ≡ Some x) × (f x ≡ y)
+  by None is made = absurd (cc)
+  by (Some x) is made = (x, is, same_Some (f x) y made)
+
+contains_at : {A : Type 0} (xs : List A) (k : ℕ) (x : A) → slice_get xs k ≡ Some x → Contains xs x
+contains_at [] k x e = absurd (cc)
+contains_at (a ∷ xs) zero x e = (0, omega arith, same_Some a x e)
+contains_at (a ∷ xs) (suc k) x e = let r = contains_at xs k x e in (r.0 + 1, omega (arith, r.1), rw add-one r.2)
+
+interface_length : (case : TestCase) → length (interface case) ≡ (if is_some case.system then 1 else 0)
+interface_length case = by case.system where
+  by : (o : Option (String Global)) → length (interface (record case { system = o })) ≡ (if is_some o then 1 else 0)
+  by None = refl
+  by (Some s) = refl
+
+module _ (m : Module) (p : Prepared) (of : IsPreparedOf m p) where
+  -- the names are those of the module
+  pub known_is : known_in p ≡ known_of m p.case.case.now p.config p.types
+  known_is =
+      ap (λ (n : List (List ℕ)). record { types = p.types; component_types = n; ports = p.config.types; components = p.variables })
+      of.sorted.components.names_are
+      ∙ ap (λ (v : List (List ℕ)). record { types = p.types; component_types = component_type_names m; ports = p.config.types; components = v })
+      of.variables_are
+
+  pub kinds_are : p.config.types ≡ map ports_of of.config.types
+  kinds_are =
+      (makes_keeps (interface_number p.case.case.now) of.config.set_up.start p.case.case.now.setups.items p.config of.config.set_up.makes).0
+      ∙ of.config.set_up.types_are
+
+  pub kinds : AreKinds m p.config.types
+  kinds = record { types = of.config.types; of_module = of.config.types_are; kinds_are = kinds_are }
+
+  places_count : length p.starts.places.items ≡ length (creations p.case.case.now.setups.items)
+  places_count =
+      AllZip-long (IsStartPlace (started_names p.case.case.now.starts.items)) (variables p.case.case.now.setups.items) p.starts.places.items of.starts.all
+      ∙ length-map (creations p.case.case.now.setups.items) variable_name
+
+  pub everyone : length p.config.components ≡ instance_count p
+  everyone =
+      let kept = (makes_keeps (interface_number p.case.case.now) of.config.set_up.start p.case.case.now.setups.items p.config of.config.set_up.makes).1 in
+      let listed =
+      AllZip-long (IsMember (component_type_names m)) (component_list p.case.case.now) of.config.set_up.start.components of.config.set_up.components_are in
+      let first = length-map (creations p.case.case.now.setups.items) created in
+      let both = length-append (main_component p.case.case.now ∷ map created (creations p.case.case.now.setups.items)) (interface p.case.case.now) in
+      omega (arith, kept, listed, first, both, interface_length p.case.case.now, places_count)
+
+  numbered : (n : ℕ) → IsSome p.case.case.now.system → n ≡ length p.starts.places.items + 1 → interface_number p.case.case.now ≡ Some n
+  numbered n there is = by p.case.case.now.system there where
+    by : (o : Option (String Global)) → IsSome o → option_map (λ _. length (creations p.case.case.now.setups.items) + 1) o ≡ Some n
+    by None h = absurd (cc)
+    by (Some s) h = ap (λ k. Some (k + 1)) (sym places_count) ∙ ap Some (sym is)
+
+  module _ (bodies : Bodies) (own : IsMainBody (known_in p) p.case.case.now bodies.main)
+      (others : AllZip (IsFunctionBody (known_in p)) (functions m) bodies.functions.items) where
+    -- a instance whose body is known makes this behaviour
+    made_of : (x : Instance) (b : Body) → body_in bodies x.source ≡ Some b
+        → behaviour_of bodies (Some x) ≡ Some (record { body = b; references = map (λ c. c.0) x.references.items })
+    made_of x b e = ap (option_map (λ (b : Body). record { body = b; references = map (λ c. c.0) x.references.items })) e
+
+    instance_does : (k : ℕ) (x : Option Instance) → IsInstance p k x → Does (known_in p) (functions m) p.case.case.now p.starts k (behaviour_of bodies x)
+    instance_does k x (instances.main instance src refs) =
+        subst (Does (known_in p) (functions m) p.case.case.now p.starts 0) (sym (made_of instance bodies.main (ap (body_in bodies) src)))
+        (d.main (record { body = bodies.main; references = map (λ c. c.0) instance.references.items }) own refs)
+    instance_does k x (instances.started j place s instance there start src refs) =
+        let begun =
+        zip_at (IsStartOf (functions m) (variables p.case.case.now.setups.items) (type_names_of p.case.case.now)) p.case.case.now.starts.items
+        p.starts.starts.items place s of.starts.starts start in
+        let found = zip_from (IsFunctionBody (known_in p)) (functions m) bodies.functions.items s.function begun.2.function others begun.2.function_known in
+        subst (Does (known_in p) (functions m) p.case.case.now p.starts (j + 1)) (sym (made_of instance found.0 (ap (body_in bodies) src ∙ found.1)))
+        (d.started j place s begun.2.function (record { body = found.0; references = map (λ c. c.0) instance.references.items }) there start
+        begun.2.function_known
+        found.2 refs)
+    instance_does k x (instances.system n place instance there is placed src refs) =
+        let named =
+        mapped_from (λ (f : Function). string_bytes f.name) (functions m) place sut
+        (ap (λ l. slice_get l place) (sym of.sorted.functions.names_are) ∙ place_there p.sorted.function_names sut place (sym placed)) in
+        let found = zip_from (IsFunctionBody (known_in p)) (functions m) bodies.functions.items place named.0 others named.1 in
+        subst (Does (known_in p) (functions m) p.case.case.now p.starts n) (sym (made_of instance found.0 (ap (body_in bodies) src ∙ found.1)))
+        (d.system n named.0 (record { body = found.0; references = map (λ c. c.0) instance.references.items }) (numbered n there is)
+        (contains_at (functions m) place named.0 named.1) named.2 found.2 refs)
+    instance_does k x (instances.nobody n there is absent) =
+        d.nobody n (numbered n there is)
+        (λ h. place_unknown p.sorted.function_names sut (sym absent) (subst (λ l. Contains l sut) (sym of.sorted.functions.names_are) h))
+
+    pub does : (list : List (Option Instance)) → AreInstances p list → (k : ℕ) (behaviour : Option Behaviour) → slice_get (map (behaviour_of bodies) list) k
+        ≡ Some behaviour
+        → Does (known_of m p.case.case.now p.config p.types) (functions m) p.case.case.now p.starts k behaviour
+    does list each k behaviour e =
+        let from = mapped_from (behaviour_of bodies) list k behaviour e in
+        subst (λ kn. Does kn (functions m) p.case.case.now p.starts k behaviour) known_is
+        (subst (Does (known_in p) (functions m) p.case.case.now p.starts k) from.2 (instance_does k from.0 (each k from.0 from.1)))
+
+    -- what the passes made is the test case of the module
+    pub test_case_of : (list : List (Option Instance)) → AreInstances p list → length list ≡ instance_count p
+        → IsTestCaseOf m (record { config = p.config; types = p.types; behaviours = map (behaviour_of bodies) list })
+    test_case_of list each count = record {
+      case = p.case.case.now;
+      one_test_case = of.one_test_case;
+      types = of.types;
+      kinds = kinds;
+      config = of.config;
+      starts = p.starts;
+      starts_are = of.starts;
+      everyone = length-map list (behaviour_of bodies) ∙ count ∙ sym everyone;
+      does = does list each;
+    }
