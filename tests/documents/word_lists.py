@@ -12,6 +12,7 @@ word; for a mode it is `word_lists.py NEW judge`, for a refusal `word_lists.py N
 """
 from __future__ import annotations
 
+import argparse
 import os
 import re
 import sys
@@ -202,9 +203,13 @@ def tell_places(new: str, old: str) -> int:
 
 
 def main() -> int:
+    words = argparse.ArgumentParser(description="Whether each list has all words, or where a new word belongs.")
+    words.add_argument("new", metavar="NEW", nargs="?", help="a new word: print where fellows of OLD stand without it")
+    words.add_argument("old", metavar="OLD", nargs="?", default="halt", help="a word of a list; halt where none is given")
+    given = words.parse_args()
     os.chdir(ROOT)
-    if len(sys.argv) > 1:
-        return tell_places(sys.argv[1], (sys.argv[2:] or ["halt"])[0])
+    if given.new is not None:
+        return tell_places(given.new, given.old)
     tell_lists()
     return 0
 

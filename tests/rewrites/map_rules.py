@@ -7,6 +7,7 @@
 """
 from __future__ import annotations
 
+import argparse
 import json
 import os
 import subprocess
@@ -42,7 +43,9 @@ def tool(program: str, *words: str, beside: str = f"{FOLDER}/mapped", ordered: s
 
 
 def main() -> None:
-    program = os.path.abspath(sys.argv[1])
+    words = argparse.ArgumentParser(description="What the other tools say of a script that tools/rewrite wrote.")
+    words.add_argument("program", metavar="PROGRAM", type=os.path.abspath, help="tpr")
+    program = words.parse_args().program
     with tempfile.TemporaryDirectory() as folder:
         output = f"{folder}/kitchen.ttcn"
         tool(program, "rewrite", "kitchen.ttcn", "types.ttcn", "-o", output)

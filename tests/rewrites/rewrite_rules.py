@@ -7,6 +7,7 @@ PART is `table`, `natural`, `same`, `broken`, `listed`, `rows` or `faults`. It p
 """
 from __future__ import annotations
 
+import argparse
 import glob
 import json
 import os
@@ -402,8 +403,12 @@ def row_script(script: str) -> str:
 
 
 def main() -> int:
-    program, part = sys.argv[1:]
-    {"table": table, "natural": natural, "same": same, "broken": broken, "listed": listed, "rows": rows, "faults": faults}[part](program)
+    parts = {"table": table, "natural": natural, "same": same, "broken": broken, "listed": listed, "rows": rows, "faults": faults}
+    words = argparse.ArgumentParser(description="What tools/rewrite makes of scripts, and what it refuses.")
+    words.add_argument("program", metavar="PROGRAM", help="tpr")
+    words.add_argument("part", metavar="PART", choices=parts, help=", ".join(parts))
+    given = words.parse_args()
+    parts[given.part](given.program)
     return 0
 
 

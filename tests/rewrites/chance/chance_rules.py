@@ -1,13 +1,14 @@
 """Programs of the full language made by chance, and what tools/rewrite makes of them: both come to the same.
 
-    tests/rewrites/chance/chance_rules.py [FIRST COUNT]
+    tests/rewrites/chance/chance_rules.py [FIRST [COUNT]]
 
 Each program is followed in every order of its acts by an interpreter of its own (full_runs.py), and what is carried
-over of it by the model of runs in tests/orders/. The verdicts are the same, and component by component the messages
+over of it by the model of runs of tools/. The verdicts are the same, and component by component the messages
 that were sent and that left a queue. It prints a line `passed ..` or `FAILED: ..` for each case.
 """
 from __future__ import annotations
 
+import argparse
 import os
 import sys
 from collections import Counter
@@ -51,7 +52,11 @@ def verdicts(outcomes: set[Outcome]) -> set[Outcome]:
 
 
 def main() -> None:
-    first, count = map(int, sys.argv[1:]) if len(sys.argv) == 3 else (FIRST, COUNT)
+    words = argparse.ArgumentParser(description="Programs by chance, and what tools/rewrite makes of them.")
+    words.add_argument("first", metavar="FIRST", type=int, nargs="?", default=FIRST, help="the seed of the first program")
+    words.add_argument("count", metavar="COUNT", type=int, nargs="?", help="how many; how they came out is counted then")
+    given = words.parse_args()
+    first, count = given.first, COUNT if given.count is None else given.count
     answers: Counter[str] = Counter()
     for seed in range(first, first + count):
         answer = look_at(seed)
@@ -61,7 +66,7 @@ def main() -> None:
             print(f"FAILED: the program {seed}: {answer}")
         elif kind == "same":
             print(f"passed the program {seed}")
-    if len(sys.argv) == 3:
+    if given.count is not None:
         print(f"{dict(answers)}", file=sys.stderr)
 
 
