@@ -2,7 +2,7 @@
 
     tests/rewrites/rewrite_rules.py PROGRAM PART
 
-PART is `table`, `natural`, `same`, `broken`, `listed`, `rows` or `faults`. It prints a line `passed ..` or
+PART is `table`, `natural`, `same`, `broken`, `listed`, `lines`, `rows` or `faults`. It prints a line `passed ..` or
 `FAILED: ..` for each case.
 """
 from __future__ import annotations
@@ -24,10 +24,10 @@ from typing import NamedTuple
 
 ROOT = os.path.dirname(os.path.dirname(os.path.dirname(os.path.realpath(__file__))))
 REWRITE = f"{ROOT}/tools/rewrite"
-EXPLAIN = f"{ROOT}/tools/explain"
 FOLDER = f"{ROOT}/tests/rewrites"
 # Another folder of tools, in which a fault is planted.
 TOOLS = os.environ.get("REWRITING", f"{ROOT}/tools")
+EXPLAIN = f"{TOOLS}/explain"
 sys.path.insert(0, TOOLS)
 
 PRELUDE = (
@@ -317,13 +317,32 @@ def listed(program: str) -> None:
     accepted = [file for file in sorted(examples()) if run(program, "check", file).status == 0]
     ended = run(EXPLAIN, "--all", *accepted)
     judged("nothing in a script of the profile", (ended.status, ended.printed) == (0, ""), ended.printed[:300])
-    scripts = sorted(glob.glob(f"{ROOT}/tests/tools/explained/*.ttcn"))
+    places = [f"{ROOT}/tests/tools/explained"] + [f"{FOLDER}/{name}" for name in ("natural", "encoded")]
+    scripts = [script for place in places for script in sorted(glob.glob(f"{place}/*.ttcn"))]
     told = json.loads(run(EXPLAIN, "--tpr", program, "--json", *scripts).printed)
     for one in told:
         every = run(EXPLAIN, "--all", one["file"]).printed
-        construct = one.get("construct")
-        if construct:
-            judged(f"all of {os.path.basename(one['file'])}", f": {construct} isn't supported" in every, every[:300])
+        construct, here = one.get("construct"), f"{one['file']}:{one['line']}:"
+        is_so = here in every and (not construct or f": {construct} isn't supported" in every)
+        judged(f"all of {os.path.basename(one['file'])}", is_so, every[:300])
+
+
+def lines(program: str) -> None:
+    for script in sorted(glob.glob(f"{FOLDER}/listed/*.ttcn")):
+        all_of_lines(script)
+
+
+def all_of_lines(script: str) -> None:
+    """Behind each line of the script stands all that is listed there, and behind the others nothing."""
+    with open(script, encoding="utf-8") as opened:
+        wanted = {number: line.rstrip("\n").split(" // ")[1:] for number, line in enumerate(opened, 1)}
+    found: dict[int, list[tuple[int, str]]] = {number: [] for number in wanted}
+    for line in run(EXPLAIN, "--all", script).printed.splitlines():
+        place = re.fullmatch(rf"{re.escape(script)}:([0-9]+):([0-9]+): (.*?)( isn't supported \(.*)?", line)
+        if place:
+            found.setdefault(int(place[1]), []).append((int(place[2]), place[3]))
+    other = [number for number, told in found.items() if [what for _, what in sorted(told)] != wanted.get(number, [])]
+    judged(f"all of the lines of {os.path.basename(script)}", not other, f"{[(line, found[line]) for line in other]}")
 
 
 def rows(program: str) -> None:
@@ -344,8 +363,6 @@ def rows(program: str) -> None:
         judged(f"all of row {name}", wrong == "", wrong)
 
 
-# What `explain --all` has no construct for: they break a rule of types and one of names.
-NO_CONSTRUCT = ("types that are compatible without one name", "a name that begins with `_`")
 # Rows whose construct has another name.
 TITLES = {"another base type, as `verdicttype`": "the type {word}", "`match`, `valueof`": "the operation {word}"}
 
@@ -355,8 +372,6 @@ def wrongly_listed(name: str, script: str) -> str:
     from tpr_tools.rewrite.listing import constructs_of
     from tpr_tools.script.constructs import Construct
 
-    if name in NO_CONSTRUCT:
-        return ""
     listed = [one.construct.title for one in constructs_of("row", script.encode())[0]]
     before = [one.construct.title for one in constructs_of("row", f"{PRELUDE}}}".encode())[0]]
     title = TITLES.get(name, name)
@@ -365,7 +380,8 @@ def wrongly_listed(name: str, script: str) -> str:
 
 
 def faults(program: str) -> None:
-    """Each rewrite, with a fault planted in it: the entry of the table that is there for it tells it."""
+    """Each rewrite, with a fault planted in it: the entry of the table that is there for it tells it, or the script in
+    listed/."""
     with open(f"{FOLDER}/faults", encoding="utf-8") as opened:
         planted = [line.rstrip("\n").split(" | ") for line in opened]
     with ThreadPoolExecutor(os.cpu_count()) as pool:
@@ -386,7 +402,8 @@ def fault_is_told(program: str, file: str, old: str, new: str, entry: str) -> st
             return f"`{old}` stands there {text.count(old)} times"
         with open(place, "w", encoding="utf-8") as opened:
             opened.write(text.replace(old, new))
-        words = [sys.executable, "-B", os.path.realpath(__file__), program, "table"]
+        part = "lines" if entry.startswith("all of the lines of ") else "table"
+        words = [sys.executable, "-B", os.path.realpath(__file__), program, part]
         environment = {**os.environ, "REWRITING": f"{folder}/tools", "ENTRY": entry}
         told = subprocess.run(words, stdout=subprocess.PIPE, stderr=subprocess.STDOUT, env=environment, check=False)
     return "" if f"FAILED: {entry}: " in told.stdout.decode("utf-8", "replace") else "it isn't told"
@@ -403,7 +420,7 @@ def row_script(script: str) -> str:
 
 
 def main() -> int:
-    parts = {"table": table, "natural": natural, "same": same, "broken": broken, "listed": listed, "rows": rows, "faults": faults}
+    parts = {one.__name__: one for one in (table, natural, same, broken, listed, lines, rows, faults)}
     words = argparse.ArgumentParser(description="What tools/rewrite makes of scripts, and what it refuses.")
     words.add_argument("program", metavar="PROGRAM", help="tpr")
     words.add_argument("part", metavar="PART", choices=parts, help=", ".join(parts))

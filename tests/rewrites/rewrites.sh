@@ -10,9 +10,10 @@ table 102
 natural 53
 same 59
 broken 14
-listed 39
+listed 55
+lines 2
 rows 219
-faults 60
+faults 72
 PARTS
     at_least 488 told "$room/rewrites_by_chance" tests/rewrites/chance/chance_rules.py
     at_least 25 told "$room/rewrites_maps" tests/rewrites/map_rules.py "$tpr"

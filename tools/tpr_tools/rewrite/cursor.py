@@ -28,7 +28,7 @@ class Cursor:
         self.place = 0
         self.nested = 0
         self.faults: list[Refused] = list(source.faults)
-        self.noted: list[tuple[Construct, Token]] = []
+        self.noted: list[tuple[Construct, Token]] = [(Construct.NAME_BEGIN, name) for name in source.begun]
         # The variables that hold components.
         self.created: set[str] = set()
         # What is sent or wanted, and whether it is sent: its type may stand before it.

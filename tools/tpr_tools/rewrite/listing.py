@@ -7,6 +7,7 @@ from typing import Union
 from ..script.constructs import Construct
 
 from . import tree
+from .compatible import given_by_structure
 from .reading_modules import ModuleReader
 from .tokens import Refused, Source, Token
 
@@ -51,6 +52,7 @@ def constructs_of(file: str, data: bytes) -> tuple[list[Listed], list[Refused]]:
     found = [Listed(construct, at) for construct, at in reader.noted]
     found += _of_messages(reader, modules)
     found += _of_calls(reader, modules)
+    found += [Listed(Construct.COMPATIBLE, at) for at in given_by_structure(modules)]
     for module in modules:
         for definition in module.definitions:
             if isinstance(definition, (tree.Function, tree.TestCase)) and definition.body:

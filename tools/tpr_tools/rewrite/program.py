@@ -34,6 +34,7 @@ class Program:
         reader = ModuleReader(source)
         modules = reader.modules()
         self.faults += reader.faults
+        self.faults += [refused_at(token, "a name begins with a letter") for token in source.begun]
         self._tokens[source.file] = source.tokens
         for module in modules:
             self.modules.append(module)

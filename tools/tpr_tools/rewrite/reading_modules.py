@@ -218,7 +218,7 @@ class ModuleReader(StatementReader):
         declarations: list[tree.Declaration] = []
         while self.is_at("var", "const", "timer", "template"):
             declarations.append(self.declaration())
-        return declarations, self.up_to_brace(self._branch)
+        return declarations, self.up_to_brace(self._recovered_branch)
 
     def _testcase(self, module: tree.Module) -> None:
         self.take()

@@ -45,15 +45,18 @@ class OperationReader(TypeReader):
         self.fail("an operation is wanted here")
 
     def _unsupported(self, at: Token, reason: str, start: int) -> tree.Unsupported:
-        """Passes the rest of the operation, a call's answers too."""
+        """Passes the rest of the operation; a call's answers are read."""
         while self.token.kind is not Kind.END and not self.is_at(";", "}", "{"):
             if self.is_at("(", "["):
                 self.skip_brackets()
             else:
                 self.take()
         if self.is_at("{") and at.text == "call":
-            self.skip_brackets()
+            self.answers()
         return tree.Unsupported(at, reason, (start, self.place))
+
+    def answers(self) -> None:
+        self.skip_brackets()
 
     def _send(self, port: Optional[Expression], at: Token, start: int) -> Statement:
         if port is None:

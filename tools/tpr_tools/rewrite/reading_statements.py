@@ -41,15 +41,20 @@ class StatementReader(OperationReader):
             self._to_end(start)
             return tree.Unsupported(fault.token, "", (start, self.place))
 
-    def _to_end(self, start: int) -> None:
-        """Behind the statement that began there: what it has opened is closed first."""
+    def _close(self, start: int) -> bool:
+        """Closes the braces that are open since then; whether there were any."""
         read = [token.text for token in self.tokens[start : self.place] if token.kind is Kind.SIGN]
         is_open = read.count("{") - read.count("}")
+        if is_open <= 0:
+            return False
         while is_open > 0 and not self.is_at_end():
-            text = self.take().text
-            is_open += {"{": 1, "}": -1}.get(text, 0)
-            if is_open == 0:
-                return
+            is_open += {"{": 1, "}": -1}.get(self.take().text, 0)
+        return True
+
+    def _to_end(self, start: int) -> None:
+        """Behind the statement that began there: what it has opened is closed first."""
+        if self._close(start):
+            return
         while not self.is_at_end() and not self.is_at("}"):
             if self.is_at("{", "(", "["):
                 self.skip_brackets()
@@ -325,9 +330,28 @@ class StatementReader(OperationReader):
     def branches(self) -> list[tree.Branch]:
         self.deeper()
         self.expect("{")
-        found = self.up_to_brace(self._branch)
+        found = self.up_to_brace(self._recovered_branch)
         self.shallower()
         return found
+
+    def answers(self) -> None:
+        """Of a `call`: none of them is carried over, but what stands in them is told."""
+        self.branches()
+
+    def _recovered_branch(self) -> tree.Branch:
+        """A branch; where its event can't be read, that is told, and its block is read on."""
+        start, nested = self.place, self.nested
+        try:
+            return self._branch()
+        except ReadFault as fault:
+            self.tell(fault)
+            self.nested = nested
+            self._close(start)
+            while not self.is_at_end() and not self.is_at("{", "}", ";"):
+                self.skip_brackets() if self.is_at("(", "[") else self.take()
+            block = self.block() if self.is_at("{") else None
+            self.accept(";")
+            return tree.Branch(fault.token, None, False, tree.Unsupported(fault.token, ""), block)
 
     def _branch(self) -> tree.Branch:
         at = self.expect("[")

@@ -243,12 +243,14 @@ class TypeReader(ExpressionReader):
         if not self.is_at("var", "const", "template", "timer"):
             self.fail("a declaration is wanted here")
         start, at = self.place, self.take()
-        kind = Declared.TEMPLATE if at.text == "template" else Declared(at.text)
-        if at.text == "var" and self.is_at("template"):
+        kind = Declared(at.text)
+        if kind is Declared.TEMPLATE:
+            self.note(Construct.TEMPLATE, at)
+        elif kind is Declared.VALUE and self.is_at("template"):
             self.note(Construct.VAR_TEMPLATE, self.take())
             kind = Declared.TEMPLATE
-            if self.is_at("("):
-                self.skip_brackets()
+        if kind is Declared.TEMPLATE and self.is_at("("):
+            self.skip_brackets()
         is_late = self.is_at("@lazy", "@fuzzy")
         if is_late:
             self.note(Construct.MODIFIER, self.take())

@@ -59,6 +59,7 @@ _TOKEN = re.compile(
       | (?P<NUMBER>0|[1-9][0-9]*)
       | (?P<NAME>[A-Za-z][A-Za-z0-9_]*)
       | (?P<MACRO>__[A-Z]+__)
+      | (?P<BEGUN>_[A-Za-z0-9_]*)
       | (?P<TEXT>"(?:[^"]|"")*")
       | (?P<BITS>'[0-9A-Fa-f?*\t-\r ]*'[BHO])
       | (?P<MODIFIER>@[a-z]+)
@@ -80,6 +81,8 @@ class Source:
         self.file = file
         self.text = data.decode("utf-8", "replace").removeprefix("\ufeff")
         self.faults: list[Refused] = []
+        # Names that begin with `_`: they are read as names, and refused.
+        self.begun: list[Token] = []
         self.tokens: list[Token] = []
         self._starts = [0] + [found.end() for found in re.finditer("\n", self.text)]
         self._read()
@@ -99,10 +102,12 @@ class Source:
 
     def _add(self, group: str, text: str, place: int) -> None:
         line, column = self.position(place)
-        kind = Kind[group]
+        kind = Kind.NAME if group == "BEGUN" else Kind[group]
         if kind is Kind.NAME and text in KEYWORDS:
             kind = Kind.KEYWORD
         self.tokens.append(Token(kind, text, line, column, self.file))
+        if group == "BEGUN":
+            self.begun.append(self.tokens[-1])
 
     def _skip(self, place: int) -> int:
         """Tells what no token begins with; an open text or comment ends with its line."""

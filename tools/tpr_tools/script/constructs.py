@@ -102,6 +102,7 @@ class Construct(Enum):
     )
     EXTENDS = ("a component type that extends another one", "6.2.10.2", "all ports in the one type")
     ADDRESS = ("an `address`", "6.2.12", "nothing: a mapped port leads to one port of the system")
+    COMPATIBLE = ("a value of a compatible type", "6.3", "one type for both")
     EXPRESSION = (
         "an expression with operators",
         "7.1",
