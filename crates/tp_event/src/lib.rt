@@ -1,4 +1,7 @@
-//! What can happen at a port: envelopes, events, operations, and what is asked of messages.
+//! What can happen at a port: envelopes, events, operations, and what a type of message must offer.
+//! Queues, histories and traces are made of it.
+//!
+//! Only the copy of a message takes memory.
 #![tactic(auto)]
 
 pub mod event;

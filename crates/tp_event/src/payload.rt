@@ -36,8 +36,7 @@ impl<M: Payload> Env<M> {
 
 impl<M> Env<M> {
     /// Whether a receiving operation for `wanted` and `from` succeeds with this envelope: the
-    /// message is wanted, and it is from the named sender, where one is named (22.2.2). Takes no
-    /// memory.
+    /// message is wanted, and it is from the named sender, where one is named (22.2.2).
     pub fn satisfies<W: Wanted<M>>(&self, wanted: &W, from: Option<u32>) -> bool
         ensures { IsTrue result ↔ Satisfies (W.admits wanted.now) from self.now }
     {

@@ -115,8 +115,6 @@ pub struct Floor {
 
 impl Floor {
     /// A floor with so many living behaviours, all of them awake.
-    ///
-    /// 50 `Memory` where an allocation was refused.
     pub fn new(alloc: Global, living: u32) -> Result<Arc<Floor, Global>, Memory> {
         let living = u64::from(living);
         let (counts, _) = Cell::ruled(alloc, Counts { living, resting: 0 })?;
@@ -157,7 +155,7 @@ impl Floor {
 
     /// One behaviour has ended. True where others live and all of them rest: then nothing will wake
     /// them but their inboxes being closed. Where nobody lives it changes nothing, and answers
-    /// false. Takes no memory.
+    /// false.
     pub fn leave<R: Wait>(&self, rt: &R) -> bool {
         self.leave_by(rt, &mut NoHook)
     }
@@ -178,7 +176,7 @@ impl Floor {
         unreachable!()
     }
 
-    /// How many rest, at one moment of the call. Takes no memory.
+    /// How many rest, at one moment of the call.
     pub fn resting<R: Wait>(&self, rt: &R) -> u64 {
         self.look(rt, &mut self.counts.pass()).resting
     }

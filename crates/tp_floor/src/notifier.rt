@@ -32,7 +32,7 @@ pub enum Woken {
 /// place on the floor that counts, and who doesn't has one that doesn't count.
 ///
 /// A call that changes the floor's counts calls the hook that it is given, between its load of them
-/// and its exchange. None takes memory.
+/// and its exchange.
 #[derive(Drop)]
 pub struct Notifier {
     /// How many pushes were announced.

@@ -1,4 +1,8 @@
-//! The queue of one message port: what is queued, and what can be received.
+//! The queue of one message port, of any type of message: what is queued, what can be received, and
+//! the rules of a port's history. Mode `queue` (`tp_port`), the ports of a run (`tp_history`) and
+//! the judge of traces (`tp_judge`) use it.
+//!
+//! `Queue::arrive` alone takes memory.
 #![tactic(auto)]
 
 pub mod queue;

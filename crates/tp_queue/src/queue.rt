@@ -42,8 +42,8 @@ impl<M: Drop> Model for Queue<M> {
 }
 
 impl<M: Drop> Queue<M> {
-    /// A started port's queue with nothing in it, which takes its memory from `alloc`: so is each
-    /// port when its component is created (ES 201 873-1, 21.3.1). Takes no memory itself.
+    /// A started port's queue with nothing in it, which takes its memory from `alloc` as messages
+    /// come: so is each port when its component is created (ES 201 873-1, 21.3.1).
     pub fn new(alloc: Global) -> Self
         ensures { StandsFor result [] }
     {
@@ -57,8 +57,7 @@ impl<M: Drop> Queue<M> {
     /// A message comes, and goes to the end of the queue, whatever the status: a halted or stopped
     /// port queues too (9.1: a port is an unbounded first-in first-out queue).
     ///
-    /// 50 `Memory` where an allocation was refused: the envelope is handed back, and the queue is
-    /// as before.
+    /// 50 `Memory` where an allocation was refused: the envelope comes back.
     pub fn arrive(&mut self, env: Env<M>) -> Result<(), (Memory, Env<M>)>
         ensures ok { OnOk result (AtHistory self.old (λ h.
             StandsFor self.new (h ++ event.Arrive env ∷ []))) }
@@ -72,7 +71,7 @@ impl<M: Drop> Queue<M> {
 
     /// Halts a started port: puts the mark behind the last queued message, and answers how many
     /// messages are ahead of it (22.5.4). Those are still deliverable, and what comes from now on
-    /// isn't. `None` on a halted or stopped port, where it has no effect. Takes no memory.
+    /// isn't. `None` on a halted or stopped port, where it has no effect.
     pub fn halt(&mut self) -> Option<u64>
         ensures count { AtHistory self.old (λ h. result ≡ halted_count (status_of h) h) }
         ensures after { AtHistory self.old (λ h. StandsFor self.new (h ++ event.Halted ∷ [])) }
@@ -89,7 +88,7 @@ impl<M: Drop> Queue<M> {
 
     /// Takes the top message out where it is deliverable, `wanted` admits it and it comes from the
     /// sender `from`, if one is given (22.2.2). Otherwise the answer is `None`, and nothing
-    /// happens: a message further down is never looked at. Takes no memory.
+    /// happens: a message further down is never looked at.
     pub fn receive<W: Wanted<M>>(&mut self, wanted: &W, from: Option<u32>) -> Option<Env<M>>
         ensures { AtHistory self.old (λ h.
             ReceivesFor (W.admits wanted.now) from h result self.new) }
@@ -102,7 +101,7 @@ impl<M: Drop> Queue<M> {
     }
 
     /// Finds the top message as [`receive`](Queue::receive) does, and leaves it in the queue
-    /// (22.4). Takes no memory.
+    /// (22.4).
     pub fn check<W: Wanted<M>>(&self, wanted: &W, from: Option<u32>) -> Option<&Env<M>>
         ensures found { AtHistory self.now (λ h.
             Checks (W.admits wanted.now) from h (option_copied result)) }
@@ -117,7 +116,7 @@ impl<M: Drop> Queue<M> {
 
     /// Takes the top message out where it is deliverable, whether it is wanted or not (22.2.3): it
     /// is received by the same test as in [`receive`](Queue::receive), and else discarded.
-    /// `Nothing` where no message is deliverable; nothing happens then. Takes no memory.
+    /// `Nothing` where no message is deliverable; nothing happens then.
     pub fn trigger<W: Wanted<M>>(&mut self, wanted: &W, from: Option<u32>) -> TriggerAnswer<M>
         ensures { AtHistory self.old (λ h.
             TriggersFor (W.admits wanted.now) from h result self.new) }
@@ -131,7 +130,7 @@ impl<M: Drop> Queue<M> {
     }
 
     /// Takes the top out, whatever it is, where there is one: as a `receive` that wants any message
-    /// from anyone does (22.2.2), and a `trigger` that discards it (22.2.3). Takes no memory.
+    /// from anyone does (22.2.2), and a `trigger` that discards it (22.2.3).
     pub fn take_top(&mut self) -> Option<Env<M>>
         ensures { AtHistory self.old (λ h. TakesOut h result self.new) }
     {
@@ -145,7 +144,6 @@ impl<M: Drop> Queue<M> {
 
     /// Discards every queued message, on both sides of a mark, and answers how many there were
     /// (22.5.1). A halted port stays halted, with the mark at the top; a stopped one stays stopped.
-    /// Takes no memory.
     pub fn clear(&mut self) -> u64
         ensures count { AtHistory self.old (λ h. result ≡ length (queued h)) }
         ensures after { AtHistory self.old (λ h. StandsFor self.new (h ++ event.Cleared ∷ [])) }
@@ -157,8 +155,7 @@ impl<M: Drop> Queue<M> {
     }
 
     /// Discards every queued message, on both sides of a mark, removes the mark, starts the port,
-    /// also one that was never stopped, and answers how many messages there were (22.5.2). Takes no
-    /// memory.
+    /// also one that was never stopped, and answers how many messages there were (22.5.2).
     pub fn start(&mut self) -> u64
         ensures count { AtHistory self.old (λ h. result ≡ length (queued h)) }
         ensures after { AtHistory self.old (λ h. StandsFor self.new (h ++ event.Started ∷ [])) }
@@ -170,14 +167,14 @@ impl<M: Drop> Queue<M> {
     }
 
     /// Stops the port (22.5.3). What is queued stays queued; nothing of it is deliverable. On a
-    /// halted port the mark is thereby at the top. Takes no memory.
+    /// halted port the mark is thereby at the top.
     pub fn stop(&mut self)
         ensures { AtHistory self.old (λ h. StandsFor self.new (h ++ event.Stopped ∷ [])) }
     {
         self.status = Status::Stopped;
     }
 
-    /// Whether the port may send: it is started (22.5.3 and 22.5.4 disallow it). Takes no memory.
+    /// Whether the port may send: it is started (22.5.3 and 22.5.4 disallow it).
     pub fn may_send(&self) -> bool
         ensures { IsTrue result ↔ (self.now.status ≡ status.Started) }
     {
@@ -185,7 +182,7 @@ impl<M: Drop> Queue<M> {
     }
 
     /// How many queued messages are deliverable: all of a started port, those ahead of the mark of
-    /// a halted one, none of a stopped one. Takes no memory.
+    /// a halted one, none of a stopped one.
     pub fn ahead(&self) -> u64
         ensures count { result ≡ self.now.ahead }
         ensures within { AtHistory self.now (λ h. gone h ≤ limit h) }
@@ -197,7 +194,7 @@ impl<M: Drop> Queue<M> {
         }
     }
 
-    /// Whether the port is started, halted or stopped. Takes no memory.
+    /// Whether the port is started, halted or stopped.
     ///
     /// Each queue stands for some history: no clause on histories is empty.
     pub fn status(&self) -> Status
@@ -207,15 +204,14 @@ impl<M: Drop> Queue<M> {
         self.status
     }
 
-    /// How many messages are queued, on both sides of a mark. Takes no memory.
+    /// How many messages are queued, on both sides of a mark.
     pub fn queued_len(&self) -> u64
         ensures { result ≡ length self.now.entries }
     {
         self.entries.len() as u64
     }
 
-    /// The queued message at this place, from 0, the oldest; `None` where there are no more. Takes
-    /// no memory.
+    /// The queued message at this place, from 0, the oldest; `None` where there are no more.
     pub fn queued_at(&self, place: u64) -> Option<&Env<M>>
         ensures { option_copied result ≡ slice_get self.now.entries place }
     {
@@ -223,7 +219,7 @@ impl<M: Drop> Queue<M> {
     }
 
     /// The message that a receiving operation sees: the oldest that is queued, where it is
-    /// deliverable, else `None` (22.2.2: only the top is looked at). Takes no memory.
+    /// deliverable, else `None` (22.2.2: only the top is looked at).
     pub fn top(&self) -> Option<&Env<M>>
         ensures { AtHistory self.now (λ h. option_copied result ≡ top h) }
     {

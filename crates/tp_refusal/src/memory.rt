@@ -2,7 +2,7 @@
 use std::alloc::{AllocError, AllocFailed};
 use thiserror::Error;
 
-/// Memory was refused. Every crate answers it, as 50 Memory, where an allocation failed.
+/// Memory was refused. Every crate answers it, as 50 `Memory`, where an allocation failed.
 #[derive(Clone, Copy, Debug, PartialEq, Eq, Error)]
 #[error("out of memory")]
 pub struct Memory;

@@ -13,9 +13,8 @@ fn find_byte(separator: u8, text: &[u8]) -> Option<usize>
     text.iter().position(|byte| *byte == separator)
 }
 
-/// The first line of a text, and what follows it. A line ends at a byte 10, which is in neither
-/// and which the last line may lack. The text isn't empty, since an empty one has no line. Takes
-/// no memory.
+/// The first line of a text, and what follows it. A line ends at a byte 10, which is in neither and
+/// which the last line may lack. The text isn't empty, since an empty one has no line.
 pub fn first_line(text: &[u8]) -> (&[u8], &[u8])
     requires { 0 < length text.now }
     ensures lines { lines_of text.now ≡ result.0.now ∷ lines_of result.1.now }
@@ -30,8 +29,8 @@ pub fn first_line(text: &[u8]) -> (&[u8], &[u8])
 }
 
 /// The first word of a line, and what stands behind the space that follows it, where one does: so
-/// `None` where the line has one word alone, and an empty rest where it ends with its only space.
-/// A word has no space; it is empty where the line is, or begins with one. Takes no memory.
+/// `None` where the line has one word alone, and an empty rest where it ends with its only space. A
+/// word has no space; it is empty where the line is, or begins with one.
 pub fn first_word(line: &[u8]) -> (&[u8], Option<&[u8]>)
     ensures words { words_of line.now ≡ result.0.now ∷ words_after (option_copied result.1) }
     ensures parts { line.now ≡ result.0.now ++ after_space (option_copied result.1) }
@@ -43,7 +42,7 @@ pub fn first_word(line: &[u8]) -> (&[u8], Option<&[u8]>)
     }
 }
 
-/// The text that bytes are, and `None` exactly where they aren't UTF-8. Takes no memory.
+/// The text that bytes are, and `None` exactly where they aren't UTF-8.
 pub fn utf8_text(bytes: &[u8]) -> Option<&str>
     ensures { MatchOption result (¬ IsUtf8 bytes.now) (λ text. text.now ≡ bytes.now) }
 {

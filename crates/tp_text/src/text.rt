@@ -29,11 +29,11 @@ pub enum ReadFault {
     Memory,
 }
 
-/// Reads all that the reader has, and at most 1,048,577 bytes of it.
+/// Reads all that the reader has, and at most one byte more than [`TEXT_LIMIT`].
 ///
-/// 2 `Read` where the reader answers an error, and only there; an interrupted read is tried again. 15 `Limit` where there are more than 1,048,576 bytes, as soon as one more is read. 50
-/// `Memory` where an allocation was refused. Whichever comes first is answered; what was read isn't
-/// put back.
+/// 2 `Read` where the reader answers an error, and only there; an interrupted read is tried again.
+/// 15 `Limit` where there are more bytes, as soon as one more is read. Whichever fault comes first
+/// is answered; what was read isn't put back.
 pub fn read_text<R: Read>(alloc: Global, reader: &mut Watched<R>) -> Result<Vec<u8>, ReadFault>
     ensures whole { IfOk result (λ text.
         IfSome (reader_left R.remaining reader.old) (λ all. text.items ≡ all)) }
@@ -48,9 +48,8 @@ pub fn read_text<R: Read>(alloc: Global, reader: &mut Watched<R>) -> Result<Vec<
     read_up_to(alloc, reader, TEXT_LIMIT)
 }
 
-/// Reads all that the reader has, and at most one byte more than the limit.
-///
-/// 2 `Read`, 15 `Limit` and 50 `Memory` as [`read_text`] says, with this limit in place of its own.
+/// Reads all that the reader has, and at most one byte more than the limit. The faults are those of
+/// [`read_text`], with this limit in place of its own.
 pub fn read_within<R: Read>(
     alloc: Global,
     reader: &mut Watched<R>,

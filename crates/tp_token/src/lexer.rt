@@ -12,19 +12,16 @@ use crate::token::{Placed, Token};
 use std::alloc::Global;
 use tp_refusal::limit::TEXT_LIMIT;
 
-/// The tokens of the text, in order, each with its line: at each place the longest that can stand
-/// there. White space (bytes 9 to 13 and 32) and comments (`//` to the next byte 10 or the end of
-/// the text, `/*` to the next `*/`) are left out. It reads the text once, and borrows names from
-/// it.
+/// The tokens of the text, in order, each with its line. It reads the text once, and borrows names
+/// from it.
 ///
 /// The first fault in the text is answered:
-/// - 15 `Limit` at line 0, before all else: the text has more than 1,048,576 bytes;
+/// - 15 `Limit` at line 0, before all else: the text has more bytes than [`TEXT_LIMIT`];
 /// - 10 `Syntax` at the line of a byte that begins no token, of the opening quote of a text that
 ///   isn't closed or holds a character other than 32 to 126, of the `/*` of a comment that isn't
 ///   closed (`/*/` isn't);
 /// - 15 `Limit` at the line of a name of more than 64 characters, or of a number above
-///   9223372036854775808;
-/// - 50 where memory was refused, for the list of tokens or the characters of a text.
+///   9223372036854775808.
 pub fn lex<'t>(alloc: Global, text: &'t [u8]) -> Result<Vec<Placed<'t>>, ScriptFault>
     ensures tokens { IfOk result (λ v. AreTokens text.now (map placed_lexeme v.items)) }
     ensures limits { IfOk result (λ v. AreWithinLimits (map placed_lexeme v.items)) }
@@ -65,7 +62,7 @@ pub fn words_are_spelled()
     ensures { WordsAreSpelled }
 {}
 
-/// Adds the token, if there is one. 50 where memory was refused.
+/// Adds the token, if there is one.
 fn add<'t>(
     tokens: &mut Vec<Placed<'t>>,
     found: Option<Token<'t>>,

@@ -23,10 +23,7 @@ const GREATEST_IN_TOKEN: u64 = 9_223_372_036_854_775_808;
 /// The piece at the front: its token, if it is one, and how many bytes it has. `line` is the line
 /// of its first byte.
 ///
-/// 10 `Syntax` at the line: the byte begins no token, a text isn't closed or holds a character
-/// other than 32 to 126, or a comment isn't closed. 15 `Limit` at the line: a name has more than
-/// 64 characters, or a number is above 9223372036854775808. 50 where the memory for a text's
-/// characters was refused.
+/// The faults are those of [`lex`](crate::lexer::lex) but for the length of the text, at this line.
 #[tactic(auto, using(crate::proofs::PieceAtFront::piece_of_token, crate::proofs::PieceAtFront::blank_at))]
 pub fn piece<'t>(
     alloc: Global,
@@ -155,7 +152,7 @@ fn digit_value(digit: u8) -> u8
 }
 
 /// The text at the front, and how many bytes it has, quotes included. 10 `Syntax`: it isn't closed,
-/// or holds a character other than 32 to 126. 50 where memory was refused.
+/// or holds a character other than 32 to 126.
 fn text(alloc: Global, bytes: &[u8], line: u32) -> Result<(Vec<u8>, usize), ScriptFault>
     requires { BeginsAs Kind.Quote bytes.now }
     ensures token { IfOk result (λ r. TokenAt bytes.now (text r.0.items) r.1) }
