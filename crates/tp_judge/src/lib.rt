@@ -1,5 +1,9 @@
-//! Whether a trace obeys the rules of ports and of delivery, and nothing in it happened before
-//! itself.
+//! Whether a trace is lawful: it obeys the rules of ports and of delivery, and nothing in it
+//! happened before itself; and whether it is one run. Its names are numbers here, which
+//! `tp_referee` gives them.
+//!
+//! Where a call answers 50 `Memory`, an allocation was refused. A call that can't answer it takes
+//! no memory.
 #![tactic(auto)]
 
 mod circles;

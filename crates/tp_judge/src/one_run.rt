@@ -38,8 +38,6 @@ fn runs_in_order(alloc: Global, trace: &IndexedTrace) -> Result<bool, Memory>
 /// Whether a trace whose routes are lawful is one run (ES 201 873-4), in time linear in the
 /// numbers of its lines, components and routes. Its numbers are below its counts, and each line's
 /// port is that at the end of its route.
-///
-/// 50 `Memory` only where an allocation was refused.
 pub fn one_run(alloc: Global, trace: &IndexedTrace) -> Result<OneRun, Memory>
     requires within { AreWithin trace.now }
     requires routed { AreLinesRouted trace.now }

@@ -10,8 +10,8 @@ use tp_refusal::memory::Memory;
 use tp_trace::tree::Trace;
 
 /// The names of components, no two of them equal: first those of the sections, in their order, then
-/// the others, by first sight. The trace has a table of the first already, so that none of them is
-/// kept or looked up twice.
+/// the others, by first occurrence. The trace has a table of the first already, so that none of
+/// them is kept or looked up twice.
 pub struct Components<'t> {
     trace: &'t Trace<'t>,
     /// The names of those that have no section.

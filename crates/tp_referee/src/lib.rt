@@ -1,4 +1,8 @@
-//! Whether what the text of a trace tells is lawful: its names are numbered, and judged.
+//! Mode `judge`: the names of a trace are numbered, it is judged by `tp_judge`, and what is said of
+//! it is written.
+//!
+//! Where a call answers 50 `Memory`, an allocation was refused. A call that can't answer it takes
+//! no memory.
 #![tactic(auto)]
 
 mod components;

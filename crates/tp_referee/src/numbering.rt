@@ -90,10 +90,9 @@ fn number_lines<'t>(
 }
 
 /// A trace in numbers. Each port, name of a port, route and message has the number of its first
-/// sight; the components with a section come first, in the order of their sections.
+/// occurrence; the components with a section come first, in the order of their sections.
 ///
-/// 50 `Memory` where an allocation was refused. It takes 40 bytes for each line, and what stands in
-/// the tables as long as it works.
+/// It takes 40 bytes for each line, and what stands in the tables as long as it works.
 pub fn number_trace(alloc: Global, trace: &Trace<'_>) -> Result<IndexedTrace, Memory>
     requires { length trace.now ≤ 268435456 }
     ensures numbering { IfOk result (IsNumberingOf trace.now) }

@@ -50,10 +50,8 @@ fn number_text(alloc: Global, text: &[u8]) -> Result<IndexedTrace, TraceFault>
 
 /// Says of a text whether it is a lawful trace, and where it isn't.
 ///
-/// Refused are 15 `Limit` a text of more than 268,435,456 bytes, 1 `BadLine` the first line of
-/// another form than a trace has, and 50 `Memory` where an allocation was refused. The time is
-/// linear in the text, but for the sorting of the places, unless its names were made to collide in
-/// a table: the seed of the hashes is fixed.
+/// Refused is what [`read_trace`] refuses. The time is linear in the text, but for the sorting of
+/// the places, unless its names were made to collide in a table: the seed of the hashes is fixed.
 pub fn referee(alloc: Global, text: &[u8]) -> Result<Ruling, TraceFault>
     ensures ruling { IfOk result (IsRulingOf text.now) }
     ensures fault { IfErr result (IsFaultOf text.now) }

@@ -8,7 +8,7 @@ use std::alloc::Global;
 use std::marker::Model;
 use tp_refusal::memory::Memory;
 
-/// Words, no two of them equal, numbered from 0 by first sight. Each lies in the text.
+/// Words, no two of them equal, numbered from 0 by first occurrence. Each lies in the text.
 pub struct Words<'t> {
     words: IndexSet<&'t [u8]>,
 }

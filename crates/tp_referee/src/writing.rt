@@ -73,7 +73,7 @@ fn write_lawful<W: Write>(writer: &mut Watched<W>, run: OneRun)
 
 /// Writes what is said of a trace: `lawful`, and `one run` or `delayed line L`; or a line
 /// `unlawful RULE line L` for each place. Where the writer fails, a front of the text is written.
-/// It takes no memory, and writes in small pieces: give it a writer with a buffer.
+/// It writes in small pieces: give it a writer with a buffer.
 pub fn write_ruling<W: Write>(writer: &mut Watched<W>, ruling: &Ruling)
     ensures { Writes W.contents writer.old writer.new (ruling_text ruling.now) }
 {

@@ -1,4 +1,8 @@
-//! Traces: what each line tells, and which texts are traces.
+//! Traces: what each line tells, and the text of a trace read into its lines. `tp_referee` reads
+//! them.
+//!
+//! Where a call answers 50 `Memory`, an allocation was refused. A call that can't answer it takes
+//! no memory.
 #![tactic(auto)]
 
 pub mod form;

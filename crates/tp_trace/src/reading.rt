@@ -25,7 +25,7 @@ pub enum TraceFault {
     /// 1 BadLine: the line of this number, from 1, is the first of another form than a trace has.
     #[error("line {0} is no line of a trace")]
     BadLine(u64),
-    /// 15 Limit: the text has more than 268,435,456 bytes.
+    /// 15 Limit: the text has more than [`TRACE_LIMIT`] bytes.
     #[error("the text has more than {TRACE_LIMIT} bytes")]
     Limit,
     /// 50 Memory: an allocation was refused.
@@ -125,9 +125,8 @@ fn step<'t>(
 
 /// Reads a text as a trace.
 ///
-/// Refused are 15 `Limit` a text of more than 268,435,456 bytes, 1 `BadLine` its first line that
-/// doesn't tell anything or that may not stand behind those before it, and 50 `Memory` where an
-/// allocation was refused.
+/// Refused are 15 `Limit` a text of more than [`TRACE_LIMIT`] bytes, and 1 `BadLine` its first line
+/// that doesn't tell anything or that may not stand behind those before it.
 pub fn read_trace<'t>(alloc: Global, text: &'t [u8]) -> Result<Trace<'t>, TraceFault>
     ensures trace { IfOk result (IsTraceOf text.now) }
     ensures fault { IfErr result (IsFaultOf text.now) }
