@@ -150,7 +150,7 @@ fn put_beside(components: &mut Vec<Component>, p: PortRef, beside: Items<PortRef
     component.links.put(p.port, beside);
 }
 
-/// A list with one more port at its end. 50 `Memory` only where an allocation was refused.
+/// A list with one more port at its end.
 fn with_last(alloc: Global, ports: &[PortRef], last: PortRef) -> Result<Items<PortRef>, Memory>
     ensures { IfOk result (λ longer. longer ≡ ports.now ++ last ∷ []) }
 {
@@ -162,8 +162,6 @@ fn with_last(alloc: Global, ports: &[PortRef], last: PortRef) -> Result<Items<Po
 /// Joins two different ports: adds their pair, and puts each at the end of what stands beside the
 /// other. Both lists are made first, so that nothing has changed where an allocation is refused. A
 /// list has 64 ports at most, one for each component.
-///
-/// 50 `Memory` only where an allocation was refused; everything is then as before.
 pub(crate) fn join_ports(
     alloc: Global,
     components: &mut Vec<Component>,

@@ -68,8 +68,8 @@ impl Model for Config {
 }
 
 impl Config {
-    /// A configuration with these component types, numbered from 0, no component and no pair. Takes
-    /// no memory; later calls take it from `alloc`. Each type has at most 64 ports.
+    /// A configuration with these component types, numbered from 0, no component and no pair. Later
+    /// calls take memory from `alloc`. Each type has at most 64 ports.
     pub fn new(alloc: Global, types: Vec<CompType>) -> Config
         requires { All (λ t. length t.ports.entries ≤ 64) types.items }
         ensures empty { result ≡ empty_setup (map ports_of types.items) }
@@ -84,14 +84,14 @@ impl Config {
         }
     }
 
-    /// The component types, as they were given to [`Config::new`]. Takes no memory.
+    /// The component types, as they were given to [`Config::new`].
     pub fn types(&self) -> &[CompType]
         ensures { map ports_of result.now ≡ self.now.types }
     {
         self.types.as_slice()
     }
 
-    /// How many components there are, at most 64. Takes no memory.
+    /// How many components there are, at most 64.
     pub fn len(&self) -> usize
         ensures count { result ≡ length self.now.components }
         ensures lawful { IsSetup self.now }
@@ -99,7 +99,7 @@ impl Config {
         self.components.len()
     }
 
-    /// The name of a component of this configuration. Takes no memory.
+    /// The name of a component of this configuration.
     pub fn name(&self, comp: CompId) -> &str
         requires { IsComponent self.now comp }
         ensures { slice_get (names_of_components self.now) comp.0 ≡ Some result.now }
@@ -107,7 +107,7 @@ impl Config {
         self.components[comp.0 as usize].name.as_str()
     }
 
-    /// What a component of this configuration is. Takes no memory.
+    /// What a component of this configuration is.
     pub fn role(&self, comp: CompId) -> Role
         requires { IsComponent self.now comp }
         ensures { option_map (λ m. m.role) (slice_get self.now.components comp.0) ≡ Some result }
@@ -116,7 +116,7 @@ impl Config {
     }
 
     /// The number of the type of a component of this configuration, from 0, among the component
-    /// types. Takes no memory.
+    /// types.
     pub fn kind(&self, comp: CompId) -> u32
         requires { IsComponent self.now comp }
         ensures { option_map (λ m. m.kind) (slice_get self.now.components comp.0) ≡ Some result }
@@ -124,7 +124,7 @@ impl Config {
         self.components[comp.0 as usize].kind
     }
 
-    /// The type of a component of this configuration: its ports in declared order. Takes no memory.
+    /// The type of a component of this configuration: its ports in declared order.
     pub fn comp_type(&self, comp: CompId) -> &CompType
         requires { IsComponent self.now comp }
         ensures { ports_of result.now ≡ ports_at self.now.types self.now.components comp }
@@ -133,7 +133,7 @@ impl Config {
         &self.types[kind as usize]
     }
 
-    /// How many ports a component has. One that isn't there has none. Takes no memory.
+    /// How many ports a component has. One that isn't there has none.
     pub fn port_count(&self, comp: CompId) -> usize
         ensures { result ≡ length (ports_at self.now.types self.now.components comp) }
     {
@@ -144,8 +144,8 @@ impl Config {
     /// number, from 0, among the component types. Its number is the number of components before.
     ///
     /// 12 `Duplicate` exactly where a component has the name, or where it would be a second test
-    /// system interface; else 15 `Limit` exactly where there are 64 components; else 50 `Memory`
-    /// only where an allocation was refused. The configuration is then as before.
+    /// system interface; else 15 `Limit` exactly where there are 64 components. The configuration
+    /// is then as before.
     pub fn create(&mut self, name: String, kind: u32, role: Role) -> Result<CompId, CreateFault>
         requires { kind < length self.old.types }
         ensures number { IfOk result (λ comp. comp.0 ≡ length self.old.components) }
@@ -175,7 +175,7 @@ impl Config {
         Ok(comp)
     }
 
-    /// The component of this name, or `None` where no component has it. Takes no memory.
+    /// The component of this name, or `None` where no component has it.
     pub fn comp_of(&self, name: &str) -> Option<CompId>
         ensures there { IfSome result (λ comp.
             slice_get (names_of_components self.now) comp.0 ≡ Some name.now) }
@@ -188,7 +188,7 @@ impl Config {
     }
 
     /// The port of this name of the component, or `None` where the component has none of that name,
-    /// or where there is no such component. Takes no memory.
+    /// or where there is no such component.
     pub fn port_of(&self, comp: CompId, name: &str) -> Option<PortRef>
         ensures there { IfSome result (λ p. (p.comp ≡ comp)
             × (slice_get (port_names self.now comp) p.port ≡ Some name.now)) }
@@ -208,9 +208,8 @@ impl Config {
     /// Connects two ports of this configuration (21.1.1). The two stand in either order.
     ///
     /// 25 `SystemPort`, 26 `SamePort`, 27 `Already`, 22 `Mixed`, 21 `TwoPortsOfOne`,
-    /// 20 `Directions`: the first of these whose cause holds. Where none does, 50 `Memory` only
-    /// where an allocation was refused. The configuration is then as before. Looks at what stands
-    /// beside the two ports, and not at the pairs of others.
+    /// 20 `Directions`: the first of these whose cause holds. The configuration is then as before.
+    /// Looks at what stands beside the two ports, and not at the pairs of others.
     pub fn connect(&mut self, p: PortRef, q: PortRef) -> Result<(), ConnectFault>
         requires p_in { IsPort self.old p }
         requires q_in { IsPort self.old q }
@@ -234,9 +233,8 @@ impl Config {
     /// interface. The two stand in either order.
     ///
     /// 28 `NotSystem`, 22 `Mixed`, 23 `NotOneToOne`, 24 `MapDirections`: the first of these whose
-    /// cause holds. Where none does, 50 `Memory` only where an allocation was refused. The
-    /// configuration is then as before. Looks at what stands beside the two ports, and not at the
-    /// pairs of others.
+    /// cause holds. The configuration is then as before. Looks at what stands beside the two ports,
+    /// and not at the pairs of others.
     pub fn map(&mut self, p: PortRef, q: PortRef) -> Result<(), MapFault>
         requires p_in { IsPort self.old p }
         requires q_in { IsPort self.old q }
@@ -258,8 +256,6 @@ impl Config {
 
     /// The routes from a port, in the order of the connecting statements. No two of them are equal,
     /// and none of them is a route from another port. A port that isn't there has none.
-    ///
-    /// 50 `Memory` only where an allocation was refused.
     pub fn routes_from(&self, p: PortRef) -> Result<Vec<RouteId>, Memory>
         ensures routes { IfOk result (λ v. v.items ≡ routes_from self.now p) }
         ensures distinct { AreDistinctRoutes (routes_from self.now p) }
@@ -271,8 +267,6 @@ impl Config {
     /// The routes into a component, by receiving port, and then in the order of the connecting
     /// statements. No two of them are equal, and they are the routes from any port to a port of the
     /// component. A component that isn't there has none.
-    ///
-    /// 50 `Memory` only where an allocation was refused.
     pub fn routes_into(&self, comp: CompId) -> Result<Vec<RouteId>, Memory>
         ensures routes { IfOk result (λ v. v.items ≡ routes_into self.now comp) }
         ensures distinct { AreDistinctRoutes (routes_into self.now comp) }
@@ -287,8 +281,7 @@ impl Config {
     }
 
     /// The route of a send at the port (22.2.1): the only route from it, or, where a component is
-    /// named, the one that leads to that component. Takes no memory, and looks at the routes of
-    /// this port alone.
+    /// named, the one that leads to that component. Looks at the routes of this port alone.
     ///
     /// 41 `NoRoute` exactly where there is no route, or none to the component named; 42 `NeedsTo`
     /// exactly where there are several and no component is named.

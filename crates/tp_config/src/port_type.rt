@@ -70,7 +70,7 @@ pub enum Role {
 }
 
 impl PortRef {
-    /// Whether the two are the same port. Takes no memory.
+    /// Whether the two are the same port.
     pub fn is(self, other: PortRef) -> bool
         ensures { result ≡ same_port self other }
     {
@@ -79,7 +79,7 @@ impl PortRef {
 }
 
 impl Role {
-    /// Whether it is that of the test system interface. Takes no memory.
+    /// Whether it is that of the test system interface.
     pub fn is_system(self) -> bool
         ensures { result ≡ is_system_role self }
     {

@@ -31,7 +31,7 @@ impl Model for Listed {
     ghost invariant = { λ l. HaveSame l.known.keys l.items };
 }
 
-/// The set of these types. 50 `Memory` only where an allocation was refused.
+/// The set of these types.
 fn known_types(alloc: Global, types: &[Ty]) -> Result<IndexSet<Ty>, Memory>
     ensures { IfOk result (λ known. HaveSame known.keys types.now) }
 {
@@ -43,7 +43,7 @@ fn known_types(alloc: Global, types: &[Ty]) -> Result<IndexSet<Ty>, Memory>
 }
 
 impl Listed {
-    /// These types. 50 `Memory` only where an allocation was refused.
+    /// These types.
     fn new(alloc: Global, items: Items<Ty>) -> Result<Listed, Memory>
         ensures { IfOk result (λ listed. listed ≡ items) }
     {
@@ -93,7 +93,7 @@ impl Model for TypeList {
 }
 
 impl TypeList {
-    /// The types of these items, in their order. 50 `Memory` only where an allocation was refused.
+    /// The types of these items, in their order.
     pub fn from_items(alloc: Global, items: Items<Ty>) -> Result<TypeList, Memory>
         ensures { IfOk result (λ list. list ≡ items) }
     {
@@ -110,14 +110,14 @@ impl TypeList {
         Ok(TypeList { listed })
     }
 
-    /// The types, the first at place 0. Takes no memory.
+    /// The types, the first at place 0.
     pub fn as_slice(&self) -> &[Ty]
         ensures { result.now ≡ self.now }
     {
         self.listed.as_slice()
     }
 
-    /// The types, each once, however often the list has it. Takes no memory.
+    /// The types, each once, however often the list has it.
     pub fn distinct(&self) -> &[Ty]
         ensures same { HaveSame result.now self.now }
         ensures once { IsDistinct same_type result.now }
@@ -125,7 +125,7 @@ impl TypeList {
         self.listed.distinct()
     }
 
-    /// Whether the type is one of these, found without a look at each. Takes no memory.
+    /// Whether the type is one of these, found without a look at each.
     pub fn has(&self, ty: Ty) -> bool
         ensures { result ≡ list_any (λ other. same_type other ty) self.now }
     {

@@ -63,8 +63,6 @@ fn read_integers(integers: &[i64])
 /// The message that a send sends, where the loop variables around it hold these integers, the
 /// outermost first: one for each loop variable of which the message speaks (ES 201 873-1, 22.2.1).
 /// Under all types under which it has its type whatever the loop variables hold, its value has it.
-///
-/// 50 `Memory` only where an allocation was refused.
 pub fn fill_message(alloc: Global, message: &SendMsg, turns: &[i64]) -> Result<Message, Memory>
     requires given { needed message.now.value ≤ length turns.now }
     ensures ty { IfOk result (λ made. made.ty ≡ message.now.ty) }
@@ -140,8 +138,6 @@ fn fill_all(
 /// outermost first: one for each loop variable of which the template speaks (ES 201 873-1, 15 and
 /// Annex B). Under all types under which it fits its type whatever the loop variables hold, what is
 /// made fits it.
-///
-/// 50 `Memory` only where an allocation was refused.
 pub fn fill_template(alloc: Global, wanted: &RecvMsg, turns: &[i64]) -> Result<MsgTemplate, Memory>
     requires given { needed_by_wanted wanted.now ≤ length turns.now }
     ensures value { IfOk result (λ made. made ≡ filled_wanted turns.now wanted.now) }

@@ -54,7 +54,7 @@ pub struct Behaviour<'t> {
     pub references: &'t [CompId],
 }
 
-/// The instance of the component of this number, if it has one. Takes no memory.
+/// The instance of the component of this number, if it has one.
 fn instance_at(instances: &[Option<Instance>], comp: CompId) -> Option<&Instance>
     ensures { option_copied result ≡ slice_index_or instances.now comp.0 None }
 {
@@ -64,7 +64,7 @@ fn instance_at(instances: &[Option<Instance>], comp: CompId) -> Option<&Instance
     }
 }
 
-/// The body that is meant. Takes no memory.
+/// The body that is meant.
 fn body_of(bodies: &Bodies, source: Source) -> Option<&Body>
     ensures { option_copied result ≡ body_in bodies.now source }
 {
@@ -74,7 +74,7 @@ fn body_of(bodies: &Bodies, source: Source) -> Option<&Body>
     }
 }
 
-/// What the component of this number does. Takes no memory.
+/// What the component of this number does.
 fn find_behaviour<'t>(
     bodies: &'t Bodies,
     instances: &'t [Option<Instance>],
@@ -122,8 +122,7 @@ impl Model for TestCase {
 }
 
 impl TestCase {
-    /// The test case of these components, types and behaviours, which can be executed. Takes no
-    /// memory.
+    /// The test case of these components, types and behaviours, which can be executed.
     pub fn new(config: Config, types: Types, behaviours: Behaviours) -> TestCase
         requires { let all = map (behaviour_of behaviours.bodies) behaviours.instances.items in
             IsReady (record { config = config; types = types; behaviours = all }) }
@@ -144,7 +143,7 @@ impl TestCase {
 
     /// How many components there are, at most 64. They are numbered from 0: `mtc`, those that are
     /// created in their order, and the test system interface where the test case has a `system`
-    /// clause (ES 201 873-1, 9.1, 21.3.1). Takes no memory.
+    /// clause (ES 201 873-1, 9.1, 21.3.1).
     pub fn components(&self) -> usize
         ensures count { result ≡ length self.now.config.components }
         ensures few { result ≤ 64 }
@@ -154,7 +153,7 @@ impl TestCase {
         self.config.len()
     }
 
-    /// The component of this number. Takes no memory.
+    /// The component of this number.
     pub fn component(&self, number: usize) -> CompId
         requires { number < length self.now.config.components }
         ensures number { result.0 ≡ number }
@@ -165,7 +164,7 @@ impl TestCase {
         CompId(number as u32)
     }
 
-    /// The component `mtc`, which has number 0. Takes no memory.
+    /// The component `mtc`, which has number 0.
     pub fn mtc(&self) -> CompId
         ensures number { result.0 ≡ 0 }
         ensures there { IsComponent self.now.config result }
@@ -176,7 +175,7 @@ impl TestCase {
     }
 
     /// The component that is the test system interface, or `None` where none is
-    /// (ES 201 873-1, 9.2). It is the last one. Takes no memory.
+    /// (ES 201 873-1, 9.2). It is the last one.
     pub fn system(&self) -> Option<CompId>
         ensures { MatchOption result (HasNoSystem self.now.config) (IsSystem self.now.config) }
     {
@@ -189,14 +188,14 @@ impl TestCase {
         }
     }
 
-    /// The configuration that the setup statements make. Takes no memory.
+    /// The configuration that the setup statements make.
     pub fn config(&self) -> &Config
         ensures { result.now ≡ self.now.config }
     {
         &self.config
     }
 
-    /// The record and record-of types, under their own names. Takes no memory.
+    /// The record and record-of types, under their own names.
     pub fn types(&self) -> &Types
         ensures { result.now ≡ self.now.types }
     {
@@ -206,7 +205,7 @@ impl TestCase {
     /// What the component does: the test case's own body for `mtc`, that of its function for a
     /// component that is started, and that of `sut` for the test system interface. `None` for a
     /// test system interface without `sut`, and where there is no such component. The component can
-    /// do it. Takes no memory.
+    /// do it.
     pub fn body(&self, comp: CompId) -> Option<Behaviour<'_>>
         ensures behaviour { option_map as_behaviour result ≡ behaviour_at self.now comp.0 }
         ensures can { IfSome result (λ c.

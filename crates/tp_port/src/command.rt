@@ -253,7 +253,7 @@ fn command_with(verb: Verb, words: Option<&[u8]>) -> Option<Command<'_>>
 
 /// The command that a line is, its end left out: one space between words and none elsewhere, names
 /// of 1 to 20 letters and digits with a letter first, integers of 64 signed bits in decimal without
-/// a leading zero or a `+`. `None` for any other line, an empty one too. Takes no memory.
+/// a leading zero or a `+`. `None` for any other line, an empty one too.
 // Inlined, as what tells the verb is: a call hands a command's seven words back through memory.
 #[inline(always)]
 pub fn command_of(line: &[u8]) -> Option<Command<'_>>

@@ -1,4 +1,8 @@
-//! The queue file, which replays what happens at a message port; and a queue with its history.
+//! Mode `queue`: a queue file, which replays what happens at one message port, and a queue with its
+//! history. No run uses it.
+//!
+//! Where a call answers 50 `Memory`, an allocation was refused. A `PortQueue` is then as before,
+//! and what was to arrive is handed back. A call that can't answer it takes no memory.
 #![tactic(auto)]
 
 mod answers;

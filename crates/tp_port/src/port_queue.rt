@@ -42,8 +42,8 @@ impl<M: Payload> Model for PortQueue<M> {
 }
 
 impl<M: Payload> PortQueue<M> {
-    /// A started port's queue with nothing in it, which takes its memory from `alloc`: so is each
-    /// port when its component is created (ES 201 873-1, 21.3.1). Takes no memory itself.
+    /// A started port's queue with nothing in it, which takes its memory from `alloc` as messages
+    /// come: so is each port when its component is created (ES 201 873-1, 21.3.1).
     pub fn new(alloc: Global) -> Self
         ensures { result ≡ [] }
     {
@@ -56,9 +56,6 @@ impl<M: Payload> PortQueue<M> {
 
     /// A message comes, and goes to the end of the queue, whatever the status: a halted or stopped
     /// port queues too (9.1: a port is an unbounded first-in first-out queue).
-    ///
-    /// 50 `Memory` where an allocation was refused: the envelope is handed back, and the queue is
-    /// as before.
     pub fn arrive(&mut self, env: Env<M>) -> Result<(), (Memory, Env<M>)>
         ensures ok { OnOk result (self.new ≡ self.old ++ event.Arrive env ∷ []) }
         ensures err { IfErr result (λ back. (back.1 ≡ env) × (self.new ≡ self.old)) }
@@ -78,8 +75,6 @@ impl<M: Payload> PortQueue<M> {
     /// Takes the top message out where it is deliverable, `wanted` admits it and it comes from the
     /// sender `from`, if one is given (22.2.2). Otherwise the answer is `None`, and nothing
     /// happens: a message further down is never looked at.
-    ///
-    /// 50 `Memory` where an allocation was refused: the queue is as before.
     pub fn receive<W: Wanted<M>>(
         &mut self,
         wanted: &W,
@@ -107,8 +102,6 @@ impl<M: Payload> PortQueue<M> {
 
     /// Finds the top message as [`receive`](PortQueue::receive) does, and leaves it in the queue
     /// (22.4). That it was found goes into the history.
-    ///
-    /// 50 `Memory` where an allocation was refused: the queue is as before.
     pub fn check<W: Wanted<M>>(
         &mut self,
         wanted: &W,
@@ -129,8 +122,6 @@ impl<M: Payload> PortQueue<M> {
     /// Takes the top message out where it is deliverable, whether it is wanted or not (22.2.3): it
     /// is received by the same test as in [`receive`](PortQueue::receive), and else discarded.
     /// `Nothing` where no message is deliverable; nothing happens then.
-    ///
-    /// 50 `Memory` where an allocation was refused: the queue is as before.
     pub fn trigger<W: Wanted<M>>(
         &mut self,
         wanted: &W,
@@ -162,8 +153,6 @@ impl<M: Payload> PortQueue<M> {
 
     /// Discards every queued message, on both sides of a mark, and answers how many there were
     /// (22.5.1). A halted port stays halted, with the mark at the top; a stopped one stays stopped.
-    ///
-    /// 50 `Memory` where an allocation was refused: the queue is as before.
     pub fn clear(&mut self) -> Result<u64, Memory>
         ensures count { IfOk result (λ discarded. discarded ≡ length (queued self.old)) }
         ensures ok { OnOk result (self.new ≡ self.old ++ event.Cleared ∷ []) }
@@ -176,8 +165,6 @@ impl<M: Payload> PortQueue<M> {
 
     /// Discards every queued message, on both sides of a mark, removes the mark, starts the port,
     /// also one that was never stopped, and answers how many messages there were (22.5.2).
-    ///
-    /// 50 `Memory` where an allocation was refused: the queue is as before.
     pub fn start(&mut self) -> Result<u64, Memory>
         ensures count { IfOk result (λ discarded. discarded ≡ length (queued self.old)) }
         ensures ok { OnOk result (self.new ≡ self.old ++ event.Started ∷ []) }
@@ -190,8 +177,6 @@ impl<M: Payload> PortQueue<M> {
 
     /// Stops the port (22.5.3). What is queued stays queued; nothing of it is deliverable. On a
     /// halted port the mark is thereby at the top.
-    ///
-    /// 50 `Memory` where an allocation was refused: the queue is as before.
     pub fn stop(&mut self) -> Result<(), Memory>
         ensures ok { OnOk result (self.new ≡ self.old ++ event.Stopped ∷ []) }
         ensures err { OnErr result (self.new ≡ self.old) }
@@ -206,8 +191,6 @@ impl<M: Payload> PortQueue<M> {
     /// messages are ahead of it (22.5.4). Those are still deliverable, and what comes from now on
     /// isn't. `None` on a halted or stopped port, where it has no effect but that it goes into the
     /// history.
-    ///
-    /// 50 `Memory` where an allocation was refused: the queue is as before.
     pub fn halt(&mut self) -> Result<Option<u64>, Memory>
         ensures count { IfOk result (λ count. count ≡ halted_count (status_of self.old) self.old) }
         ensures ok { OnOk result (self.new ≡ self.old ++ event.Halted ∷ []) }
@@ -218,7 +201,7 @@ impl<M: Payload> PortQueue<M> {
         Ok(self.queue.halt())
     }
 
-    /// Whether the port may send: it is started (22.5.3 and 22.5.4 disallow it). Takes no memory.
+    /// Whether the port may send: it is started (22.5.3 and 22.5.4 disallow it).
     pub fn may_send(&self) -> bool
         ensures { IsTrue result ↔ (status_of self.now ≡ status.Started) }
     {
@@ -226,7 +209,7 @@ impl<M: Payload> PortQueue<M> {
     }
 
     /// How many queued messages are deliverable: all of a started port, those ahead of the mark of
-    /// a halted one, none of a stopped one. Takes no memory.
+    /// a halted one, none of a stopped one.
     pub fn ahead(&self) -> u64
         ensures count { result ≡ limit self.now - gone self.now }
         ensures within { gone self.now ≤ limit self.now }
@@ -234,22 +217,21 @@ impl<M: Payload> PortQueue<M> {
         self.queue.ahead()
     }
 
-    /// Whether the port is started, halted or stopped. Takes no memory.
+    /// Whether the port is started, halted or stopped.
     pub fn status(&self) -> Status
         ensures { result ≡ status_of self.now }
     {
         self.queue.status()
     }
 
-    /// How many messages are queued, on both sides of a mark. Takes no memory.
+    /// How many messages are queued, on both sides of a mark.
     pub fn queued_len(&self) -> u64
         ensures { result ≡ length (queued self.now) }
     {
         self.queue.queued_len()
     }
 
-    /// The queued message at this place, from 0, the oldest; `None` where there are no more. Takes
-    /// no memory.
+    /// The queued message at this place, from 0, the oldest; `None` where there are no more.
     pub fn queued_at(&self, place: u64) -> Option<&Env<M>>
         ensures { option_copied result ≡ slice_get (queued self.now) place }
     {
@@ -257,14 +239,14 @@ impl<M: Payload> PortQueue<M> {
     }
 
     /// The message that a receiving operation sees: the oldest that is queued, where it is
-    /// deliverable, else `None` (22.2.2: only the top is looked at). Takes no memory.
+    /// deliverable, else `None` (22.2.2: only the top is looked at).
     pub fn top(&self) -> Option<&Env<M>>
         ensures { option_copied result ≡ top self.now }
     {
         self.queue.top()
     }
 
-    /// The history, the oldest event first. Takes no memory.
+    /// The history, the oldest event first.
     pub fn events(&self) -> &[Event<M>]
         ensures history { result.now ≡ self.now }
         ensures lawful { Lawful self.now }

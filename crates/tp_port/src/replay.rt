@@ -28,7 +28,7 @@ pub enum QueueFault {
     /// 3 Write: the writer answered an error, or took no byte.
     #[error("the answers could not be written")]
     Write,
-    /// 15 Limit: the text has more than 1,048,576 bytes.
+    /// 15 Limit: the text has more than [`TEXT_LIMIT`] bytes.
     #[error("the text has more than {TEXT_LIMIT} bytes")]
     Limit,
     /// 50 Memory: an allocation was refused.
@@ -106,10 +106,9 @@ fn answers_to(alloc: Global, text: &[u8]) -> Result<String, QueueFault>
 /// Carries out the lines of a text as a queue file, and writes their answers, what is left in the
 /// queue behind them.
 ///
-/// Refused are, in this order, 15 `Limit` a text of more than 1,048,576 bytes, 1 `BadLine` its
-/// first line that no queue file has, and 50 `Memory` where an allocation was refused: each before
-/// anything is written. 3 `Write` where the writer has failed: a front of the answers is written
-/// then.
+/// Refused are, in this order, 15 `Limit` a text of more than [`TEXT_LIMIT`] bytes, 1 `BadLine` its
+/// first line that no queue file has, and 50 `Memory`: each before anything is written. 3 `Write`
+/// where the writer has failed: a front of the answers is written then.
 pub fn replay_text<W: Write>(
     alloc: Global,
     text: &[u8],
@@ -143,8 +142,7 @@ pub fn replay_text<W: Write>(
 /// Reads a queue file, carries it out, and writes the answers to its lines and what is left in the
 /// queue behind them.
 ///
-/// Refused are 2 `Read`, 15 `Limit` and 50 `Memory` as [`read_text`] says, and then 1 `BadLine`,
-/// 50 `Memory` and 3 `Write` as [`replay_text`] says. Nothing is written before all but the last.
+/// Refused is what [`read_text`] refuses, and then what [`replay_text`] does.
 pub fn replay<R: Read, W: Write>(
     alloc: Global,
     reader: &mut Watched<R>,

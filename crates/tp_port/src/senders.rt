@@ -8,7 +8,7 @@ use std::alloc::Global;
 use std::marker::Model;
 use tp_refusal::memory::Memory;
 
-/// The names of senders, numbered from 0 by first sight. Each name lies in the text.
+/// The names of senders, numbered from 0 by first occurrence. Each name lies in the text.
 #[derive(Drop)]
 pub struct Senders<'t> {
     names: IndexSet<&'t str>,

@@ -20,24 +20,19 @@ use tp_token::lexer::lex;
 use tp_token::token::Placed;
 use tp_tree::tree::Module;
 
-/// The module that the text spells, all of the text: its tokens are those of the text, none left
-/// out, added or moved, but for a `-` directly before the number 0, which is left out. It is one of
-/// the grammar: what may not be empty isn't, patterns have plain characters, and a `;` is missing
-/// only where it may. Its brackets nest at most 32 deep. Each line that it notes is that of the
-/// first token of what it is noted of.
+/// The module that the text spells (clause `read`), where each line that it notes is that of the
+/// first token of what it is noted of. A `-` directly before the number 0 is left out.
 ///
-/// It makes the whole text into tokens first, by `lex` of `tp_token`, whose refusals come before
-/// those of the grammar. Of these the first in the text is answered:
+/// It makes the whole text into tokens first, by [`lex`], whose refusals come before those of the
+/// grammar. Of these the first in the text is answered:
 /// - 10 `Syntax` at the line of the first token that can't stand at its place, or of the end of the
 ///   text where more is needed. So are refused an `[else]` branch that isn't the last one (at the
 ///   `[` behind it), a `for` whose four names aren't one name (at the first that differs), and a
 ///   text behind `pattern` that holds one of `\ [ ] { } ( ) | # +` or a quote;
 /// - 15 `Limit` at the line of the number 9223372036854775808 without a `-` before it, or of a
-///   bracket that would be the 33rd open one;
-/// - 50 where memory was refused.
+///   bracket that would be the 33rd open one.
 ///
-/// It refuses no text that is right: where its tokens are within the limits, and are those of a
-/// module of the grammar whose brackets nest at most 32 deep, it is read, or 50 is answered.
+/// It refuses no text that is right: clause `refused`.
 pub fn parse(alloc: Global, text: &[u8]) -> Result<Module, ScriptFault>
     ensures read { IfOk result (IsReadAs text.now) }
     ensures lines { IfOk result (HasLines text.now) }

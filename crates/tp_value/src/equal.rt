@@ -3,8 +3,8 @@ ghost use Rattle.std.specs.Prelude.{◌≡◌, ◌↔◌, IsTrue};
 
 use crate::value::Value;
 
-/// Whether two values are equal: of one kind, with equal contents in the same order. Takes no
-/// memory. It calls itself once for each level of nesting.
+/// Whether two values are equal: of one kind, with equal contents in the same order. It calls
+/// itself once for each level of nesting.
 #[cycle(equal)]
 pub fn are_equal(left: &Value, right: &Value) -> bool
     ensures { IsTrue result ↔ (left.now ≡ right.now) }

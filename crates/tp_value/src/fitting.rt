@@ -9,7 +9,7 @@ use crate::types::{Field, Ty, TypeDef, Types};
 use crate::typing::has_type;
 
 /// Whether the lower bound of a range is at most the upper, where there are both
-/// (ES 201 873-1, B.1.2.5). Takes no memory.
+/// (ES 201 873-1, B.1.2.5).
 pub fn are_ordered(lower: Option<i64>, upper: Option<i64>) -> bool
     ensures { IsTrue result ↔ AreOrdered lower upper }
 {
@@ -23,13 +23,7 @@ pub fn are_ordered(lower: Option<i64>, upper: Option<i64>) -> bool
 }
 
 /// Whether the template fits the type, so that it may stand where values of the type are matched
-/// (ES 201 873-1, 15 and B.1). Takes no memory.
-///
-/// A value fits its own types, and `?` fits every type. A list of templates, and its complement,
-/// fits what each member fits. A range fits `integer` where its lower bound is at most its upper,
-/// and a pattern fits `charstring`. A record template has one template for each declared field, in
-/// order, that fits the field's type. The elements of a record-of template fit the element type or
-/// are `*`; elsewhere `*` fits nothing.
+/// (ES 201 873-1, 15 and B.1). `*` fits only among the elements of a record of.
 ///
 /// It calls itself once for each level of nesting.
 #[cycle(template_fits)]

@@ -27,7 +27,7 @@ impl<T> Model for Items<T> {
 }
 
 impl<T> Items<T> {
-    /// No items. Takes no memory; a later [`Items::push`] takes it from `alloc`.
+    /// No items. A later [`Items::push`] takes memory from `alloc`.
     pub fn new(alloc: Global) -> Items<T>
         ensures { result ≡ [] }
     {
@@ -36,35 +36,35 @@ impl<T> Items<T> {
         }
     }
 
-    /// The items of a `Vec`, in its order. Takes no memory.
+    /// The items of a `Vec`, in its order.
     pub fn from_vec(items: Vec<T>) -> Items<T>
         ensures { result ≡ items.items }
     {
         Items { items }
     }
 
-    /// The items, the first at place 0. Takes no memory.
+    /// The items, the first at place 0.
     pub fn as_slice(&self) -> &[T]
         ensures { result.now ≡ self.now }
     {
         self.items.as_slice()
     }
 
-    /// How many items there are. Takes no memory.
+    /// How many items there are.
     pub fn len(&self) -> usize
         ensures { result ≡ length self.now }
     {
         self.items.len()
     }
 
-    /// Whether there are none. Takes no memory.
+    /// Whether there are none.
     pub fn is_empty(&self) -> bool
         ensures { IsTrue result ↔ (self.now ≡ []) }
     {
         self.items.is_empty()
     }
 
-    /// The item at this place, from 0, or `None` past the last. Takes no memory.
+    /// The item at this place, from 0, or `None` past the last.
     pub fn get(&self, at: usize) -> Option<&T>
         ensures item { option_copied result ≡ slice_get self.now at }
         ensures within { OnSome result (at < length self.now) }
@@ -74,7 +74,7 @@ impl<T> Items<T> {
 }
 
 impl<T: Copy> Items<T> {
-    /// A copy of these items, in their order. 50 `Memory` only where the allocation was refused.
+    /// A copy of these items, in their order.
     pub fn from_slice(alloc: Global, items: &[T]) -> Result<Items<T>, Memory>
         ensures { IfOk result (λ copied. copied ≡ items.now) }
     {
@@ -84,8 +84,7 @@ impl<T: Copy> Items<T> {
 }
 
 impl<T: Drop> Items<T> {
-    /// Adds an item at the end. 50 `Memory` only where the allocation was refused; the items are
-    /// then as before, and the item is dropped.
+    /// Adds an item at the end.
     pub fn push(&mut self, item: T) -> Result<(), Memory>
         ensures ok { OnOk result (self.new ≡ self.old ++ item ∷ []) }
         ensures err { OnErr result (self.new ≡ self.old) }

@@ -1,5 +1,8 @@
-//! The data that messages are made of: types, values, templates, and whether a value matches a
-//! template.
+//! The data that messages are made of: types, values, templates, whether a value matches a
+//! template; and verdicts. The checks, a run and the search for verdicts use it.
+//!
+//! Where a call answers 50 `Memory`, an allocation was refused: what it borrows is as before, and
+//! what it was handed is dropped. A call that can't answer it takes no memory.
 #![tactic(auto)]
 
 pub mod equal;

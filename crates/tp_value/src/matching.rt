@@ -79,15 +79,7 @@ fn elements(value: &Value) -> Option<&[Value]>
     }
 }
 
-/// Whether the value matches the template (ES 201 873-1, 15.7 and B.1). Takes no memory.
-///
-/// A value matches a template of its own kind alone, and no type is asked: a specific value matches
-/// what equals it, `?` everything, a list what some member matches, its complement what no member
-/// matches, and a range the integers between its bounds, both included. A pattern matches a
-/// charstring that can be cut into consecutive pieces, one for each part: the literal character,
-/// one character for `?`, any piece for `*`. A record template matches a record of as many fields,
-/// each of which matches. A record-of template matches a list that can be cut in the same way, any
-/// piece for `*` and one element that matches for each other template.
+/// Whether the value matches the template (ES 201 873-1, 15.7 and B.1). No type is asked.
 ///
 /// The work is linear in the sizes for values and records. For a pattern, or a list with `*`, it is
 /// at most the number of parts times the number of characters or elements, comparisons of elements

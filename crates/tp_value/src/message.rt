@@ -17,7 +17,7 @@ pub struct Message {
     pub value: Value,
 }
 
-/// The copy equals the original. It takes no memory, as the copy of a [`Value`] takes none.
+/// The copy equals the original, and takes no memory, as the copy of a [`Value`] takes none.
 impl Payload for Message {
     fn copy(&self, alloc: Global) -> Result<Message, Memory> {
         Ok(Message {
@@ -36,7 +36,7 @@ pub enum MsgTemplate {
     Of(Ty, Template),
 }
 
-/// Whether a message is wanted. Takes no memory.
+/// Whether a message is wanted.
 impl Wanted<Message> for MsgTemplate {
     ghost use Rattle.tp_value.specs.Admits.{Admits};
 

@@ -29,7 +29,7 @@ impl<T> Model for Shared<T> {
 }
 
 impl<T> Shared<T> {
-    /// One more owner of the list. Takes no memory. 50 `Memory` only where the list has 2^63 - 1
+    /// One more owner of the list. Takes no memory: 50 `Memory` only where the list has 2^63 - 1
     /// owners, for which no memory has room.
     pub fn share(&self) -> Result<Shared<T>, Memory>
         ensures { IfOk result (λ other. other ≡ self.now) }
@@ -38,7 +38,7 @@ impl<T> Shared<T> {
         Ok(Shared { items })
     }
 
-    /// The items, the first at place 0. Takes no memory.
+    /// The items, the first at place 0.
     pub fn as_slice(&self) -> &[T]
         ensures { result.now ≡ self.now }
     {
@@ -47,8 +47,7 @@ impl<T> Shared<T> {
 }
 
 impl<T: Copy + Drop> Shared<T> {
-    /// A list of copies of these items, in their order, with one owner. 50 `Memory` only where an
-    /// allocation was refused.
+    /// A list of copies of these items, in their order, with one owner.
     pub fn from_slice(alloc: Global, items: &[T]) -> Result<Shared<T>, Memory>
         ensures { IfOk result (λ copied. copied ≡ items.now) }
     {
@@ -58,8 +57,7 @@ impl<T: Copy + Drop> Shared<T> {
 }
 
 impl<T: Drop> Shared<T> {
-    /// The list of these items, with one owner. 50 `Memory` only where the allocation was refused;
-    /// the items are then dropped.
+    /// The list of these items, with one owner.
     pub fn new(alloc: Global, items: Items<T>) -> Result<Shared<T>, Memory>
         ensures { IfOk result (λ shared. shared ≡ items) }
     {

@@ -51,7 +51,7 @@ impl Template {
     ghost use Rattle.std.specs.Prelude.{◌≡◌, IfOk};
     ghost use Rattle.tp_value.specs.Matches.{is_many};
 
-    /// Whether it is `*`. Takes no memory.
+    /// Whether it is `*`.
     pub fn is_many(&self) -> bool
         ensures { result ≡ is_many self.now }
     {
@@ -68,8 +68,7 @@ impl Template {
         }
     }
 
-    /// A copy, which equals the original. 50 `Memory` only where an allocation was refused; the
-    /// original stays as it is.
+    /// A copy, which equals the original.
     #[cycle(copy_template)]
     pub fn copy(&self, alloc: Global) -> Result<Template, Memory>
         ensures { IfOk result (λ twin. twin ≡ self.now) }

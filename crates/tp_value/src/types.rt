@@ -92,7 +92,7 @@ impl Types {
     ghost use Rattle.std.specs.Option.{option_copied};
     ghost use Rattle.tp_value.specs.Types.{named, names_of_types, type_number};
 
-    /// No types. Takes no memory; a later [`Types::add`] takes it from `alloc`.
+    /// No types. A later [`Types::add`] takes memory from `alloc`.
     pub fn new(alloc: Global) -> Types
         ensures { result ≡ [] }
     {
@@ -101,7 +101,7 @@ impl Types {
         }
     }
 
-    /// How many types there are. Takes no memory.
+    /// How many types there are.
     pub fn len(&self) -> usize
         ensures { result ≡ length self.now }
     {
@@ -111,8 +111,7 @@ impl Types {
     /// Adds a type and answers its number, which is the number of types before. There are fewer
     /// than 4,294,967,295 of them.
     ///
-    /// 12 `Duplicate` exactly where the name is there; otherwise 50 `Memory` only where an
-    /// allocation was refused. The types are then as before.
+    /// 12 `Duplicate` exactly where the name is there; the types are then as before.
     pub fn add(&mut self, name: String, definition: TypeDef) -> Result<u32, AddFault>
         requires { length self.old < u32.MAX }
         ensures number { IfOk result (λ number. number ≡ length self.old) }
@@ -130,7 +129,7 @@ impl Types {
         Ok(number)
     }
 
-    /// The number of the type of this name, or `None` where no type has it. Takes no memory.
+    /// The number of the type of this name, or `None` where no type has it.
     pub fn find(&self, name: &str) -> Option<u32>
         ensures number { result ≡ type_number self.now name.now }
         ensures there { IfSome result (λ number.
@@ -143,8 +142,7 @@ impl Types {
         }
     }
 
-    /// The name of the type of this number, or `None` where there is no such number. Takes no
-    /// memory.
+    /// The name of the type of this number, or `None` where there is no such number.
     pub fn name(&self, number: u32) -> Option<&str>
         ensures { option_copied result ≡ slice_get (names_of_types self.now) number }
     {
@@ -154,7 +152,7 @@ impl Types {
         }
     }
 
-    /// The definition that a type names, or `None` where it names none. Takes no memory.
+    /// The definition that a type names, or `None` where it names none.
     pub fn definition(&self, ty: Ty) -> Option<&TypeDef>
         ensures { option_copied result ≡ named self.now ty }
     {

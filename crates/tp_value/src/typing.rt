@@ -6,7 +6,6 @@ use crate::types::{Field, Ty, TypeDef, Types};
 use crate::value::Value;
 
 /// Whether all are the characters 32 to 126, which a charstring may have (ES 201 873-1, 6.1.1).
-/// Takes no memory.
 pub fn are_printable(text: &[u8]) -> bool
     ensures { IsTrue result ↔ ArePrintable text.now }
 {
@@ -18,12 +17,7 @@ pub fn are_printable(text: &[u8]) -> bool
     true
 }
 
-/// Whether the value has the type (ES 201 873-1, 6). Takes no memory.
-///
-/// An integer has type `integer`, a boolean `boolean`, and a charstring of the characters 32 to
-/// 126 `charstring`. A record has a record type that declares as many fields, where each value has
-/// its field's type, in declared order. A record of has a record-of type where each element has the
-/// element type. A number that names no type has no values.
+/// Whether the value has the type (ES 201 873-1, 6). A number that names no type has no values.
 ///
 /// It calls itself once for each level of nesting of the value, however often a type refers to
 /// itself.

@@ -18,7 +18,7 @@ pub enum Verdict {
 }
 
 impl Verdict {
-    /// The place in the order, from `none` 0 to `error` 4. Takes no memory.
+    /// The place in the order, from `none` 0 to `error` 4.
     pub const fn rank(self) -> u32
         ensures { result ≡ Rattle.tp_value.specs.Verdicts.rank self }
     {
@@ -31,7 +31,7 @@ impl Verdict {
         }
     }
 
-    /// The verdict of this rank; `error` for a number above 4. Takes no memory.
+    /// The verdict of this rank; `error` for a number above 4.
     pub const fn of_rank(number: u32) -> Verdict
         ensures verdict { result ≡ verdict_of_rank number }
         ensures rank { number < 5 → Rattle.tp_value.specs.Verdicts.rank result ≡ number }
@@ -46,7 +46,7 @@ impl Verdict {
     }
 
     /// The verdict after a statement has set `verdict`, which is not `Error`: the worse of the two,
-    /// so that a verdict never gets better (24.2). Takes no memory.
+    /// so that a verdict never gets better (24.2).
     pub fn set(self, verdict: Verdict) -> Verdict
         requires { verdict ≢ Verdict.Error }
         ensures { result ≡ worse self verdict }
@@ -55,7 +55,6 @@ impl Verdict {
     }
 
     /// The worse of two verdicts, as the overall verdict is the worst of the local ones (24.1).
-    /// Takes no memory.
     pub fn join(self, other: Verdict) -> Verdict
         ensures { result ≡ worse self other }
     {

@@ -76,17 +76,13 @@ fn separate<W: Write>(place: usize, out: &mut Watched<W>)
     }
 }
 
-/// Writes the text of a value of the type, in the core notation of values (ES 201 873-1, 6).
+/// Writes the text of a value of the type, in the core notation of values (ES 201 873-1, 6): `-1`,
+/// `true`, `"a""b"`, `{f := v, g := w}` for a record, `{v, w}` for a record of, `{}` for an empty
+/// one of either.
 ///
-/// An integer is decimal, with `-` where it is negative; a boolean is `true` or `false`; a
-/// charstring stands in quotes, with each quote in it doubled. A record is `{f := v, g := w}`, its
-/// fields in declared order, and a record of is `{v, w}`; an empty one of either is `{}`. Ask
-/// [`has_type`](crate::typing::has_type) first: of a value that hasn't the type what is written
-/// tells nothing, and a record without a record type, or a list without a record-of type, is
-/// written as nothing at all.
-///
-/// Where the writer fails, a front of the text is written. It takes no memory. It calls itself once
-/// for each level of nesting.
+/// Ask [`has_type`](crate::typing::has_type) first: of a value that hasn't the type what is written
+/// tells nothing. Where the writer fails, a front of the text is written. It calls itself once for
+/// each level of nesting.
 #[cycle(write)]
 pub fn write_value<W: Write>(types: &Types, ty: Ty, value: &Value, out: &mut Watched<W>)
     ensures { Writes W.contents out.old out.new (value_text types.now ty value.now) }
