@@ -13,7 +13,7 @@ use tp_tree::message::TypeName;
 use tp_tree::tree::ComponentName;
 use tp_value::types::{Ty, Types};
 
-/// The place of the port of this name, or `None` where no port has it. Takes no memory.
+/// The place of the port of this name, or `None` where no port has it.
 pub fn place_of_port(ports: &CompType, name: &str) -> Option<usize>
     ensures there { IfSome result (λ place.
         IsPlace (declared_port_names ports.now) name.now place) }
@@ -25,7 +25,7 @@ pub fn place_of_port(ports: &CompType, name: &str) -> Option<usize>
     }
 }
 
-/// The port of this name: its place, and its type. Takes no memory.
+/// The port of this name: its place, and its type.
 pub fn find_port<'p>(ports: &'p CompType, name: &str) -> Option<(u32, &'p PortType)>
     ensures there { IfSome result (λ found. IsPortNamed ports.now name.now found.0 found.1.now) }
     ensures absent { length ports.now.ports.entries ≤ 64
@@ -41,7 +41,7 @@ pub fn find_port<'p>(ports: &'p CompType, name: &str) -> Option<(u32, &'p PortTy
     Some((place as u32, port))
 }
 
-/// What the behaviour sends at the port. Takes no memory.
+/// What the behaviour sends at the port.
 pub fn sendable(behaviour: BehaviourKind, port: &PortType) -> &TypeList
     ensures { result.now ≡ sendable_types behaviour port.now }
 {
@@ -51,7 +51,7 @@ pub fn sendable(behaviour: BehaviourKind, port: &PortType) -> &TypeList
     }
 }
 
-/// What the behaviour receives at the port. Takes no memory.
+/// What the behaviour receives at the port.
 pub fn receivable(behaviour: BehaviourKind, port: &PortType) -> &TypeList
     ensures { result.now ≡ receivable_types behaviour port.now }
 {
@@ -61,14 +61,14 @@ pub fn receivable(behaviour: BehaviourKind, port: &PortType) -> &TypeList
     }
 }
 
-/// Whether the type is among these, found without a look at each. Takes no memory.
+/// Whether the type is among these, found without a look at each.
 pub fn lists(types: &TypeList, ty: Ty) -> bool
     ensures { IsTrue result ↔ Contains types.now ty }
 {
     types.has(ty)
 }
 
-/// The type of values that a name stands for. Takes no memory.
+/// The type of values that a name stands for.
 #[tactic(auto, using(crate::proofs::TypeAndReferenceRules::cases))]
 pub fn find_type(types: &Types, name: &TypeName) -> Option<Ty>
     ensures there { IfSome result (IsType types.now name.now) }
@@ -85,7 +85,7 @@ pub fn find_type(types: &Types, name: &TypeName) -> Option<Ty>
     }
 }
 
-/// The variable of this name: its place, and what it holds. Takes no memory.
+/// The variable of this name: its place, and what it holds.
 pub fn find_variable(variables: &Variables, name: &str) -> Option<(usize, VariableType)>
     ensures there { IfSome result (λ found. IsVariable variables.now name.now found.0 found.1) }
     ensures absent { AreTyped variables.now
@@ -96,7 +96,7 @@ pub fn find_variable(variables: &Variables, name: &str) -> Option<(usize, Variab
     Some((place, *held))
 }
 
-/// The place of a name among the references, from the third on. Takes no memory.
+/// The place of a name among the references, from the third on.
 fn find_component(scope: &Scope, name: &str) -> Option<usize>
     ensures there { IfSome result
         (IsPlace (scope.now.parameters.now ++ scope.now.components.now) name.now) }
@@ -111,7 +111,7 @@ fn find_component(scope: &Scope, name: &str) -> Option<usize>
     scope.parameters.len().checked_add(place as usize)
 }
 
-/// The place of a component among the references. Takes no memory.
+/// The place of a component among the references.
 #[tactic(auto, using(crate::proofs::TypeAndReferenceRules::cases))]
 pub fn find_reference(context: &Context, component: &ComponentName) -> Option<usize>
     ensures there { IfSome result (IsReference

@@ -22,8 +22,8 @@ use tp_value::types::{Field, Ty, TypeDef};
 ///
 /// The first fault from left to right is answered, at the line of the context, the number and the
 /// names of a record's fields before what stands in them: 13 `WrongType` for a value of another
-/// type, a field that the record hasn't, or that is missing or given twice, and a variable; 11
-/// `Unknown` for any other name that is no loop variable; 50.
+/// type, a field that the record hasn't, or that is missing or given twice, and a variable;
+/// 11 `Unknown` for any other name that is no loop variable.
 #[cycle(value)]
 #[tactic(auto, using(crate::proofs::ValueRules::cases))]
 pub fn resolve_value(

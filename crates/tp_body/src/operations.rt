@@ -223,8 +223,8 @@ fn resolve_receiver(context: &Context, to: &Option<Receivers>) -> Result<Receive
 /// What a send stands for (ES 201 873-1, 22.2.1).
 ///
 /// In this order, at the line of the context: 11 `Unknown` for the port; for a message its type
-/// (11), the port's direction (14 `Direction`) and the value; for a variable its name (11, 13
-/// `WrongType`) and the direction (14); then the receiver (11, 13); 50.
+/// (11), the port's direction (14 `Direction`) and the value; for a variable its name (11,
+/// 13 `WrongType`) and the direction (14); then the receiver (11, 13).
 pub fn resolve_send(
     alloc: Global,
     context: &Context,
@@ -353,8 +353,8 @@ fn resolve_sender_target(
 /// What a receiving operation stands for (ES 201 873-1, 22.2.2 to 22.2.4).
 ///
 /// In this order, at the line of the context: 11 `Unknown` for the port; the template's type (11),
-/// the port's direction (14 `Direction`) and the template; the component behind `from` (11, 13
-/// `WrongType`); the variable behind `value`, then the one behind `sender` (11, 13); 50.
+/// the port's direction (14 `Direction`) and the template; the component behind `from` (11,
+/// 13 `WrongType`); the variable behind `value`, then the one behind `sender` (11, 13).
 pub fn resolve_receive(
     alloc: Global,
     context: &Context,

@@ -18,7 +18,7 @@ pub trait NamedField {
     /// The bytes of its name.
     ghost name: { Self → List ℕ };
 
-    /// Its name. Takes no memory.
+    /// Its name.
     fn name(&self) -> &str
         ensures { result.now ≡ name self.now };
 }
@@ -64,7 +64,7 @@ impl Drop for FieldTable<'_> {
 }
 
 /// Puts the names of the fields into the table, in declared order. A name that stands twice is put
-/// in once. 50 `Memory` only where an allocation was refused.
+/// in once.
 fn list_names<'f>(table: &mut FieldTable<'f>, fields: &'f [Field]) -> Result<(), ModuleFault>
     requires { table.old.names.keys ≡ [] }
     ensures ok { AreDistinct (field_names fields.now)
@@ -81,8 +81,7 @@ fn list_names<'f>(table: &mut FieldTable<'f>, fields: &'f [Field]) -> Result<(),
 
 /// A place at which the field of this name stands, or `None` where there is none. It looks at the
 /// given place first, where a field in declared order stands, and then into the table, which holds
-/// the names of the fields once one was looked for there. 50 `Memory` only where an allocation was
-/// refused.
+/// the names of the fields once one was looked for there.
 fn find_field<'f>(
     fields: &'f [Field],
     table: &mut FieldTable<'f>,
@@ -143,7 +142,7 @@ fn are_all(taken: &[bool]) -> bool
 /// The places of the fields that these entries stand for: each field has exactly one entry.
 ///
 /// 13 `WrongType` at the line where there are more or fewer entries than fields, a name that no
-/// field has, or a name given twice; 50.
+/// field has, or a name given twice.
 pub fn field_places<E: NamedField>(
     alloc: Global,
     fields: &[Field],

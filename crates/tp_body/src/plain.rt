@@ -14,7 +14,7 @@ use tp_value::types::Ty;
 use tp_value::typing::are_printable;
 
 /// What a text stands for: 13 `WrongType` at the line of the context for another type than
-/// `charstring`, and for a character that can't be printed; 50.
+/// `charstring`, and for a character that can't be printed.
 pub fn resolve_text(
     alloc: Global,
     context: &Context,

@@ -85,7 +85,7 @@ fn count_branches(branches: &[Branch]) -> u64
 }
 
 /// How many statements a body has, once each `for` stands for its copies; 100,001 where there are
-/// more. Each variable counts 1. Takes no memory.
+/// more. Each variable counts 1.
 #[tactic(auto, using(crate::proofs::CappedStatementSizes::laws))]
 pub fn count_body(body: &Body) -> u64
     ensures { result ≡ capped (size_of_body body.now) }

@@ -98,7 +98,7 @@ fn resolve_set_verdict(context: &Context, name: VerdictName) -> Result<Statement
 /// The first fault in the order of the text is answered, at the line of the statement or branch in
 /// which it stands: those of a send, of a receiving operation, of an operation on ports and of
 /// `setverdict`, and 12 `Duplicate` for a loop variable whose name isn't new, before what stands in
-/// its block; 50.
+/// its block.
 #[cycle(statement)]
 #[tactic(auto, using(crate::proofs::StatementRules::cases))]
 fn resolve_statement<'m>(
@@ -266,14 +266,10 @@ fn resolve_branches<'m>(
 /// What a body stands for: its variables, and its statements.
 ///
 /// The first fault in the order of the text is answered: 12 `Duplicate`, at the given line, which
-/// is that of the function, for a parameter that has the name of a port; then those of the
-/// variables; then those of the statements; 50. A body's statements speak of no loop variables but
-/// those around them, and of no other place that isn't there: the ports of the component type, the
-/// references and the variables.
-///
-/// Where the component type has at most 64 ports, and no two fields of a record type have one name,
-/// whatever is answered but 50 is the rule that the first fault breaks, and its line; so the body
-/// breaks a rule.
+/// is that of the function, for a parameter that has the name of a port; then those of
+/// [`resolve_variables`]; then those of the statements. That this is a rule which the body breaks
+/// holds of a sound scope alone: at most 64 ports, and no two fields of a record type with one
+/// name.
 pub fn resolve_body(
     alloc: Global,
     scope: &Scope,

@@ -72,7 +72,7 @@ fn resolve_range(
 /// names of a record's fields before what stands in them: 13 `WrongType` for a template that
 /// doesn't fit the type, a lower bound above the upper, a `*` that isn't among the elements of a
 /// record of, a field that the record hasn't, or that is missing or given twice, and a variable;
-/// 11 `Unknown` for any other name that is no loop variable; 50.
+/// 11 `Unknown` for any other name that is no loop variable.
 #[cycle(template)]
 #[tactic(auto, using(crate::proofs::TemplateRules::cases))]
 pub fn resolve_template(

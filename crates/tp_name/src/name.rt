@@ -18,7 +18,7 @@ fn is_called(other: &Name, name: &str) -> bool
 }
 
 /// The first place of the name among these, from 0, or `None` where it stands nowhere. It goes over
-/// the names one by one, so it is for short lists. Takes no memory.
+/// the names one by one, so it is for short lists.
 pub fn find(names: &[Name], name: &str) -> Option<usize>
     ensures there { IfSome result (λ place. IsPlace (texts names.now) name.now place) }
     ensures absent { IfNone result (IsAbsent (texts names.now) name.now) }

@@ -71,7 +71,7 @@ impl<'m> NameSet<'m> {
     ghost use Rattle.tp_name.specs.Tables.{AreDistinct, IsNumbered, place_of_name};
     ghost use Rattle.tp_name.specs.Named.{IsAbsent, IsPlace};
 
-    /// No names. Takes no memory; a later [`NameSet::add`] takes it from `alloc`.
+    /// No names. A later [`NameSet::add`] takes memory from `alloc`.
     pub fn new(alloc: Global) -> NameSet<'m>
         ensures empty { result ≡ [] }
         ensures numbered { IsNumbered result }
@@ -82,7 +82,7 @@ impl<'m> NameSet<'m> {
         }
     }
 
-    /// How many names there are. Takes no memory.
+    /// How many names there are.
     pub fn len(&self) -> usize
         ensures { result ≡ length self.now }
     {
@@ -92,8 +92,7 @@ impl<'m> NameSet<'m> {
     /// Adds a name, whose number is the number of names before.
     ///
     /// 12 `Duplicate` exactly where the name is there; otherwise 15 `Limit` where 4,294,967,295
-    /// names are there, and 50 `Memory` only where an allocation was refused. The names are then as
-    /// before.
+    /// names are there. The names are then as before.
     pub fn add(&mut self, name: &'m str) -> Result<(), NameFault>
         ensures ok { OnOk result (self.new ≡ self.old ++ name.now ∷ []) }
         ensures duplicate { IsErrOf result NameFault.Duplicate ↔ Contains self.old name.now }
@@ -116,7 +115,7 @@ impl<'m> NameSet<'m> {
         Ok(())
     }
 
-    /// The number of the name, or `None` where it is not there. Takes no memory.
+    /// The number of the name, or `None` where it is not there.
     pub fn find(&self, name: &str) -> Option<u32>
         ensures place { result ≡ place_of_name self.now name.now }
         ensures known { IsSome result ↔ Contains self.now name.now }
@@ -131,7 +130,7 @@ impl<'m> NameSet<'m> {
         }
     }
 
-    /// Whether the name is there. Takes no memory.
+    /// Whether the name is there.
     pub fn has(&self, name: &str) -> bool
         ensures test { result ≡ is_some (place_of_name self.now name.now) }
         ensures known { IsTrue result ↔ Contains self.now name.now }

@@ -22,7 +22,7 @@ use tp_setup::prepared::Prepared;
 use tp_setup::sorted::as_function;
 use tp_tree::tree::{Definition, Function, Module};
 
-/// Whose body a function's is: a function named `sut` plays the system under test. Takes no memory.
+/// Whose body a function's is: a function named `sut` plays the system under test.
 fn plays(function: &Function) -> BehaviourKind
     ensures { result ≡ plays_of function.now }
 {
@@ -116,10 +116,9 @@ fn resolve_functions<'m>(
 /// The bodies of a module: the test case's own, and those of its functions, started or not.
 ///
 /// The first fault is the answer, the test case's own body first and then the functions in the
-/// order of the text. Of each: 12 `Duplicate` at the line of a parameter whose name is there
-/// already, and 15 `Limit` at the line of one behind 4,294,967,295 others; 11 `Unknown` at the line
-/// of its definition where the component type behind its `runs on` is unknown; then those of
-/// [`resolve_body`]. 50 `Memory` only where an allocation was refused.
+/// order of the text. Of each: 12 `Duplicate` and 15 `Limit` for its parameters; 11 `Unknown` at
+/// the line of its definition for the component type behind its `runs on`; then those of
+/// [`resolve_body`].
 pub fn resolve_bodies<'m>(
     alloc: Global,
     parsed: &'m Module,

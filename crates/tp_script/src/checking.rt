@@ -24,7 +24,7 @@ use tp_setup::preparing::prepare;
 use tp_tree::tree::Module;
 
 /// The fourth pass and the fifth: the bodies, and what each component does with them. The first
-/// fault is the answer. 50 `Memory` only where an allocation was refused.
+/// fault is the answer.
 fn resolve_behaviours<'m>(
     alloc: Global,
     parsed: &'m Module,
@@ -70,13 +70,8 @@ fn assemble(prepared: Prepared<'_>, behaviours: Behaviours) -> TestCase
 /// Checks a module, and makes its test case.
 ///
 /// The first fault of the first pass that finds one is the answer: a
-/// [`ModuleRule`](tp_name::fault::ModuleRule), at its line. The passes are: the names, 11 `Unknown`
-/// and 12 `Duplicate`; the definitions, 11, 15 `Limit` and 16 `NotInSut`; the setup and the starts,
-/// 11, 12, 13 `WrongType`, 15, 16, 17 `NoDone`, 18 `NotStarted` and the refusals of
-/// [`Config::connect`](tp_config::config::Config::connect) and
-/// [`Config::map`](tp_config::config::Config::map), 20 to 28; the bodies, 11, 12, 13,
-/// 14 `Direction` and 16; and the size, 15. 50 `Memory` only where an allocation was refused;
-/// whatever else is answered, the module breaks a rule.
+/// [`ModuleRule`](tp_name::fault::ModuleRule), at its line. The passes are the three of
+/// [`prepare`]; the bodies, [`resolve_bodies`]; and the size, 15 `Limit`, [`check_size`].
 pub fn check(alloc: Global, parsed: &Module) -> Result<TestCase, ModuleFault>
     ensures well_formed { OnOk result (WellFormed parsed.now) }
     ensures made { IfOk result (IsTestCaseOf parsed.now) }

@@ -177,7 +177,7 @@ fn test_instances(
 ///
 /// At the line of the test case 15 `Limit` where there are more than 4,294,967,295 component
 /// variables, or components, and 18 `NotStarted` where a component variable has the place of no
-/// start. 50 `Memory` only where an allocation was refused.
+/// start.
 pub fn make_instances(
     alloc: Global,
     prepared: &Prepared,

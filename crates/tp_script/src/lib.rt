@@ -1,5 +1,8 @@
-//! The reader of scripts: the tokens and the tree of a text, the checks of its module, and the test
-//! case that they make of it.
+//! The reader of scripts: the tree of a text, all checks of its module in their order, and the test
+//! case that they make of it. The programs, `tpr` and `tpr_ordered`, use it.
+//!
+//! Where a call answers 50 `Memory`, an allocation was refused, which says nothing about the
+//! script. A call that can't answer it takes no memory.
 #![tactic(auto)]
 
 mod bodies;

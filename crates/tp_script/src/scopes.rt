@@ -17,7 +17,7 @@ use tp_setup::prepared::Prepared;
 use tp_setup::unique_names::declare_parameters;
 use tp_tree::tree::Parameter;
 
-/// The component type at this place. Takes no memory.
+/// The component type at this place.
 fn kind_at(kinds: &[CompType], place: u32) -> Option<&CompType>
     ensures { option_copied result ≡ slice_get kinds.now place }
 {
@@ -25,7 +25,7 @@ fn kind_at(kinds: &[CompType], place: u32) -> Option<&CompType>
 }
 
 /// The names of the parameters, in their order. 12 `Duplicate` at the line of the second of two
-/// that are equal, 15 `Limit` at the line of one behind 4,294,967,295 others; 50.
+/// that are equal, 15 `Limit` at the line of one behind 4,294,967,295 others.
 pub fn parameter_names(alloc: Global, parameters: &[Parameter]) -> Result<NameSet<'_>, ModuleFault>
     ensures names { IfOk result (λ names. names ≡ map (λ p. declared p.name) parameters.now) }
     ensures refused { IfErr result (IsRefusedBy (IsNumbered

@@ -63,7 +63,7 @@ fn count_instances(main: u64, functions: &[u64], instances: &[Option<Instance>])
 
 /// 15 `Limit` at the line where all components together have more than 100,000 statements to carry
 /// out, a `for` being as many copies of its block as it has turns. Each body is counted once,
-/// however many components have it. 50 `Memory` only where an allocation was refused.
+/// however many components have it.
 pub fn check_size(
     alloc: Global,
     bodies: &Bodies,

@@ -34,7 +34,7 @@ pub(crate) struct DeclaredComponent<'a> {
 /// Adds a component, and answers its number.
 ///
 /// 11 `Unknown` at its line where its type is unknown, then the refusals of [`Config::create`] at
-/// that line, or 50 `Memory`: the configuration is then as before.
+/// that line: the configuration is then as before.
 pub(crate) fn add_component(
     alloc: Global,
     config: &mut Config,
@@ -149,7 +149,7 @@ pub(crate) fn as_creation(setup: &SetupStatement) -> Option<&Creation>
 }
 
 /// The component of the component variable of this name, where the component variables have these
-/// names, or `None` where there is none. Takes no memory.
+/// names, or `None` where there is none.
 pub(crate) fn variable_component(variables: &NameSet, name: &str) -> Option<CompId>
     ensures known { IfSome result (λ comp.
         option_map (λ k. k + 1) (place_of_name variables.now name.now) ≡ Some comp.0) }
@@ -218,9 +218,9 @@ fn create<'m>(
 /// Makes the components of the setup statements, in the order of the text, where their variables
 /// must obey these rules.
 ///
-/// The first statement that makes a component and breaks a rule stops it: 12 `Duplicate`, 11
-/// `Unknown`, 13 `WrongType` or 15 `Limit`, at its line, or 50 `Memory`. The components that were
-/// made before it stay.
+/// The first statement that makes a component and breaks a rule stops it: 12 `Duplicate`,
+/// 11 `Unknown`, 13 `WrongType` or 15 `Limit`, at its line, or 50 `Memory`. The components that
+/// were made before it stay.
 pub(crate) fn create_components<'m>(
     alloc: Global,
     config: &mut Config,

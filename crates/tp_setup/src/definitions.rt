@@ -295,11 +295,9 @@ fn make(alloc: Global, sorted: &Sorted) -> Result<MadeTypes, ModuleFault>
 /// name is given twice.
 ///
 /// The first fault in the order of the text is the answer, at the line of the first token of its
-/// definition, and within a definition in this order: 11 `Unknown` where a name that stands for a
-/// type of messages, a port type or a component type names none; 15 `Limit` where a component type
-/// has more than 64 ports; 16 `NotInSut` where the function `sut` has parameters, where the test
-/// case has no `system` clause, or one with another type than that behind the function's `runs on`.
-/// 50 `Memory` only where an allocation was refused.
+/// definition, and within a definition in this order: 11 `Unknown` for a type that isn't there;
+/// 15 `Limit` for more than 64 ports; 16 `NotInSut` where the function `sut` has parameters, or
+/// doesn't run on the type that a `system` clause names.
 pub fn define<'m>(
     alloc: Global,
     parsed: &'m Module,

@@ -1,4 +1,8 @@
-//! The checks of a module up to its bodies: names, definitions, setup and starts.
+//! The checks of a module up to its bodies: names, definitions, setup and starts. `tp_script` calls
+//! them before those of `tp_body`.
+//!
+//! Where a call answers 50 `Memory`, an allocation was refused, which says nothing about the
+//! script. A call that can't answer it takes no memory.
 #![tactic(auto)]
 
 mod components;

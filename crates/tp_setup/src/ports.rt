@@ -120,8 +120,7 @@ fn make_port_type(
 
 /// What the port types receive and send, in their order.
 ///
-/// 11 `Unknown` at line 0 where a message type is unknown. 50 `Memory` only where an allocation was
-/// refused.
+/// 11 `Unknown` at line 0 where a message type is unknown.
 pub fn make_port_types(
     alloc: Global,
     types: &NameSet,
@@ -190,7 +189,7 @@ fn add_ports(
     Ok(())
 }
 
-/// The port type that was made at this place, or `None` where there is none. Takes no memory.
+/// The port type that was made at this place, or `None` where there is none.
 fn made_at(made: &[PortType], place: u32) -> Option<&PortType>
     ensures { option_copied result ≡ slice_get made.now place }
 {
@@ -254,9 +253,9 @@ fn make_component(
 /// The component types, in their order, where these are what the port types receive and send.
 ///
 /// The first component type that breaks a rule is refused: 11 `Unknown` at line 0 where the type of
-/// a port is unknown, 12 `Duplicate` at the line of a port's name that is given twice, and 15
-/// `Limit` at line 0 where there are more than 64 ports. 50 `Memory` only where an allocation was
-/// refused, or where a list of types can have no more handles.
+/// a port is unknown, 12 `Duplicate` at the line of a port's name that is given twice, and
+/// 15 `Limit` at line 0 where there are more than 64 ports. 50 `Memory` too where a list of types
+/// can have no more handles.
 pub fn make_components(
     alloc: Global,
     sorted: &Sorted,

@@ -89,8 +89,7 @@ fn set_up_and_start<'m>(
 /// The first three passes: names, definitions, setup and starts.
 ///
 /// The first fault of the first pass that finds one is the answer, each with its line: see
-/// [`check_names`], [`define`], [`set_up`] and [`check_starts`]. 50 `Memory` only where an
-/// allocation was refused; whatever else is answered, the module breaks a rule of these passes.
+/// [`check_names`], [`define`], [`set_up`] and [`check_starts`].
 pub fn prepare(alloc: Global, parsed: &Module) -> Result<Prepared<'_>, ModuleFault>
     ensures rules { OnOk result (IsWellDeclared parsed.now) }
     ensures made { IfOk result (IsPreparedOf parsed.now) }

@@ -19,7 +19,7 @@ use tp_value::items::Items;
 use tp_value::types::{AddFault, Field, Ty, TypeDef, Types};
 
 /// The type that the name names, where the record and record-of types have these names, or `None`
-/// where it names none. Takes no memory.
+/// where it names none.
 pub fn resolve(types: &NameSet, name: &TypeName) -> Option<Ty>
     ensures { result ≡ ty_of types.now name.now }
 {
@@ -34,14 +34,14 @@ pub fn resolve(types: &NameSet, name: &TypeName) -> Option<Ty>
     }
 }
 
-/// Whether the name names a type. Takes no memory.
+/// Whether the name names a type.
 pub fn is_known_type(types: &NameSet, name: &TypeName) -> bool
     ensures { result ≡ is_some (ty_of types.now name.now) }
 {
     resolve(types, name).is_some()
 }
 
-/// Whether each of the names names a type. Takes no memory.
+/// Whether each of the names names a type.
 pub fn are_types(types: &NameSet, names: &[TypeName]) -> bool
     ensures { result ≡ list_all (λ n. is_some (ty_of types.now n)) names.now }
 {
@@ -115,8 +115,7 @@ fn make_type(
 ///
 /// The first definition that breaks a rule is refused at line 0: 11 `Unknown` where the type of a
 /// field or of the elements is unknown, or where it is no record or record-of type; 15 `Limit`
-/// where there are 4,294,967,295 types before it; 12 `Duplicate` where one of them has its name. 50
-/// `Memory` only where an allocation was refused.
+/// where there are 4,294,967,295 types before it; 12 `Duplicate` where one of them has its name.
 pub fn make_types(
     alloc: Global,
     names: &NameSet,

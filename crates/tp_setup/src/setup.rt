@@ -29,7 +29,7 @@ use tp_name::name_set::NameSet;
 use tp_tree::tree::{EndComponent, PairEnd, SetupAction, SetupStatement, TestCase};
 
 /// The component that is named, where the component variables so far have these names, or `None`
-/// where there is none. Takes no memory.
+/// where there is none.
 fn find_end_component(
     known: &NameSet,
     system: Option<CompId>,
@@ -183,11 +183,10 @@ fn add_setup<'m>(
 /// Makes the connections and mappings of the setup statements, one after the other, in a
 /// configuration whose components are all there, and answers the component variables.
 ///
-/// The first statement that breaks a rule stops it, at its line: a `var` with 12 `Duplicate` where
-/// another component variable has its name, and 15 `Limit` for more than 4,294,967,295 of them; a
-/// `connect` or a `map` with 11 `Unknown` where a component or a port is unknown, and then with the
-/// refusals of [`Config::connect`] or [`Config::map`] in their order. 50 `Memory` only where an
-/// allocation was refused. The connections and mappings that were made before it stay.
+/// The first statement that breaks a rule stops it, at its line: a `var` with 12 `Duplicate`, or
+/// 15 `Limit` for more than 4,294,967,295 of them; a `connect` or a `map` with 11 `Unknown`, and
+/// then with the refusals of [`Config::connect`] or [`Config::map`] in their order. The connections
+/// and mappings that were made before it stay.
 pub fn connect_all<'m>(
     alloc: Global,
     config: &mut Config,
@@ -221,7 +220,7 @@ pub struct SetUp<'m> {
     pub variables: NameSet<'m>,
 }
 
-/// How many component variables a test case may have. Takes no memory.
+/// How many component variables a test case may have.
 fn most_variables(case: &TestCase) -> usize
     ensures { result ≡ most_variables case.now }
 {
@@ -392,14 +391,10 @@ fn configure<'m>(
 /// The setup statements of the third pass: the configuration of a test case, where the module's
 /// definitions are sorted so and its component types are these, each with at most 64 ports.
 ///
-/// 11 `Unknown` at the line of the test case where the component type behind its `runs on`, or
-/// behind its `system`, is unknown. Then the first statement in the order of the text that breaks a
-/// rule is refused at its line. Of a `var`: 12 `Duplicate` where another component variable or a
-/// port of the test case's component type has its name, 11 `Unknown` where its type is unknown,
-/// 13 `WrongType` where its two types differ, 15 `Limit` where there are more than 64 components,
-/// `mtc` and `system` counted. Of a `connect` and a `map`: 11 `Unknown` where a component or a port
-/// is unknown, and then the refusals of [`Config::connect`] and [`Config::map`] in their order. 50
-/// `Memory` only where an allocation was refused.
+/// 11 `Unknown` at the line of the test case for the types behind `runs on` and `system`. Then the
+/// first statement in the order of the text that breaks a rule is refused at its line: a `var` with
+/// 12 `Duplicate`, 11, 13 `WrongType` where its two types differ, or 15 `Limit` for the 65th
+/// component, `mtc` and `system` counted; a `connect` or a `map` as [`connect_all`] says.
 pub fn set_up<'m>(
     alloc: Global,
     sorted: &Sorted<'m>,

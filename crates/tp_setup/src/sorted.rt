@@ -36,7 +36,7 @@ pub struct Sorted<'m> {
     pub functions: Vec<&'m Function>,
 }
 
-/// The definition of this kind at this place, or `None` where there is none. Takes no memory.
+/// The definition of this kind at this place, or `None` where there is none.
 pub(crate) fn definition_at<'m, K>(definitions: &[&'m K], place: u32) -> Option<&'m K>
     ensures { option_copied result ≡ slice_get (map (λ d. d.now) definitions.now) place }
 {
@@ -54,11 +54,11 @@ trait DefinitionKind {
     /// Its name.
     ghost name: { Self → List ℕ };
 
-    /// The definition of this kind, or `None` where it is of another. Takes no memory.
+    /// The definition of this kind, or `None` where it is of another.
     fn as_kind(definition: &Definition) -> Option<&Self>
         ensures { option_copied result ≡ as_kind definition.now.defined };
 
-    /// Its name. Takes no memory.
+    /// Its name.
     fn name(&self) -> &str
         ensures { result.now ≡ name self.now };
 }
@@ -165,8 +165,7 @@ fn sort_kind<'m, K: DefinitionKind>(
 /// Sorts the definitions of a module, whose names are different.
 ///
 /// Where two of one kind have one name, 12 `Duplicate` at the line of the second; 15 `Limit` at the
-/// line of one behind 4,294,967,295 others of its kind. 50 `Memory` only where an allocation was
-/// refused.
+/// line of one behind 4,294,967,295 others of its kind.
 pub fn sort(alloc: Global, parsed: &Module) -> Result<Sorted<'_>, ModuleFault>
     ensures sorted { IfOk result (AreSorted parsed.now) }
     ensures refused { IfErr result (IsRefusedBy (HasUniqueNames parsed.now)) }

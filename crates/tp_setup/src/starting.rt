@@ -25,7 +25,7 @@ use tp_name::name_set::{NameFault, NameSet};
 use tp_refusal::memory::Memory;
 use tp_tree::tree::{ComponentName, ComponentStart, Function, Parameter, SetupStatement, TestCase};
 
-/// The component that the argument names, or `None` where there is none. Takes no memory.
+/// The component that the argument names, or `None` where there is none.
 fn find_argument(variables: &NameSet, argument: &ComponentName) -> Option<CompId>
     ensures known { IfSome result (IsArgument variables.now argument.now) }
     ensures absent { IsNumbered variables.now
@@ -37,8 +37,7 @@ fn find_argument(variables: &NameSet, argument: &ComponentName) -> Option<CompId
     }
 }
 
-/// The name of the type of the component of this number, or `None` where there is none. Takes no
-/// memory.
+/// The name of the type of the component of this number, or `None` where there is none.
 fn type_name_at<'m>(types: &[&'m str], number: u32) -> Option<&'m str>
     ensures { option_copied result ≡ slice_get (map (λ t. t.now) types.now) number }
 {
@@ -318,14 +317,11 @@ fn place_starts(alloc: Global, started: &NameSet, case: CaseAt<'_>) -> Result<Ve
 /// The starts of the third pass: what they start, where the module's definitions are sorted so and
 /// the component variables have these names.
 ///
-/// The first start in the order of the text that breaks a rule is refused at its line: 11 `Unknown`
-/// where there is no such component variable, 18 `NotStarted` where it was started before, 11 where
-/// there is no such function, 16 `NotInSut` where it is `sut`, 13 `WrongType` where it runs on
-/// another type than the component's or has another number of parameters, and for each argument 11
-/// where it is unknown and 13 where it has another type than its parameter. Then 18 at the line of
-/// the first `var` whose component is not started, and 17 `NoDone` at the line of the test case
-/// where it makes components and does not end with `all component.done`. 50 `Memory` only where an
-/// allocation was refused.
+/// The first start in the order of the text that breaks a rule is refused at its line, in this
+/// order: its component, 11 `Unknown`, or 18 `NotStarted` where it was started before; its
+/// function, 11, 16 `NotInSut`, or 13 `WrongType`; its arguments, each 11 or 13. Then 18 at the
+/// line of the first `var` whose component is not started, and 17 `NoDone` at the line of the test
+/// case that lacks `all component.done` at its end.
 pub fn check_starts(
     alloc: Global,
     sorted: &Sorted,

@@ -57,8 +57,7 @@ fn declare_all<'m>(names: &mut NameSet<'m>, list: &'m [DeclaredName]) -> Result<
 /// Adds the names of the ports that are declared.
 ///
 /// 12 `Duplicate` at the line of a name that is there already, 15 `Limit` at the line of one behind
-/// 4,294,967,295 others; 50 `Memory` only where an allocation was refused. The names before it stay
-/// added.
+/// 4,294,967,295 others. The names before it stay added.
 pub(crate) fn declare_ports<'m>(
     names: &mut NameSet<'m>,
     ports: &'m [PortDeclaration],
@@ -96,8 +95,7 @@ fn declare_fields<'m>(names: &mut NameSet<'m>, fields: &'m [FieldType]) -> Resul
 /// Adds the names of the parameters.
 ///
 /// 12 `Duplicate` at the line of a name that is there already, 15 `Limit` at the line of one behind
-/// 4,294,967,295 others; 50 `Memory` only where an allocation was refused. The names before it stay
-/// added.
+/// 4,294,967,295 others. The names before it stay added.
 pub fn declare_parameters<'m>(
     names: &mut NameSet<'m>,
     parameters: &'m [Parameter],
@@ -252,11 +250,10 @@ fn find_case<'m>(
 
 /// The first pass: the test case of the module.
 ///
-/// 11 `Unknown` at the line of the module where it has none. Then, in the order of the text: 12
-/// `Duplicate` at the line of the second of two definitions with one name, of a second test case,
-/// and of the second of two equal names of fields, ports or parameters in one definition; 15
-/// `Limit` at the line of a name behind 4,294,967,295 others. 50 `Memory` only where an allocation
-/// was refused.
+/// 11 `Unknown` at the line of the module where it has none. Then, in the order of the text:
+/// 12 `Duplicate` at the line of the second of two definitions with one name, of a second test
+/// case, and of the second of two equal names of fields, ports or parameters in one definition;
+/// 15 `Limit` at the line of a name behind 4,294,967,295 others.
 pub fn check_names(alloc: Global, parsed: &Module) -> Result<CaseAt<'_>, ModuleFault>
     ensures case { IfOk result (λ found. test_cases parsed.now ≡ found.case.now ∷ []) }
     ensures names { OnOk result (HasUniqueNames parsed.now) }
