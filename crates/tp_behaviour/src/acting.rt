@@ -20,8 +20,6 @@ use tp_refusal::memory::Memory;
 use tp_value::verdict::Verdict;
 
 /// Carries out `setverdict` (ES 201 873-1, 24.2).
-///
-/// 50 `Memory` only where an allocation was refused.
 pub(crate) fn set_verdict(
     task: &Task<'_>,
     worker: &mut Worker,
@@ -83,8 +81,6 @@ fn operate_at<G: Gate>(
 }
 
 /// Carries out an operation on a port (22.5).
-///
-/// 50 `Memory` only where an allocation was refused.
 pub(crate) fn control<R: Wait, G: Gate>(
     execution: &Execution<'_, R, G>,
     worker: &mut Worker,
@@ -112,8 +108,6 @@ pub(crate) fn control<R: Wait, G: Gate>(
 
 /// Carries out an operation on all ports, in their order (22.5). What comes meanwhile is seen
 /// afterwards.
-///
-/// 50 `Memory` only where an allocation was refused.
 pub(crate) fn all_ports<R: Wait, G: Gate>(
     execution: &Execution<'_, R, G>,
     worker: &mut Worker,

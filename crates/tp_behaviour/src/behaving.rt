@@ -17,8 +17,6 @@ use tp_refusal::memory::Memory;
 
 /// What a behaviour keeps in mind as it begins: it has declared its variables, each by a statement,
 /// and none is set (ES 201 873-1, 11.1).
-///
-/// 50 `Memory` only where an allocation was refused.
 fn begin<G: Gate>(gate: &G, task: &Task<'_>) -> Result<Frame, Memory>
     ensures turns { IfOk result (λ frame. frame.turns.items ≡ []) }
     ensures variables { IfOk result (λ frame.
@@ -40,8 +38,6 @@ fn begin<G: Gate>(gate: &G, task: &Task<'_>) -> Result<Frame, Memory>
 }
 
 /// Carries out the body of a behaviour, by a worker that has done nothing yet, to its end.
-///
-/// 50 `Memory` only where an allocation was refused: the behaviour has ended there.
 pub fn behave<R: Wait, G: Gate>(
     rt: &R,
     gate: &G,

@@ -34,7 +34,7 @@ pub enum TemplateView<'t> {
     Filled(MsgTemplate),
 }
 
-/// Whether a message is wanted. Takes no memory.
+/// Whether a message is wanted.
 impl Wanted<Message> for TemplateView<'_> {
     ghost use Rattle.tp_behaviour.specs.Views.{Seeks};
 
@@ -117,7 +117,7 @@ fn try_check(
     }
 }
 
-/// Tries a branch. 50 `Memory` only where an allocation was refused.
+/// Tries a branch.
 pub(crate) fn attempt(
     alloc: Global,
     desk: &mut Desk,
@@ -136,8 +136,6 @@ pub(crate) fn attempt(
 
 /// Tries the branches from the top to the bottom, up to the first that does something (20.2). The
 /// gate stands before each.
-///
-/// 50 `Memory` only where an allocation was refused.
 pub(crate) fn snapshot<G: Gate>(
     gate: &G,
     alloc: Global,

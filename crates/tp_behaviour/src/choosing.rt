@@ -46,8 +46,6 @@ fn wait_for_more<R: Wait>(rt: &R, task: &Task<'_>, owner: &Owner) -> bool {
 
 /// Carries out an `alt` up to the choice of a branch (ES 201 873-1, 20.2): its branches are looked
 /// at until one is chosen, or `[else]`, or until nothing can come any more.
-///
-/// 50 `Memory` only where an allocation was refused.
 pub(crate) fn choose<R: Wait, G: Gate>(
     execution: &Execution<'_, R, G>,
     worker: &mut Worker,

@@ -32,7 +32,7 @@ pub enum Decision {
 }
 
 /// Puts what was taken or found by the branch at this place into the variables that it names
-/// (22.2.2). Takes no memory.
+/// (22.2.2).
 fn enter(task: &Task<'_>, frame: &mut Frame, branches: &[Branch], place: usize, env: Env<Message>)
     requires there { place < length branches.now }
     requires held { HoldsAsDeclared task.now frame.old }
@@ -46,8 +46,6 @@ fn enter(task: &Task<'_>, frame: &mut Frame, branches: &[Branch], place: usize, 
 }
 
 /// Carries out an `alt` up to the block that it goes on with (ES 201 873-1, 20.2).
-///
-/// 50 `Memory` only where an allocation was refused.
 pub(crate) fn decide<R: Wait, G: Gate>(
     execution: &Execution<'_, R, G>,
     worker: &mut Worker,

@@ -4,7 +4,7 @@ ghost use Rattle.tp_behaviour.specs.Fixed.{IsFixed, IsFixedValue};
 
 use tp_play::body::{RecvTemplate, SendValue};
 
-/// Whether no loop variable stands in a value. Takes no memory.
+/// Whether no loop variable stands in a value.
 #[cycle(fixed_value)]
 fn is_fixed_value(value: &SendValue) -> bool
     ensures { IsTrue result → IsFixedValue value.now }
@@ -33,7 +33,7 @@ fn are_fixed_values(values: &[SendValue]) -> bool
 }
 
 /// Whether no loop variable stands in a template: what it comes to is then the same in each turn of
-/// each loop. Takes no memory. The work is linear in the template's size.
+/// each loop. The work is linear in the template's size.
 #[cycle(fixed_template)]
 pub(crate) fn is_fixed(template: &RecvTemplate) -> bool
     ensures { IsTrue result → IsFixed template.now }

@@ -43,8 +43,6 @@ pub(crate) struct Alt<'t> {
 }
 
 /// What a receiving operation wants, where no loop variable stands in that.
-///
-/// 50 `Memory` only where an allocation was refused.
 fn lasting_template(alloc: Global, wanted: &RecvMsg) -> Result<Option<MsgTemplate>, Memory>
     ensures { IfOk result (IsWantedAlways wanted.now) }
 {
@@ -70,8 +68,6 @@ fn nothing(alloc: Global) -> Lasting {
 }
 
 /// What lasts of the statements of a block.
-///
-/// 50 `Memory` only where an allocation was refused.
 #[cycle(lasting)]
 pub(crate) fn lasting_block(alloc: Global, block: &[Statement]) -> Result<Items<Lasting>, Memory>
     ensures { IfOk result (AreLasting block.now) }

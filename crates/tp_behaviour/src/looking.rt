@@ -18,8 +18,6 @@ use tp_history::entry::Entry;
 use tp_refusal::memory::Memory;
 
 /// Moves what has come into the inbox to the ports.
-///
-/// 50 `Memory` only where an allocation was refused.
 fn drain<R: Wait>(rt: &R, task: &Task<'_>, worker: &mut Worker) -> Result<(), Memory>
     requires { IsConsistent (role_of task.now) worker.old }
     ensures consistent { OnOk result (IsConsistent (role_of task.now) worker.new) }
@@ -35,8 +33,6 @@ fn drain<R: Wait>(rt: &R, task: &Task<'_>, worker: &mut Worker) -> Result<(), Me
 
 /// Moves what has come into the inbox to the ports, until all that the component has sent to itself
 /// is there.
-///
-/// 50 `Memory` only where an allocation was refused.
 pub(crate) fn look_in<R: Wait>(rt: &R, task: &Task<'_>, worker: &mut Worker) -> Result<(), Memory>
     requires consistent { IsConsistent (role_of task.now) worker.old }
     ensures consistent { OnOk result (IsConsistent (role_of task.now) worker.new) }
@@ -56,8 +52,6 @@ pub(crate) fn look_in<R: Wait>(rt: &R, task: &Task<'_>, worker: &mut Worker) -> 
 }
 
 /// Notes what the behaviour did itself: an entry that is no sending.
-///
-/// 50 `Memory` only where an allocation was refused.
 pub(crate) fn note(task: &Task<'_>, worker: &mut Worker, entry: Entry) -> Result<(), Memory>
     requires consistent { IsConsistent (role_of task.now) worker.old }
     requires noted { NamesNoPort entry }
@@ -78,8 +72,6 @@ pub(crate) fn note(task: &Task<'_>, worker: &mut Worker, entry: Entry) -> Result
 
 /// Looks at the branches of an `alt`: what has come is moved to the ports, and the branches are
 /// tried from the top (20.2).
-///
-/// 50 `Memory` only where an allocation was refused.
 pub(crate) fn look_at_branches<R: Wait, G: Gate>(
     execution: &Execution<'_, R, G>,
     worker: &mut Worker,

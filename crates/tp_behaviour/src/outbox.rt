@@ -55,7 +55,7 @@ impl Model for Outbox {
 }
 
 /// Whether this owner has drained as much of each of the sender's routes, which lead to its
-/// component, as the sender has put there. Takes no memory.
+/// component, as the sender has put there.
 fn has_come(owner: &Owner, sender: &Sender) -> bool
     requires { sender.now.inbox.comp ≡ owner.now.inbox.comp }
     ensures { IsTrue result ↔ IsLevel owner.now.drained sender.now }
@@ -78,9 +78,8 @@ fn list(loops: &mut Vec<usize>, sender: &Sender, place: usize)
     }
 }
 
-/// Files each route of a sender, with this place of the sender.
-///
-/// 50 `Memory` where an allocation was refused: some of them may be filed then.
+/// Files each route of a sender, with this place of the sender. Where it answers 50 `Memory`, some
+/// of them may be filed.
 fn file(
     places: &mut IndexMap<RouteId, RoutePlace>,
     sender: &Sender,
@@ -99,7 +98,7 @@ fn file(
 }
 
 impl Outbox {
-    /// No senders. Takes no memory; later calls take it from `alloc`.
+    /// No senders. Later calls take memory from `alloc`.
     pub fn new(alloc: Global) -> Outbox
         ensures { result ≡ [] }
     {
@@ -110,9 +109,8 @@ impl Outbox {
         }
     }
 
-    /// Adds a sender into an inbox into which there is none yet, behind the others.
-    ///
-    /// 50 `Memory` where an allocation was refused: there is no sender more.
+    /// Adds a sender into an inbox into which there is none yet, behind the others. Where it
+    /// answers 50 `Memory`, there is no sender more.
     pub fn add(&mut self, sender: Sender) -> Result<(), Memory>
         requires { All (λ s. s.inbox.comp ≢ sender.inbox.comp) self.old }
         ensures ok { OnOk result (self.new ≡ self.old ++ sender ∷ []) }
@@ -127,7 +125,7 @@ impl Outbox {
         Ok(())
     }
 
-    /// The senders, in the order in which they were added. Takes no memory.
+    /// The senders, in the order in which they were added.
     pub fn into_senders(self) -> Vec<Sender>
         ensures { result.items ≡ self }
     {
@@ -140,8 +138,7 @@ impl Outbox {
     }
 
     /// Whether all that the component has sent to itself has arrived, by what this owner has
-    /// drained: on each route from the component to itself as much as was put there. Takes no
-    /// memory.
+    /// drained: on each route from the component to itself as much as was put there.
     pub fn is_level(&self, owner: &Owner) -> bool
         requires home { All (IsHome owner.now.inbox) self.now }
         ensures level { IsTrue result ↔ ((s : SenderLedger) → Contains self.now s → LeadsBack s
@@ -169,11 +166,8 @@ impl Outbox {
         }
     }
 
-    /// Sends a message on this route, which one of the senders has: [`Sender::send`], by that sender.
-    ///
-    /// 15 `Limit` only where the route has taken all that it takes; else 50 `Memory` where an
-    /// allocation was refused, or where no stamp is left. Either hands the message back, and
-    /// nothing is put or noted then.
+    /// Sends a message on this route, which one of the senders has: [`Sender::send`], by that
+    /// sender, whose refusals it answers.
     pub fn send<R: Wait>(
         &mut self,
         rt: &R,

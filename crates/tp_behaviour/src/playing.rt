@@ -19,8 +19,6 @@ use tp_refusal::memory::Memory;
 use tp_value::verdict::Verdict;
 
 /// Carries out a send (ES 201 873-1, 22.2.1): where it can't be carried out, the behaviour ends.
-///
-/// 50 `Memory` as [`send`].
 pub(crate) fn play_send<R: Wait, G: Gate>(
     execution: &Execution<'_, R, G>,
     worker: &mut Worker,
@@ -44,8 +42,6 @@ pub(crate) fn play_send<R: Wait, G: Gate>(
 }
 
 /// Carries out an operation on a port (22.5).
-///
-/// 50 `Memory` only where an allocation was refused.
 pub(crate) fn play_control<R: Wait, G: Gate>(
     execution: &Execution<'_, R, G>,
     worker: &mut Worker,
@@ -69,8 +65,6 @@ pub(crate) fn play_control<R: Wait, G: Gate>(
 }
 
 /// Carries out an operation on all ports, in their order (22.5).
-///
-/// 50 `Memory` only where an allocation was refused.
 pub(crate) fn play_all_ports<R: Wait, G: Gate>(
     execution: &Execution<'_, R, G>,
     worker: &mut Worker,
@@ -92,8 +86,6 @@ pub(crate) fn play_all_ports<R: Wait, G: Gate>(
 }
 
 /// Carries out `setverdict` (24.2).
-///
-/// 50 `Memory` only where an allocation was refused.
 pub(crate) fn play_set_verdict(
     task: &Task<'_>,
     worker: &mut Worker,

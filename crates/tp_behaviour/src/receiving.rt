@@ -30,7 +30,7 @@ use tp_play::fill::fill_template;
 use tp_refusal::memory::Memory;
 use tp_value::message::{Message, MsgTemplate};
 
-/// The number of the component that a reference names, if one is given. Takes no memory.
+/// The number of the component that a reference names, if one is given.
 fn expected_sender(task: &Task<'_>, place: Option<usize>) -> Option<u32>
     requires { CanExpect (stage_at task.now) place }
     ensures { result ≡ option_map (λ k. slice_index_or (role_of task.now).references k 0) place }
@@ -43,8 +43,6 @@ fn expected_sender(task: &Task<'_>, place: Option<usize>) -> Option<u32>
 
 /// What an operation wants, where the loop variables hold these integers: it is filled only where
 /// nothing lasts of it.
-///
-/// 50 `Memory` only where an allocation was refused.
 fn view_template<'t>(
     alloc: Global,
     wanted: &RecvMsg,
@@ -65,8 +63,6 @@ fn view_template<'t>(
 }
 
 /// A receiving operation as it is looked at, by what loop variables and references stand for.
-///
-/// 50 `Memory` only where an allocation was refused.
 fn view_guard<'t>(
     task: &Task<'_>,
     frame: &Frame,
@@ -89,8 +85,6 @@ fn view_guard<'t>(
 }
 
 /// The operations of these branches as they are looked at.
-///
-/// 50 `Memory` only where an allocation was refused.
 pub(crate) fn view_guards<'t>(
     task: &Task<'_>,
     frame: &Frame,
@@ -112,8 +106,6 @@ pub(crate) fn view_guards<'t>(
 
 /// A receiving operation, by what loop variables and references stand for, for whoever waits for
 /// it.
-///
-/// 50 `Memory` only where an allocation was refused.
 fn fill_guard(task: &Task<'_>, frame: &Frame, receiving: &Receiving) -> Result<Guard, Memory>
     requires { CanReceive (stage_at task.now) (depth_of frame.now) receiving.now }
     ensures { IfOk result (λ guard.
@@ -130,8 +122,6 @@ fn fill_guard(task: &Task<'_>, frame: &Frame, receiving: &Receiving) -> Result<G
 
 /// The operations of these branches, by what loop variables and references stand for, for whoever
 /// waits for them.
-///
-/// 50 `Memory` only where an allocation was refused.
 pub(crate) fn fill_guards(
     task: &Task<'_>,
     frame: &Frame,
@@ -162,7 +152,7 @@ fn keep(variables: &mut Vec<Option<Held>>, place: Option<usize>, held: Held)
 }
 
 /// Puts what was taken or found into the variables that the operation names: the value, and then
-/// the sender (ES 201 873-1, 22.2.2). Takes no memory.
+/// the sender (ES 201 873-1, 22.2.2).
 pub(crate) fn redirect(task: &Task<'_>, frame: &mut Frame, receiving: &Receiving, env: Env<Message>)
     requires can { CanReceive (stage_at task.now) (depth_of frame.old) receiving.now }
     requires held { HoldsAsDeclared task.now frame.old }
@@ -187,8 +177,6 @@ pub(crate) fn redirect(task: &Task<'_>, frame: &mut Frame, receiving: &Receiving
 }
 
 /// Carries out a receiving operation that stands alone (22.2.2 to 22.2.4).
-///
-/// 50 `Memory` only where an allocation was refused.
 pub(crate) fn receive<R: Wait, G: Gate>(
     execution: &Execution<'_, R, G>,
     worker: &mut Worker,

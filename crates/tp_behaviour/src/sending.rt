@@ -29,8 +29,6 @@ use tp_refusal::memory::Memory;
 use tp_value::message::Message;
 
 /// Ends the behaviour at a send, by this fault, which is answered.
-///
-/// 50 `Memory` only where an allocation was refused.
 fn fail(
     task: &Task<'_>,
     worker: &mut Worker,
@@ -52,9 +50,6 @@ fn fail(
 
 /// Sends a message on a route: its number is the next on the route, and its stamp the next in the
 /// history.
-///
-/// 50 `Memory` where an allocation was refused; and where the route has taken all that it takes, or
-/// no stamp is left, neither of which a test case of at most 100,000 statements reaches.
 fn send_on<R: Wait, G: Gate>(
     execution: &Execution<'_, R, G>,
     worker: &mut Worker,
@@ -79,8 +74,6 @@ fn send_on<R: Wait, G: Gate>(
 
 /// Sends a message on the route that its port has, or the one to the component named; where there
 /// is no such route, the behaviour ends by the fault that is answered.
-///
-/// 50 `Memory` as [`send_on`].
 fn send_to<R: Wait, G: Gate>(
     execution: &Execution<'_, R, G>,
     worker: &mut Worker,
@@ -119,8 +112,6 @@ fn send_to<R: Wait, G: Gate>(
 }
 
 /// Sends a message on each of these routes, in their order.
-///
-/// 50 `Memory` as [`send_on`].
 fn send_on_each<R: Wait, G: Gate>(
     execution: &Execution<'_, R, G>,
     worker: &mut Worker,
@@ -142,10 +133,8 @@ fn send_on_each<R: Wait, G: Gate>(
     Ok(())
 }
 
-/// Sends a message on each route of its port, in the order of the connections (22.2.1, `to all
-/// component`); where there is none, the behaviour ends by 41 `NoRoute`, which is answered.
-///
-/// 50 `Memory` as [`send_on`].
+/// Sends a message on each route of its port, in the order of the connections (22.2.1,
+/// `to all component`); where there is none, the behaviour ends by 41 `NoRoute`, which is answered.
 fn send_to_all<R: Wait, G: Gate>(
     execution: &Execution<'_, R, G>,
     worker: &mut Worker,
@@ -176,8 +165,6 @@ fn send_to_all<R: Wait, G: Gate>(
 }
 
 /// Sends a message to the component that is named, or to the one that its port has a route to.
-///
-/// 50 `Memory` as [`send_on`].
 fn send_to_one<R: Wait, G: Gate>(
     execution: &Execution<'_, R, G>,
     worker: &mut Worker,
@@ -205,8 +192,6 @@ fn send_to_one<R: Wait, G: Gate>(
 }
 
 /// Sends what is to be sent, where the port is started.
-///
-/// 50 `Memory` as [`send_on`].
 fn send_started<R: Wait, G: Gate>(
     execution: &Execution<'_, R, G>,
     worker: &mut Worker,
@@ -236,8 +221,6 @@ fn send_started<R: Wait, G: Gate>(
 /// there, if it does: 40 `NotSending` where the port isn't started; else 43 `UnsetVariable` where a
 /// variable of which the send speaks isn't set; else 41 `NoRoute` where there is no route, or none
 /// to the component named, or 42 `NeedsTo` where there are several and no component is named.
-///
-/// 50 `Memory` as [`send_on`].
 pub(crate) fn send<R: Wait, G: Gate>(
     execution: &Execution<'_, R, G>,
     worker: &mut Worker,

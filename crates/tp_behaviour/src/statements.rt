@@ -21,8 +21,6 @@ use tp_play::body::Statement;
 use tp_refusal::memory::Memory;
 
 /// Carries out the statements of a block, one after the other (ES 201 873-1, 19 to 24).
-///
-/// 50 `Memory` only where an allocation was refused.
 #[cycle(statements)]
 pub(crate) fn execute<R: Wait, G: Gate>(
     execution: &Execution<'_, R, G>,
@@ -58,8 +56,6 @@ pub(crate) fn execute<R: Wait, G: Gate>(
 }
 
 /// Carries out a statement.
-///
-/// 50 `Memory` only where an allocation was refused.
 #[cycle(statements)]
 fn step<R: Wait, G: Gate>(
     execution: &Execution<'_, R, G>,
@@ -123,8 +119,6 @@ fn step<R: Wait, G: Gate>(
 }
 
 /// Carries out the block of the branch at this place of an `alt` (20.2).
-///
-/// 50 `Memory` only where an allocation was refused.
 #[cycle(statements)]
 fn branch<R: Wait, G: Gate>(
     execution: &Execution<'_, R, G>,
@@ -157,8 +151,6 @@ fn branch<R: Wait, G: Gate>(
 
 /// Carries out a block once for each value of a loop variable, from the first on, below the bound
 /// (19.4).
-///
-/// 50 `Memory` only where an allocation was refused.
 #[cycle(statements)]
 fn turns<R: Wait, G: Gate>(
     execution: &Execution<'_, R, G>,
@@ -195,8 +187,6 @@ fn turns<R: Wait, G: Gate>(
 }
 
 /// Carries out a block where the loop variable around it holds this value.
-///
-/// 50 `Memory` only where an allocation was refused.
 #[cycle(statements)]
 fn turn<R: Wait, G: Gate>(
     execution: &Execution<'_, R, G>,

@@ -49,8 +49,6 @@ fn component_in(frame: &Frame, place: usize) -> Option<CompId>
 }
 
 /// What is sent (ES 201 873-1, 22.2.1), or `None` where it is a variable that isn't set.
-///
-/// 50 `Memory` only where an allocation was refused.
 pub(crate) fn message_of(
     alloc: Global,
     frame: &Frame,
@@ -76,7 +74,7 @@ pub(crate) fn message_of(
 }
 
 /// The component that is named as the receiver of one message, if one is; or `None` where it is a
-/// variable that isn't set. Takes no memory.
+/// variable that isn't set.
 pub(crate) fn named_of(task: &Task<'_>, frame: &Frame, to: Receiver) -> Option<Option<CompId>>
     requires { CanName frame.now.variables.items (length task.now.behaviour.references.now) to }
     ensures { MatchOption result (NamesUnset (values_of frame.now) to)

@@ -14,8 +14,6 @@ use tp_inbox::sender::Sender;
 use tp_refusal::memory::Memory;
 
 /// Files how many messages the sender has put on each of its routes.
-///
-/// 50 `Memory` where an allocation was refused.
 fn file(counts: &mut IndexMap<RouteId, u64>, sender: &Sender) -> Result<(), Memory>
     ensures filed { OnOk result (AreFiledOf counts.new sender.now) }
     ensures others { OnOk result (KeepsOtherRoutes sender.now.routes counts.old counts.new) }
@@ -27,8 +25,6 @@ fn file(counts: &mut IndexMap<RouteId, u64>, sender: &Sender) -> Result<(), Memo
 }
 
 /// How many messages each of these senders has put on each of its routes.
-///
-/// 50 `Memory` where an allocation was refused.
 fn file_all(alloc: Global, senders: &[Sender]) -> Result<IndexMap<RouteId, u64>, Memory>
     requires { AllPairs ShareNone senders.now }
     ensures { IfOk result (λ counts. All (AreFiledOf counts) senders.now) }
@@ -53,8 +49,6 @@ fn count_on(counts: &IndexMap<RouteId, u64>, route: RouteId) -> u64
 }
 
 /// The counts that are filed of these routes, in the routes' order.
-///
-/// 50 `Memory` where an allocation was refused.
 fn in_order(
     alloc: Global,
     counts: &IndexMap<RouteId, u64>,
@@ -73,8 +67,6 @@ fn in_order(
 }
 
 /// How many messages were put on each of these routes, by these senders, which have them all.
-///
-/// 50 `Memory` where an allocation was refused.
 pub(crate) fn count_all(
     alloc: Global,
     routes: Vec<RouteId>,

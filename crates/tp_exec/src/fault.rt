@@ -27,7 +27,7 @@ pub enum RunFault {
 }
 
 impl RunFault {
-    /// The refusal whose number and name it has. Takes no memory.
+    /// The refusal whose number and name it has.
     pub fn refusal(self) -> Refusal
         ensures { result ≡ run_refusal self }
     {

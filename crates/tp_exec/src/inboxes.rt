@@ -32,8 +32,6 @@ struct Opened {
 }
 
 /// Opens the inbox and the desk of the next component.
-///
-/// 50 `Memory` where an allocation was refused.
 fn open_next(
     alloc: Global,
     config: &Config,
@@ -59,8 +57,6 @@ fn open_next(
 }
 
 /// Opens the inboxes and the desks of all components, in their order.
-///
-/// 50 `Memory` where an allocation was refused.
 fn open_inboxes(
     alloc: Global,
     config: &Config,
@@ -82,8 +78,6 @@ fn open_inboxes(
 }
 
 /// Gives a sender to the component that sends by it, which has none into its inbox yet.
-///
-/// 50 `Memory` where an allocation was refused.
 fn hand_to(workers: &mut Vec<Worker>, sender: Sender) -> Result<(), Memory>
     requires within { IsFromOneOf workers.old.items sender }
     requires apart { IsFirstThere workers.old.items sender }
@@ -94,8 +88,6 @@ fn hand_to(workers: &mut Vec<Worker>, sender: Sender) -> Result<(), Memory>
 }
 
 /// Hands the senders out, each to the component that sends by it, in their order.
-///
-/// 50 `Memory` where an allocation was refused.
 fn hand_out(workers: Vec<Worker>, senders: Vec<Sender>) -> Result<Vec<Worker>, Memory>
     requires bare { All IsBare workers.items }
     requires within { All (IsFromOneOf workers.items) senders.items }
@@ -111,8 +103,6 @@ fn hand_out(workers: Vec<Worker>, senders: Vec<Sender>) -> Result<Vec<Worker>, M
 
 /// A worker for each component of the configuration, in their order, and what closes their
 /// inboxes. Each component has its senders: one into each inbox to which a route leads from it.
-///
-/// 50 `Memory` only where an allocation was refused.
 pub(crate) fn make_workers(
     alloc: Global,
     config: &Config,

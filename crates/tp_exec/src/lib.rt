@@ -1,4 +1,8 @@
-//! The executor: each component's behaviour in a thread of its own, and the report of a run.
+//! The executor, modes `run` and `trace`: each component's behaviour in a thread of its own, one
+//! order of all that they did, and the report.
+//!
+//! Where a call answers 50 `Memory`, an allocation was refused, in whatever thread, and the run has
+//! no report. A call that can't answer it takes no memory.
 #![tactic(auto)]
 
 mod counting;

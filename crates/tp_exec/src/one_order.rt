@@ -31,8 +31,6 @@ fn kind_of(entry: &Entry) -> EntryKind
 }
 
 /// What is known of the messages that came, in the order in which they came.
-///
-/// 50 `Memory` where an allocation was refused.
 fn awaited_of(alloc: Global, log: &[Entry]) -> Result<Vec<AwaitedArrival>, Memory>
     ensures sources { IfOk result (λ all_awaited.
         awaited_sources all_awaited.items ≡ sources log.now) }
@@ -51,8 +49,6 @@ fn awaited_of(alloc: Global, log: &[Entry]) -> Result<Vec<AwaitedArrival>, Memor
 }
 
 /// What is known of the messages that came to each of these components.
-///
-/// 50 `Memory` where an allocation was refused.
 fn awaited_of_each(
     alloc: Global,
     components: &[CompReport],
@@ -182,8 +178,6 @@ fn step(
 }
 
 /// Puts the number in the list, where it isn't the last there.
-///
-/// 50 `Memory` where an allocation was refused.
 fn put_in(number: usize, ready: &mut Vec<usize>) -> Result<(), Memory>
     ensures below { (size : ℕ) → number < size → All (λ x. x < size) ready.old.items
         → OnOk result (All (λ x. x < size) ready.new.items) }
@@ -197,8 +191,6 @@ fn put_in(number: usize, ready: &mut Vec<usize>) -> Result<(), Memory>
 
 /// Puts in the list whom it concerns that the component has done something which affected that one:
 /// that one itself, and who is the next to send to it.
-///
-/// 50 `Memory` where an allocation was refused.
 fn wake(
     all_awaited: &[Vec<AwaitedArrival>],
     progress: &OrderProgress,
@@ -227,8 +219,6 @@ fn wake(
 
 /// Does all that the component can do next, one thing after the other, and puts in the list who may
 /// be able to go on then.
-///
-/// 50 `Memory` where an allocation was refused.
 fn go_far(
     components: &[CompReport],
     all_awaited: &[Vec<AwaitedArrival>],
@@ -256,8 +246,6 @@ fn go_far(
 
 /// Takes one after the other out of the list, and has it do all that it can, until nobody is left
 /// there.
-///
-/// 50 `Memory` where an allocation was refused.
 fn go_on(
     components: &[CompReport],
     all_awaited: &[Vec<AwaitedArrival>],
@@ -280,8 +268,6 @@ fn go_on(
 }
 
 /// Does all that can be done, until no component can go on.
-///
-/// 50 `Memory` where an allocation was refused.
 fn go_all(
     alloc: Global,
     components: &[CompReport],
@@ -328,8 +314,6 @@ fn is_ended(components: &[CompReport], progress: &OrderProgress) -> bool
 }
 
 /// The beginning of so many histories: nothing is gone by.
-///
-/// 50 `Memory` where an allocation was refused.
 fn begin(alloc: Global, size: usize) -> Result<OrderProgress, Memory>
     ensures { IfOk result (λ progress. (progress.places.items ≡ replicate size 0)
         × (progress.came.items ≡ replicate size 0)
@@ -344,8 +328,6 @@ fn begin(alloc: Global, size: usize) -> Result<OrderProgress, Memory>
 /// Whether there is one order of all that the components did that gives their histories, each
 /// message in its queue at once when it was sent. It takes time linear in the histories, as long as
 /// `wake` forgets nobody; no clause says so.
-///
-/// 50 `Memory` where an allocation was refused.
 pub(crate) fn has_one_order(alloc: Global, components: &[CompReport]) -> Result<bool, Memory>
     ensures { IfOk result (λ is. IsTrue is ↔ HasOneOrder (logs_of components.now)) }
 {

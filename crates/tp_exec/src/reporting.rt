@@ -78,8 +78,6 @@ fn report_components(
 
 /// The reports of these components, in their order. Nothing where no one order of all that they
 /// did gives their histories.
-///
-/// 50 `Memory` where an allocation was refused.
 fn report_in_order(
     alloc: Global,
     config: &Config,
@@ -111,8 +109,8 @@ fn conclude(components: Vec<CompReport>) -> Report
 /// The report of the components of a run, in their order.
 ///
 /// 61 `Restless` where a behaviour waits and one of its branches is open in its final queues; else
-/// 50 `Memory` where an allocation was refused; else 62 `NoOrder` where no one order of all that
-/// the components did gives their histories.
+/// 50 `Memory`; else 62 `NoOrder` where no one order of all that the components did gives their
+/// histories.
 pub(crate) fn make_report(
     alloc: Global,
     test_case: &TestCase,

@@ -17,8 +17,6 @@ use tp_inbox::sender::Sender;
 use tp_refusal::memory::Memory;
 
 /// The components, and the senders of each, both in the components' order.
-///
-/// 50 `Memory` where an allocation was refused.
 pub(crate) fn part_played(
     alloc: Global,
     played: Vec<Played>,
@@ -47,8 +45,6 @@ pub(crate) fn part_played(
 }
 
 /// The components from which these routes lead, each once, in the order of its first route.
-///
-/// 50 `Memory` where an allocation was refused.
 pub(crate) fn distinct_sources(alloc: Global, routes: &[RouteId]) -> Result<Vec<CompId>, Memory>
     ensures { IfOk result (λ sources. sources.items ≡ sources_of routes.now) }
 {
@@ -60,8 +56,7 @@ pub(crate) fn distinct_sources(alloc: Global, routes: &[RouteId]) -> Result<Vec<
     Ok(sources)
 }
 
-/// Takes this component's sender into an inbox from the component, where it is the next. Takes no
-/// memory.
+/// Takes this component's sender into an inbox from the component, where it is the next.
 fn take_one(source: CompId, hands: &mut Vec<IntoIter<Sender>>) -> Option<Sender>
     requires { (i : Inbox) × CanTake hands.old.items (link_by i source ∷ []) }
     ensures held { (i : Inbox) → Leaves hands.old.items (link_by i source ∷ []) hands.new.items }
@@ -74,8 +69,6 @@ fn take_one(source: CompId, hands: &mut Vec<IntoIter<Sender>>) -> Option<Sender>
 
 /// Takes the senders of these components into one inbox, in their order, from the components: each
 /// is the next of its component's, so that none is looked for.
-///
-/// 50 `Memory` where an allocation was refused.
 pub(crate) fn take_back(
     alloc: Global,
     sources: Vec<CompId>,

@@ -30,8 +30,6 @@ use tp_refusal::memory::Memory;
 use tp_value::message::Message;
 
 /// Adds what was still in the inbox to the history, in its order.
-///
-/// 50 `Memory` where an allocation was refused.
 fn append(desk: &mut Desk, rest: Rest) -> Result<(), Memory>
     requires { All (λ x. x.0 < desk.old.ports) rest.items }
     ensures { OnOk result (desk.new ≡ adding_all desk.old (rest_arrivals rest.items)) }
@@ -45,8 +43,6 @@ fn append(desk: &mut Desk, rest: Rest) -> Result<(), Memory>
 }
 
 /// What is still in this inbox, once its senders have ended.
-///
-/// 50 `Memory` where an allocation was refused.
 fn settle<R: Wait>(rt: &R, owner: Owner, desk: &Desk, senders: Vec<Sender>) -> Result<Rest, Memory>
     requires desk { IsDeskOf owner.inbox desk.now }
     requires arrived { arrivals desk.now.log ≡ owner.drained }
@@ -69,8 +65,6 @@ fn settle<R: Wait>(rt: &R, owner: Owner, desk: &Desk, senders: Vec<Sender>) -> R
 
 /// The senders into this component's inbox, taken from the components that have them, and how many
 /// messages they have put on each route into it.
-///
-/// 50 `Memory` where an allocation was refused.
 fn take_senders(
     alloc: Global,
     config: &Config,
@@ -98,8 +92,6 @@ fn take_senders(
 }
 
 /// The component once all has come to it: what was still in its inbox is added to its history.
-///
-/// 50 `Memory` where an allocation was refused.
 fn settle_one<R: Wait>(
     rt: &R,
     alloc: Global,
@@ -133,8 +125,6 @@ fn settle_one<R: Wait>(
 
 /// Gathers the senders of each inbox and settles it: what was still in an inbox is added to its
 /// component's history as arrivals.
-///
-/// 50 `Memory` only where an allocation was refused.
 pub(crate) fn settle_all<R: Wait>(
     rt: &R,
     alloc: Global,

@@ -183,10 +183,8 @@ fn fetch<R: Threads>(rt: &R, child: Child) -> Result<Played, Memory>
     }
 }
 
-/// Joins all the threads, also where one has met 50, and puts what comes back into this list, in
-/// the order of the components. Takes no memory.
-///
-/// 50 `Memory` where an allocation was refused in one of them.
+/// Joins all the threads, also where one has met 50 `Memory`, which is the answer then; and puts
+/// what comes back into this list, in the order of the components. It takes no memory.
 fn join_all<R: Threads>(
     rt: &R,
     list: Vec<Played>,
@@ -214,10 +212,8 @@ fn join_all<R: Threads>(
     Ok(back)
 }
 
-/// Begins each component, so that all run at the same time, and then joins them all.
-///
-/// 51 `NoThread` where the starting of a thread was refused; else 50 `Memory` where an allocation
-/// was refused.
+/// Begins each component, so that all run at the same time, and then joins them all. 51 `NoThread`
+/// where the starting of a thread was refused; else 50 `Memory`.
 fn play_each<R: Threads + Wait + Sync, G: Gate>(
     rt: &R,
     gate: &G,
@@ -270,9 +266,8 @@ fn play_each<R: Threads + Wait + Sync, G: Gate>(
 /// Carries out each component's behaviour in a thread of its own, all at the same time, and joins
 /// them all. A test system interface without `sut` has no thread.
 ///
-/// 51 `NoThread` where the starting of a thread was refused: its behaviour counts as ended, and
-/// the others go on to their ends. Else 50 `Memory` where an allocation was refused, in whatever
-/// thread.
+/// 51 `NoThread` where the starting of a thread was refused: its behaviour counts as ended, and the
+/// others go on to their ends. Else 50 `Memory`.
 pub(crate) fn play_all<R: Threads + Wait + Sync, G: Gate>(
     rt: &R,
     gate: &G,

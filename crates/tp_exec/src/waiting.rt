@@ -17,7 +17,7 @@ fn discards(guard: &Guard) -> bool
     guard.kind == ReceiveKind::Trigger
 }
 
-/// Whether the branch can be chosen, or would discard the top message. Takes no memory.
+/// Whether the branch can be chosen, or would discard the top message.
 fn is_open(desk: &Desk, guard: &Guard) -> bool
     requires { guard.now.port < desk.now.ports }
     ensures { IsTrue result ↔ IsOpen desk.now.log guard.now }
@@ -52,7 +52,7 @@ fn is_at_rest(component: &EndedComponent) -> bool
     }
 }
 
-/// Whether no component waits for what has come. Takes no memory.
+/// Whether no component waits for what has come.
 pub(crate) fn are_at_rest(components: &[EndedComponent]) -> bool
     requires { All (λ e. WaitsWithin e.desk.ports e.outcome) components.now }
     ensures { IsTrue result ↔ All IsAtRest components.now }

@@ -61,8 +61,6 @@ impl Model for Desk {
 impl Desk {
     /// The desk of a component of the configuration: all its ports are started (ES 201 873-1,
     /// 21.3.1), and nothing has happened.
-    ///
-    /// 50 `Memory` where an allocation was refused.
     pub fn new(alloc: Global, config: &Config, comp: CompId) -> Result<Desk, Memory>
         requires { IsComponent config.now comp }
         ensures desk { IfOk result (λ desk. desk
@@ -92,9 +90,6 @@ impl Desk {
 
     /// A message comes to this port, with the stamp of its sending: [`Queue::arrive`] there,
     /// and an `Arrive` in the history.
-    ///
-    /// 50 `Memory` where an allocation was refused: the envelope is handed back, and the desk is as
-    /// before.
     pub fn arrive(
         &mut self,
         port: u32,
@@ -118,8 +113,6 @@ impl Desk {
     }
 
     /// [`Queue::receive`] at this port, in this branch; what it took is in the history.
-    ///
-    /// 50 `Memory` where an allocation was refused: the desk is as before.
     pub fn receive<W: Wanted<Message>>(
         &mut self,
         port: u32,
@@ -145,8 +138,6 @@ impl Desk {
 
     /// [`Queue::trigger`] at this port, in this branch; what it took or discarded is in the
     /// history.
-    ///
-    /// 50 `Memory` where an allocation was refused: the desk is as before.
     pub fn trigger<W: Wanted<Message>>(
         &mut self,
         port: u32,
@@ -181,8 +172,6 @@ impl Desk {
 
     /// [`Queue::check`] at this port, in this branch; that it was found is in the history. The
     /// answer refers into the port's queue.
-    ///
-    /// 50 `Memory` where an allocation was refused: the desk is as before.
     pub fn check<W: Wanted<Message>>(
         &mut self,
         port: u32,
@@ -205,8 +194,6 @@ impl Desk {
     }
 
     /// [`Queue::clear`] at this port, and a `Cleared` in the history.
-    ///
-    /// 50 `Memory` where an allocation was refused: the desk is as before.
     pub fn clear(&mut self, port: u32) -> Result<u64, Memory>
         requires { port < self.old.ports }
         ensures count { IfOk result (λ discarded.
@@ -221,8 +208,6 @@ impl Desk {
     }
 
     /// [`Queue::start`] at this port, and a `Started` in the history.
-    ///
-    /// 50 `Memory` where an allocation was refused: the desk is as before.
     pub fn start(&mut self, port: u32) -> Result<u64, Memory>
         requires { port < self.old.ports }
         ensures count { IfOk result (λ discarded.
@@ -237,8 +222,6 @@ impl Desk {
     }
 
     /// [`Queue::stop`] at this port, and a `Stopped` in the history.
-    ///
-    /// 50 `Memory` where an allocation was refused: the desk is as before.
     pub fn stop(&mut self, port: u32) -> Result<(), Memory>
         requires { port < self.old.ports }
         ensures ok { OnOk result (self.new ≡ adding self.old (entry.Stopped port)) }
@@ -252,8 +235,6 @@ impl Desk {
 
     /// [`Queue::halt`] at this port, and a `Halted` in the history, whether it has an effect or
     /// not.
-    ///
-    /// 50 `Memory` where an allocation was refused: the desk is as before.
     pub fn halt(&mut self, port: u32) -> Result<Option<u64>, Memory>
         requires { port < self.old.ports }
         ensures count { IfOk result (λ count. count
@@ -269,9 +250,6 @@ impl Desk {
 
     /// Notes what the behaviour did itself: an entry `Sent`, `Else`, `Verdict` or `Failed`. The
     /// stamp of a sending is above all stamps before it, as [`Desk::stamp`] offers one.
-    ///
-    /// 50 `Memory` where an allocation was refused: the entry is handed back, and the desk is as
-    /// before.
     pub fn note(&mut self, entry: Entry) -> Result<(), (Memory, Entry)>
         requires note { NamesNoPort entry }
         requires timely { IsTimely self.old.log entry }
@@ -289,8 +267,7 @@ impl Desk {
     /// Notes that this message is sent on this route, under this number there and the next stamp,
     /// and hands it out under that stamp, to be put.
     ///
-    /// 50 `Memory` where an allocation was refused, or where no stamp is left: the message is
-    /// handed back, and the desk is as before.
+    /// 50 `Memory` also where no stamp is left.
     pub fn note_sending(
         &mut self,
         route: RouteId,
@@ -318,7 +295,7 @@ impl Desk {
     }
 
     /// Takes the latest entry out of the history again, a sending under the stamp that was next:
-    /// what was noted, and then couldn't be put. The desk is as before that entry. Takes no memory.
+    /// what was noted, and then couldn't be put. The desk is as before that entry.
     pub fn withdraw(&mut self)
         requires { (before : Journal) × NotesSending before self.old }
         ensures { NotesSending self.new self.old }
@@ -329,28 +306,27 @@ impl Desk {
     }
 
     /// The next stamp, one above the greatest in the history. None where the numbers are used up.
-    /// Takes no memory.
     pub fn stamp(&self) -> Option<u64>
         ensures { SomeIff result (clock_of self.now.log + 1 < 2 ^ 64) (clock_of self.now.log + 1) }
     {
         self.clock.checked_add(1)
     }
 
-    /// Whose desk it is. Takes no memory.
+    /// Whose desk it is.
     pub fn comp(&self) -> CompId
         ensures { result ≡ self.now.comp }
     {
         self.comp
     }
 
-    /// How many ports there are. Takes no memory.
+    /// How many ports there are.
     pub fn port_count(&self) -> usize
         ensures { result ≡ self.now.ports }
     {
         self.ports.len()
     }
 
-    /// The history, the oldest entry first. Takes no memory.
+    /// The history, the oldest entry first.
     pub fn log(&self) -> &[Entry]
         ensures history { result.now ≡ self.now.log }
         ensures lawful { (port : ℕ) → port < self.now.ports → Lawful (at_port self.now port) }
@@ -360,14 +336,14 @@ impl Desk {
         self.log.as_slice()
     }
 
-    /// How many entries the history has. Takes no memory.
+    /// How many entries the history has.
     pub fn entries(&self) -> u64
         ensures { result ≡ length self.now.log }
     {
         self.log.len() as u64
     }
 
-    /// The queue of this port. Takes no memory.
+    /// The queue of this port.
     pub fn queue(&self, port: u32) -> &Queue<Message>
         requires { port < self.now.ports }
         ensures { StandsFor result.now (at_port self.now port) }

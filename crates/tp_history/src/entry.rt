@@ -44,7 +44,7 @@ pub enum Entry {
 }
 
 impl Entry {
-    /// The stamp of the message that was sent or came, 0 where none was or did. Takes no memory.
+    /// The stamp of the message that was sent or came, 0 where none was or did.
     pub fn stamp(&self) -> u64
         ensures { result ≡ stamp_of self.now }
     {

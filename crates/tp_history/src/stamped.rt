@@ -15,7 +15,7 @@ pub struct Stamped {
     pub message: Message,
 }
 
-/// The copy equals the original. 50 `Memory` only where an allocation was refused.
+/// The copy equals the original.
 impl Payload for Stamped {
     fn copy(&self, alloc: Global) -> Result<Stamped, Memory> {
         Ok(Stamped {

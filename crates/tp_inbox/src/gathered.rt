@@ -77,7 +77,7 @@ fn with_hand(channel: &Channel, mut rest: Rest, hand: Option<Envelope>) -> Rest
 
 /// Takes the owner and its senders in, after all of them have ended: the senders that
 /// [`inbox`](crate::making::inbox) gave with this owner, in its order. It keeps what each has put
-/// and what was drained. Takes no memory.
+/// and what was drained.
 pub fn gather<R: Wait>(rt: &R, owner: Owner, senders: Vec<Sender>) -> Gathered
     requires { AreSenders owner.inbox senders.items }
     ensures are { AreRoutes owner.inbox.comp owner.inbox.ports owner.inbox.routes }
@@ -124,7 +124,7 @@ impl Gathered {
     /// sender has put, in its order over all routes; and on each route they are numbered from 0.
     /// Nothing is compared for this; it follows from the rule of the queue.
     ///
-    /// 50 `Memory` where an allocation was refused: this is handed back, and may be settled again.
+    /// 50 `Memory` hands this back, and it may be settled again.
     pub fn settle<R: Wait>(self, rt: &R, desk: &Desk) -> Result<Rest, (Memory, Gathered)>
         requires desk { IsDeskOf self.inbox desk.now }
         requires arrivals { arrivals desk.now.log ≡ self.drained }

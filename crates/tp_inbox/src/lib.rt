@@ -1,4 +1,9 @@
-//! One component's inbox.
+//! The inbox of a component, to which several threads put messages, and from which the component's
+//! own moves them to its ports: its senders, its owner, and what is left once all have ended.
+//! `tp_behaviour` puts and moves; `tp_exec` makes inboxes and settles them.
+//!
+//! Where a call answers 50 `Memory`, an allocation was refused. A call that can't answer it takes
+//! no memory.
 #![tactic(auto)]
 
 mod channel;

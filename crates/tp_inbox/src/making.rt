@@ -65,8 +65,6 @@ fn sender_of(senders: &[Sender], source: CompId) -> Option<usize>
 
 /// Gives the next route, with its pass, to the sender of the route's component, or to a new one if
 /// there is none.
-///
-/// 50 `Memory` where an allocation was refused.
 fn add_route(
     alloc: Global,
     channel: &Arc<Channel, Global>,
@@ -147,8 +145,6 @@ fn begin_owner(alloc: Global, channel: Arc<Channel, Global>, pass: Pass) -> Resu
 /// The inbox of a component of the configuration: its owner, a sender for each component that has
 /// routes into this one, in the order of the first of these in [`Config::routes_into`], and what
 /// closes it. The floor is the one that the behaviours of the run stand on.
-///
-/// 50 `Memory` where an allocation was refused.
 pub fn inbox(
     alloc: Global,
     config: &Config,

@@ -105,7 +105,7 @@ fn next_envelope<R: Wait>(
 
 /// Moves an envelope to its port.
 ///
-/// 50 `Memory` where an allocation was refused: the envelope is in hand then, where none was.
+/// Where it answers 50 `Memory`, the envelope is in hand, where none was.
 fn deliver(
     channel: &Channel,
     hand: &mut Option<Envelope>,
@@ -151,7 +151,7 @@ impl Owner {
     /// Moves the envelope in hand, or else the next of the queue, to its port. False where there is
     /// none in hand and the queue was found empty.
     ///
-    /// 50 `Memory` where an allocation was refused: the envelope is in hand then.
+    /// Where it answers 50 `Memory`, the envelope is in hand.
     fn move_next<R: Wait>(&mut self, rt: &R, desk: &mut Desk) -> Result<bool, Memory>
         requires desk { IsDeskOf self.old.inbox desk.old }
         requires arrivals { arrivals desk.old.log ≡ self.old.drained }
@@ -179,8 +179,8 @@ impl Owner {
     /// Moves what has come into the inbox to the ports of the desk, in the order of the queue, and
     /// answers how many messages it moved. Each move is an `Arrive` in the desk's history.
     ///
-    /// 50 `Memory` where an allocation was refused: what was moved is in the desk, and the rest is
-    /// in the inbox, in its order; the next drain goes on with it.
+    /// Where it answers 50 `Memory`, what was moved is in the desk, and the rest is in the inbox,
+    /// in its order; the next drain goes on with it.
     pub fn drain<R: Wait>(&mut self, rt: &R, desk: &mut Desk) -> Result<u64, Memory>
         requires desk { IsDeskOf self.old.inbox desk.old }
         requires arrivals { arrivals desk.old.log ≡ self.old.drained }
@@ -203,7 +203,7 @@ impl Owner {
     }
 
     /// How many messages of this route this owner has drained, over all drains: none of a route
-    /// that leads to another component. Looks at no history. Takes no memory.
+    /// that leads to another component. Looks at no history.
     pub fn drained(&self, route: RouteId) -> u64
         ensures { result ≡ drained_on self.now route }
     {
@@ -214,7 +214,7 @@ impl Owner {
     }
 
     /// Waits until the inbox holds a message, or is closed, or no other living behaviour is awake.
-    /// A message that a drain could not move counts as in the inbox. Takes no memory.
+    /// A message that a drain could not move counts as in the inbox.
     pub fn wait<R: Wait>(&self, rt: &R) -> Woken {
         if let Some(found) = in_hand(&self.hand) {
             return found;
@@ -231,7 +231,7 @@ pub struct Closer {
 
 impl Closer {
     /// Closes the inbox: its owner, where it waits or comes to wait, finds no more than what is
-    /// there already. Messages can be put and drained as before. Takes no memory.
+    /// there already. Messages can be put and drained as before.
     pub fn close<R: Wait>(&self, rt: &R) {
         self.channel.close(rt);
     }

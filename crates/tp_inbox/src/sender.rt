@@ -81,8 +81,6 @@ impl Model for Sender {
 
 impl Sender {
     /// A sender with this one route, that has put nothing. Its pass is one that has this route.
-    ///
-    /// 50 `Memory` where an allocation was refused.
     pub(crate) fn begin(
         alloc: Global,
         channel: Arc<Channel, Global>,
@@ -111,8 +109,6 @@ impl Sender {
 
     /// Takes over a route that it has not, from a pass that has put nothing on it. It has put
     /// nothing itself.
-    ///
-    /// 50 `Memory` where an allocation was refused.
     pub(crate) fn extend(&mut self, other: Pass, place: usize) -> Result<(), Memory>
         requires queue { IsSegPassOf self.old.inbox.queue other }
         requires view { other.me.view.client ≡ sender_pass (place ∷ []) [] }
@@ -134,9 +130,8 @@ impl Sender {
     /// from 0. The inbox holds it from then on, behind all that this sender has put before on any
     /// of its routes, until the owner takes it out.
     ///
-    /// 15 `Limit` where the route has taken [`ROUTE_LIMIT`] messages; else 50 `Memory` where an
-    /// allocation was refused. Either hands the message back, and the sender and the inbox are as
-    /// before.
+    /// 15 `Limit` exactly where the route has taken [`ROUTE_LIMIT`] messages. This and 50 `Memory`
+    /// hand the message back, and the sender and the inbox are as before.
     pub fn put<R: Wait>(
         &mut self,
         rt: &R,
@@ -176,9 +171,8 @@ impl Sender {
     /// this one of the routes. The two are one: it is noted where it is put, and nowhere else. The
     /// desk is of one thread, so nobody sees a note before its message is put.
     ///
-    /// 15 `Limit` only where the route has taken all that it takes; else 50 `Memory` where an
-    /// allocation was refused, or where no stamp is left. Either hands the message back, and
-    /// nothing is put or noted then.
+    /// 15 `Limit` only where the route has taken all that it takes; 50 `Memory` also where no stamp
+    /// is left. Either hands the message back, and nothing is put or noted then.
     pub fn send<R: Wait>(
         &mut self,
         rt: &R,
@@ -209,8 +203,7 @@ impl Sender {
         Err((fault, back.message))
     }
 
-    /// How many routes it has: each leads to the inbox's component, and no two are equal. Takes no
-    /// memory.
+    /// How many routes it has: each leads to the inbox's component, and no two are equal.
     pub fn ways(&self) -> usize
         ensures count { result ≡ length self.now.routes }
         ensures aimed { All (λ r. r.to.comp ≡ self.now.inbox.comp) self.now.routes }
@@ -219,7 +212,7 @@ impl Sender {
         self.places.len()
     }
 
-    /// How many messages it has put on this one of its routes. Takes no memory.
+    /// How many messages it has put on this one of its routes.
     pub fn count(&self, way: usize) -> u64
         requires { way < length self.now.routes }
         ensures { result ≡ length (put_on_way self.now way) }
@@ -227,7 +220,7 @@ impl Sender {
         self.counts[way]
     }
 
-    /// This one of its routes. Takes no memory.
+    /// This one of its routes.
     pub fn route(&self, way: usize) -> RouteId
         requires { way < length self.now.routes }
         ensures { result ≡ route_at self.now.routes way }
@@ -235,14 +228,14 @@ impl Sender {
         self.channel.routes[self.places[way]]
     }
 
-    /// The component whose inbox it puts into. Takes no memory.
+    /// The component whose inbox it puts into.
     pub fn receiver(&self) -> CompId
         ensures { result ≡ self.now.inbox.comp }
     {
         self.channel.comp
     }
 
-    /// The component that sends by it. Takes no memory.
+    /// The component that sends by it.
     pub fn source(&self) -> CompId
         ensures { result ≡ self.now.source }
     {

@@ -1,4 +1,7 @@
-//! What a run reports: the components' histories, their ends and verdicts, and the text of it all.
+//! What a run reports: the components' histories, their ends and verdicts; and the text of that, as
+//! a report or a trace. `tp_exec` makes reports, and the programs write them.
+//!
+//! Nothing here takes memory. Texts are written in small pieces: give them a writer with a buffer.
 #![tactic(auto)]
 
 mod backward;

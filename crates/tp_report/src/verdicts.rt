@@ -10,7 +10,7 @@ use tp_history::entry::Entry;
 use tp_value::verdict::Verdict;
 
 /// The local verdict of a component after one more entry of its history, where this was its verdict
-/// before (ES 201 873-1, 24.1, 24.2). Takes no memory.
+/// before (ES 201 873-1, 24.1, 24.2).
 ///
 /// Before the first entry it is `None`.
 pub fn verdict_after(verdict: Verdict, entry: &Entry) -> Verdict
@@ -25,7 +25,7 @@ pub fn verdict_after(verdict: Verdict, entry: &Entry) -> Verdict
 }
 
 /// The local verdict of a component with this history: `Error` where its behaviour failed, else the
-/// worst that it has set. Takes no memory.
+/// worst that it has set.
 pub fn local_verdict(log: &[Entry]) -> Verdict
     ensures { result ≡ local_verdict log.now }
 {
@@ -50,7 +50,7 @@ fn overall_after(verdict: Verdict, component: &CompReport) -> Verdict
 }
 
 /// The overall verdict of a run with these components: `Error` where a behaviour waits in the end,
-/// else the worst of the local ones (24.1). Takes no memory.
+/// else the worst of the local ones (24.1).
 pub fn overall_verdict(components: &[CompReport]) -> Verdict
     ensures { result ≡ overall_verdict (endings components.now) (locals components.now) }
 {

@@ -48,15 +48,12 @@ fn write_components<W: Write>(
     }
 }
 
-/// Writes the text of a report of this test case, line by line: for each component its name, a line
-/// for each entry of its history that is no arrival, how its behaviour ended, its verdict, and what
-/// is left at its ports, the oldest message of each port first; at the end the overall verdict. A
-/// message is its type and its value, or `-` where the value hasn't the type. As a trace, the same
-/// with a line for each arrival too, at its place in the history. The report is one of this test
-/// case: its components, ports and senders are those of the configuration.
+/// Writes the text of a report of this test case, or of its trace, which has a line for each
+/// arrival too. A message is its type and its value, or `-` where the value hasn't the type. The
+/// report is one of this test case: its components, ports and senders are those of the
+/// configuration.
 ///
-/// Where the writer fails, a front of the text is written. It takes no memory, and writes in small
-/// pieces: give it a writer with a buffer.
+/// Where the writer fails, a front of the text is written.
 pub fn write_report<W: Write>(
     test_case: &TestCase,
     telling: Telling,

@@ -139,8 +139,8 @@ fn write_needed_orders<W: Write>(
 /// is one and no other, for each a line `VERDICT: COMPONENT COMPONENT ..`, the components of its
 /// order.
 ///
-/// Where the writer fails, a front of the text is written. It takes no memory, and writes in small
-/// pieces: give it a writer with a buffer.
+/// Where the writer fails, a front of the text is written. It writes in small pieces: give it a
+/// writer with a buffer.
 pub fn write_verdicts<W: Write>(config: &Config, verdicts: &Verdicts, out: &mut Watched<W>)
     requires { All (HasNames config.now) verdicts.now.found.items }
     ensures { Writes W.contents out.old out.new (verdicts_text config.now verdicts.now) }
