@@ -1,7 +1,7 @@
-//! Tests of the public calls of the crates below: `tp_token`, `tp_order`, `tp_queue`, `tp_port`,
-//! `tp_value`, `tp_config` and `tp_inbox`. They stand here, and not in the crates that they test,
-//! so that those are proved once. `writers` is proved without the tests too, since wrong bodies are
-//! tried without them.
+//! Tests of the public calls of `tp_text`, `tp_token`, `tp_order`, `tp_port`, `tp_value`,
+//! `tp_config`, `tp_history`, `tp_floor` and `tp_inbox`. They stand here, and not in the crates
+//! that they test, so that those are proved once. `writers` is proved without the tests too, since
+//! wrong bodies are tried without them.
 #![tactic(auto)]
 
 #[cfg(test)]

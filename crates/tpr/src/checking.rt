@@ -105,9 +105,7 @@ fn answer_accepted<W: Write>(writer: &mut Watched<W>) -> Option<u8>
 /// first fault.
 ///
 /// The status is 0 where it is right; 2 where it was refused: `refused 2 Read`, or
-/// `refused CODE NAME line L` for a [`ScriptRule`], as [`read_script`] says; 3 where memory was
-/// refused, `fault 50 Memory`. `None` where the writer failed: a front of one of these answers is
-/// printed then.
+/// `refused CODE NAME line L` for a [`ScriptRule`], as [`read_script`] says.
 pub fn answer_check<R: Read, W: Write>(
     alloc: Global,
     reader: &mut Watched<R>,

@@ -67,16 +67,11 @@ fn decide<W: Write>(alloc: Global, test_case: &TestCase, writer: &mut Watched<W>
     }
 }
 
-/// Reads a script, checks it, and prints the verdicts that its test case can come to, or the line
-/// of its first fault: `always VERDICT` where each report that a run returns has this result;
-/// `VERDICT or VERDICT ..` where it has one of these; `undecided` where nothing is promised, and
-/// then `seen VERDICT ..` for those that were found. Behind that `states N`, how many states were
-/// looked at, at most 4,194,304; and unless it is one and no other, for each verdict a line
-/// `VERDICT: COMPONENT COMPONENT ..`, the components by whose steps a run comes to it.
+/// Reads a script, checks it, and prints the verdicts that its test case can come to, as
+/// [`write_verdicts`] does, or the line of its first fault. At most 4,194,304 states are looked at.
 ///
-/// The status is 0 for `always`, 2 for several, and 3 for `undecided`; 2 where the script was
-/// refused, as by `answer_check`; 3 where memory was refused, `fault 50 Memory`. `None` where the
-/// writer failed: a front of one of these answers is printed then. It waits for nobody.
+/// The status is 0 for `always`, 2 for several, and 3 for `undecided`; where the script isn't
+/// accepted, that of [`answer_check`](crate::checking::answer_check). It waits for nobody.
 pub fn answer_verdicts<R: Read, W: Write>(
     alloc: Global,
     reader: &mut Watched<R>,

@@ -109,14 +109,12 @@ fn answer_ruling<W: Write>(writer: &mut Watched<W>, ruling: &Ruling) -> Option<u
     ended(writer, ruling_status(ruling))
 }
 
-/// Reads a trace, and prints `lawful` and `one run` or `delayed line L`, or a line
-/// `unlawful RULE line L` for each port and each route that isn't lawful, and where all routes are
-/// lawful one of a circle, if there is any; or the line of its fault.
+/// Reads a trace, and prints what [`write_ruling`] says of it: a place for each port and each route
+/// that isn't lawful, and where all routes are lawful one of a circle, if there is any; or the line
+/// of its fault.
 ///
 /// The status is 0 where it is lawful; 2 where it isn't, or was refused: `refused 2 Read`,
-/// `refused 1 BadLine line L` or `refused 15 Limit line 0`, above 268,435,456 bytes; 3 where memory
-/// was refused, `fault 50 Memory`. `None` where the writer failed: a front of one of these
-/// answers is printed then.
+/// `refused 1 BadLine line L` or `refused 15 Limit line 0`.
 pub fn answer_judge<R: Read, W: Write>(
     alloc: Global,
     reader: &mut Watched<R>,

@@ -1,4 +1,9 @@
-//! `tpr`: message ports of TTCN-3, replayed, checked, run, traced, judged and decided.
+//! `tpr`: message ports of TTCN-3, replayed, checked, run, traced, judged and decided. It has a
+//! mode for each: what is read, what is printed, and with which status.
+//!
+//! In each mode 50 `Memory` is answered by the line `fault 50 Memory` and the status 3. A mode
+//! answers `None` where the writer failed: a front of one of its answers is printed then, and the
+//! status is 3.
 #![tactic(auto)]
 
 ghost use Rattle.std.specs.Prelude.{◌≡◌, IfNone, IfSome, OnSome, Some};

@@ -106,8 +106,7 @@ pub fn answer_fault<W: Write>(writer: &mut Watched<W>, fault: QueueFault) -> Opt
 /// fault. Nothing is printed of the answers where there is a fault.
 ///
 /// The status is 0 where the file was answered; 2 where it was refused: `refused 2 Read`, or
-/// `refused 1 BadLine line L` or `refused 15 Limit line 0`; 3 where memory was refused, `fault 50
-/// Memory`. `None` where the writer failed: a front of one of these answers is printed then.
+/// `refused 1 BadLine line L` or `refused 15 Limit line 0`.
 pub fn answer_queue<R: Read, W: Write>(
     alloc: Global,
     reader: &mut Watched<R>,

@@ -52,14 +52,12 @@ fn answer_test_case<T: Threads + Wait + Sync, W: Write, G: Gate>(
 }
 
 /// Reads a script, checks it, and runs its test case: prints its report, whatever its verdict; or
-/// the line of its first fault; or that of the fault by which the run has no report.
+/// the line of its first fault; or that of the fault by which the run has no report, as [`run`]
+/// says.
 ///
-/// The status is 0 where the report was printed; 2 where the script was refused, as by
-/// `answer_check`; 3 where there is no report: `fault 51 NoThread` where the starting of a thread
-/// was refused, `fault 50 Memory` where memory was, `fault 61 Restless` where a behaviour was ended
-/// as waiting and one of its branches was open, `fault 62 NoOrder` where no one order of all that
-/// was done gives what each component did and saw. `None` where the writer failed: a front of
-/// one of these answers is printed then. It may wait for good.
+/// The status is 0 where the report was printed; 3 where there is none: `fault 51 NoThread`,
+/// `fault 61 Restless`, `fault 62 NoOrder`. Where the script isn't accepted, it is that of
+/// [`answer_check`](crate::checking::answer_check). It may wait for good.
 pub fn answer_run<T: Threads + Wait + Sync, R: Read, W: Write, G: Gate>(
     rt: &T,
     alloc: Global,

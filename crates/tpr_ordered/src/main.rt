@@ -1,5 +1,7 @@
 //! `tpr_ordered`: a test case, run once in each of some orders of its steps. It is for tests, and
 //! no part of what `tpr` offers.
+//!
+//! 50 is answered only where an allocation was refused; the status is 3 then.
 #![tactic(auto)]
 
 mod fault;

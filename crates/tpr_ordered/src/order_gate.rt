@@ -73,8 +73,6 @@ pub struct OrderGate {
 
 /// What an order of these steps has of each of so many components. One with a greater number has
 /// none.
-///
-/// 50 where an allocation was refused.
 fn parts_of(
     alloc: Global,
     components: usize,
@@ -92,8 +90,6 @@ fn parts_of(
 }
 
 /// Adds the place of each step to the part of its component.
-///
-/// 50 where an allocation was refused.
 fn note_places(parts: &mut Vec<OrderTurn>, steps: &[Step]) -> Result<(), AllocError> {
     for (number, step) in steps.iter().enumerate() {
         if let Some(part) = parts.get_mut(step.who.0 as usize) {
@@ -109,8 +105,6 @@ fn note_places(parts: &mut Vec<OrderTurn>, steps: &[Step]) -> Result<(), AllocEr
 impl OrderGate {
     /// A gate for one run of a test case with so many components, in the order of these steps. It
     /// gives up where a component is held for more than `patience` turns.
-    ///
-    /// 50 where an allocation was refused.
     pub fn new(
         alloc: Global,
         components: usize,

@@ -45,8 +45,7 @@ fn step_of(config: &Config, word: &str) -> Option<Step> {
 
 /// The steps that a line says, one space between two words. An empty line says none.
 ///
-/// 11 `Unknown` where no component has a name, at the line of this number; 50 where an allocation
-/// was refused.
+/// 11 `Unknown` where no component has a name, at the line of this number.
 fn steps_of(
     alloc: Global,
     config: &Config,
@@ -68,7 +67,7 @@ fn steps_of(
 
 /// The order that the line of this number says.
 ///
-/// 11 `Unknown` and 50 as `steps_of`.
+/// 11 `Unknown` as `steps_of`.
 fn order_of(alloc: Global, config: &Config, line: &str, number: u32) -> Result<Order, FileFault> {
     let steps = steps_of(alloc, config, line, number)?;
     let line = String::from_str(alloc, line)?;
@@ -80,8 +79,8 @@ fn order_of(alloc: Global, config: &Config, line: &str, number: u32) -> Result<O
 /// them. Each line ends with a byte 10; the last may lack it. An empty line is the order of no
 /// step.
 ///
-/// 2 `Read` where the text isn't UTF-8; else the first of 11 `Unknown`, at the first line in which
-/// a name is that of no component, and 50, where an allocation was refused.
+/// 2 `Read` where the text isn't UTF-8; else 11 `Unknown`, at the first line in which a name is
+/// that of no component.
 pub fn read_orders(alloc: Global, config: &Config, text: &[u8]) -> Result<Vec<Order>, FileFault> {
     let Ok(text) = str::from_utf8(text) else {
         return Err(FileFault::Read);
