@@ -1,4 +1,4 @@
--- What a queue file answers: the senders by first sight, the port's history, and the text of each answer.
+-- What a queue file answers: the senders by first occurrence, the port's history, and the text of each answer.
 use Rattle.std.specs.Prelude.{ℕ, ℤ, ◌==◌, ◌&&◌, Bool, true, false, nat_eq, if◌then◌else◌, Option, Some, None, List, [], ◌∷◌, ◌++◌, length, map, slice_get, codes, unwrap_or, option_and_then}
 use Rattle.std.specs.List.{flat_map, list_any, position_or_len}
 use Rattle.std.specs.Cmp.Lexicographic.{pointwise}
@@ -14,7 +14,7 @@ use Rattle.tp_queue.specs.History.{accepted, queued, status_of, top}
 use Rattle.tp_queue.specs.Answers.{halted_count}
 use Rattle.tp_port.specs.Line.{Line, arrive, receive, check, trigger, clear, start, stop, halt, Wish}
 
--- how far a replay has come: the senders in the order of their first sight, and the port's history
+-- how far a replay has come: the senders in the order of their first occurrence, and the port's history
 pub record Progress : Type 0 where
   pub senders : List (List ℕ)
   pub history : List (Event ℤ)
