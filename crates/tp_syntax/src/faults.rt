@@ -1,5 +1,6 @@
 //! Which fault of a text comes first, by its tokens.
 ghost use Rattle.std.specs.Prelude.{◌≡◌, ◌-◌, ◌≤◌, ◌↔◌, IsTrue, length};
+ghost use Rattle.tp_token.specs.Fault.{IsMemory};
 ghost use Rattle.tp_token.specs.Lexeme.{lexeme_of};
 ghost use Rattle.tp_syntax.specs.Faults.{IsAllowed, IsFaultOf, greatest_number, input_of, is_minus, opened_behind, symbol_bracket};
 
@@ -96,7 +97,8 @@ fn is_minus(token: &Token) -> bool
 /// first of those before them that is beyond the limits; else 10 `Syntax` at the first of these, or
 /// at the end of the text.
 pub(crate) fn first_fault(tokens: &[Placed], left: usize, last_line: u32) -> ScriptFault
-    ensures { IsFaultOf (input_of tokens.now last_line) (length tokens.now - left) result }
+    ensures place { IsFaultOf (input_of tokens.now last_line) (length tokens.now - left) result }
+    ensures memory { IsMemory result → ⊥ }
 {
     let good = tokens.len().saturating_sub(left);
     let mut opened = 0;

@@ -8,7 +8,7 @@ ghost use Rattle.tp_syntax.specs.Statements.{component_lexemes, sent_lexemes, to
 ghost use Rattle.tp_syntax.specs.Grammar.{is_sent, is_template_part};
 ghost use Rattle.tp_syntax.specs.Nesting.{part_depth, receive_depth, sent_depth};
 ghost use Rattle.tp_syntax.specs.Reading.{MaybeName, Reads, Stops, first};
-ghost use Rattle.tp_syntax.specs.Stuck.{IsStuckAt};
+ghost use Rattle.tp_syntax.specs.Stuck.{IsStuckAt, IsStuckBehind, IsWrongBehind};
 
 use crate::cursor::Parser;
 use crate::stuck::Stuck;
@@ -35,6 +35,7 @@ impl<'a, 't> Parser<'a, 't> {
         ensures forward { OnOk result (GoesForward self.old self.new) }
         ensures reads { (x : ComponentName) (more : List Lexeme) →
             Reads self.old (component_lexemes x) more result self.new }
+        ensures place { IfErr result (IsStuckBehind 0 self.old) }
         ensures stuck { IfErr result (IsStuckAt self.new) }
     {
         let placed = self.take()?;
@@ -305,6 +306,7 @@ impl<'a, 't> Parser<'a, 't> {
         ensures forward { OnOk result (GoesForward self.old self.new) }
         ensures reads { (x : PortOperation) (more : List Lexeme) →
             Reads self.old (port_operation_lexeme x ∷ []) more result self.new }
+        ensures place { IfErr result (IsWrongBehind 0 self.old) }
         ensures stuck { IfErr result (IsStuckAt self.new) }
     {
         let placed = self.take()?;

@@ -63,6 +63,7 @@ fn fault_of(stuck: Stuck, tokens: &[Placed], last_line: u32) -> ScriptFault
     ensures place { IsFaultOf (input_of tokens.now last_line) (standing stuck (length tokens.now))
         result }
     ensures memory { IsForMemory stuck → IsMemory result }
+    ensures other { IsMemory result → IsForMemory stuck }
 {
     match stuck {
         Stuck::Next(left) => first_fault(tokens, left, last_line),

@@ -10,7 +10,7 @@ ghost use Rattle.tp_syntax.specs.Statements.{step_lexemes, turns_lexemes, verdic
 ghost use Rattle.tp_syntax.specs.Grammar.{is_64_bit, variable_part};
 ghost use Rattle.tp_syntax.specs.Reading.{AllStand, IsPlaced, Reads, first};
 ghost use Rattle.tp_syntax.specs.Standing.{GoesOver, HasPassed};
-ghost use Rattle.tp_syntax.specs.Stuck.{IsForMemory, IsStuckAt};
+ghost use Rattle.tp_syntax.specs.Stuck.{IsForMemory, IsStuckAt, IsWrongBehind};
 
 use crate::cursor::Parser;
 use crate::stuck::Stuck;
@@ -28,6 +28,7 @@ impl<'a, 't> Parser<'a, 't> {
         ensures forward { OnOk result (GoesForward self.old self.new) }
         ensures reads { (x : VerdictName) (more : List Lexeme) →
             Reads self.old (verdict_lexeme x ∷ []) more result self.new }
+        ensures place { IfErr result (IsWrongBehind 0 self.old) }
         ensures stuck { IfErr result (IsStuckAt self.new) }
     {
         let placed = self.take()?;
@@ -174,6 +175,7 @@ impl<'a, 't> Parser<'a, 't> {
         ensures forward { OnOk result (GoesForward self.old self.new) }
         ensures reads { (more : List Lexeme) →
             Reads self.old (number 1 ∷ []) more result self.new }
+        ensures place { IfErr result (IsWrongBehind 0 self.old) }
         ensures stuck { IfErr result (IsStuckAt self.new) }
     {
         let placed = self.take()?;

@@ -1,5 +1,5 @@
 //! Templates.
-ghost use Rattle.std.specs.Prelude.{ℕ, ℤ, ◌↔◌, [], List, Option, Some, ◌≡◌, ◌+◌, ◌<◌, ◌≤◌, ◌∷◌, ◌++◌, IsTrue, length, map, IfOk, OnOk, IfErr};
+ghost use Rattle.std.specs.Prelude.{false, ℕ, ℤ, ◌↔◌, [], List, Option, Some, ◌≡◌, ◌+◌, ◌<◌, ◌≤◌, ◌∷◌, ◌++◌, IsTrue, length, map, IfOk, OnOk, IfErr};
 ghost use Rattle.std.specs.List.{list_all};
 ghost use Rattle.tp_token.specs.Lexeme.{Lexeme, symbol, text, word};
 ghost use Rattle.tp_syntax.specs.Ahead.{ahead, token_at};
@@ -10,7 +10,7 @@ ghost use Rattle.tp_syntax.specs.Templates.{low_lexemes, high_lexemes, template_
 ghost use Rattle.tp_syntax.specs.Grammar.{each, is_bound, is_plain, is_template, is_template_field, one_and_each};
 ghost use Rattle.tp_syntax.specs.Nesting.{deepest, template_depth, template_field_depth};
 ghost use Rattle.tp_syntax.specs.Reading.{Reads, Stops, IsRange};
-ghost use Rattle.tp_syntax.specs.Stuck.{IsStuckAt};
+ghost use Rattle.tp_syntax.specs.Stuck.{IsStuckAt, IsStuckBehind, integer_stands, leads_on};
 
 use crate::cursor::Parser;
 use crate::stuck::Stuck;
@@ -132,6 +132,7 @@ impl<'a, 't> Parser<'a, 't> {
         ensures reads { (cs : List ℕ) (more : List Lexeme) →
             IsTrue (list_all is_plain cs) →
             Reads self.old (text cs ∷ []) more result self.new }
+        ensures place { IfErr result (IsStuckBehind 0 self.old) }
         ensures stuck { IfErr result (IsStuckAt self.new) }
     {
         let placed = self.take()?;
@@ -157,6 +158,10 @@ impl<'a, 't> Parser<'a, 't> {
             IsTrue (is_template x) →
             template_depth x ≤ left →
             Reads self.old (template_lexemes x) more result self.new }
+        ensures place { leads_on (token_at self.old.rest.now 0) ≡ false →
+            IfErr result (IsStuckBehind
+            (integer_stands (token_at self.old.rest.now 0) (token_at self.old.rest.now 1))
+            self.old) }
         ensures stuck { IfErr result (IsStuckAt self.new) }
     {
         let placed = self.take()?;

@@ -11,7 +11,7 @@ ghost use Rattle.tp_syntax.specs.Lines.{noted_in_order, setup_notes, start_notes
 ghost use Rattle.tp_syntax.specs.Passing.{Passes};
 ghost use Rattle.tp_syntax.specs.Reading.{AllStand, IsPlaced, BeginsSetup, IsStart, MaybeName, Reads, first, is_setup_ahead, is_start_ahead};
 ghost use Rattle.tp_syntax.specs.Standing.{GoesOn, GoesOver, HasPassed};
-ghost use Rattle.tp_syntax.specs.Stuck.{IsStuckAt};
+ghost use Rattle.tp_syntax.specs.Stuck.{IsStuckAt, IsStuckBehind};
 
 use crate::cursor::Parser;
 use crate::stuck::Stuck;
@@ -32,6 +32,7 @@ impl<'a, 't> Parser<'a, 't> {
         ensures forward { OnOk result (GoesForward self.old self.new) }
         ensures reads { (x : EndComponent) (more : List Lexeme) →
             Reads self.old (end_component_lexeme x ∷ []) more result self.new }
+        ensures place { IfErr result (IsStuckBehind 0 self.old) }
         ensures stuck { IfErr result (IsStuckAt self.new) }
     {
         let placed = self.take()?;

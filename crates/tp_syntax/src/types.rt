@@ -10,7 +10,7 @@ ghost use Rattle.tp_syntax.specs.Lines.{noted_in_order, noted_by_commas, declare
 ghost use Rattle.tp_syntax.specs.Passing.{Passes};
 ghost use Rattle.tp_syntax.specs.Reading.{AllStand, IsPlaced, Reads, Stops, first, is_type};
 ghost use Rattle.tp_syntax.specs.Standing.{GoesOver, HasPassed};
-ghost use Rattle.tp_syntax.specs.Stuck.{IsStuckAt};
+ghost use Rattle.tp_syntax.specs.Stuck.{IsStuckAt, IsWrongBehind};
 
 use crate::cursor::Parser;
 use crate::stuck::Stuck;
@@ -122,6 +122,7 @@ impl<'a, 't> Parser<'a, 't> {
         ensures forward { OnOk result (GoesForward self.old self.new) }
         ensures reads { (x : Way) (more : List Lexeme) →
             Reads self.old (way_lexeme x ∷ []) more result self.new }
+        ensures place { IfErr result (IsWrongBehind 0 self.old) }
         ensures stuck { IfErr result (IsStuckAt self.new) }
     {
         let placed = self.take()?;

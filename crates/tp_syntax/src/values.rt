@@ -1,7 +1,7 @@
 //! Values, types and messages.
-ghost use Rattle.std.specs.Prelude.{ℤ, List, MatchResult, [], OnErr, ◌≡◌, ◌+◌, ◌<◌, ◌≤◌, ◌∷◌, ◌++◌, IsTrue, length, map, pos, IfOk, OnOk, IfErr};
+ghost use Rattle.std.specs.Prelude.{ℤ, List, MatchResult, [], OnErr, ◌≡◌, ◌≢◌, ◌+◌, ◌<◌, ◌≤◌, ◌∷◌, ◌++◌, IsTrue, length, map, pos, IfOk, OnOk, Some, IfErr};
 ghost use Rattle.tp_token.specs.Lexeme.{Lexeme, name, symbol};
-ghost use Rattle.tp_syntax.specs.Ahead.{ahead, lexemes_from};
+ghost use Rattle.tp_syntax.specs.Ahead.{ahead, lexemes_from, token_at};
 ghost use Rattle.tp_syntax.specs.Forward.{GoesForward};
 ghost use Rattle.tp_syntax.specs.Passing.{Passes};
 ghost use Rattle.tp_syntax.specs.Sequences.{by_commas};
@@ -9,7 +9,7 @@ ghost use Rattle.tp_syntax.specs.Values.{int_lexemes, type_lexemes, value_lexeme
 ghost use Rattle.tp_syntax.specs.Grammar.{each, is_64_bit, is_value, is_value_field, one_and_each};
 ghost use Rattle.tp_syntax.specs.Nesting.{deepest, value_depth, value_field_depth};
 ghost use Rattle.tp_syntax.specs.Reading.{Reads, Stops};
-ghost use Rattle.tp_syntax.specs.Stuck.{IsForMemory, IsStuckAt};
+ghost use Rattle.tp_syntax.specs.Stuck.{IsForMemory, IsStuckAt, IsStuckBehind, IsWrongBehind, integer_stands, number_stands};
 
 use crate::cursor::Parser;
 use crate::faults::GREATEST;
@@ -47,6 +47,8 @@ impl<'a, 't> Parser<'a, 't> {
             IsTrue (is_64_bit z) →
             MatchResult result (λ _. ahead self.new.rest.now ≡ more) IsForMemory }
         ensures within { IfOk result (λ z. IsTrue (is_64_bit z)) }
+        ensures place { IfErr result
+            (IsWrongBehind (number_stands (token_at self.old.rest.now 0)) self.old) }
         ensures stuck { IfErr result (IsStuckAt self.new) }
     {
         let placed = self.take()?;
@@ -67,6 +69,9 @@ impl<'a, 't> Parser<'a, 't> {
             IsTrue (is_64_bit z) →
             Reads self.old (int_lexemes z) more result self.new }
         ensures within { IfOk result (λ z. IsTrue (is_64_bit z)) }
+        ensures place { IfErr result (IsWrongBehind
+            (integer_stands (token_at self.old.rest.now 0) (token_at self.old.rest.now 1))
+            self.old) }
         ensures stuck { IfErr result (IsStuckAt self.new) }
     {
         let placed = self.take()?;
@@ -84,6 +89,7 @@ impl<'a, 't> Parser<'a, 't> {
         ensures forward { OnOk result (GoesForward self.old self.new) }
         ensures reads { (x : TypeName) (more : List Lexeme) →
             Reads self.old (type_lexemes x) more result self.new }
+        ensures place { IfErr result (IsStuckBehind 0 self.old) }
         ensures stuck { IfErr result (IsStuckAt self.new) }
     {
         let placed = self.take()?;
@@ -132,6 +138,10 @@ impl<'a, 't> Parser<'a, 't> {
             IsTrue (is_value x) →
             value_depth x ≤ left →
             Reads self.old (value_lexemes x) more result self.new }
+        ensures place { token_at self.old.rest.now 0 ≢ Some (symbol Symbol.LeftBrace) →
+            IfErr result (IsStuckBehind
+            (integer_stands (token_at self.old.rest.now 0) (token_at self.old.rest.now 1))
+            self.old) }
         ensures stuck { IfErr result (IsStuckAt self.new) }
     {
         let placed = self.take()?;

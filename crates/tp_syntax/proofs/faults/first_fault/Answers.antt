@@ -21,16 +21,16 @@ more-preserved c =
       within = omega (arith, c.more-test.true);
     }
 
-pub returns-then-not-is_allowed : goal.returns-then-not-is_allowed
-returns-then-not-is_allowed c =
+pub returns-then-not-is_allowed-clause-place : goal.returns-then-not-is_allowed-clause-place
+returns-then-not-is_allowed-clause-place c =
     rw c.limit.ensures
     (limit_there _ c.args.tokens.now c.more.place c.more.opened c.more.is_signed c.index-tokens-place.result _ _ c.more.invariant.gone
     (omega (arith, c.more-test.true, c.saturating_sub-good.ensures)) c.index-tokens-place.is
     (omega (arith, c.more-test.true, c.saturating_sub-good.ensures))
     (iff_false c.is_allowed.ensures c.if-not-is_allowed.true) (cc))
 
-pub returns-then-good-tokens : goal.returns-then-good-tokens
-returns-then-good-tokens c =
+pub returns-then-good-tokens-clause-place : goal.returns-then-good-tokens-clause-place
+returns-then-good-tokens-clause-place c =
     let same : c.more.place ≡ c.saturating_sub-good.result = omega (arith, c.more-test.false, c.more.invariant.within) in
     let gone : HasGone (input_of c.args.tokens.now c.args.last_line) c.args.tokens.now c.saturating_sub-good.result c.more.opened c.more.is_signed =
     subst (λ (k : ℕ). HasGone (input_of c.args.tokens.now c.args.last_line) c.args.tokens.now k c.more.opened c.more.is_signed) same c.more.invariant.gone in
@@ -38,8 +38,8 @@ returns-then-good-tokens c =
     (syntax_there _ c.args.tokens.now c.saturating_sub-good.result c.more.opened c.more.is_signed c.index-tokens-good.result _ _ gone
     c.if-good-tokens.true c.index-tokens-good.is c.saturating_sub-good.ensures (cc))
 
-pub returns : goal.returns
-returns c =
+pub returns-clause-place : goal.returns-clause-place
+returns-clause-place c =
     rw c.syntax-2.ensures
     (syntax_at_end c.args.tokens.now c.args.last_line c.more.place c.more.opened c.more.is_signed _ c.more.invariant.gone
     (omega (arith, c.more-test.false, c.more.invariant.within, c.if-good-tokens.false))

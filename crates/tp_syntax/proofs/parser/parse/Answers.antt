@@ -79,7 +79,7 @@ returns-in-Ok-clause-refused c =
     let text = c.args.text.now in
     let has : HasTokens text = (map placed_lexeme c.in_ok-tokens.tokens.items, c.in_ok-tokens.ensures.tokens, c.in_ok-tokens.ensures.limits, c.in_ok-tokens.ensures.short) in
     let some : 0 < length c.module.new.self.rest.now = grind arith in
-    let of : IsOfGrammar text c.first_fault.result = of_tokens text c.in_ok-tokens.tokens.items _ _ _ _ c.in_ok-tokens.ensures.tokens c.deref-in-Ok.ensures.value c.last_line-last_line.ensures c.first_fault.ensures in
+    let of : IsOfGrammar text c.first_fault.result = of_tokens text c.in_ok-tokens.tokens.items _ _ _ _ c.in_ok-tokens.ensures.tokens c.deref-in-Ok.ensures.value c.last_line-last_line.ensures c.first_fault.ensures.place in
     unread text _ (Next 0) has of (λ m read right deep.
     let e = ap ahead c.deref.ensures.value ∙ whole text c.in_ok-tokens.tokens.items m c.in_ok-tokens.ensures.tokens read in
     let fits : module_depth m ≤ c.most_brackets.result = omega (arith, c.most_brackets.ensures) in
