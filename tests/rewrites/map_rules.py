@@ -44,8 +44,8 @@ def tool(program: str, *words: str, beside: str = f"{FOLDER}/mapped", ordered: s
 
 def main() -> None:
     words = argparse.ArgumentParser(description="What the other tools say of a script that tools/rewrite wrote.")
-    words.add_argument("program", metavar="PROGRAM", type=os.path.abspath, help="tpr")
-    program = words.parse_args().program
+    words.add_argument("program", metavar="PROGRAM", help="tpr")
+    program = os.path.abspath(words.parse_args().program)
     with tempfile.TemporaryDirectory() as folder:
         output = f"{folder}/kitchen.ttcn"
         tool(program, "rewrite", "kitchen.ttcn", "types.ttcn", "-o", output)
