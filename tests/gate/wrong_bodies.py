@@ -27,6 +27,7 @@ where there are such.
 from __future__ import annotations
 
 import argparse
+import contextlib
 import os
 import re
 import shutil
@@ -87,12 +88,13 @@ def begin(words: Sequence[str], folder: str) -> Optional[subprocess.Popen[str]]:
 
 
 def end_all() -> None:
-    """Lets no further check begin, and ends those at work."""
+    """Lets no further check begin, and ends those at work. One may end by itself meanwhile."""
     with beginning:
         is_over.set()
         for it in begun:
             if it.poll() is None:
-                os.killpg(it.pid, signal.SIGTERM)
+                with contextlib.suppress(ProcessLookupError):
+                    os.killpg(it.pid, signal.SIGTERM)
 
 
 def check(

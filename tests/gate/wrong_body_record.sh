@@ -332,7 +332,36 @@ what_is_not_tried() {
     trial_says "another is refused alone" 1 \
         "$one"$'\nlow/gives_more: refused\nwrong bodies: 1 refused, 0 not told, 0 not refused, 1 not tried\n' \
         "$all"$'low/gives_more room::hidden\n' low
+    ended_checks
     interrupted_trial
+}
+
+# Of two checks that have begun one has ended, which isn't known yet: the other is ended all the same.
+ended_checks() {
+    cat >ended.py <<'PYTHON' || return
+import subprocess
+import sys
+
+sys.path.insert(0, sys.argv[1])
+import wrong_bodies
+
+
+class Unseen(subprocess.Popen):
+    """A process that is gone, and is taken for one at work."""
+
+    def poll(self):
+        return None
+
+
+gone = Unseen(["true"], start_new_session=True)
+gone.wait()
+at_work = subprocess.Popen(["sleep", "60"], start_new_session=True)
+wrong_bodies.begun += [gone, at_work]
+wrong_bodies.end_all()
+print(at_work.wait(), wrong_bodies.begin(["true"], "."))
+PYTHON
+    observe python3 ended.py tree/tests/gate
+    must "a check that has ended meanwhile" 0 $'-15 None\n' ''
 }
 
 # An interrupt comes to all of it, and one more while it ends, as of somebody who presses the keys twice.
@@ -414,7 +443,7 @@ record_of_wrong_bodies() {
         rm -r tree && cp -R kept_tree tree
         at_least 21 what_a_trial_writes
         rm -r tree && cp -R kept_tree tree
-        at_least 11 what_is_not_tried
+        at_least 12 what_is_not_tried
         rm -r tree && mv kept_tree tree
         at_least 11 what_each_run_tries
     fi
