@@ -20,13 +20,14 @@ from typing import Optional
 sys.dont_write_bytecode = True
 
 import changes
+import first_faults
 import grammar
 import limits
 import many
 import passes
 from asking import Asking, Case, Group, Script
 
-TABLES = {it.__name__: it.groups for it in (changes, grammar, limits, many, passes)}
+TABLES = {it.__name__: it.groups for it in (changes, first_faults, grammar, limits, many, passes)}
 
 
 class Known:
