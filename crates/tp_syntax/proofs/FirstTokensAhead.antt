@@ -11,7 +11,7 @@ use Rattle.tp_token.specs.declared.token.Symbol.{Symbol}
 use Rattle.tp_token.specs.declared.token.Symbol.TheVariants.{Assign, Dot, LeftBracket, LeftParen, Minus, RightBrace, RightParen}
 use Rattle.tp_token.specs.Lexeme.{Lexeme, name, word, number, symbol, lexeme_of}
 use Rattle.tp_syntax.specs.declared.cursor.Parser.{Parser}
-use Rattle.tp_syntax.specs.Ahead.{lexemes, is_zero, starts_zero, token_before, ahead, is_name_in, token_at}
+use Rattle.tp_syntax.specs.Ahead.{lexemes, is_zero, starts_zero, token_before, plain, ahead, is_name_in, token_at}
 use Rattle.tp_syntax.specs.Faults.{is_minus}
 use Rattle.tp_syntax.specs.Stuck.{IsForMemory}
 use Rattle.tp_syntax.specs.Reading.{IsEndOf, BeginsSetup, IsStart, first, is_branch_ahead, is_end_ahead, is_setup_ahead, is_start_ahead}
@@ -28,10 +28,10 @@ zero_first : (t u : Lexeme) (b : Bool) (ts us : List Lexeme) → is_zero t ≡ t
 zero_first (number zero) u b ts us z e = let same : number zero ≡ u = cc in subst (λ x. is_zero x ≡ true) same refl
 zero_first t u b ts us z e = absurd (false≢true z)
 
--- where a number 0 is the first token, it is ahead
-pub zero_ahead : (ps : List Placed) (u : Lexeme) (us : List Lexeme) → starts_zero (lexemes ps) ≡ true → ahead ps ≡ u ∷ us → is_zero u ≡ true
-zero_ahead [] u us z e = absurd (false≢true z)
-zero_ahead (p ∷ ps) u us z e = zero_first (lexeme_of p.token) u (starts_zero (lexemes ps)) (ahead ps) us z e
+-- where a number 0 is the first token, it is read
+pub zero_front : (os us : List Lexeme) (u : Lexeme) → starts_zero os ≡ true → plain os ≡ u ∷ us → is_zero u ≡ true
+zero_front [] us u z e = absurd (false≢true z)
+zero_front (t ∷ os) us u z e = zero_first t u (starts_zero os) (plain os) us z e
 
 zero_stays : (b : Bool) (t : Lexeme) (ts : List Lexeme) → is_zero t ≡ true → token_before b t ts ≡ [] → ⊥
 zero_stays b (number zero) ts z e = cc
@@ -54,7 +54,7 @@ opened [] t ts e n = cc
 opened (p ∷ ps) t ts e n =
     elim (token_cases (starts_zero (lexemes ps)) (lexeme_of p.token) t (ahead ps) ts e) [
       | inl same ↦ (p, ps, refl, same.0, same.1)
-      | inr left ↦ absurd (false≢true (sym n ∙ zero_ahead ps t ts left.0 left.2))
+      | inr left ↦ absurd (false≢true (sym n ∙ zero_front (lexemes ps) ts t left.0 left.2))
     ]
 
 pub at_0 : (ps : List Placed) (t : Lexeme) (ts : List Lexeme) → ahead ps ≡ t ∷ ts → is_zero t ≡ false → token_at ps 0 ≡ Some t

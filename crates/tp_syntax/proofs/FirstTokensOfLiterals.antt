@@ -1,13 +1,12 @@
 -- Which tokens integers and truth values begin with.
 use Rattle.std.proofs.Common.{◌≡◌, ℕ, ℤ, pos, negsuc, Bool, true, false, List, [], ◌∷◌, ◌++◌, Some, refl, subst}
 use Rattle.std.proofs.lemmas.Bool.{false≢true}
-use Rattle.tp_token.specs.declared.token.Placed.{Placed}
 use Rattle.tp_token.specs.declared.token.Symbol.TheVariants.{Minus, RightBrace}
 use Rattle.tp_token.specs.Lexeme.{Lexeme, name, number, symbol}
-use Rattle.tp_syntax.specs.Ahead.{ahead, lexemes_from, token_before, lexemes, starts_zero, is_zero}
+use Rattle.tp_syntax.specs.Ahead.{plain, token_before, starts_zero, is_zero}
 use Rattle.tp_syntax.specs.Values.{int_lexemes, bool_lexeme}
 use Rattle.tp_syntax.specs.Reading.{first}
-use Rattle.tp_syntax.proofs.FirstTokensAhead.{zero_ahead}
+use Rattle.tp_syntax.proofs.FirstTokensAhead.{zero_front}
 
 -- whether an integer may begin with this token
 abbrev pub is_sign : Lexeme → Bool
@@ -19,17 +18,17 @@ zero_sign : (t : Lexeme) → is_zero t ≡ true → is_sign t ≡ true
 zero_sign (number n) z = refl
 zero_sign t z = absurd (false≢true z)
 
-sign_of : (b : Bool) (ps : List Placed) (t : Lexeme) (ts : List Lexeme) → starts_zero (lexemes ps) ≡ b → token_before b (symbol Minus) (ahead ps) ≡ t ∷ ts → is_sign t ≡ true
-sign_of true ps t ts z e = zero_sign t (zero_ahead ps t ts z e)
-sign_of false ps t ts z e = let same : symbol Minus ≡ t = cc in subst (λ u. is_sign u ≡ true) same refl
+sign_of : (b : Bool) (os : List Lexeme) (t : Lexeme) (ts : List Lexeme) → starts_zero os ≡ b → token_before b (symbol Minus) (plain os) ≡ t ∷ ts → is_sign t ≡ true
+sign_of true os t ts z e = zero_sign t (zero_front os ts t z e)
+sign_of false os t ts z e = let same : symbol Minus ≡ t = cc in subst (λ u. is_sign u ≡ true) same refl
 
 -- with a `-` to be read, an integer begins
-pub sign_first : (ps : List Placed) (t : Lexeme) (ts : List Lexeme) → lexemes_from (symbol Minus) ps ≡ t ∷ ts → is_sign t ≡ true
-sign_first ps t ts e = sign_of (starts_zero (lexemes ps)) ps t ts refl e
+pub sign_first : (os : List Lexeme) (t : Lexeme) (ts : List Lexeme) → plain (symbol Minus ∷ os) ≡ t ∷ ts → is_sign t ≡ true
+sign_first os t ts e = sign_of (starts_zero os) os t ts refl e
 
-pub no_bool : (b : Bool) (more : List Lexeme) (ps : List Placed) → lexemes_from (symbol Minus) ps ≡ bool_lexeme b ∷ more → ⊥
-no_bool true more ps e = false≢true (sign_first ps _ more e)
-no_bool false more ps e = false≢true (sign_first ps _ more e)
+pub no_bool : (b : Bool) (more os : List Lexeme) → plain (symbol Minus ∷ os) ≡ bool_lexeme b ∷ more → ⊥
+no_bool true more os e = false≢true (sign_first os _ more e)
+no_bool false more os e = false≢true (sign_first os _ more e)
 
 pub no_int : (z : ℤ) (r : List Lexeme) → first (int_lexemes z ++ r) ≡ Some (symbol RightBrace) → ⊥
 no_int (pos n) r e = cc

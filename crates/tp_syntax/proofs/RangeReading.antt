@@ -15,7 +15,7 @@ use Rattle.tp_syntax.specs.Reading.{IsRange, first}
 use Rattle.tp_syntax.proofs.FirstTokensAhead.{at_0, at_1, at_2, first_is, minus_then, raw, token_cases}
 use Rattle.tp_syntax.proofs.TemplateReading.{template_behind}
 
-number_of : (o : Option Lexeme) → is_number_in o ≡ true → (n : ℕ) × (o ≡ Some (number n))
+pub number_of : (o : Option Lexeme) → is_number_in o ≡ true → (n : ℕ) × (o ≡ Some (number n))
 number_of (Some (number n)) h = (n, refl)
 number_of o h = absurd (false≢true h)
 

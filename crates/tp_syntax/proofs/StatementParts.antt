@@ -106,7 +106,7 @@ branch_at x r ps e =
     let next = at_1 ps (symbol LeftBracket) (symbol RightBracket) _ same refl refl in
     (at_0 ps (symbol LeftBracket) _ same refl, λ h. cc (next, h))
 
-else_opens : (x : ElseBranch) (r : List Lexeme) → else_branch_lexemes x ++ r ≡ symbol LeftBracket ∷ word w.Else ∷ symbol RightBracket ∷
+pub else_opens : (x : ElseBranch) (r : List Lexeme) → else_branch_lexemes x ++ r ≡ symbol LeftBracket ∷ word w.Else ∷ symbol RightBracket ∷
     (braced (statements_lexemes (out-ElseBranch x).block.items) ++ (end_lexemes (out-ElseBranch x).has_semicolon ++ r))
 else_opens x r =
     ap (λ (l : List Lexeme). l ++ r) (tokens.else_branch_out x)

@@ -165,7 +165,7 @@ kind_goes b (chooses xs e) r = refl
 kind_goes b (counts x) r = let h = counted_opens x r in for_goes b _ h.0 h.1
 
 -- what a statement does, as its kind
-kind_of : (x : Action) → (k : Kind) × (action_lexemes x ≡ kind_lexemes k)
+pub kind_of : (x : Action) → (k : Kind) × (action_lexemes x ≡ kind_lexemes k)
 kind_of x =
     action_cases (λ x. (k : Kind) × (action_lexemes x ≡ kind_lexemes k)) (record {
       send = λ x. (sends x, tokens.action_send x);
@@ -212,12 +212,12 @@ pub branch_begins : (x : Branch) (r : List Lexeme) → is_begin (first (branch_l
 branch_begins x r = ap (λ (l : List Lexeme). is_begin (first (l ++ r))) (tokens.branch_out x)
 
 -- whether tokens are those of what ends in a block
-is_blocked : Option Lexeme → Bool
+pub is_blocked : Option Lexeme → Bool
 is_blocked (Some (word w.Alt)) = true
 is_blocked (Some (word w.For)) = true
 is_blocked _ = false
 
-kind_blocked : (x : Action) → (action_part x).is_ended ≡ is_blocked (first (action_lexemes x ++ []))
+pub kind_blocked : (x : Action) → (action_part x).is_ended ≡ is_blocked (first (action_lexemes x ++ []))
 unfolding is_blocked send_lexemes receive_lexemes control_lexemes all_ports_lexemes set_verdict_lexemes
 kind_blocked x =
     action_cases (λ x. (action_part x).is_ended ≡ is_blocked (first (action_lexemes x ++ []))) (record {

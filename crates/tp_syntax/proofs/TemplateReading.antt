@@ -14,7 +14,7 @@ use Rattle.tp_tree.specs.declared.message.Template.TheVariants as v
 use Rattle.tp_tree.specs.declared.message.Template.TheOpen as o
 use Rattle.tp_tree.specs.declared.message.Template.TheViews.{roll-Template, out-Template, roll-out-Template}
 use Rattle.tp_tree.specs.declared.message.TemplateField.{TemplateField, out-TemplateField}
-use Rattle.tp_syntax.specs.Ahead.{ahead, lexemes_from}
+use Rattle.tp_syntax.specs.Ahead.{ahead, lexemes_from, plain}
 use Rattle.tp_syntax.specs.Sequences.{by_commas, braced, parenthesised}
 use Rattle.tp_syntax.specs.Values.{int_lexemes, bool_lexeme}
 use Rattle.tp_syntax.specs.Templates.{low_lexemes, high_lexemes, template_lexemes, template_field_lexemes}
@@ -157,22 +157,22 @@ template_behind left x more t ts =
     }) x
 
 -- behind a `-` stands a number, without its sign
-pub template_minus : (x : Template) (more : List Lexeme) (ps : List Placed) → is_template x ≡ true → lexemes_from (symbol Minus) ps ≡ template_lexemes x ++ more →
-    (z : ℤ) × (is_64_bit z ≡ true) × (int_lexemes z ++ more ≡ lexemes_from (symbol Minus) ps)
-template_minus x more ps =
-    template_cases (λ x. is_template x ≡ true → lexemes_from (symbol Minus) ps ≡ template_lexemes x ++ more → (z : ℤ) × (is_64_bit z ≡ true) × (int_lexemes z ++ more ≡ lexemes_from (symbol Minus) ps)) (record {
+pub template_minus : (x : Template) (more : List Lexeme) (os : List Lexeme) → is_template x ≡ true → plain (symbol Minus ∷ os) ≡ template_lexemes x ++ more →
+    (z : ℤ) × (is_64_bit z ≡ true) × (int_lexemes z ++ more ≡ plain (symbol Minus ∷ os))
+template_minus x more os =
+    template_cases (λ x. is_template x ≡ true → plain (symbol Minus ∷ os) ≡ template_lexemes x ++ more → (z : ℤ) × (is_64_bit z ≡ true) × (int_lexemes z ++ more ≡ plain (symbol Minus ∷ os))) (record {
       int = λ z right e. (z, sym (grammar.template_int z) ∙ right, sym (e ∙ ap (λ (l : List Lexeme). l ++ more) (tokens.template_int z)));
-      bool = λ b right e. absurd (no_bool b more ps (e ∙ ap (λ (l : List Lexeme). l ++ more) (tokens.template_bool b)));
-      characters = λ cs right e. absurd (false≢true (sign_first ps (text cs.items) more (e ∙ ap (λ (l : List Lexeme). l ++ more) (tokens.template_text cs))));
-      named = λ n right e. absurd (false≢true (sign_first ps (name (string_bytes n)) more (e ∙ ap (λ (l : List Lexeme). l ++ more) (tokens.template_name n))));
-      any = λ right e. absurd (false≢true (sign_first ps (symbol Question) more (e ∙ ap (λ (l : List Lexeme). l ++ more) tokens.template_any)));
-      any_or_none = λ right e. absurd (false≢true (sign_first ps (symbol Star) more (e ∙ ap (λ (l : List Lexeme). l ++ more) tokens.template_any_or_none)));
-      one_of = λ xs right e. absurd (false≢true (sign_first ps (symbol LeftParen) _ (e ∙ ap (λ (l : List Lexeme). l ++ more) (tokens.template_one_of xs))));
-      complement = λ xs right e. absurd (false≢true (sign_first ps (word w.Complement) _ (e ∙ ap (λ (l : List Lexeme). l ++ more) (tokens.template_complement xs))));
-      range = λ low high right e. absurd (false≢true (sign_first ps (symbol LeftParen) _ (e ∙ ap (λ (l : List Lexeme). l ++ more) (tokens.template_range low high))));
-      pattern = λ cs right e. absurd (false≢true (sign_first ps (word w.Pattern) _ (e ∙ ap (λ (l : List Lexeme). l ++ more) (tokens.template_pattern cs))));
-      list = λ xs right e. absurd (false≢true (sign_first ps (symbol LeftBrace) _ (e ∙ ap (λ (l : List Lexeme). l ++ more) (tokens.template_list xs))));
-      fields = λ fs right e. absurd (false≢true (sign_first ps (symbol LeftBrace) _ (e ∙ ap (λ (l : List Lexeme). l ++ more) (tokens.template_record fs))));
+      bool = λ b right e. absurd (no_bool b more os (e ∙ ap (λ (l : List Lexeme). l ++ more) (tokens.template_bool b)));
+      characters = λ cs right e. absurd (false≢true (sign_first os (text cs.items) more (e ∙ ap (λ (l : List Lexeme). l ++ more) (tokens.template_text cs))));
+      named = λ n right e. absurd (false≢true (sign_first os (name (string_bytes n)) more (e ∙ ap (λ (l : List Lexeme). l ++ more) (tokens.template_name n))));
+      any = λ right e. absurd (false≢true (sign_first os (symbol Question) more (e ∙ ap (λ (l : List Lexeme). l ++ more) tokens.template_any)));
+      any_or_none = λ right e. absurd (false≢true (sign_first os (symbol Star) more (e ∙ ap (λ (l : List Lexeme). l ++ more) tokens.template_any_or_none)));
+      one_of = λ xs right e. absurd (false≢true (sign_first os (symbol LeftParen) _ (e ∙ ap (λ (l : List Lexeme). l ++ more) (tokens.template_one_of xs))));
+      complement = λ xs right e. absurd (false≢true (sign_first os (word w.Complement) _ (e ∙ ap (λ (l : List Lexeme). l ++ more) (tokens.template_complement xs))));
+      range = λ low high right e. absurd (false≢true (sign_first os (symbol LeftParen) _ (e ∙ ap (λ (l : List Lexeme). l ++ more) (tokens.template_range low high))));
+      pattern = λ cs right e. absurd (false≢true (sign_first os (word w.Pattern) _ (e ∙ ap (λ (l : List Lexeme). l ++ more) (tokens.template_pattern cs))));
+      list = λ xs right e. absurd (false≢true (sign_first os (symbol LeftBrace) _ (e ∙ ap (λ (l : List Lexeme). l ++ more) (tokens.template_list xs))));
+      fields = λ fs right e. absurd (false≢true (sign_first os (symbol LeftBrace) _ (e ∙ ap (λ (l : List Lexeme). l ++ more) (tokens.template_record fs))));
     }) x
 
 -- a template doesn't begin with a `}`
@@ -238,7 +238,7 @@ is_template_token (symbol Minus) = true
 is_template_token (symbol LeftBrace) = true
 is_template_token t = false
 
-behind_token : (left : ℕ) (more : List Lexeme) (t : Lexeme) (ts : List Lexeme) → Behind left more t ts → is_template_token t ≡ true
+pub behind_token : (left : ℕ) (more : List Lexeme) (t : Lexeme) (ts : List Lexeme) → Behind left more t ts → is_template_token t ≡ true
 behind_token left more (number n) ts b = refl
 behind_token left more (text cs) ts b = refl
 behind_token left more (name n) ts b = refl

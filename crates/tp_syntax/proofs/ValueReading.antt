@@ -13,7 +13,7 @@ use Rattle.tp_tree.specs.declared.message.Value.TheVariants as v
 use Rattle.tp_tree.specs.declared.message.Value.TheOpen as o
 use Rattle.tp_tree.specs.declared.message.Value.TheViews.{roll-Value, out-Value, roll-out-Value}
 use Rattle.tp_tree.specs.declared.message.ValueField.{ValueField, out-ValueField}
-use Rattle.tp_syntax.specs.Ahead.{ahead, lexemes_from}
+use Rattle.tp_syntax.specs.Ahead.{ahead, lexemes_from, plain}
 use Rattle.tp_syntax.specs.Sequences.{by_commas, braced}
 use Rattle.tp_syntax.specs.Values.{int_lexemes, bool_lexeme, value_lexemes, value_field_lexemes}
 use Rattle.tp_syntax.specs.Grammar.{each, one_and_each, is_64_bit, is_value, is_value_field}
@@ -99,16 +99,16 @@ value_behind left x more t ts =
     x
 
 -- behind a `-` stands a number, without its sign
-pub value_minus : (x : Value) (more : List Lexeme) (ps : List Placed) → is_value x ≡ true → lexemes_from (symbol Minus) ps ≡ value_lexemes x ++ more →
-    (z : ℤ) × (is_64_bit z ≡ true) × (int_lexemes z ++ more ≡ lexemes_from (symbol Minus) ps)
-value_minus x more ps =
-    value_cases (λ x. is_value x ≡ true → lexemes_from (symbol Minus) ps ≡ value_lexemes x ++ more → (z : ℤ) × (is_64_bit z ≡ true) × (int_lexemes z ++ more ≡ lexemes_from (symbol Minus) ps))
+pub value_minus : (x : Value) (more : List Lexeme) (os : List Lexeme) → is_value x ≡ true → plain (symbol Minus ∷ os) ≡ value_lexemes x ++ more →
+    (z : ℤ) × (is_64_bit z ≡ true) × (int_lexemes z ++ more ≡ plain (symbol Minus ∷ os))
+value_minus x more os =
+    value_cases (λ x. is_value x ≡ true → plain (symbol Minus ∷ os) ≡ value_lexemes x ++ more → (z : ℤ) × (is_64_bit z ≡ true) × (int_lexemes z ++ more ≡ plain (symbol Minus ∷ os)))
     (λ z right e. (z, sym (grammar.value_int z) ∙ right, sym (e ∙ ap (λ (l : List Lexeme). l ++ more) (tokens.value_int z))))
-    (λ b right e. absurd (no_bool b more ps (e ∙ ap (λ (l : List Lexeme). l ++ more) (tokens.value_bool b))))
-    (λ cs right e. absurd (false≢true (sign_first ps (text cs.items) more (e ∙ ap (λ (l : List Lexeme). l ++ more) (tokens.value_text cs)))))
-    (λ n right e. absurd (false≢true (sign_first ps (name (string_bytes n)) more (e ∙ ap (λ (l : List Lexeme). l ++ more) (tokens.value_name n)))))
-    (λ vs right e. absurd (false≢true (sign_first ps (symbol LeftBrace) _ (e ∙ ap (λ (l : List Lexeme). l ++ more) (tokens.value_list vs)))))
-    (λ fs right e. absurd (false≢true (sign_first ps (symbol LeftBrace) _ (e ∙ ap (λ (l : List Lexeme). l ++ more) (tokens.value_record fs)))))
+    (λ b right e. absurd (no_bool b more os (e ∙ ap (λ (l : List Lexeme). l ++ more) (tokens.value_bool b))))
+    (λ cs right e. absurd (false≢true (sign_first os (text cs.items) more (e ∙ ap (λ (l : List Lexeme). l ++ more) (tokens.value_text cs)))))
+    (λ n right e. absurd (false≢true (sign_first os (name (string_bytes n)) more (e ∙ ap (λ (l : List Lexeme). l ++ more) (tokens.value_name n)))))
+    (λ vs right e. absurd (false≢true (sign_first os (symbol LeftBrace) _ (e ∙ ap (λ (l : List Lexeme). l ++ more) (tokens.value_list vs)))))
+    (λ fs right e. absurd (false≢true (sign_first os (symbol LeftBrace) _ (e ∙ ap (λ (l : List Lexeme). l ++ more) (tokens.value_record fs)))))
     x
 
 -- a value doesn't begin with a `}`
@@ -157,7 +157,7 @@ is_value_token (symbol Minus) = true
 is_value_token (symbol LeftBrace) = true
 is_value_token t = false
 
-behind_token : (left : ℕ) (more : List Lexeme) (t : Lexeme) (ts : List Lexeme) → Behind left more t ts → is_value_token t ≡ true
+pub behind_token : (left : ℕ) (more : List Lexeme) (t : Lexeme) (ts : List Lexeme) → Behind left more t ts → is_value_token t ≡ true
 behind_token left more (number n) ts b = refl
 behind_token left more (text cs) ts b = refl
 behind_token left more (name n) ts b = refl

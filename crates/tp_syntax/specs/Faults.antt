@@ -1,12 +1,18 @@
 -- Where the grammar refuses a text that has tokens: which tokens are beyond the limits, and which lines may be named.
-use Rattle.std.specs.Prelude.{◌≡◌, ℕ, ◌+◌, ◌-◌, ◌<◌, ◌≤◌, Bool, true, false, List, [], ◌∷◌, ◌++◌, map, length}
+use Rattle.std.specs.Prelude.{◌≡◌, ℕ, ◌+◌, ◌-◌, ◌<◌, ◌≤◌, Bool, true, false, List, [], ◌∷◌, ◌++◌, map, length, take}
 use Rattle.tp_token.specs.declared.fault.TextRule.TheVariants.{Syntax, Limit}
 use Rattle.tp_token.specs.declared.fault.ScriptFault.{ScriptFault}
 use Rattle.tp_token.specs.declared.fault.ScriptFault.TheVariants.{Refused, Memory}
 use Rattle.tp_token.specs.declared.token.Symbol.{Symbol}
 use Rattle.tp_token.specs.declared.token.Symbol.TheVariants.{LeftBrace, RightBrace, LeftParen, RightParen, LeftBracket, RightBracket, Comma, Semicolon, Colon, Dot, Question, Star, Minus, Less, Plus, DotDot, Assign, Arrow}
 use Rattle.tp_token.specs.declared.token.Placed.{Placed}
+use Rattle.tp_token.specs.Fault.{IsMemory}
 use Rattle.tp_token.specs.Lexeme.{Lexeme, name, word, number, text, symbol, PlacedLexeme, placed_lexeme}
+use Rattle.tp_tree.specs.declared.tree.Module.{Module}
+use Rattle.tp_syntax.specs.Ahead.{plain}
+use Rattle.tp_syntax.specs.Definitions.{module_lexemes}
+use Rattle.tp_syntax.specs.Grammar.{IsGrammatical}
+use Rattle.tp_syntax.specs.Nesting.{module_depth}
 use Rattle.tp_syntax.specs.declared.faults.Bracket.{Bracket}
 use Rattle.tp_syntax.specs.declared.faults.Bracket.TheVariants.{Opens, Closes, Neither}
 
@@ -124,7 +130,16 @@ IsFaultOf i standing (Refused Syntax n) = IsSyntaxAt i standing n
 IsFaultOf i standing (Refused Limit n) = IsLimitAt i standing n
 IsFaultOf i standing (Memory m) = Unit {0}
 
--- the grammar refuses the text so: 15 at the first token beyond the limits, 10 no later than there; or memory was refused
+-- no text of the grammar whose brackets nest at most 32 deep has the same tokens up to and with the one behind so many; or,
+-- where these are all, the same tokens and no more
+abbrev pub NoneGoesOn : Input → ℕ → Type 0
+NoneGoesOn i standing =
+    (m : Module) (others : List Lexeme) → plain others ≡ module_lexemes m → IsGrammatical m → module_depth m ≤ 32
+    → take (standing + 1) others ≡ take (standing + 1) (map (λ t. t.token) i.tokens) → ⊥
+
+-- the grammar refuses the text so: 15 at the first of the tokens that stand that is beyond the limits, else 10 behind them,
+-- where no text of the grammar goes on; or memory was refused
 pub record IsFaultIn (i : Input) (fault : ScriptFault) : Type 0 where
   pub standing : ℕ
   pub is : IsFaultOf i standing fault
+  pub none : (IsMemory fault → ⊥) → NoneGoesOn i standing

@@ -4,6 +4,7 @@ pub mod Definitions
 pub mod Faults
 pub mod Forward
 pub mod Grammar
+pub mod HiddenTokens
 pub mod Lines
 pub mod Nesting
 pub mod Passing

@@ -1,5 +1,5 @@
 -- That what is right is read: the tokens of a part are passed, whatever stands behind them, or memory was refused.
-use Rattle.std.specs.Prelude.{◌≡◌, ℕ, Bool, true, false, ◌&&◌, ◌⊎◌, IsTrue, List, [], ◌∷◌, ◌++◌, Option, Some, None, Result, MatchResult}
+use Rattle.std.specs.Prelude.{◌≡◌, Bool, true, false, ◌&&◌, ◌⊎◌, IsTrue, List, [], ◌∷◌, ◌++◌, Option, Some, None, Result, MatchResult}
 use Rattle.std.specs.declared.alloc.Global.{Global}
 use Rattle.std.specs.declared.string.String.{String}
 use Rattle.tp_token.specs.declared.word.Word.{Word}
@@ -134,3 +134,7 @@ IsRange ps =
     ((token_at ps 0 ≡ Some (symbol Minus)) × (token_at ps 1 ≡ Some (word w.Infinity)))
     ⊎ (((token_at ps 0 ≡ Some (symbol Minus)) × (is_number_in (token_at ps 1) ≡ true) × (token_at ps 2 ≡ Some (symbol DotDot)))
     ⊎ ((is_number_in (token_at ps 0) ≡ true) × (token_at ps 1 ≡ Some (symbol DotDot))))
+
+-- a field begins with these tokens: a name and `:=`
+abbrev pub IsField : List Placed → Type 0
+IsField ps = (is_name_in (token_at ps 0) ≡ true) × (token_at ps 1 ≡ Some (symbol Assign))

@@ -1,5 +1,5 @@
 -- Where the parser is stuck, and why.
-use Rattle.std.specs.Prelude.{◌≡◌, ℕ, ◌+◌, ◌-◌, Bool, true, false, length, Option, Some}
+use Rattle.std.specs.Prelude.{◌≡◌, ℕ, ◌+◌, ◌-◌, Bool, true, false, length, Option, Some, ◌≤◌, Result, MatchResult}
 use Rattle.tp_token.specs.declared.token.Symbol.TheVariants.{Minus, LeftBrace, LeftParen}
 use Rattle.tp_token.specs.declared.word.Word.TheVariants.{Complement, Pattern}
 use Rattle.tp_token.specs.Lexeme.{Lexeme, number, word, symbol}
@@ -48,6 +48,16 @@ leads_on (Some (symbol LeftBrace)) = true
 leads_on (Some (word Complement)) = true
 leads_on (Some (word Pattern)) = true
 leads_on _ = false
+
+-- of the tokens that the parser had left so many stand at least; or memory was refused
+abbrev pub StandAtLeast : ℕ → Parser → Stuck → Type 0
+StandAtLeast stand p (Next n) = stand + n ≤ length p.rest.now
+StandAtLeast stand p (Passed n) = stand + (n + 1) ≤ length p.rest.now
+StandAtLeast stand p Memory = Unit {0}
+
+-- of the tokens that the parser had left so many at least are passed, or stand where it is stuck
+abbrev pub GoesBeyond : {A : Type 0} → ℕ → Parser → Result A Stuck → Parser → Type 0
+GoesBeyond stand p result q = MatchResult result (λ _. stand + length q.rest.now ≤ length p.rest.now) (StandAtLeast stand p)
 
 -- how many of so many tokens stand before the one that can't, or before the end of the text; all, where memory was refused
 abbrev pub standing : Stuck → ℕ → ℕ

@@ -2,13 +2,14 @@
 ghost use Rattle.std.specs.Prelude.{[], ℕ, ◌<◌, ◌≢◌, Bool, true, List, ◌≡◌, ◌+◌, ◌≤◌, ◌∷◌, ◌||◌, ◌↔◌, IsTrue, length, IfErr, IfOk, OnErr, OnOk, Some, string_bytes};
 ghost use Rattle.std.specs.Bool.{OnTrue, OnFalse};
 ghost use Rattle.tp_token.specs.Lexeme.{Lexeme, name, symbol, word, lexeme_of};
-ghost use Rattle.tp_syntax.specs.Ahead.{ahead, lexemes_from, is_name_in, is_number_in, symbol_in, token_at, word_in};
+ghost use Rattle.tp_syntax.specs.Ahead.{ahead, lexemes, lexemes_from, is_name_in, is_number_in, symbol_in, token_at, word_in};
 ghost use Rattle.tp_syntax.specs.Forward.{GoesForward, next_line};
+ghost use Rattle.tp_syntax.specs.HiddenTokens.{ReadsSeen};
 ghost use Rattle.tp_syntax.specs.Passing.{Passes};
 ghost use Rattle.tp_syntax.specs.Reading.{Reads, MayStandBefore, first};
 ghost use Rattle.tp_syntax.specs.Sequences.{end_lexemes};
 ghost use Rattle.tp_syntax.specs.Standing.{IsPartEnded};
-ghost use Rattle.tp_syntax.specs.Stuck.{IsStuckAt, IsStuckBehind, IsWrongBehind};
+ghost use Rattle.tp_syntax.specs.Stuck.{IsStuckAt, IsStuckBehind, IsWrongBehind, GoesBeyond};
 
 use crate::stuck::Stuck;
 use std::alloc::Global;
@@ -64,6 +65,8 @@ impl<'a, 't> Parser<'a, 't> {
         ensures forward { OnOk result (GoesForward self.old self.new) }
         ensures reads { (more : List Lexeme) →
             Reads self.old (symbol want ∷ []) more result self.new }
+        ensures reads_seen { (hidden : ℕ) (more : List Lexeme) →
+            ReadsSeen hidden self.old (symbol want ∷ []) more result self.new }
         ensures place { IfErr result (IsWrongBehind 0 self.old) }
         ensures stuck { IfErr result (IsStuckAt self.new) }
     {
@@ -85,6 +88,12 @@ impl<'a, 't> Parser<'a, 't> {
         ensures reads { (more : List Lexeme) →
             0 < left →
             Reads self.old (symbol want ∷ []) more result self.new }
+        ensures reads_seen { (hidden : ℕ) (more : List Lexeme) →
+            0 < left →
+            ReadsSeen hidden self.old (symbol want ∷ []) more result self.new }
+        ensures beyond { GoesBeyond 0 self.old result self.new }
+        ensures beyond_bracket { token_at self.old.rest.now 0 ≡ Some (symbol want) →
+            GoesBeyond 1 self.old result self.new }
         ensures stuck { IfErr result (IsStuckAt self.new) }
     {
         self.symbol(want)?;
@@ -99,6 +108,8 @@ impl<'a, 't> Parser<'a, 't> {
         ensures forward { OnOk result (GoesForward self.old self.new) }
         ensures reads { (more : List Lexeme) →
             Reads self.old (word want ∷ []) more result self.new }
+        ensures reads_seen { (hidden : ℕ) (more : List Lexeme) →
+            ReadsSeen hidden self.old (word want ∷ []) more result self.new }
         ensures place { IfErr result (IsWrongBehind 0 self.old) }
         ensures stuck { IfErr result (IsStuckAt self.new) }
     {
@@ -117,6 +128,8 @@ impl<'a, 't> Parser<'a, 't> {
         ensures forward { OnOk result (GoesForward self.old self.new) }
         ensures reads { (spelling : List ℕ) (more : List Lexeme) →
             Reads self.old (name spelling ∷ []) more result self.new }
+        ensures reads_seen { (hidden : ℕ) (spelling : List ℕ) (more : List Lexeme) →
+            ReadsSeen hidden self.old (name spelling ∷ []) more result self.new }
         ensures place { IfErr result (IsStuckBehind 0 self.old) }
         ensures stuck { IfErr result (IsStuckAt self.new) }
     {
@@ -135,6 +148,8 @@ impl<'a, 't> Parser<'a, 't> {
         ensures forward { OnOk result (GoesForward self.old self.new) }
         ensures reads { (more : List Lexeme) →
             Reads self.old (name (string_bytes want.now) ∷ []) more result self.new }
+        ensures reads_seen { (hidden : ℕ) (more : List Lexeme) →
+            ReadsSeen hidden self.old (name (string_bytes want.now) ∷ []) more result self.new }
         ensures place { IfErr result (IsWrongBehind 0 self.old) }
         ensures stuck { IfErr result (IsStuckAt self.new) }
     {
@@ -153,6 +168,9 @@ impl<'a, 't> Parser<'a, 't> {
         ensures forward { GoesForward self.old self.new }
         ensures no { OnFalse result (self.new ≡ self.old) }
         ensures other { OnFalse result (first (ahead self.old.rest.now) ≢ Some (symbol want)) }
+        ensures passed { OnTrue result
+            (lexemes self.old.rest.now ≡ symbol want ∷ lexemes self.new.rest.now) }
+        ensures absent { OnFalse result (token_at self.old.rest.now 0 ≢ Some (symbol want)) }
     {
         let tokens = self.rest;
         if tokens.is_empty() {
@@ -175,6 +193,9 @@ impl<'a, 't> Parser<'a, 't> {
         ensures forward { GoesForward self.old self.new }
         ensures no { OnFalse result (self.new ≡ self.old) }
         ensures other { OnFalse result (first (ahead self.old.rest.now) ≢ Some (word want)) }
+        ensures passed { OnTrue result
+            (lexemes self.old.rest.now ≡ word want ∷ lexemes self.new.rest.now) }
+        ensures absent { OnFalse result (token_at self.old.rest.now 0 ≢ Some (word want)) }
     {
         let tokens = self.rest;
         if tokens.is_empty() {
@@ -285,6 +306,9 @@ impl<'a, 't> Parser<'a, 't> {
         ensures reads { (e : Bool) (more : List Lexeme) →
             MayStandBefore (is_closed || e) more →
             Reads self.old (end_lexemes e) more result self.new }
+        ensures reads_seen { (hidden : ℕ) (e : Bool) (more : List Lexeme) →
+            MayStandBefore (is_closed || e) more →
+            ReadsSeen hidden self.old (end_lexemes e) more result self.new }
         ensures place { IfErr result (IsWrongBehind 0 self.old) }
         ensures stuck { IfErr result (IsStuckAt self.new) }
     {

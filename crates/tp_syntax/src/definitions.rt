@@ -1,5 +1,5 @@
 //! Functions, definitions and the module.
-ghost use Rattle.std.specs.Prelude.{◌≢◌, List, Some, ◌≡◌, ◌<◌, ◌≤◌, IsTrue, length, map, IfOk, OnOk, IfErr};
+ghost use Rattle.std.specs.Prelude.{◌≢◌, List, Some, ◌≡◌, ◌+◌, ◌<◌, ◌≤◌, IsTrue, length, map, IfOk, OnOk, IfErr, ℕ};
 ghost use Rattle.tp_token.specs.Lexeme.{Lexeme, symbol};
 ghost use Rattle.tp_syntax.specs.Definitions.{parameter_lexemes, parameters_lexemes, function_lexemes, defined_lexemes, definition_lexemes, definitions_lexemes, module_lexemes};
 ghost use Rattle.tp_syntax.specs.Grammar.{defined_part, definition_part, IsGrammatical};
@@ -9,7 +9,8 @@ ghost use Rattle.tp_syntax.specs.Lines.{noted_in_order, noted_by_commas, paramet
 ghost use Rattle.tp_syntax.specs.Passing.{Passes};
 ghost use Rattle.tp_syntax.specs.Reading.{AllStand, IsPlaced, Reads, first};
 ghost use Rattle.tp_syntax.specs.Standing.{GoesOver, HasPassed};
-ghost use Rattle.tp_syntax.specs.Stuck.{IsStuckAt};
+ghost use Rattle.tp_syntax.specs.Stuck.{IsStuckAt, GoesBeyond};
+ghost use Rattle.tp_syntax.specs.HiddenTokens.{ReadsSeen};
 
 use crate::cursor::Parser;
 use crate::stuck::Stuck;
@@ -34,6 +35,9 @@ impl<'a, 't> Parser<'a, 't> {
         ensures lines { IfOk result (λ x. PassesLines self.old (parameter_notes x) self.new) }
         ensures reads { (x : Parameter) (more : List Lexeme) →
             Reads self.old (parameter_lexemes x) more result self.new }
+        ensures reads_seen { (hidden : ℕ) (x : Parameter) (more : List Lexeme) →
+            ReadsSeen hidden self.old (parameter_lexemes x) more result self.new }
+        ensures beyond { GoesBeyond 0 self.old result self.new }
         ensures stuck { IfErr result (IsStuckAt self.new) }
     {
         let type_name = self.name(alloc)?;
@@ -50,6 +54,10 @@ impl<'a, 't> Parser<'a, 't> {
         ensures reads { (xs : List Parameter) (more : List Lexeme) →
             first more ≡ Some (symbol Symbol.RightParen) →
             Reads self.old (parameters_lexemes xs) more result self.new }
+        ensures reads_seen { (hidden : ℕ) (xs : List Parameter) (more : List Lexeme) →
+            first more ≡ Some (symbol Symbol.RightParen) →
+            ReadsSeen hidden self.old (parameters_lexemes xs) more result self.new }
+        ensures beyond { GoesBeyond 0 self.old result self.new }
         ensures stuck { IfErr result (IsStuckAt self.new) }
     {
         let mut parameters = Vec::new(alloc);
@@ -69,7 +77,7 @@ impl<'a, 't> Parser<'a, 't> {
     #[tactic(auto, using(std::proofs::lemmas::List::append_assoc), unfolding(crate::specs::Definitions::function_lexemes))]
     fn function(&mut self, alloc: Global, left: u32) -> Result<Function, Stuck>
         ensures tokens { IfOk result (λ x. Passes self.old (function_lexemes x) self.new) }
-        ensures shorter { OnOk result (length self.new.rest.now < length self.old.rest.now) }
+        ensures shorter { OnOk result (length self.new.rest.now + 2 ≤ length self.old.rest.now) }
         ensures lines { IfOk result (λ x. PassesLines self.old (function_notes x) self.new) }
         ensures nested { IfOk result (λ x. defined_depth (Defined.Function x) ≤ left) }
         ensures grammatical { IfOk result (λ x.
@@ -78,6 +86,11 @@ impl<'a, 't> Parser<'a, 't> {
             IsTrue (defined_part (Defined.Function x)).is_right →
             defined_depth (Defined.Function x) ≤ left →
             Reads self.old (function_lexemes x) more result self.new }
+        ensures reads_seen { (hidden : ℕ) (x : Function) (more : List Lexeme) →
+            IsTrue (defined_part (Defined.Function x)).is_right →
+            defined_depth (Defined.Function x) ≤ left →
+            ReadsSeen hidden self.old (function_lexemes x) more result self.new }
+        ensures beyond { GoesBeyond 0 self.old result self.new }
         ensures stuck { IfErr result (IsStuckAt self.new) }
     {
         self.word(Word::Function)?;
@@ -105,7 +118,7 @@ impl<'a, 't> Parser<'a, 't> {
     #[tactic(auto, unfolding(crate::specs::Definitions::defined_lexemes))]
     fn defined(&mut self, alloc: Global, left: u32) -> Result<Defined, Stuck>
         ensures tokens { IfOk result (λ x. Passes self.old (defined_lexemes x) self.new) }
-        ensures shorter { OnOk result (length self.new.rest.now < length self.old.rest.now) }
+        ensures shorter { OnOk result (length self.new.rest.now + 2 ≤ length self.old.rest.now) }
         ensures lines { IfOk result (λ x. PassesLines self.old (defined_notes x) self.new) }
         ensures nested { IfOk result (λ x. defined_depth x ≤ left) }
         ensures grammatical { IfOk result (λ x. IsTrue (defined_part x).is_right) }
@@ -113,6 +126,11 @@ impl<'a, 't> Parser<'a, 't> {
             IsTrue (defined_part x).is_right →
             defined_depth x ≤ left →
             Reads self.old (defined_lexemes x) more result self.new }
+        ensures reads_seen { (hidden : ℕ) (x : Defined) (more : List Lexeme) →
+            IsTrue (defined_part x).is_right →
+            defined_depth x ≤ left →
+            ReadsSeen hidden self.old (defined_lexemes x) more result self.new }
+        ensures beyond { GoesBeyond 0 self.old result self.new }
         ensures stuck { IfErr result (IsStuckAt self.new) }
     {
         if self.is_word_at(0, Word::Function) {
@@ -138,6 +156,11 @@ impl<'a, 't> Parser<'a, 't> {
             IsPlaced (definition_part x) more →
             defined_depth x.defined ≤ left →
             Reads self.old (definition_lexemes x) more result self.new }
+        ensures reads_seen { (hidden : ℕ) (x : Definition) (more : List Lexeme) →
+            IsPlaced (definition_part x) more →
+            defined_depth x.defined ≤ left →
+            ReadsSeen hidden self.old (definition_lexemes x) more result self.new }
+        ensures beyond { GoesBeyond 0 self.old result self.new }
         ensures stuck { IfErr result (IsStuckAt self.new) }
     {
         let line = self.line();
@@ -165,6 +188,12 @@ impl<'a, 't> Parser<'a, 't> {
             definitions_depth xs ≤ left →
             first more ≡ Some (symbol Symbol.RightBrace) →
             Reads self.old (definitions_lexemes xs) more result self.new }
+        ensures reads_seen { (hidden : ℕ) (xs : List Definition) (more : List Lexeme) →
+            AllStand (map definition_part xs) more →
+            definitions_depth xs ≤ left →
+            first more ≡ Some (symbol Symbol.RightBrace) →
+            ReadsSeen hidden self.old (definitions_lexemes xs) more result self.new }
+        ensures beyond { GoesBeyond 0 self.old result self.new }
         ensures stuck { IfErr result (IsStuckAt self.new) }
     {
         let mut definitions = Vec::new(alloc);
@@ -188,6 +217,12 @@ impl<'a, 't> Parser<'a, 't> {
             module_depth x ≤ left →
             first more ≢ Some (symbol Symbol.Semicolon) →
             Reads self.old (module_lexemes x) more result self.new }
+        ensures reads_seen { (hidden : ℕ) (x : Module) (more : List Lexeme) →
+            IsGrammatical x →
+            module_depth x ≤ left →
+            first more ≢ Some (symbol Symbol.Semicolon) →
+            ReadsSeen hidden self.old (module_lexemes x) more result self.new }
+        ensures beyond { GoesBeyond 0 self.old result self.new }
         ensures stuck { IfErr result (IsStuckAt self.new) }
     {
         let line = self.line();

@@ -1,5 +1,5 @@
 //! Operations on ports: sends, receiving operations, and those that start or stop a port.
-ghost use Rattle.std.specs.Prelude.{[], true, ◌↔◌, ◌≢◌, List, Option, Some, ◌≡◌, ◌+◌, ◌<◌, ◌≤◌, ◌∷◌, ◌++◌, IsTrue, length, IfOk, OnOk, IfErr};
+ghost use Rattle.std.specs.Prelude.{[], true, ◌↔◌, ◌≢◌, List, Option, Some, ◌≡◌, ◌+◌, ◌<◌, ◌≤◌, ◌∷◌, ◌++◌, IsTrue, length, IfOk, OnOk, IfErr, ℕ};
 ghost use Rattle.tp_token.specs.Lexeme.{Lexeme, symbol, word};
 ghost use Rattle.tp_syntax.specs.Ahead.{ahead, is_name_in, token_at};
 ghost use Rattle.tp_syntax.specs.Forward.{GoesForward};
@@ -8,7 +8,8 @@ ghost use Rattle.tp_syntax.specs.Statements.{component_lexemes, sent_lexemes, to
 ghost use Rattle.tp_syntax.specs.Grammar.{is_sent, is_template_part};
 ghost use Rattle.tp_syntax.specs.Nesting.{part_depth, receive_depth, sent_depth};
 ghost use Rattle.tp_syntax.specs.Reading.{MaybeName, Reads, Stops, first};
-ghost use Rattle.tp_syntax.specs.Stuck.{IsStuckAt, IsStuckBehind, IsWrongBehind};
+ghost use Rattle.tp_syntax.specs.Stuck.{IsStuckAt, IsStuckBehind, IsWrongBehind, GoesBeyond};
+ghost use Rattle.tp_syntax.specs.HiddenTokens.{ReadsSeen};
 
 use crate::cursor::Parser;
 use crate::stuck::Stuck;
@@ -35,6 +36,8 @@ impl<'a, 't> Parser<'a, 't> {
         ensures forward { OnOk result (GoesForward self.old self.new) }
         ensures reads { (x : ComponentName) (more : List Lexeme) →
             Reads self.old (component_lexemes x) more result self.new }
+        ensures reads_seen { (hidden : ℕ) (x : ComponentName) (more : List Lexeme) →
+            ReadsSeen hidden self.old (component_lexemes x) more result self.new }
         ensures place { IfErr result (IsStuckBehind 0 self.old) }
         ensures stuck { IfErr result (IsStuckAt self.new) }
     {
@@ -70,6 +73,12 @@ impl<'a, 't> Parser<'a, 't> {
             sent_depth x ≤ left →
             first more ≡ Some (symbol Symbol.RightParen) →
             Reads self.old (sent_lexemes x) more result self.new }
+        ensures reads_seen { (hidden : ℕ) (x : SentExpression) (more : List Lexeme) →
+            IsTrue (is_sent x) →
+            sent_depth x ≤ left →
+            first more ≡ Some (symbol Symbol.RightParen) →
+            ReadsSeen hidden self.old (sent_lexemes x) more result self.new }
+        ensures beyond { GoesBeyond 0 self.old result self.new }
         ensures stuck { IfErr result (IsStuckAt self.new) }
     {
         if self.is_variable() {
@@ -88,6 +97,10 @@ impl<'a, 't> Parser<'a, 't> {
         ensures reads { (x : Option Receivers) (more : List Lexeme) →
             Stops more →
             Reads self.old (to_lexemes x) more result self.new }
+        ensures reads_seen { (hidden : ℕ) (x : Option Receivers) (more : List Lexeme) →
+            Stops more →
+            ReadsSeen hidden self.old (to_lexemes x) more result self.new }
+        ensures beyond { GoesBeyond 0 self.old result self.new }
         ensures stuck { IfErr result (IsStuckAt self.new) }
     {
         if !self.has_word(Word::To) {
@@ -114,6 +127,17 @@ impl<'a, 't> Parser<'a, 't> {
             sent_depth x.sent + 1 ≤ left →
             Stops more →
             Reads self.old (send_lexemes x) more result self.new }
+        ensures reads_seen { (hidden : ℕ) (x : Send) (more : List Lexeme) →
+            IsTrue (is_sent x.sent) →
+            sent_depth x.sent + 1 ≤ left →
+            Stops more →
+            ReadsSeen hidden self.old (send_lexemes x) more result self.new }
+        ensures beyond { GoesBeyond 0 self.old result self.new }
+        ensures beyond_name { is_name_in (token_at self.old.rest.now 0) ≡ true →
+            GoesBeyond 1 self.old result self.new }
+        ensures beyond_dot { is_name_in (token_at self.old.rest.now 0) ≡ true →
+            token_at self.old.rest.now 1 ≡ Some (symbol Symbol.Dot) →
+            GoesBeyond 2 self.old result self.new }
         ensures stuck { IfErr result (IsStuckAt self.new) }
     {
         let port = self.name(alloc)?;
@@ -139,6 +163,12 @@ impl<'a, 't> Parser<'a, 't> {
             part_depth x ≤ left →
             first more ≢ Some (symbol Symbol.LeftParen) →
             Reads self.old (template_part x) more result self.new }
+        ensures reads_seen { (hidden : ℕ) (x : Option MessageTemplate) (more : List Lexeme) →
+            IsTrue (is_template_part x) →
+            part_depth x ≤ left →
+            first more ≢ Some (symbol Symbol.LeftParen) →
+            ReadsSeen hidden self.old (template_part x) more result self.new }
+        ensures beyond { GoesBeyond 0 self.old result self.new }
         ensures stuck { IfErr result (IsStuckAt self.new) }
     {
         if !self.is_symbol_at(0, Symbol::LeftParen) {
@@ -158,6 +188,10 @@ impl<'a, 't> Parser<'a, 't> {
         ensures reads { (x : Option ComponentName) (more : List Lexeme) →
             first more ≢ Some (word Word.From) →
             Reads self.old (from_lexemes x) more result self.new }
+        ensures reads_seen { (hidden : ℕ) (x : Option ComponentName) (more : List Lexeme) →
+            first more ≢ Some (word Word.From) →
+            ReadsSeen hidden self.old (from_lexemes x) more result self.new }
+        ensures beyond { GoesBeyond 0 self.old result self.new }
         ensures stuck { IfErr result (IsStuckAt self.new) }
     {
         if !self.has_word(Word::From) {
@@ -175,6 +209,10 @@ impl<'a, 't> Parser<'a, 't> {
         ensures reads { (x : MaybeName) (more : List Lexeme) →
             first more ≢ Some (word want) →
             Reads self.old (named_part want x) more result self.new }
+        ensures reads_seen { (hidden : ℕ) (x : MaybeName) (more : List Lexeme) →
+            first more ≢ Some (word want) →
+            ReadsSeen hidden self.old (named_part want x) more result self.new }
+        ensures beyond { GoesBeyond 0 self.old result self.new }
         ensures stuck { IfErr result (IsStuckAt self.new) }
     {
         if !self.has_word(want) {
@@ -193,6 +231,10 @@ impl<'a, 't> Parser<'a, 't> {
         ensures reads { (x : Redirect) (more : List Lexeme) →
             Stops more →
             Reads self.old (redirect_lexemes x) more result self.new }
+        ensures reads_seen { (hidden : ℕ) (x : Redirect) (more : List Lexeme) →
+            Stops more →
+            ReadsSeen hidden self.old (redirect_lexemes x) more result self.new }
+        ensures beyond { GoesBeyond 0 self.old result self.new }
         ensures stuck { IfErr result (IsStuckAt self.new) }
     {
         if !self.has_symbol(Symbol::Arrow) {
@@ -235,6 +277,14 @@ impl<'a, 't> Parser<'a, 't> {
             Stops more →
             Reads self.old (template_part t ++ (from_lexemes s ++ redirect_lexemes d)) more result
             self.new }
+        ensures reads_seen { (hidden : ℕ) (t : Option MessageTemplate)
+            (s : Option ComponentName) (d : Redirect) (more : List Lexeme) →
+            IsTrue (is_template_part t) →
+            part_depth t ≤ left →
+            Stops more →
+            ReadsSeen hidden self.old (template_part t ++ (from_lexemes s ++ redirect_lexemes d))
+            more result self.new }
+        ensures beyond { GoesBeyond 0 self.old result self.new }
         ensures stuck { IfErr result (IsStuckAt self.new) }
     {
         let template = self.template_part(alloc, left)?;
@@ -260,6 +310,17 @@ impl<'a, 't> Parser<'a, 't> {
             receive_depth x ≤ left →
             Stops more →
             Reads self.old (receive_lexemes x) more result self.new }
+        ensures reads_seen { (hidden : ℕ) (x : Receive) (more : List Lexeme) →
+            IsTrue (is_template_part x.template) →
+            receive_depth x ≤ left →
+            Stops more →
+            ReadsSeen hidden self.old (receive_lexemes x) more result self.new }
+        ensures beyond { GoesBeyond 0 self.old result self.new }
+        ensures beyond_name { is_name_in (token_at self.old.rest.now 0) ≡ true →
+            GoesBeyond 1 self.old result self.new }
+        ensures beyond_dot { is_name_in (token_at self.old.rest.now 0) ≡ true →
+            token_at self.old.rest.now 1 ≡ Some (symbol Symbol.Dot) →
+            GoesBeyond 2 self.old result self.new }
         ensures stuck { IfErr result (IsStuckAt self.new) }
     {
         let port = self.name(alloc)?;
@@ -306,6 +367,8 @@ impl<'a, 't> Parser<'a, 't> {
         ensures forward { OnOk result (GoesForward self.old self.new) }
         ensures reads { (x : PortOperation) (more : List Lexeme) →
             Reads self.old (port_operation_lexeme x ∷ []) more result self.new }
+        ensures reads_seen { (hidden : ℕ) (x : PortOperation) (more : List Lexeme) →
+            ReadsSeen hidden self.old (port_operation_lexeme x ∷ []) more result self.new }
         ensures place { IfErr result (IsWrongBehind 0 self.old) }
         ensures stuck { IfErr result (IsStuckAt self.new) }
     {
@@ -327,6 +390,18 @@ impl<'a, 't> Parser<'a, 't> {
         ensures forward { OnOk result (GoesForward self.old self.new) }
         ensures reads { (x : Control) (more : List Lexeme) →
             Reads self.old (control_lexemes x) more result self.new }
+        ensures reads_seen { (hidden : ℕ) (x : Control) (more : List Lexeme) →
+            ReadsSeen hidden self.old (control_lexemes x) more result self.new }
+        ensures beyond { GoesBeyond 0 self.old result self.new }
+        ensures beyond_name { is_name_in (token_at self.old.rest.now 0) ≡ true →
+            GoesBeyond 1 self.old result self.new }
+        ensures beyond_dot { is_name_in (token_at self.old.rest.now 0) ≡ true →
+            token_at self.old.rest.now 1 ≡ Some (symbol Symbol.Dot) →
+            GoesBeyond 2 self.old result self.new }
+        ensures beyond_start { is_name_in (token_at self.old.rest.now 0) ≡ true →
+            token_at self.old.rest.now 1 ≡ Some (symbol Symbol.Dot) →
+            token_at self.old.rest.now 2 ≡ Some (word Word.Start) →
+            GoesBeyond 3 self.old result self.new }
         ensures stuck { IfErr result (IsStuckAt self.new) }
     {
         let port = self.name(alloc)?;
@@ -343,6 +418,11 @@ impl<'a, 't> Parser<'a, 't> {
         ensures forward { OnOk result (GoesForward self.old self.new) }
         ensures reads { (x : PortOperation) (more : List Lexeme) →
             Reads self.old (all_ports_lexemes x) more result self.new }
+        ensures reads_seen { (hidden : ℕ) (x : PortOperation) (more : List Lexeme) →
+            ReadsSeen hidden self.old (all_ports_lexemes x) more result self.new }
+        ensures beyond { GoesBeyond 0 self.old result self.new }
+        ensures beyond_all { token_at self.old.rest.now 0 ≡ Some (word Word.All) →
+            GoesBeyond 1 self.old result self.new }
         ensures stuck { IfErr result (IsStuckAt self.new) }
     {
         self.word(Word::All)?;

@@ -32,7 +32,8 @@ use tp_tree::tree::Module;
 /// - 15 `Limit` at the line of the number 9223372036854775808 without a `-` before it, or of a
 ///   bracket that would be the 33rd open one.
 ///
-/// It refuses no text that is right: clause `refused`.
+/// It refuses no text that is right, and names by 10 no token with which a text of the grammar goes
+/// on: clause `refused`.
 pub fn parse(alloc: Global, text: &[u8]) -> Result<Module, ScriptFault>
     ensures read { IfOk result (IsReadAs text.now) }
     ensures lines { IfOk result (HasLines text.now) }

@@ -1,7 +1,7 @@
 //! Parts of statements: variables, verdicts, the turns of a `for` and the mark of `[else]`.
-ghost use Rattle.std.specs.Prelude.{ℤ, [], ◌≢◌, false, List, Some, MatchResult, ◌≡◌, ◌<◌, ◌≤◌, ◌∷◌, IsTrue, length, map, IfOk, OnOk, string_bytes, IfErr};
+ghost use Rattle.std.specs.Prelude.{ℤ, [], ◌≢◌, false, List, Some, MatchResult, ◌≡◌, ◌+◌, ◌<◌, ◌≤◌, ◌∷◌, IsTrue, length, map, IfOk, OnOk, string_bytes, IfErr, ℕ, true};
 ghost use Rattle.tp_token.specs.Lexeme.{Lexeme, number, symbol, word};
-ghost use Rattle.tp_syntax.specs.Ahead.{ahead};
+ghost use Rattle.tp_syntax.specs.Ahead.{ahead, is_name_in, token_at};
 ghost use Rattle.tp_syntax.specs.Forward.{GoesForward, PassesLines};
 ghost use Rattle.tp_syntax.specs.Lines.{noted_in_order, variable_notes};
 ghost use Rattle.tp_syntax.specs.Passing.{Passes};
@@ -10,7 +10,8 @@ ghost use Rattle.tp_syntax.specs.Statements.{step_lexemes, turns_lexemes, verdic
 ghost use Rattle.tp_syntax.specs.Grammar.{is_64_bit, variable_part};
 ghost use Rattle.tp_syntax.specs.Reading.{AllStand, IsPlaced, Reads, first};
 ghost use Rattle.tp_syntax.specs.Standing.{GoesOver, HasPassed};
-ghost use Rattle.tp_syntax.specs.Stuck.{IsForMemory, IsStuckAt, IsWrongBehind};
+ghost use Rattle.tp_syntax.specs.Stuck.{IsForMemory, IsStuckAt, IsWrongBehind, GoesBeyond};
+ghost use Rattle.tp_syntax.specs.HiddenTokens.{CouldBe, IsStuckInHidden, ReadsSeen};
 
 use crate::cursor::Parser;
 use crate::stuck::Stuck;
@@ -28,6 +29,8 @@ impl<'a, 't> Parser<'a, 't> {
         ensures forward { OnOk result (GoesForward self.old self.new) }
         ensures reads { (x : VerdictName) (more : List Lexeme) →
             Reads self.old (verdict_lexeme x ∷ []) more result self.new }
+        ensures reads_seen { (hidden : ℕ) (x : VerdictName) (more : List Lexeme) →
+            ReadsSeen hidden self.old (verdict_lexeme x ∷ []) more result self.new }
         ensures place { IfErr result (IsWrongBehind 0 self.old) }
         ensures stuck { IfErr result (IsStuckAt self.new) }
     {
@@ -52,6 +55,10 @@ impl<'a, 't> Parser<'a, 't> {
         ensures reads { (x : VerdictName) (more : List Lexeme) →
             0 < left →
             Reads self.old (set_verdict_lexemes x) more result self.new }
+        ensures reads_seen { (hidden : ℕ) (x : VerdictName) (more : List Lexeme) →
+            0 < left →
+            ReadsSeen hidden self.old (set_verdict_lexemes x) more result self.new }
+        ensures beyond { GoesBeyond 0 self.old result self.new }
         ensures stuck { IfErr result (IsStuckAt self.new) }
     {
         self.word(Word::Setverdict)?;
@@ -66,11 +73,25 @@ impl<'a, 't> Parser<'a, 't> {
     fn variable(&mut self, alloc: Global) -> Result<Variable, Stuck>
         ensures tokens { IfOk result (λ v. Passes self.old (variable_lexemes v) self.new) }
         ensures shorter { OnOk result (length self.new.rest.now < length self.old.rest.now) }
+        ensures three { OnOk result (length self.new.rest.now + 3 ≤ length self.old.rest.now) }
         ensures lines { IfOk result (λ v. PassesLines self.old (variable_notes v) self.new) }
         ensures grammatical { IfOk result (λ v. HasPassed (variable_part v) self.new) }
         ensures reads { (x : Variable) (more : List Lexeme) →
             IsPlaced (variable_part x) more →
             Reads self.old (variable_lexemes x) more result self.new }
+        ensures reads_seen { (hidden : ℕ) (x : Variable) (more : List Lexeme) →
+            IsPlaced (variable_part x) more →
+            ReadsSeen hidden self.old (variable_lexemes x) more result self.new }
+        ensures beyond { GoesBeyond 0 self.old result self.new }
+        ensures beyond_var { token_at self.old.rest.now 0 ≡ Some (word Word.Var) →
+            GoesBeyond 1 self.old result self.new }
+        ensures beyond_type { token_at self.old.rest.now 0 ≡ Some (word Word.Var) →
+            is_name_in (token_at self.old.rest.now 1) ≡ true →
+            GoesBeyond 2 self.old result self.new }
+        ensures beyond_variable { token_at self.old.rest.now 0 ≡ Some (word Word.Var) →
+            is_name_in (token_at self.old.rest.now 1) ≡ true →
+            is_name_in (token_at self.old.rest.now 2) ≡ true →
+            GoesBeyond 3 self.old result self.new }
         ensures stuck { IfErr result (IsStuckAt self.new) }
     {
         let line = self.line();
@@ -98,6 +119,22 @@ impl<'a, 't> Parser<'a, 't> {
             AllStand (map variable_part xs) more →
             first more ≢ Some (word Word.Var) →
             Reads self.old (variables_lexemes xs) more result self.new }
+        ensures reads_seen { (hidden : ℕ) (xs : List Variable) (more : List Lexeme) →
+            AllStand (map variable_part xs) more →
+            first more ≢ Some (word Word.Var) →
+            ReadsSeen hidden self.old (variables_lexemes xs) more result self.new }
+        ensures beyond { GoesBeyond 0 self.old result self.new }
+        ensures beyond_var { token_at self.old.rest.now 0 ≡ Some (word Word.Var) →
+            GoesBeyond 1 self.old result self.new }
+        ensures beyond_type { token_at self.old.rest.now 0 ≡ Some (word Word.Var) →
+            is_name_in (token_at self.old.rest.now 1) ≡ true →
+            GoesBeyond 2 self.old result self.new }
+        ensures beyond_variable { token_at self.old.rest.now 0 ≡ Some (word Word.Var) →
+            is_name_in (token_at self.old.rest.now 1) ≡ true →
+            is_name_in (token_at self.old.rest.now 2) ≡ true →
+            GoesBeyond 3 self.old result self.new }
+        ensures none { token_at self.old.rest.now 0 ≢ Some (word Word.Var) →
+            MatchResult result (λ _. self.new ≡ self.old) IsForMemory }
         ensures stuck { IfErr result (IsStuckAt self.new) }
     {
         let mut variables = Vec::new(alloc);
@@ -121,6 +158,12 @@ impl<'a, 't> Parser<'a, 't> {
             IsTrue (is_64_bit x.first) → IsTrue (is_64_bit x.bound) → 0 < left →
             ahead self.old.rest.now ≡ turns_lexemes x more →
             MatchResult result (λ _. ahead self.new.rest.now ≡ more) IsForMemory }
+        ensures reads_seen { (hidden : ℕ) (x : Turns) (more : List Lexeme) →
+            IsTrue (is_64_bit x.first) → IsTrue (is_64_bit x.bound) → 0 < left →
+            CouldBe hidden self.old.rest.now (turns_lexemes x more) →
+            MatchResult result (λ _. CouldBe hidden self.new.rest.now more)
+            (IsStuckInHidden hidden) }
+        ensures beyond { GoesBeyond 0 self.old result self.new }
         ensures within { IfOk result (λ x.
             IsTrue (is_64_bit x.first) × IsTrue (is_64_bit x.bound)) }
         ensures stuck { IfErr result (IsStuckAt self.new) }
@@ -150,6 +193,13 @@ impl<'a, 't> Parser<'a, 't> {
             ahead self.old.rest.now
             ≡ step_lexemes (string_bytes variable.now) (int_lexemes z) more →
             MatchResult result (λ _. ahead self.new.rest.now ≡ more) IsForMemory }
+        ensures reads_seen { (hidden : ℕ) (z : ℤ) (more : List Lexeme) →
+            IsTrue (is_64_bit z) →
+            CouldBe hidden self.old.rest.now
+            (step_lexemes (string_bytes variable.now) (int_lexemes z) more) →
+            MatchResult result (λ _. CouldBe hidden self.new.rest.now more)
+            (IsStuckInHidden hidden) }
+        ensures beyond { GoesBeyond 0 self.old result self.new }
         ensures within { IfOk result (λ z. IsTrue (is_64_bit z)) }
         ensures stuck { IfErr result (IsStuckAt self.new) }
     {
@@ -175,6 +225,8 @@ impl<'a, 't> Parser<'a, 't> {
         ensures forward { OnOk result (GoesForward self.old self.new) }
         ensures reads { (more : List Lexeme) →
             Reads self.old (number 1 ∷ []) more result self.new }
+        ensures reads_seen { (hidden : ℕ) (more : List Lexeme) →
+            ReadsSeen hidden self.old (number 1 ∷ []) more result self.new }
         ensures place { IfErr result (IsWrongBehind 0 self.old) }
         ensures stuck { IfErr result (IsStuckAt self.new) }
     {
@@ -199,6 +251,14 @@ impl<'a, 't> Parser<'a, 't> {
             Reads self.old
             (symbol Symbol.LeftBracket ∷ word Word.Else ∷ symbol Symbol.RightBracket ∷ [])
             more result self.new }
+        ensures reads_seen { (hidden : ℕ) (more : List Lexeme) →
+            0 < left →
+            ReadsSeen hidden self.old
+            (symbol Symbol.LeftBracket ∷ word Word.Else ∷ symbol Symbol.RightBracket ∷ [])
+            more result self.new }
+        ensures beyond { GoesBeyond 0 self.old result self.new }
+        ensures beyond_bracket { token_at self.old.rest.now 0 ≡ Some (symbol Symbol.LeftBracket) →
+            GoesBeyond 1 self.old result self.new }
         ensures stuck { IfErr result (IsStuckAt self.new) }
     {
         self.open(Symbol::LeftBracket, left)?;

@@ -1,5 +1,5 @@
 //! Statements: `alt`, `for`, blocks, and what stands in them.
-ghost use Rattle.std.specs.Prelude.{◌↔◌, ◌++◌, max, ◌≢◌, true, false, List, Option, Some, ◌≡◌, ◌+◌, ◌<◌, ◌≤◌, ◌∷◌, IsTrue, length, IfOk, OnOk, IfErr};
+ghost use Rattle.std.specs.Prelude.{◌↔◌, ◌++◌, max, ◌≢◌, true, false, List, Option, Some, ◌≡◌, ◌+◌, ◌<◌, ◌≤◌, ◌∷◌, IsTrue, length, IfOk, OnOk, IfErr, ℕ, [], None, ◌⊎◌};
 ghost use Rattle.std.specs.Bool.{OnFalse};
 ghost use Rattle.tp_event.specs.declared.operation.PortOperation.{PortOperation};
 ghost use Rattle.tp_event.specs.declared.operation.ReceiveKind.{ReceiveKind};
@@ -14,7 +14,8 @@ ghost use Rattle.tp_syntax.specs.Grammar.{action_part, are_parts, body_part, bra
 ghost use Rattle.tp_syntax.specs.Nesting.{action_depth, body_depth, branch_depth, branches_depth, counted_depth, otherwise_depth, statement_depth, statements_depth};
 ghost use Rattle.tp_syntax.specs.Reading.{AllStand, IsEndOf, IsEndedOr, IsPlaced, Reads, Stops, first, is_branch_ahead, is_end_ahead, receive_word};
 ghost use Rattle.tp_syntax.specs.Standing.{GoesOn, GoesOver, HasPassed};
-ghost use Rattle.tp_syntax.specs.Stuck.{IsStuckAt};
+ghost use Rattle.tp_syntax.specs.Stuck.{IsStuckAt, GoesBeyond};
+ghost use Rattle.tp_syntax.specs.HiddenTokens.{IsCutAt, ReadsSeen, ReadsSeenOr};
 
 use crate::cursor::Parser;
 use crate::stuck::Stuck;
@@ -80,6 +81,9 @@ impl<'a, 't> Parser<'a, 't> {
             is_name_in (token_at self.now.rest.now 0) ≡ true →
             token_at self.now.rest.now 2 ≡ Some (port_operation_lexeme o) →
             result ≡ Beginning.Control }
+        ensures of_port { is_name_in (token_at self.now.rest.now 0) ≡ true →
+            (result ≡ Beginning.Send) ⊎ ((result ≡ Beginning.Receive)
+            ⊎ (result ≡ Beginning.Control)) }
     {
         match self.word_at(0) {
             Some(Word::Alt) => Beginning::Alt,
@@ -119,6 +123,22 @@ impl<'a, 't> Parser<'a, 't> {
             IsPlaced (statement_part x) more →
             statement_depth x ≤ left →
             Reads self.old (statement_lexemes x) more result self.new }
+        ensures reads_seen { (hidden : ℕ) (x : Statement) (more : List Lexeme) →
+            IsPlaced (statement_part x) more →
+            statement_depth x ≤ left →
+            ReadsSeen hidden self.old (statement_lexemes x) more result self.new }
+        ensures beyond { GoesBeyond 0 self.old result self.new }
+        ensures beyond_name { is_name_in (token_at self.old.rest.now 0) ≡ true →
+            GoesBeyond 1 self.old result self.new }
+        ensures beyond_dot { is_name_in (token_at self.old.rest.now 0) ≡ true →
+            token_at self.old.rest.now 1 ≡ Some (symbol Symbol.Dot) →
+            GoesBeyond 2 self.old result self.new }
+        ensures beyond_start { is_name_in (token_at self.old.rest.now 0) ≡ true →
+            token_at self.old.rest.now 1 ≡ Some (symbol Symbol.Dot) →
+            token_at self.old.rest.now 2 ≡ Some (word Word.Start) →
+            GoesBeyond 3 self.old result self.new }
+        ensures beyond_all { token_at self.old.rest.now 0 ≡ Some (word Word.All) →
+            GoesBeyond 1 self.old result self.new }
         ensures stuck { IfErr result (IsStuckAt self.new) }
     {
         let line = self.line();
@@ -145,6 +165,23 @@ impl<'a, 't> Parser<'a, 't> {
             action_depth x ≤ left →
             IsEndedOr (action_part x).is_ended (Stops more) →
             Reads self.old (action_lexemes x) more result self.new }
+        ensures reads_seen { (hidden : ℕ) (x : Action) (more : List Lexeme) →
+            IsTrue (action_part x).is_right →
+            action_depth x ≤ left →
+            IsEndedOr (action_part x).is_ended (Stops more) →
+            ReadsSeen hidden self.old (action_lexemes x) more result self.new }
+        ensures beyond { GoesBeyond 0 self.old result self.new }
+        ensures beyond_name { is_name_in (token_at self.old.rest.now 0) ≡ true →
+            GoesBeyond 1 self.old result self.new }
+        ensures beyond_dot { is_name_in (token_at self.old.rest.now 0) ≡ true →
+            token_at self.old.rest.now 1 ≡ Some (symbol Symbol.Dot) →
+            GoesBeyond 2 self.old result self.new }
+        ensures beyond_start { is_name_in (token_at self.old.rest.now 0) ≡ true →
+            token_at self.old.rest.now 1 ≡ Some (symbol Symbol.Dot) →
+            token_at self.old.rest.now 2 ≡ Some (word Word.Start) →
+            GoesBeyond 3 self.old result self.new }
+        ensures beyond_all { token_at self.old.rest.now 0 ≡ Some (word Word.All) →
+            GoesBeyond 1 self.old result self.new }
         ensures stuck { IfErr result (IsStuckAt self.new) }
     {
         match self.beginning() {
@@ -191,6 +228,15 @@ impl<'a, 't> Parser<'a, 't> {
             max (branches_depth xs) (otherwise_depth x) + 1 ≤ left →
             Reads self.old (word Word.Alt ∷ braced (branches_lexemes xs ++ otherwise_lexemes x))
             more result self.new }
+        ensures reads_seen { (hidden : ℕ) (xs : List Branch) (x : Option ElseBranch)
+            (more : List Lexeme) →
+            IsTrue (has_one (branches_parts xs ++ otherwise_parts x)) →
+            IsTrue (are_parts (branches_parts xs ++ otherwise_parts x)) →
+            max (branches_depth xs) (otherwise_depth x) + 1 ≤ left →
+            ReadsSeen hidden self.old
+            (word Word.Alt ∷ braced (branches_lexemes xs ++ otherwise_lexemes x)) more result
+            self.new }
+        ensures beyond { GoesBeyond 0 self.old result self.new }
         ensures stuck { IfErr result (IsStuckAt self.new) }
     {
         self.word(Word::Alt)?;
@@ -218,6 +264,14 @@ impl<'a, 't> Parser<'a, 't> {
             branches_depth xs ≤ left →
             is_branch_ahead more ≡ false →
             Reads self.old (branches_lexemes xs) more result self.new }
+        ensures reads_seen { (hidden : ℕ) (xs : List Branch) (more : List Lexeme) →
+            AllStand (branches_parts xs) more →
+            branches_depth xs ≤ left →
+            is_branch_ahead more ≡ false →
+            ReadsSeenOr hidden self.old (branches_lexemes xs) more result self.new
+            (IsCutAt (symbol Symbol.LeftBracket) hidden self.new.rest.now) }
+        ensures beyond { GoesBeyond 0 self.old result self.new }
+        ensures none { IfOk result (λ v. v.items ≡ [] → self.new ≡ self.old) }
         ensures stuck { IfErr result (IsStuckAt self.new) }
     {
         let mut branches = Vec::new(alloc);
@@ -250,6 +304,13 @@ impl<'a, 't> Parser<'a, 't> {
             IsPlaced (branch_part x) more →
             branch_depth x ≤ left →
             Reads self.old (branch_lexemes x) more result self.new }
+        ensures reads_seen { (hidden : ℕ) (x : Branch) (more : List Lexeme) →
+            IsPlaced (branch_part x) more →
+            branch_depth x ≤ left →
+            ReadsSeen hidden self.old (branch_lexemes x) more result self.new }
+        ensures beyond { GoesBeyond 0 self.old result self.new }
+        ensures beyond_bracket { token_at self.old.rest.now 0 ≡ Some (symbol Symbol.LeftBracket) →
+            GoesBeyond 1 self.old result self.new }
         ensures stuck { IfErr result (IsStuckAt self.new) }
     {
         let line = self.line();
@@ -275,11 +336,19 @@ impl<'a, 't> Parser<'a, 't> {
         ensures lines { IfOk result (λ b. PassesLines self.old (body_notes b) self.new) }
         ensures nested { IfOk result (λ b. body_depth b ≤ left) }
         ensures grammatical { IfOk result (λ b. IsTrue (body_part b).is_right) }
+        ensures braced { IfOk result (λ b. token_at self.old.rest.now 0
+            ≡ Some (symbol Symbol.LeftBrace) → IsTrue (body_part b).is_ended) }
         ensures reads { (x : BranchBody) (more : List Lexeme) →
             IsTrue (body_part x).is_right →
             body_depth x ≤ left →
             IsEndedOr (body_part x).is_ended (first more ≢ Some (symbol Symbol.LeftBrace)) →
             Reads self.old (body_lexemes x) more result self.new }
+        ensures reads_seen { (hidden : ℕ) (x : BranchBody) (more : List Lexeme) →
+            IsTrue (body_part x).is_right →
+            body_depth x ≤ left →
+            IsEndedOr (body_part x).is_ended (first more ≢ Some (symbol Symbol.LeftBrace)) →
+            ReadsSeen hidden self.old (body_lexemes x) more result self.new }
+        ensures beyond { GoesBeyond 0 self.old result self.new }
         ensures stuck { IfErr result (IsStuckAt self.new) }
     {
         if !self.is_symbol_at(0, Symbol::LeftBrace) {
@@ -303,6 +372,15 @@ impl<'a, 't> Parser<'a, 't> {
             otherwise_depth x ≤ left →
             first more ≡ Some (symbol Symbol.RightBrace) →
             Reads self.old (otherwise_lexemes x) more result self.new }
+        ensures reads_seen { (hidden : ℕ) (x : Option ElseBranch) (more : List Lexeme) →
+            AllStand (otherwise_parts x) more →
+            otherwise_depth x ≤ left →
+            first more ≡ Some (symbol Symbol.RightBrace) →
+            ReadsSeen hidden self.old (otherwise_lexemes x) more result self.new }
+        ensures beyond { GoesBeyond 0 self.old result self.new }
+        ensures beyond_bracket { token_at self.old.rest.now 0 ≡ Some (symbol Symbol.LeftBracket) →
+            GoesBeyond 1 self.old result self.new }
+        ensures none { IfOk result (λ e. e ≡ None → self.new ≡ self.old) }
         ensures stuck { IfErr result (IsStuckAt self.new) }
     {
         if !self.is_symbol_at(0, Symbol::LeftBracket) {
@@ -332,6 +410,11 @@ impl<'a, 't> Parser<'a, 't> {
             IsTrue (counted_part x).is_right →
             counted_depth x ≤ left →
             Reads self.old (counted_lexemes x) more result self.new }
+        ensures reads_seen { (hidden : ℕ) (x : Counted) (more : List Lexeme) →
+            IsTrue (counted_part x).is_right →
+            counted_depth x ≤ left →
+            ReadsSeen hidden self.old (counted_lexemes x) more result self.new }
+        ensures beyond { GoesBeyond 0 self.old result self.new }
         ensures stuck { IfErr result (IsStuckAt self.new) }
     {
         let turns = self.turns(alloc, left)?;
@@ -354,6 +437,11 @@ impl<'a, 't> Parser<'a, 't> {
             IsTrue (are_parts (statements_parts xs)) →
             statements_depth xs + 1 ≤ left →
             Reads self.old (braced (statements_lexemes xs)) more result self.new }
+        ensures reads_seen { (hidden : ℕ) (xs : List Statement) (more : List Lexeme) →
+            IsTrue (are_parts (statements_parts xs)) →
+            statements_depth xs + 1 ≤ left →
+            ReadsSeen hidden self.old (braced (statements_lexemes xs)) more result self.new }
+        ensures beyond { GoesBeyond 0 self.old result self.new }
         ensures stuck { IfErr result (IsStuckAt self.new) }
     {
         let inner = self.open(Symbol::LeftBrace, left)?;
@@ -382,6 +470,22 @@ impl<'a, 't> Parser<'a, 't> {
             statements_depth xs ≤ left →
             is_end_ahead is_case more ≡ true →
             Reads self.old (statements_lexemes xs) more result self.new }
+        ensures reads_seen { (hidden : ℕ) (xs : List Statement) (more : List Lexeme) →
+            AllStand (statements_parts xs) more →
+            statements_depth xs ≤ left →
+            is_end_ahead is_case more ≡ true →
+            ReadsSeenOr hidden self.old (statements_lexemes xs) more result self.new
+            ((is_case ≡ true) × IsCutAt (word Word.All) hidden self.new.rest.now) }
+        ensures beyond { GoesBeyond 0 self.old result self.new }
+        ensures beyond_name { is_name_in (token_at self.old.rest.now 0) ≡ true →
+            GoesBeyond 1 self.old result self.new }
+        ensures beyond_dot { is_name_in (token_at self.old.rest.now 0) ≡ true →
+            token_at self.old.rest.now 1 ≡ Some (symbol Symbol.Dot) →
+            GoesBeyond 2 self.old result self.new }
+        ensures beyond_start { is_name_in (token_at self.old.rest.now 0) ≡ true →
+            token_at self.old.rest.now 1 ≡ Some (symbol Symbol.Dot) →
+            token_at self.old.rest.now 2 ≡ Some (word Word.Start) →
+            GoesBeyond 3 self.old result self.new }
         ensures stuck { IfErr result (IsStuckAt self.new) }
     {
         let mut statements = Vec::new(alloc);

@@ -4,13 +4,14 @@ ghost use Rattle.std.specs.List.{list_all};
 ghost use Rattle.tp_token.specs.Lexeme.{Lexeme, symbol, text, word};
 ghost use Rattle.tp_syntax.specs.Ahead.{ahead, token_at};
 ghost use Rattle.tp_syntax.specs.Forward.{GoesForward};
+ghost use Rattle.tp_syntax.specs.HiddenTokens.{ReadsSeen};
 ghost use Rattle.tp_syntax.specs.Passing.{Passes};
 ghost use Rattle.tp_syntax.specs.Sequences.{by_commas, parenthesised};
 ghost use Rattle.tp_syntax.specs.Templates.{low_lexemes, high_lexemes, template_lexemes, template_field_lexemes, message_template_lexemes};
 ghost use Rattle.tp_syntax.specs.Grammar.{each, is_bound, is_plain, is_template, is_template_field, one_and_each};
 ghost use Rattle.tp_syntax.specs.Nesting.{deepest, template_depth, template_field_depth};
-ghost use Rattle.tp_syntax.specs.Reading.{Reads, Stops, IsRange};
-ghost use Rattle.tp_syntax.specs.Stuck.{IsStuckAt, IsStuckBehind, integer_stands, leads_on};
+ghost use Rattle.tp_syntax.specs.Reading.{Reads, Stops, IsRange, IsField};
+ghost use Rattle.tp_syntax.specs.Stuck.{IsStuckAt, IsStuckBehind, integer_stands, leads_on, GoesBeyond};
 
 use crate::cursor::Parser;
 use crate::stuck::Stuck;
@@ -50,6 +51,10 @@ impl<'a, 't> Parser<'a, 't> {
             IsTrue (is_template x.template) →
             template_depth x.template ≤ left →
             Reads self.old (message_template_lexemes x) more result self.new }
+        ensures reads_seen { (hidden : ℕ) (x : MessageTemplate) (more : List Lexeme) →
+            IsTrue (is_template x.template) →
+            template_depth x.template ≤ left →
+            ReadsSeen hidden self.old (message_template_lexemes x) more result self.new }
         ensures stuck { IfErr result (IsStuckAt self.new) }
     {
         let type_name = self.type_name(alloc)?;
@@ -77,6 +82,11 @@ impl<'a, 't> Parser<'a, 't> {
         ensures reads { (x : Option ℤ) (more : List Lexeme) →
             IsTrue (is_bound x) →
             Reads self.old (low_lexemes x) more result self.new }
+        ensures reads_seen { (hidden : ℕ) (x : Option ℤ) (more : List Lexeme) →
+            IsTrue (is_bound x) →
+            ReadsSeen hidden self.old (low_lexemes x) more result self.new }
+        ensures two { token_at self.old.rest.now 0 ≡ Some (symbol Symbol.Minus) →
+            OnOk result (length self.new.rest.now + 2 ≤ length self.old.rest.now) }
         ensures within { IfOk result (λ b. IsTrue (is_bound b)) }
         ensures stuck { IfErr result (IsStuckAt self.new) }
     {
@@ -97,6 +107,9 @@ impl<'a, 't> Parser<'a, 't> {
         ensures reads { (x : Option ℤ) (more : List Lexeme) →
             IsTrue (is_bound x) →
             Reads self.old (high_lexemes x) more result self.new }
+        ensures reads_seen { (hidden : ℕ) (x : Option ℤ) (more : List Lexeme) →
+            IsTrue (is_bound x) →
+            ReadsSeen hidden self.old (high_lexemes x) more result self.new }
         ensures within { IfOk result (λ b. IsTrue (is_bound b)) }
         ensures stuck { IfErr result (IsStuckAt self.new) }
     {
@@ -132,6 +145,9 @@ impl<'a, 't> Parser<'a, 't> {
         ensures reads { (cs : List ℕ) (more : List Lexeme) →
             IsTrue (list_all is_plain cs) →
             Reads self.old (text cs ∷ []) more result self.new }
+        ensures reads_seen { (hidden : ℕ) (cs : List ℕ) (more : List Lexeme) →
+            IsTrue (list_all is_plain cs) →
+            ReadsSeen hidden self.old (text cs ∷ []) more result self.new }
         ensures place { IfErr result (IsStuckBehind 0 self.old) }
         ensures stuck { IfErr result (IsStuckAt self.new) }
     {
@@ -158,6 +174,10 @@ impl<'a, 't> Parser<'a, 't> {
             IsTrue (is_template x) →
             template_depth x ≤ left →
             Reads self.old (template_lexemes x) more result self.new }
+        ensures reads_seen { (hidden : ℕ) (x : Template) (more : List Lexeme) →
+            IsTrue (is_template x) →
+            template_depth x ≤ left →
+            ReadsSeen hidden self.old (template_lexemes x) more result self.new }
         ensures place { leads_on (token_at self.old.rest.now 0) ≡ false →
             IfErr result (IsStuckBehind
             (integer_stands (token_at self.old.rest.now 0) (token_at self.old.rest.now 1))
@@ -216,11 +236,24 @@ impl<'a, 't> Parser<'a, 't> {
             IsTrue (is_bound high) →
             Reads self.old ((low_lexemes low ++ symbol Symbol.DotDot ∷ high_lexemes high)
             ++ symbol Symbol.RightParen ∷ []) more result self.new }
+        ensures range_seen { (hidden : ℕ) (low : Option ℤ) (high : Option ℤ)
+            (more : List Lexeme) →
+            IsTrue (is_bound low) →
+            IsTrue (is_bound high) →
+            ReadsSeen hidden self.old
+            ((low_lexemes low ++ symbol Symbol.DotDot ∷ high_lexemes high)
+            ++ symbol Symbol.RightParen ∷ []) more result self.new }
         ensures reads_list { (xs : List Template) (more : List Lexeme) →
             IsTrue (one_and_each (map is_template xs)) →
             deepest (map template_depth xs) ≤ left →
             Reads self.old (by_commas (map template_lexemes xs) ++ symbol Symbol.RightParen ∷ [])
             more result self.new }
+        ensures list_seen { (hidden : ℕ) (xs : List Template) (more : List Lexeme) →
+            IsTrue (one_and_each (map is_template xs)) →
+            deepest (map template_depth xs) ≤ left →
+            ReadsSeen hidden self.old
+            (by_commas (map template_lexemes xs) ++ symbol Symbol.RightParen ∷ []) more result
+            self.new }
         ensures stuck { IfErr result (IsStuckAt self.new) }
     {
         if self.is_range() {
@@ -251,6 +284,12 @@ impl<'a, 't> Parser<'a, 't> {
             deepest (map template_depth xs) + 1 ≤ left →
             Reads self.old (parenthesised (by_commas (map template_lexemes xs))) more result
             self.new }
+        ensures reads_seen { (hidden : ℕ) (xs : List Template) (more : List Lexeme) →
+            IsTrue (one_and_each (map is_template xs)) →
+            deepest (map template_depth xs) + 1 ≤ left →
+            ReadsSeen hidden self.old (parenthesised (by_commas (map template_lexemes xs))) more
+            result self.new }
+        ensures beyond { GoesBeyond 0 self.old result self.new }
         ensures stuck { IfErr result (IsStuckAt self.new) }
     {
         let inner = self.open(Symbol::LeftParen, left)?;
@@ -275,10 +314,22 @@ impl<'a, 't> Parser<'a, 't> {
             deepest (map template_depth xs) ≤ left →
             Reads self.old (by_commas (map template_lexemes xs) ++ symbol Symbol.RightBrace ∷ [])
             more result self.new }
+        ensures list_seen { (hidden : ℕ) (xs : List Template) (more : List Lexeme) →
+            IsTrue (each (map is_template xs)) →
+            deepest (map template_depth xs) ≤ left →
+            ReadsSeen hidden self.old
+            (by_commas (map template_lexemes xs) ++ symbol Symbol.RightBrace ∷ []) more result
+            self.new }
         ensures reads_record { (xs : List TemplateField) (more : List Lexeme) →
             IsTrue (one_and_each (map is_template_field xs)) →
             deepest (map template_field_depth xs) ≤ left →
             Reads self.old
+            (by_commas (map template_field_lexemes xs) ++ symbol Symbol.RightBrace ∷ []) more result
+            self.new }
+        ensures record_seen { (hidden : ℕ) (xs : List TemplateField) (more : List Lexeme) →
+            IsTrue (one_and_each (map is_template_field xs)) →
+            deepest (map template_field_depth xs) ≤ left →
+            ReadsSeen hidden self.old
             (by_commas (map template_field_lexemes xs) ++ symbol Symbol.RightBrace ∷ []) more result
             self.new }
         ensures stuck { IfErr result (IsStuckAt self.new) }
@@ -310,6 +361,11 @@ impl<'a, 't> Parser<'a, 't> {
             deepest (map template_depth xs) ≤ left →
             Stops more →
             Reads self.old (by_commas (map template_lexemes xs)) more result self.new }
+        ensures reads_seen { (hidden : ℕ) (xs : List Template) (more : List Lexeme) →
+            IsTrue (one_and_each (map is_template xs)) →
+            deepest (map template_depth xs) ≤ left →
+            Stops more →
+            ReadsSeen hidden self.old (by_commas (map template_lexemes xs)) more result self.new }
         ensures stuck { IfErr result (IsStuckAt self.new) }
     {
         let mut templates = Vec::new(alloc);
@@ -337,6 +393,13 @@ impl<'a, 't> Parser<'a, 't> {
             deepest (map template_field_depth xs) ≤ left →
             Stops more →
             Reads self.old (by_commas (map template_field_lexemes xs)) more result self.new }
+        ensures reads_seen { (hidden : ℕ) (xs : List TemplateField) (more : List Lexeme) →
+            IsTrue (one_and_each (map is_template_field xs)) →
+            deepest (map template_field_depth xs) ≤ left →
+            Stops more →
+            ReadsSeen hidden self.old (by_commas (map template_field_lexemes xs)) more result
+            self.new }
+        ensures beyond { IsField self.old.rest.now → GoesBeyond 2 self.old result self.new }
         ensures stuck { IfErr result (IsStuckAt self.new) }
     {
         let mut fields = Vec::new(alloc);
@@ -362,6 +425,11 @@ impl<'a, 't> Parser<'a, 't> {
             IsTrue (is_template_field x) →
             template_field_depth x ≤ left →
             Reads self.old (template_field_lexemes x) more result self.new }
+        ensures reads_seen { (hidden : ℕ) (x : TemplateField) (more : List Lexeme) →
+            IsTrue (is_template_field x) →
+            template_field_depth x ≤ left →
+            ReadsSeen hidden self.old (template_field_lexemes x) more result self.new }
+        ensures beyond { IsField self.old.rest.now → GoesBeyond 2 self.old result self.new }
         ensures stuck { IfErr result (IsStuckAt self.new) }
     {
         let name = self.name(alloc)?;

@@ -1,8 +1,8 @@
 //! Test cases, with their setup statements and starts.
-ghost use Rattle.std.specs.Prelude.{[], ◌≢◌, ◌↔◌, false, List, Option, Some, ◌≡◌, ◌<◌, ◌≤◌, ◌∷◌, IsTrue, length, map, IfOk, OnOk, IfErr};
+ghost use Rattle.std.specs.Prelude.{[], ◌≢◌, ◌↔◌, false, List, Option, Some, ◌≡◌, ◌+◌, ◌<◌, ◌≤◌, ◌∷◌, IsTrue, length, map, IfOk, OnOk, IfErr, ℕ, true, MatchResult};
 ghost use Rattle.std.specs.Bool.{OnTrue};
 ghost use Rattle.tp_token.specs.Lexeme.{Lexeme, symbol, word};
-ghost use Rattle.tp_syntax.specs.Ahead.{ahead};
+ghost use Rattle.tp_syntax.specs.Ahead.{ahead, is_name_in, token_at};
 ghost use Rattle.tp_syntax.specs.Definitions.{end_component_lexeme, end_point_lexemes, ends_lexemes, setup_action_lexemes, setup_lexemes, setups_lexemes, arguments_lexemes, start_lexemes, starts_lexemes, all_done_lexemes, system_lexemes, test_case_lexemes};
 ghost use Rattle.tp_syntax.specs.Grammar.{all_done_parts, defined_part, setup_part, start_part};
 ghost use Rattle.tp_syntax.specs.Nesting.{defined_depth};
@@ -11,7 +11,8 @@ ghost use Rattle.tp_syntax.specs.Lines.{noted_in_order, setup_notes, start_notes
 ghost use Rattle.tp_syntax.specs.Passing.{Passes};
 ghost use Rattle.tp_syntax.specs.Reading.{AllStand, IsPlaced, BeginsSetup, IsStart, MaybeName, Reads, first, is_setup_ahead, is_start_ahead};
 ghost use Rattle.tp_syntax.specs.Standing.{GoesOn, GoesOver, HasPassed};
-ghost use Rattle.tp_syntax.specs.Stuck.{IsStuckAt, IsStuckBehind};
+ghost use Rattle.tp_syntax.specs.Stuck.{IsStuckAt, IsStuckBehind, GoesBeyond, IsForMemory};
+ghost use Rattle.tp_syntax.specs.HiddenTokens.{IsCutCreation, IsCutStart, ReadsSeen, ReadsSeenOr};
 
 use crate::cursor::Parser;
 use crate::stuck::Stuck;
@@ -32,6 +33,8 @@ impl<'a, 't> Parser<'a, 't> {
         ensures forward { OnOk result (GoesForward self.old self.new) }
         ensures reads { (x : EndComponent) (more : List Lexeme) →
             Reads self.old (end_component_lexeme x ∷ []) more result self.new }
+        ensures reads_seen { (hidden : ℕ) (x : EndComponent) (more : List Lexeme) →
+            ReadsSeen hidden self.old (end_component_lexeme x ∷ []) more result self.new }
         ensures place { IfErr result (IsStuckBehind 0 self.old) }
         ensures stuck { IfErr result (IsStuckAt self.new) }
     {
@@ -56,6 +59,9 @@ impl<'a, 't> Parser<'a, 't> {
         ensures forward { OnOk result (GoesForward self.old self.new) }
         ensures reads { (x : PairEnd) (more : List Lexeme) →
             Reads self.old (end_point_lexemes x) more result self.new }
+        ensures reads_seen { (hidden : ℕ) (x : PairEnd) (more : List Lexeme) →
+            ReadsSeen hidden self.old (end_point_lexemes x) more result self.new }
+        ensures beyond { GoesBeyond 0 self.old result self.new }
         ensures stuck { IfErr result (IsStuckAt self.new) }
     {
         let component = self.end_component(alloc)?;
@@ -72,6 +78,9 @@ impl<'a, 't> Parser<'a, 't> {
         ensures forward { OnOk result (GoesForward self.old self.new) }
         ensures reads { (x : PairEnd) (y : PairEnd) (more : List Lexeme) →
             Reads self.old (ends_lexemes x y) more result self.new }
+        ensures reads_seen { (hidden : ℕ) (x : PairEnd) (y : PairEnd) (more : List Lexeme) →
+            ReadsSeen hidden self.old (ends_lexemes x y) more result self.new }
+        ensures beyond { GoesBeyond 0 self.old result self.new }
         ensures stuck { IfErr result (IsStuckAt self.new) }
     {
         self.symbol(Symbol::LeftParen)?;
@@ -90,6 +99,19 @@ impl<'a, 't> Parser<'a, 't> {
         ensures forward { OnOk result (GoesForward self.old self.new) }
         ensures reads { (x : Creation) (more : List Lexeme) →
             Reads self.old (setup_action_lexemes (SetupAction.Create x)) more result self.new }
+        ensures reads_seen { (hidden : ℕ) (x : Creation) (more : List Lexeme) →
+            ReadsSeen hidden self.old (setup_action_lexemes (SetupAction.Create x)) more result
+            self.new }
+        ensures beyond { GoesBeyond 0 self.old result self.new }
+        ensures beyond_var { token_at self.old.rest.now 0 ≡ Some (word Word.Var) →
+            GoesBeyond 1 self.old result self.new }
+        ensures beyond_type { token_at self.old.rest.now 0 ≡ Some (word Word.Var) →
+            is_name_in (token_at self.old.rest.now 1) ≡ true →
+            GoesBeyond 2 self.old result self.new }
+        ensures beyond_variable { token_at self.old.rest.now 0 ≡ Some (word Word.Var) →
+            is_name_in (token_at self.old.rest.now 1) ≡ true →
+            is_name_in (token_at self.old.rest.now 2) ≡ true →
+            GoesBeyond 3 self.old result self.new }
         ensures stuck { IfErr result (IsStuckAt self.new) }
     {
         self.word(Word::Var)?;
@@ -114,6 +136,18 @@ impl<'a, 't> Parser<'a, 't> {
         ensures forward { OnOk result (GoesForward self.old self.new) }
         ensures reads { (x : SetupAction) (more : List Lexeme) →
             Reads self.old (setup_action_lexemes x) more result self.new }
+        ensures reads_seen { (hidden : ℕ) (x : SetupAction) (more : List Lexeme) →
+            ReadsSeen hidden self.old (setup_action_lexemes x) more result self.new }
+        ensures beyond { GoesBeyond 0 self.old result self.new }
+        ensures beyond_var { token_at self.old.rest.now 0 ≡ Some (word Word.Var) →
+            GoesBeyond 1 self.old result self.new }
+        ensures beyond_type { token_at self.old.rest.now 0 ≡ Some (word Word.Var) →
+            is_name_in (token_at self.old.rest.now 1) ≡ true →
+            GoesBeyond 2 self.old result self.new }
+        ensures beyond_variable { token_at self.old.rest.now 0 ≡ Some (word Word.Var) →
+            is_name_in (token_at self.old.rest.now 1) ≡ true →
+            is_name_in (token_at self.old.rest.now 2) ≡ true →
+            GoesBeyond 3 self.old result self.new }
         ensures stuck { IfErr result (IsStuckAt self.new) }
     {
         if self.has_word(Word::Connect) {
@@ -137,6 +171,19 @@ impl<'a, 't> Parser<'a, 't> {
         ensures reads { (x : SetupStatement) (more : List Lexeme) →
             IsPlaced (setup_part x) more →
             Reads self.old (setup_lexemes x) more result self.new }
+        ensures reads_seen { (hidden : ℕ) (x : SetupStatement) (more : List Lexeme) →
+            IsPlaced (setup_part x) more →
+            ReadsSeen hidden self.old (setup_lexemes x) more result self.new }
+        ensures beyond { GoesBeyond 0 self.old result self.new }
+        ensures beyond_var { token_at self.old.rest.now 0 ≡ Some (word Word.Var) →
+            GoesBeyond 1 self.old result self.new }
+        ensures beyond_type { token_at self.old.rest.now 0 ≡ Some (word Word.Var) →
+            is_name_in (token_at self.old.rest.now 1) ≡ true →
+            GoesBeyond 2 self.old result self.new }
+        ensures beyond_variable { token_at self.old.rest.now 0 ≡ Some (word Word.Var) →
+            is_name_in (token_at self.old.rest.now 1) ≡ true →
+            is_name_in (token_at self.old.rest.now 2) ≡ true →
+            GoesBeyond 3 self.old result self.new }
         ensures stuck { IfErr result (IsStuckAt self.new) }
     {
         let line = self.line();
@@ -174,6 +221,12 @@ impl<'a, 't> Parser<'a, 't> {
             AllStand (map setup_part xs) more →
             is_setup_ahead more ≡ false →
             Reads self.old (setups_lexemes xs) more result self.new }
+        ensures reads_seen { (hidden : ℕ) (xs : List SetupStatement) (more : List Lexeme) →
+            AllStand (map setup_part xs) more →
+            is_setup_ahead more ≡ false →
+            ReadsSeenOr hidden self.old (setups_lexemes xs) more result self.new
+            (IsCutCreation hidden self.new.rest.now) }
+        ensures beyond { GoesBeyond 0 self.old result self.new }
         ensures stuck { IfErr result (IsStuckAt self.new) }
     {
         let mut setups = Vec::new(alloc);
@@ -192,6 +245,10 @@ impl<'a, 't> Parser<'a, 't> {
         ensures reads { (xs : List ComponentName) (more : List Lexeme) →
             first more ≡ Some (symbol Symbol.RightParen) →
             Reads self.old (arguments_lexemes xs) more result self.new }
+        ensures reads_seen { (hidden : ℕ) (xs : List ComponentName) (more : List Lexeme) →
+            first more ≡ Some (symbol Symbol.RightParen) →
+            ReadsSeen hidden self.old (arguments_lexemes xs) more result self.new }
+        ensures beyond { GoesBeyond 0 self.old result self.new }
         ensures stuck { IfErr result (IsStuckAt self.new) }
     {
         let mut arguments = Vec::new(alloc);
@@ -217,6 +274,19 @@ impl<'a, 't> Parser<'a, 't> {
         ensures reads { (x : ComponentStart) (more : List Lexeme) →
             IsPlaced (start_part x) more →
             Reads self.old (start_lexemes x) more result self.new }
+        ensures reads_seen { (hidden : ℕ) (x : ComponentStart) (more : List Lexeme) →
+            IsPlaced (start_part x) more →
+            ReadsSeen hidden self.old (start_lexemes x) more result self.new }
+        ensures beyond { GoesBeyond 0 self.old result self.new }
+        ensures beyond_name { is_name_in (token_at self.old.rest.now 0) ≡ true →
+            GoesBeyond 1 self.old result self.new }
+        ensures beyond_dot { is_name_in (token_at self.old.rest.now 0) ≡ true →
+            token_at self.old.rest.now 1 ≡ Some (symbol Symbol.Dot) →
+            GoesBeyond 2 self.old result self.new }
+        ensures beyond_start { is_name_in (token_at self.old.rest.now 0) ≡ true →
+            token_at self.old.rest.now 1 ≡ Some (symbol Symbol.Dot) →
+            token_at self.old.rest.now 2 ≡ Some (word Word.Start) →
+            GoesBeyond 3 self.old result self.new }
         ensures stuck { IfErr result (IsStuckAt self.new) }
     {
         let line = self.line();
@@ -262,6 +332,14 @@ impl<'a, 't> Parser<'a, 't> {
             AllStand (map start_part xs) more →
             is_start_ahead more ≡ false →
             Reads self.old (starts_lexemes xs) more result self.new }
+        ensures reads_seen { (hidden : ℕ) (xs : List ComponentStart) (more : List Lexeme) →
+            AllStand (map start_part xs) more →
+            is_start_ahead more ≡ false →
+            ReadsSeenOr hidden self.old (starts_lexemes xs) more result self.new
+            (IsCutStart hidden self.new.rest.now) }
+        ensures beyond { GoesBeyond 0 self.old result self.new }
+        ensures none { is_name_in (token_at self.old.rest.now 0) ≡ false →
+            MatchResult result (λ _. self.new ≡ self.old) IsForMemory }
         ensures stuck { IfErr result (IsStuckAt self.new) }
     {
         let mut starts = Vec::new(alloc);
@@ -282,6 +360,13 @@ impl<'a, 't> Parser<'a, 't> {
             AllStand (all_done_parts x) more →
             first more ≡ Some (symbol Symbol.RightBrace) →
             Reads self.old (all_done_lexemes x) more result self.new }
+        ensures reads_seen { (hidden : ℕ) (x : Option AllDone) (more : List Lexeme) →
+            AllStand (all_done_parts x) more →
+            first more ≡ Some (symbol Symbol.RightBrace) →
+            ReadsSeen hidden self.old (all_done_lexemes x) more result self.new }
+        ensures beyond { GoesBeyond 0 self.old result self.new }
+        ensures beyond_all { token_at self.old.rest.now 0 ≡ Some (word Word.All) →
+            GoesBeyond 1 self.old result self.new }
         ensures stuck { IfErr result (IsStuckAt self.new) }
     {
         if !self.is_word_at(0, Word::All) {
@@ -303,6 +388,10 @@ impl<'a, 't> Parser<'a, 't> {
         ensures reads { (x : MaybeName) (more : List Lexeme) →
             first more ≢ Some (word Word.System) →
             Reads self.old (system_lexemes x) more result self.new }
+        ensures reads_seen { (hidden : ℕ) (x : MaybeName) (more : List Lexeme) →
+            first more ≢ Some (word Word.System) →
+            ReadsSeen hidden self.old (system_lexemes x) more result self.new }
+        ensures beyond { GoesBeyond 0 self.old result self.new }
         ensures stuck { IfErr result (IsStuckAt self.new) }
     {
         if !self.has_word(Word::System) {
@@ -316,7 +405,7 @@ impl<'a, 't> Parser<'a, 't> {
     #[tactic(auto, using(std::proofs::lemmas::List::append_assoc), unfolding(crate::specs::Definitions::test_case_lexemes, crate::specs::Definitions::behaviour_lexemes))]
     pub fn test_case(&mut self, alloc: Global, left: u32) -> Result<TestCase, Stuck>
         ensures tokens { IfOk result (λ x. Passes self.old (test_case_lexemes x) self.new) }
-        ensures shorter { OnOk result (length self.new.rest.now < length self.old.rest.now) }
+        ensures shorter { OnOk result (length self.new.rest.now + 2 ≤ length self.old.rest.now) }
         ensures lines { IfOk result (λ x. PassesLines self.old (test_case_notes x) self.new) }
         ensures nested { IfOk result (λ x. defined_depth (Defined.TestCase x) ≤ left) }
         ensures grammatical { IfOk result (λ x.
@@ -325,6 +414,11 @@ impl<'a, 't> Parser<'a, 't> {
             IsTrue (defined_part (Defined.TestCase x)).is_right →
             defined_depth (Defined.TestCase x) ≤ left →
             Reads self.old (test_case_lexemes x) more result self.new }
+        ensures reads_seen { (hidden : ℕ) (x : TestCase) (more : List Lexeme) →
+            IsTrue (defined_part (Defined.TestCase x)).is_right →
+            defined_depth (Defined.TestCase x) ≤ left →
+            ReadsSeen hidden self.old (test_case_lexemes x) more result self.new }
+        ensures beyond { GoesBeyond 0 self.old result self.new }
         ensures stuck { IfErr result (IsStuckAt self.new) }
     {
         self.word(Word::Testcase)?;

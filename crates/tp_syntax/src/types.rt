@@ -1,7 +1,7 @@
 //! Types: of records and lists, of ports, of components.
-ghost use Rattle.std.specs.Prelude.{ℕ, List, Some, [], ◌≡◌, ◌<◌, ◌≤◌, ◌∷◌, IsTrue, length, map, IfOk, OnOk, IfErr};
-ghost use Rattle.tp_token.specs.Lexeme.{Lexeme, name, symbol};
-ghost use Rattle.tp_syntax.specs.Ahead.{ahead};
+ghost use Rattle.std.specs.Prelude.{ℕ, List, Some, [], ◌≡◌, ◌+◌, ◌<◌, ◌≤◌, ◌∷◌, IsTrue, length, map, IfOk, OnOk, IfErr};
+ghost use Rattle.tp_token.specs.Lexeme.{Lexeme, name, symbol, word};
+ghost use Rattle.tp_syntax.specs.Ahead.{ahead, token_at};
 ghost use Rattle.tp_syntax.specs.Definitions.{field_type_lexemes, field_types_lexemes, record_type_lexemes, list_type_lexemes, way_lexeme, types_lexemes, direction_lexemes, directions_lexemes, port_type_lexemes, declared_name_lexemes, declared_names_lexemes, port_declaration_lexemes, port_declarations_lexemes, component_type_lexemes, defined_lexemes};
 ghost use Rattle.tp_syntax.specs.Grammar.{defined_part, direction_part, has_one, port_declaration_part};
 ghost use Rattle.tp_syntax.specs.Nesting.{defined_depth};
@@ -10,7 +10,8 @@ ghost use Rattle.tp_syntax.specs.Lines.{noted_in_order, noted_by_commas, declare
 ghost use Rattle.tp_syntax.specs.Passing.{Passes};
 ghost use Rattle.tp_syntax.specs.Reading.{AllStand, IsPlaced, Reads, Stops, first, is_type};
 ghost use Rattle.tp_syntax.specs.Standing.{GoesOver, HasPassed};
-ghost use Rattle.tp_syntax.specs.Stuck.{IsStuckAt, IsWrongBehind};
+ghost use Rattle.tp_syntax.specs.Stuck.{IsStuckAt, IsStuckBehind, IsWrongBehind, GoesBeyond};
+ghost use Rattle.tp_syntax.specs.HiddenTokens.{ReadsSeen};
 
 use crate::cursor::Parser;
 use crate::stuck::Stuck;
@@ -31,6 +32,9 @@ impl<'a, 't> Parser<'a, 't> {
         ensures lines { IfOk result (λ x. PassesLines self.old (declared_name_notes x) self.new) }
         ensures reads { (spelling : List ℕ) (more : List Lexeme) →
             Reads self.old (name spelling ∷ []) more result self.new }
+        ensures reads_seen { (hidden : ℕ) (spelling : List ℕ) (more : List Lexeme) →
+            ReadsSeen hidden self.old (name spelling ∷ []) more result self.new }
+        ensures place { IfErr result (IsStuckBehind 0 self.old) }
         ensures stuck { IfErr result (IsStuckAt self.new) }
     {
         let line = self.line();
@@ -46,6 +50,9 @@ impl<'a, 't> Parser<'a, 't> {
         ensures lines { IfOk result (λ x. PassesLines self.old (field_type_notes x) self.new) }
         ensures reads { (x : FieldType) (more : List Lexeme) →
             Reads self.old (field_type_lexemes x) more result self.new }
+        ensures reads_seen { (hidden : ℕ) (x : FieldType) (more : List Lexeme) →
+            ReadsSeen hidden self.old (field_type_lexemes x) more result self.new }
+        ensures beyond { GoesBeyond 0 self.old result self.new }
         ensures stuck { IfErr result (IsStuckAt self.new) }
     {
         let type_name = self.type_name(alloc)?;
@@ -62,6 +69,10 @@ impl<'a, 't> Parser<'a, 't> {
         ensures reads { (xs : List FieldType) (more : List Lexeme) →
             first more ≡ Some (symbol Symbol.RightBrace) →
             Reads self.old (field_types_lexemes xs) more result self.new }
+        ensures reads_seen { (hidden : ℕ) (xs : List FieldType) (more : List Lexeme) →
+            first more ≡ Some (symbol Symbol.RightBrace) →
+            ReadsSeen hidden self.old (field_types_lexemes xs) more result self.new }
+        ensures beyond { GoesBeyond 0 self.old result self.new }
         ensures stuck { IfErr result (IsStuckAt self.new) }
     {
         let mut fields = Vec::new(alloc);
@@ -81,10 +92,18 @@ impl<'a, 't> Parser<'a, 't> {
     #[tactic(auto, using(std::proofs::lemmas::List::append_assoc), unfolding(crate::specs::Definitions::record_type_lexemes))]
     fn record_type(&mut self, alloc: Global) -> Result<RecordType, Stuck>
         ensures tokens { IfOk result (λ x. Passes self.old (record_type_lexemes x) self.new) }
-        ensures shorter { OnOk result (length self.new.rest.now < length self.old.rest.now) }
+        ensures shorter { OnOk result (length self.new.rest.now + 2 ≤ length self.old.rest.now) }
         ensures lines { IfOk result (λ x. PassesLines self.old (record_type_notes x) self.new) }
         ensures reads { (x : RecordType) (more : List Lexeme) →
             Reads self.old (record_type_lexemes x) more result self.new }
+        ensures reads_seen { (hidden : ℕ) (x : RecordType) (more : List Lexeme) →
+            ReadsSeen hidden self.old (record_type_lexemes x) more result self.new }
+        ensures beyond { GoesBeyond 0 self.old result self.new }
+        ensures beyond_type { token_at self.old.rest.now 0 ≡ Some (word Word.Type) →
+            GoesBeyond 1 self.old result self.new }
+        ensures beyond_record { token_at self.old.rest.now 0 ≡ Some (word Word.Type) →
+            token_at self.old.rest.now 1 ≡ Some (word Word.Record) →
+            GoesBeyond 2 self.old result self.new }
         ensures stuck { IfErr result (IsStuckAt self.new) }
     {
         self.word(Word::Type)?;
@@ -100,10 +119,18 @@ impl<'a, 't> Parser<'a, 't> {
     #[tactic(auto, using(std::proofs::lemmas::List::append_assoc), unfolding(crate::specs::Definitions::list_type_lexemes))]
     fn list_type(&mut self, alloc: Global) -> Result<ListType, Stuck>
         ensures tokens { IfOk result (λ x. Passes self.old (list_type_lexemes x) self.new) }
-        ensures shorter { OnOk result (length self.new.rest.now < length self.old.rest.now) }
+        ensures shorter { OnOk result (length self.new.rest.now + 2 ≤ length self.old.rest.now) }
         ensures forward { OnOk result (GoesForward self.old self.new) }
         ensures reads { (x : ListType) (more : List Lexeme) →
             Reads self.old (list_type_lexemes x) more result self.new }
+        ensures reads_seen { (hidden : ℕ) (x : ListType) (more : List Lexeme) →
+            ReadsSeen hidden self.old (list_type_lexemes x) more result self.new }
+        ensures beyond { GoesBeyond 0 self.old result self.new }
+        ensures beyond_type { token_at self.old.rest.now 0 ≡ Some (word Word.Type) →
+            GoesBeyond 1 self.old result self.new }
+        ensures beyond_record { token_at self.old.rest.now 0 ≡ Some (word Word.Type) →
+            token_at self.old.rest.now 1 ≡ Some (word Word.Record) →
+            GoesBeyond 2 self.old result self.new }
         ensures stuck { IfErr result (IsStuckAt self.new) }
     {
         self.word(Word::Type)?;
@@ -122,6 +149,8 @@ impl<'a, 't> Parser<'a, 't> {
         ensures forward { OnOk result (GoesForward self.old self.new) }
         ensures reads { (x : Way) (more : List Lexeme) →
             Reads self.old (way_lexeme x ∷ []) more result self.new }
+        ensures reads_seen { (hidden : ℕ) (x : Way) (more : List Lexeme) →
+            ReadsSeen hidden self.old (way_lexeme x ∷ []) more result self.new }
         ensures place { IfErr result (IsWrongBehind 0 self.old) }
         ensures stuck { IfErr result (IsStuckAt self.new) }
     {
@@ -144,6 +173,11 @@ impl<'a, 't> Parser<'a, 't> {
             IsTrue (has_one xs) →
             Stops more →
             Reads self.old (types_lexemes xs) more result self.new }
+        ensures reads_seen { (hidden : ℕ) (xs : List TypeName) (more : List Lexeme) →
+            IsTrue (has_one xs) →
+            Stops more →
+            ReadsSeen hidden self.old (types_lexemes xs) more result self.new }
+        ensures beyond { GoesBeyond 0 self.old result self.new }
         ensures stuck { IfErr result (IsStuckAt self.new) }
     {
         let mut types = Vec::new(alloc);
@@ -166,6 +200,10 @@ impl<'a, 't> Parser<'a, 't> {
         ensures reads { (x : Direction) (more : List Lexeme) →
             IsPlaced (direction_part x) more →
             Reads self.old (direction_lexemes x) more result self.new }
+        ensures reads_seen { (hidden : ℕ) (x : Direction) (more : List Lexeme) →
+            IsPlaced (direction_part x) more →
+            ReadsSeen hidden self.old (direction_lexemes x) more result self.new }
+        ensures beyond { GoesBeyond 0 self.old result self.new }
         ensures stuck { IfErr result (IsStuckAt self.new) }
     {
         let way = self.way()?;
@@ -189,6 +227,12 @@ impl<'a, 't> Parser<'a, 't> {
             AllStand (map direction_part xs) more →
             first more ≡ Some (symbol Symbol.RightBrace) →
             Reads self.old (directions_lexemes xs) more result self.new }
+        ensures reads_seen { (hidden : ℕ) (xs : List Direction) (more : List Lexeme) →
+            AllStand (map direction_part xs) more →
+            first more ≡ Some (symbol Symbol.RightBrace) →
+            ReadsSeen hidden self.old (directions_lexemes xs) more result self.new }
+        ensures beyond { GoesBeyond 0 self.old result self.new }
+        ensures none { IfOk result (λ x. x.items ≡ [] → self.new ≡ self.old) }
         ensures stuck { IfErr result (IsStuckAt self.new) }
     {
         let mut directions = Vec::new(alloc);
@@ -203,12 +247,18 @@ impl<'a, 't> Parser<'a, 't> {
     #[tactic(auto, using(std::proofs::lemmas::List::append_assoc), unfolding(crate::specs::Definitions::port_type_lexemes))]
     fn port_type(&mut self, alloc: Global) -> Result<PortType, Stuck>
         ensures tokens { IfOk result (λ x. Passes self.old (port_type_lexemes x) self.new) }
-        ensures shorter { OnOk result (length self.new.rest.now < length self.old.rest.now) }
+        ensures shorter { OnOk result (length self.new.rest.now + 2 ≤ length self.old.rest.now) }
         ensures forward { OnOk result (GoesForward self.old self.new) }
         ensures grammatical { IfOk result (λ x. IsTrue (defined_part (Defined.Port x)).is_right) }
         ensures reads { (x : PortType) (more : List Lexeme) →
             IsTrue (defined_part (Defined.Port x)).is_right →
             Reads self.old (port_type_lexemes x) more result self.new }
+        ensures reads_seen { (hidden : ℕ) (x : PortType) (more : List Lexeme) →
+            IsTrue (defined_part (Defined.Port x)).is_right →
+            ReadsSeen hidden self.old (port_type_lexemes x) more result self.new }
+        ensures beyond { GoesBeyond 0 self.old result self.new }
+        ensures beyond_type { token_at self.old.rest.now 0 ≡ Some (word Word.Type) →
+            GoesBeyond 1 self.old result self.new }
         ensures stuck { IfErr result (IsStuckAt self.new) }
     {
         self.word(Word::Type)?;
@@ -236,6 +286,11 @@ impl<'a, 't> Parser<'a, 't> {
             IsTrue (has_one xs) →
             Stops more →
             Reads self.old (declared_names_lexemes xs) more result self.new }
+        ensures reads_seen { (hidden : ℕ) (xs : List DeclaredName) (more : List Lexeme) →
+            IsTrue (has_one xs) →
+            Stops more →
+            ReadsSeen hidden self.old (declared_names_lexemes xs) more result self.new }
+        ensures beyond { GoesBeyond 0 self.old result self.new }
         ensures stuck { IfErr result (IsStuckAt self.new) }
     {
         let mut names = Vec::new(alloc);
@@ -259,6 +314,10 @@ impl<'a, 't> Parser<'a, 't> {
         ensures reads { (x : PortDeclaration) (more : List Lexeme) →
             IsPlaced (port_declaration_part x) more →
             Reads self.old (port_declaration_lexemes x) more result self.new }
+        ensures reads_seen { (hidden : ℕ) (x : PortDeclaration) (more : List Lexeme) →
+            IsPlaced (port_declaration_part x) more →
+            ReadsSeen hidden self.old (port_declaration_lexemes x) more result self.new }
+        ensures beyond { GoesBeyond 0 self.old result self.new }
         ensures stuck { IfErr result (IsStuckAt self.new) }
     {
         self.word(Word::Port)?;
@@ -285,6 +344,11 @@ impl<'a, 't> Parser<'a, 't> {
             AllStand (map port_declaration_part xs) more →
             first more ≡ Some (symbol Symbol.RightBrace) →
             Reads self.old (port_declarations_lexemes xs) more result self.new }
+        ensures reads_seen { (hidden : ℕ) (xs : List PortDeclaration) (more : List Lexeme) →
+            AllStand (map port_declaration_part xs) more →
+            first more ≡ Some (symbol Symbol.RightBrace) →
+            ReadsSeen hidden self.old (port_declarations_lexemes xs) more result self.new }
+        ensures beyond { GoesBeyond 0 self.old result self.new }
         ensures stuck { IfErr result (IsStuckAt self.new) }
     {
         let mut ports = Vec::new(alloc);
@@ -299,13 +363,19 @@ impl<'a, 't> Parser<'a, 't> {
     #[tactic(auto, using(std::proofs::lemmas::List::append_assoc), unfolding(crate::specs::Definitions::component_type_lexemes))]
     fn component_type(&mut self, alloc: Global) -> Result<ComponentType, Stuck>
         ensures tokens { IfOk result (λ x. Passes self.old (component_type_lexemes x) self.new) }
-        ensures shorter { OnOk result (length self.new.rest.now < length self.old.rest.now) }
+        ensures shorter { OnOk result (length self.new.rest.now + 2 ≤ length self.old.rest.now) }
         ensures lines { IfOk result (λ x. PassesLines self.old (component_type_notes x) self.new) }
         ensures grammatical { IfOk result (λ x.
             IsTrue (defined_part (Defined.Component x)).is_right) }
         ensures reads { (x : ComponentType) (more : List Lexeme) →
             IsTrue (defined_part (Defined.Component x)).is_right →
             Reads self.old (component_type_lexemes x) more result self.new }
+        ensures reads_seen { (hidden : ℕ) (x : ComponentType) (more : List Lexeme) →
+            IsTrue (defined_part (Defined.Component x)).is_right →
+            ReadsSeen hidden self.old (component_type_lexemes x) more result self.new }
+        ensures beyond { GoesBeyond 0 self.old result self.new }
+        ensures beyond_type { token_at self.old.rest.now 0 ≡ Some (word Word.Type) →
+            GoesBeyond 1 self.old result self.new }
         ensures stuck { IfErr result (IsStuckAt self.new) }
     {
         self.word(Word::Type)?;
@@ -321,7 +391,7 @@ impl<'a, 't> Parser<'a, 't> {
     #[tactic(auto, unfolding(crate::specs::Definitions::defined_lexemes))]
     pub fn defined_type(&mut self, alloc: Global) -> Result<Defined, Stuck>
         ensures tokens { IfOk result (λ x. Passes self.old (defined_lexemes x) self.new) }
-        ensures shorter { OnOk result (length self.new.rest.now < length self.old.rest.now) }
+        ensures shorter { OnOk result (length self.new.rest.now + 2 ≤ length self.old.rest.now) }
         ensures lines { IfOk result (λ x. PassesLines self.old (defined_notes x) self.new) }
         ensures nested { IfOk result (λ x. defined_depth x ≡ 0) }
         ensures grammatical { IfOk result (λ x. IsTrue (defined_part x).is_right) }
@@ -329,6 +399,11 @@ impl<'a, 't> Parser<'a, 't> {
             IsTrue (is_type x) →
             IsTrue (defined_part x).is_right →
             Reads self.old (defined_lexemes x) more result self.new }
+        ensures reads_seen { (hidden : ℕ) (x : Defined) (more : List Lexeme) →
+            IsTrue (is_type x) →
+            IsTrue (defined_part x).is_right →
+            ReadsSeen hidden self.old (defined_lexemes x) more result self.new }
+        ensures beyond { GoesBeyond 0 self.old result self.new }
         ensures stuck { IfErr result (IsStuckAt self.new) }
     {
         if self.is_word_at(1, Word::Port) {

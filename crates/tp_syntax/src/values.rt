@@ -1,15 +1,16 @@
 //! Values, types and messages.
-ghost use Rattle.std.specs.Prelude.{ℤ, List, MatchResult, [], OnErr, ◌≡◌, ◌≢◌, ◌+◌, ◌<◌, ◌≤◌, ◌∷◌, ◌++◌, IsTrue, length, map, pos, IfOk, OnOk, Some, IfErr};
+ghost use Rattle.std.specs.Prelude.{ℤ, List, MatchResult, [], OnErr, ◌≡◌, ◌≢◌, ◌+◌, ◌<◌, ◌≤◌, ◌∷◌, ◌++◌, IsTrue, length, map, pos, IfOk, OnOk, Some, IfErr, ℕ, true};
 ghost use Rattle.tp_token.specs.Lexeme.{Lexeme, name, symbol};
-ghost use Rattle.tp_syntax.specs.Ahead.{ahead, lexemes_from, token_at};
+ghost use Rattle.tp_syntax.specs.Ahead.{ahead, is_name_in, lexemes_from, token_at};
 ghost use Rattle.tp_syntax.specs.Forward.{GoesForward};
+ghost use Rattle.tp_syntax.specs.HiddenTokens.{CouldBe, CouldBeBehind, IsStuckInHidden, ReadsSeen};
 ghost use Rattle.tp_syntax.specs.Passing.{Passes};
 ghost use Rattle.tp_syntax.specs.Sequences.{by_commas};
 ghost use Rattle.tp_syntax.specs.Values.{int_lexemes, type_lexemes, value_lexemes, value_field_lexemes, message_lexemes};
 ghost use Rattle.tp_syntax.specs.Grammar.{each, is_64_bit, is_value, is_value_field, one_and_each};
 ghost use Rattle.tp_syntax.specs.Nesting.{deepest, value_depth, value_field_depth};
-ghost use Rattle.tp_syntax.specs.Reading.{Reads, Stops};
-ghost use Rattle.tp_syntax.specs.Stuck.{IsForMemory, IsStuckAt, IsStuckBehind, IsWrongBehind, integer_stands, number_stands};
+ghost use Rattle.tp_syntax.specs.Reading.{Reads, Stops, IsField};
+ghost use Rattle.tp_syntax.specs.Stuck.{IsForMemory, IsStuckAt, IsStuckBehind, IsWrongBehind, integer_stands, number_stands, GoesBeyond};
 
 use crate::cursor::Parser;
 use crate::faults::GREATEST;
@@ -46,6 +47,12 @@ impl<'a, 't> Parser<'a, 't> {
             int_lexemes z ++ more ≡ lexemes_from (symbol Symbol.Minus) self.old.rest.now →
             IsTrue (is_64_bit z) →
             MatchResult result (λ _. ahead self.new.rest.now ≡ more) IsForMemory }
+        ensures reads_seen { (hidden : ℕ) (z : ℤ) (more : List Lexeme) →
+            IsTrue (is_64_bit z) →
+            CouldBeBehind (symbol Symbol.Minus ∷ []) hidden self.old.rest.now
+            (int_lexemes z ++ more) →
+            MatchResult result (λ _. CouldBe hidden self.new.rest.now more)
+            (IsStuckInHidden hidden) }
         ensures within { IfOk result (λ z. IsTrue (is_64_bit z)) }
         ensures place { IfErr result
             (IsWrongBehind (number_stands (token_at self.old.rest.now 0)) self.old) }
@@ -68,6 +75,11 @@ impl<'a, 't> Parser<'a, 't> {
         ensures reads { (z : ℤ) (more : List Lexeme) →
             IsTrue (is_64_bit z) →
             Reads self.old (int_lexemes z) more result self.new }
+        ensures reads_seen { (hidden : ℕ) (z : ℤ) (more : List Lexeme) →
+            IsTrue (is_64_bit z) →
+            ReadsSeen hidden self.old (int_lexemes z) more result self.new }
+        ensures two { token_at self.old.rest.now 0 ≡ Some (symbol Symbol.Minus) →
+            OnOk result (length self.new.rest.now + 2 ≤ length self.old.rest.now) }
         ensures within { IfOk result (λ z. IsTrue (is_64_bit z)) }
         ensures place { IfErr result (IsWrongBehind
             (integer_stands (token_at self.old.rest.now 0) (token_at self.old.rest.now 1))
@@ -89,7 +101,11 @@ impl<'a, 't> Parser<'a, 't> {
         ensures forward { OnOk result (GoesForward self.old self.new) }
         ensures reads { (x : TypeName) (more : List Lexeme) →
             Reads self.old (type_lexemes x) more result self.new }
+        ensures reads_seen { (hidden : ℕ) (x : TypeName) (more : List Lexeme) →
+            ReadsSeen hidden self.old (type_lexemes x) more result self.new }
         ensures place { IfErr result (IsStuckBehind 0 self.old) }
+        ensures beyond_name { is_name_in (token_at self.old.rest.now 0) ≡ true →
+            GoesBeyond 1 self.old result self.new }
         ensures stuck { IfErr result (IsStuckAt self.new) }
     {
         let placed = self.take()?;
@@ -117,6 +133,10 @@ impl<'a, 't> Parser<'a, 't> {
             IsTrue (is_value x.value) →
             value_depth x.value ≤ left →
             Reads self.old (message_lexemes x) more result self.new }
+        ensures reads_seen { (hidden : ℕ) (x : Message) (more : List Lexeme) →
+            IsTrue (is_value x.value) →
+            value_depth x.value ≤ left →
+            ReadsSeen hidden self.old (message_lexemes x) more result self.new }
         ensures stuck { IfErr result (IsStuckAt self.new) }
     {
         let type_name = self.type_name(alloc)?;
@@ -138,6 +158,10 @@ impl<'a, 't> Parser<'a, 't> {
             IsTrue (is_value x) →
             value_depth x ≤ left →
             Reads self.old (value_lexemes x) more result self.new }
+        ensures reads_seen { (hidden : ℕ) (x : Value) (more : List Lexeme) →
+            IsTrue (is_value x) →
+            value_depth x ≤ left →
+            ReadsSeen hidden self.old (value_lexemes x) more result self.new }
         ensures place { token_at self.old.rest.now 0 ≢ Some (symbol Symbol.LeftBrace) →
             IfErr result (IsStuckBehind
             (integer_stands (token_at self.old.rest.now 0) (token_at self.old.rest.now 1))
@@ -188,11 +212,23 @@ impl<'a, 't> Parser<'a, 't> {
             deepest (map value_depth xs) ≤ left →
             Reads self.old (by_commas (map value_lexemes xs) ++ symbol Symbol.RightBrace ∷ [])
             more result self.new }
+        ensures list_seen { (hidden : ℕ) (xs : List Value) (more : List Lexeme) →
+            IsTrue (each (map is_value xs)) →
+            deepest (map value_depth xs) ≤ left →
+            ReadsSeen hidden self.old
+            (by_commas (map value_lexemes xs) ++ symbol Symbol.RightBrace ∷ []) more result
+            self.new }
         ensures reads_record { (xs : List ValueField) (more : List Lexeme) →
             IsTrue (one_and_each (map is_value_field xs)) →
             deepest (map value_field_depth xs) ≤ left →
             Reads self.old (by_commas (map value_field_lexemes xs) ++ symbol Symbol.RightBrace ∷ [])
             more result self.new }
+        ensures record_seen { (hidden : ℕ) (xs : List ValueField) (more : List Lexeme) →
+            IsTrue (one_and_each (map is_value_field xs)) →
+            deepest (map value_field_depth xs) ≤ left →
+            ReadsSeen hidden self.old
+            (by_commas (map value_field_lexemes xs) ++ symbol Symbol.RightBrace ∷ []) more result
+            self.new }
         ensures stuck { IfErr result (IsStuckAt self.new) }
     {
         if self.has_symbol(Symbol::RightBrace) {
@@ -222,6 +258,11 @@ impl<'a, 't> Parser<'a, 't> {
             deepest (map value_depth xs) ≤ left →
             Stops more →
             Reads self.old (by_commas (map value_lexemes xs)) more result self.new }
+        ensures reads_seen { (hidden : ℕ) (xs : List Value) (more : List Lexeme) →
+            IsTrue (one_and_each (map is_value xs)) →
+            deepest (map value_depth xs) ≤ left →
+            Stops more →
+            ReadsSeen hidden self.old (by_commas (map value_lexemes xs)) more result self.new }
         ensures stuck { IfErr result (IsStuckAt self.new) }
     {
         let mut values = Vec::new(alloc);
@@ -249,6 +290,13 @@ impl<'a, 't> Parser<'a, 't> {
             deepest (map value_field_depth xs) ≤ left →
             Stops more →
             Reads self.old (by_commas (map value_field_lexemes xs)) more result self.new }
+        ensures reads_seen { (hidden : ℕ) (xs : List ValueField) (more : List Lexeme) →
+            IsTrue (one_and_each (map is_value_field xs)) →
+            deepest (map value_field_depth xs) ≤ left →
+            Stops more →
+            ReadsSeen hidden self.old (by_commas (map value_field_lexemes xs)) more result
+            self.new }
+        ensures beyond { IsField self.old.rest.now → GoesBeyond 2 self.old result self.new }
         ensures stuck { IfErr result (IsStuckAt self.new) }
     {
         let mut fields = Vec::new(alloc);
@@ -274,6 +322,11 @@ impl<'a, 't> Parser<'a, 't> {
             IsTrue (is_value_field x) →
             value_field_depth x ≤ left →
             Reads self.old (value_field_lexemes x) more result self.new }
+        ensures reads_seen { (hidden : ℕ) (x : ValueField) (more : List Lexeme) →
+            IsTrue (is_value_field x) →
+            value_field_depth x ≤ left →
+            ReadsSeen hidden self.old (value_field_lexemes x) more result self.new }
+        ensures beyond { IsField self.old.rest.now → GoesBeyond 2 self.old result self.new }
         ensures stuck { IfErr result (IsStuckAt self.new) }
     {
         let name = self.name(alloc)?;

@@ -1,5 +1,5 @@
--- Where no token is left, the tokens of the text are those of the module that was read; else they are those of none.
-use Rattle.std.proofs.Common.{inl, inr, ◌≡◌, ◌+◌, ◌<◌, ◌≤◌, ℕ, subst, List, [], ◌∷◌, ◌++◌, length, map, ap, sym, ◌∙◌, append-nil, arith}
+-- Where no token is left, the tokens of the text are those of the module that was read; else no text of the grammar goes on so.
+use Rattle.std.proofs.Common.{inl, inr, ◌≡◌, ◌+◌, ◌-◌, ◌<◌, ◌≤◌, ℕ, subst, List, [], ◌∷◌, ◌++◌, length, map, take, ap, sym, ◌∙◌, append-nil, arith}
 use Rattle.tp_token.specs.Fault.{IsMemory}
 use Rattle.tp_token.specs.declared.fault.ScriptFault.{ScriptFault}
 use Rattle.tp_token.specs.declared.fault.ScriptFault.TheVariants.{Refused, Memory}
@@ -7,20 +7,16 @@ use Rattle.tp_token.specs.declared.token.Placed.{Placed}
 use Rattle.tp_token.specs.Lexeme.{Lexeme, PlacedLexeme, placed_lexeme}
 use Rattle.tp_token.specs.Cut.{AreTokens, newlines}
 use Rattle.tp_token.proofs.UniqueTokens.{tokens_are_unique}
-use Rattle.tp_tree.specs.declared.tree.Module.{Module}
-use Rattle.tp_syntax.specs.declared.stuck.Stuck.{Stuck}
-use Rattle.tp_syntax.specs.declared.stuck.Stuck.TheVariants.{Next}
 use Rattle.tp_syntax.specs.Ahead.{plain, ahead}
-use Rattle.tp_syntax.specs.Definitions.{IsReadAs, module_lexemes}
-use Rattle.tp_syntax.specs.Faults.{IsFaultOf, input_of}
+use Rattle.tp_syntax.specs.Definitions.{module_lexemes}
+use Rattle.tp_syntax.specs.Faults.{IsFaultOf, NoneGoesOn, input_of}
 use Rattle.tp_syntax.specs.Forward.{placed_ahead}
-use Rattle.tp_syntax.specs.Grammar.{IsGrammatical}
 use Rattle.tp_syntax.specs.Lines.{Noted, AreNoted, module_notes}
 use Rattle.tp_syntax.specs.Nesting.{module_depth}
-use Rattle.tp_syntax.specs.Refusals.{HasTokens, IsOfGrammar, IsUnread}
-use Rattle.tp_syntax.specs.Stuck.{IsForMemory}
+use Rattle.tp_syntax.specs.Refusals.{HasTokens, IsNoModule, IsOfGrammar, IsUnread}
+use Rattle.tp_syntax.specs.Stuck.{standing}
 use Rattle.tp_syntax.proofs.LinesOfPassedTokens.{tokens_of_lines}
-use Rattle.tp_syntax.proofs.FirstTokensAhead.{none_ahead}
+use Rattle.tp_syntax.proofs.NoTextGoesOn.{NoneCouldBe, none_could_be, none_goes_on, none_where_stuck}
 use Rattle.tp_syntax.proofs.parser.parse.Goals as goal
 
 nothing_left : (a b : List Lexeme) (ps : List Placed) → length ps ≡ 0 → a ≡ b ++ ahead ps → a ≡ b
@@ -50,27 +46,28 @@ returns-then-is_empty-clause-lines c =
           (all_noted (module_notes c.in-Ok.module) (placed_ahead c.deref.result.now) c.module.new.self.rest.now none c.in-Ok.ensures.lines.are),
     )
 
--- the tokens of the text are those of the module, and none stands behind them
-whole : (bytes : List ℕ) (ps : List Placed) (m : Module) → AreTokens bytes (map placed_lexeme ps) → IsReadAs bytes m → ahead ps ≡ module_lexemes m ++ []
-whole bytes ps m are read =
-    let same : read.0 ≡ map placed_lexeme ps = tokens_are_unique bytes read.0 (map placed_lexeme ps) read.1 are in
-    sym (ap plain (tokens_of_lines ps)) ∙ ap (λ (ts : List PlacedLexeme). plain (map (λ t. t.token) ts)) (sym same) ∙ read.2 ∙ sym (append-nil (module_lexemes m))
+-- where none goes on with the text's tokens, they are those of no module
+no_module : (bytes : List ℕ) (f : ScriptFault) → (IsMemory f → ⊥) → IsOfGrammar bytes f → IsNoModule bytes
+no_module bytes f other of m read right deep =
+    let same : read.0 ≡ of.0 = tokens_are_unique bytes read.0 of.0 read.1 of.1 in
+    of.2.none other m (map (λ (t : PlacedLexeme). t.token) read.0) read.2 right deep
+    (ap (λ (ts : List PlacedLexeme). take (of.2.standing + 1) (map (λ (t : PlacedLexeme). t.token) ts)) same)
 
--- what stands for no module isn't read, or memory was wanting
-unread : (bytes : List ℕ) (f : ScriptFault) (s : Stuck) → HasTokens bytes → IsOfGrammar bytes f →
-    ((m : Module) → IsReadAs bytes m → IsGrammatical m → module_depth m ≤ 32 → IsForMemory s) → (IsForMemory s → IsMemory f) → IsUnread bytes f
-unread bytes (Refused r line) s has of none memory = inr (has, of, λ m read right deep. memory (none m read right deep))
-unread bytes (Memory m) s has of none memory = inl tt
+-- what the grammar refuses is no module, or memory was wanting
+unread : (bytes : List ℕ) (f : ScriptFault) → HasTokens bytes → IsOfGrammar bytes f → IsUnread bytes f
+unread bytes (Refused r line) has of = inr (has, of, no_module bytes (Refused r line) (λ h. h) of)
+unread bytes (Memory m) has of = inl tt
 
 -- a fault of the tokens, told of those of the text
-of_tokens : (bytes : List ℕ) (items ps : List Placed) (last standing : ℕ) (f : ScriptFault) → AreTokens bytes (map placed_lexeme items) → ps ≡ items →
-    last ≡ newlines bytes + 1 → IsFaultOf (input_of ps last) standing f → IsOfGrammar bytes f
-of_tokens bytes items ps last standing f are same end is = (
+of_tokens : (bytes : List ℕ) (items ps qs : List Placed) (last : ℕ) (stand : List Placed → ℕ) (f : ScriptFault) → AreTokens bytes (map placed_lexeme items) → ps ≡ items →
+    qs ≡ items → last ≡ newlines bytes + 1 → IsFaultOf (input_of ps last) (stand ps) f → ((IsMemory f → ⊥) → NoneGoesOn (input_of qs last) (stand qs)) → IsOfGrammar bytes f
+of_tokens bytes items ps qs last stand f are same other end is none = (
   map placed_lexeme items,
   are,
   record {
-    standing = standing;
-    is = subst (λ n. IsFaultOf (input_of items n) standing f) end (subst (λ (qs : List Placed). IsFaultOf (input_of qs last) standing f) same is);
+    standing = stand items;
+    is = subst (λ n. IsFaultOf (input_of items n) (stand items) f) end (subst (λ (ts : List Placed). IsFaultOf (input_of ts last) (stand ts) f) same is);
+    none = λ no_memory. subst (λ (ts : List Placed). NoneGoesOn (input_of ts last) (stand ts)) other (none no_memory);
   },
 )
 
@@ -78,20 +75,24 @@ pub returns-in-Ok-clause-refused : goal.returns-in-Ok-clause-refused
 returns-in-Ok-clause-refused c =
     let text = c.args.text.now in
     let has : HasTokens text = (map placed_lexeme c.in_ok-tokens.tokens.items, c.in_ok-tokens.ensures.tokens, c.in_ok-tokens.ensures.limits, c.in_ok-tokens.ensures.short) in
-    let some : 0 < length c.module.new.self.rest.now = grind arith in
-    let of : IsOfGrammar text c.first_fault.result = of_tokens text c.in_ok-tokens.tokens.items _ _ _ _ c.in_ok-tokens.ensures.tokens c.deref-in-Ok.ensures.value c.last_line-last_line.ensures c.first_fault.ensures.place in
-    unread text _ (Next 0) has of (λ m read right deep.
-    let e = ap ahead c.deref.ensures.value ∙ whole text c.in_ok-tokens.tokens.items m c.in_ok-tokens.ensures.tokens read in
+    let left = length c.module.new.self.rest.now in
+    let some : 0 < left = grind arith in
+    let none : NoneCouldBe left c.deref.result.now = λ m right deep could.
     let fits : module_depth m ≤ c.most_brackets.result = omega (arith, c.most_brackets.ensures) in
-    let none = none_ahead c.module.new.self.rest.now (c.in-Ok.ensures.reads m [] right fits (λ h. cc h) e) in
-    absurd (omega (arith, ap length none))) (λ h. absurd h)
+    let none_left = none_could_be c.module.new.self.rest.now (c.in-Ok.ensures.reads_seen left m [] right fits (λ h. cc h) could) in
+    absurd (omega arith) in
+    unread text _ has
+    (of_tokens text c.in_ok-tokens.tokens.items _ c.deref.result.now _ (λ ts. length ts - left) _ c.in_ok-tokens.ensures.tokens c.deref-in-Ok.ensures.value c.deref.ensures.value
+    c.last_line-last_line.ensures c.first_fault.ensures.place (λ other. none_goes_on c.deref.result.now c.last_line-last_line.result (length c.deref.result.now - left) left (omega (arith, c.in-Ok.ensures.shorter)) none))
 
 pub returns-clause-refused : goal.returns-clause-refused
 returns-clause-refused c =
     let text = c.args.text.now in
     let has : HasTokens text = (map placed_lexeme c.in_ok-tokens.tokens.items, c.in_ok-tokens.ensures.tokens, c.in_ok-tokens.ensures.limits, c.in_ok-tokens.ensures.short) in
-    let of : IsOfGrammar text c.fault_of.result = of_tokens text c.in_ok-tokens.tokens.items _ _ _ _ c.in_ok-tokens.ensures.tokens c.deref-in-Err.ensures.value c.last_line-last_line.ensures c.fault_of.ensures.place in
-    unread text _ c.in-Err.stuck has of (λ m read right deep.
-    let e = ap ahead c.deref.ensures.value ∙ whole text c.in_ok-tokens.tokens.items m c.in_ok-tokens.ensures.tokens read in
+    unread text _ has
+    (of_tokens text c.in_ok-tokens.tokens.items _ c.deref.result.now _ (λ ts. standing c.in-Err.stuck (length ts)) _ c.in_ok-tokens.ensures.tokens c.deref-in-Err.ensures.value c.deref.ensures.value
+    c.last_line-last_line.ensures c.fault_of.ensures.place
+    (none_where_stuck c.deref.result.now c.last_line-last_line.result c.fault_of.result c.in-Err.stuck
+    (λ hidden m right deep could.
     let fits : module_depth m ≤ c.most_brackets.result = omega (arith, c.most_brackets.ensures) in
-    c.in-Err.ensures.reads m [] right fits (λ h. cc h) e) c.fault_of.ensures.memory
+    c.in-Err.ensures.reads_seen hidden m [] right fits (λ h. cc h) could) c.fault_of.ensures.memory))

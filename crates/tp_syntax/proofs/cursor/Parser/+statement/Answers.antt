@@ -1,10 +1,10 @@
 -- One more statement or branch is read behind the others; a `for` and an `[else]` have their block.
-use Rattle.std.proofs.Common.{◌<◌, ◌&&◌, not, length, inl, refl, List, ◌∷◌, ◌++◌, append_assoc, ap, sym, ◌∙◌, arith, subst, rules, ◌≤◌, ◌+◌, [], string_bytes, true}
+use Rattle.std.proofs.Common.{◌≡◌, inr, Some, ◌<◌, ◌&&◌, not, length, inl, refl, List, ◌∷◌, ◌++◌, append_assoc, ap, sym, ◌∙◌, arith, subst, rules, ◌≤◌, [], string_bytes, true}
 use Rattle.tp_token.specs.declared.word.Word.TheVariants as w
-use Rattle.tp_token.specs.declared.token.Symbol.TheVariants.{LeftBracket, RightBracket, LeftBrace, RightBrace}
+use Rattle.tp_token.specs.declared.token.Symbol.TheVariants.{Dot, LeftBracket, RightBracket, LeftBrace, RightBrace}
 use Rattle.tp_token.specs.Lexeme.{Lexeme, word, symbol}
 use Rattle.tp_syntax.specs.Sequences.{braced, end_lexemes}
-use Rattle.tp_syntax.specs.Statements.{statement_lexemes, branch_lexemes, statements_lexemes, turns_lexemes, receive_lexemes, otherwise_lexemes, send_lexemes, control_lexemes, all_ports_lexemes, set_verdict_lexemes}
+use Rattle.tp_syntax.specs.Statements.{statement_lexemes, branch_lexemes, branches_lexemes, counted_lexemes, statements_lexemes, turns_lexemes, receive_lexemes, otherwise_lexemes, send_lexemes, control_lexemes, all_ports_lexemes, set_verdict_lexemes}
 use Rattle.tp_syntax.proofs.StatementTokens.{counted_made, else_branch_made, for_append}
 use Rattle.tp_syntax.proofs.ReadSequenceGrowth.{push_read_all}
 use Rattle.tp_syntax.specs.Nesting.{branch_depth, statement_depth, statements_depth, branches_depth, otherwise_depth}
@@ -25,10 +25,20 @@ use Rattle.tp_tree.specs.declared.tree.Statement.{out-Statement}
 use Rattle.tp_tree.specs.declared.tree.Branch.{out-Branch}
 use Rattle.tp_tree.specs.declared.tree.Counted.{out-Counted}
 use Rattle.tp_syntax.specs.Values.{int_lexemes}
-use Rattle.tp_syntax.specs.Ahead.{starts_zero}
+use Rattle.tp_syntax.specs.Ahead.{is_name_in, starts_zero, token_at}
 use Rattle.tp_syntax.proofs.LinesOfPassedTokens.{passes_at, passes_next, passes_none, passes_one, passes_push, passes_then, passes_unnoted}
 use Rattle.tp_syntax.proofs.StatementNotes as notes
 use Rattle.tp_syntax.specs.Lines.{branch_notes, statement_notes}
+use Rattle.tp_syntax.specs.declared.cursor.Parser.{Parser}
+use Rattle.tp_syntax.specs.declared.statements.Beginning.TheVariants as begins
+use Rattle.tp_event.specs.declared.operation.PortOperation.TheVariants as port_operation
+use Rattle.tp_syntax.specs.HiddenTokens.{AllHidden, CouldBe}
+use Rattle.tp_syntax.specs.Stuck.{StandAtLeast}
+use Rattle.tp_syntax.proofs.FirstTokensSeen.{handed_as, handed_seen, hidden_could, hidden_place, hidden_result, same_could}
+use Rattle.tp_syntax.proofs.PartsInOrderSeen.{all_seen, none_left_seen}
+use Rattle.tp_syntax.proofs.StandingTokens.{loop_ends, loop_passes, loop_stands, read_as, stands_hidden}
+use Rattle.tp_syntax.proofs.StatementsSeen.{alt_hidden, body_next_seen, body_none_seen, branch_end_seen, branch_ends_seen, branch_unseen, end_unseen, name_no_end, no_items, no_otherwise_seen, not_some, one_more, otherwise_next_seen, statement_end_seen, statement_ends_seen}
+use Rattle.tp_syntax.proofs.BeginningsSeen.{action_seen, other_way, port_passed, port_stuck}
 use Rattle.tp_syntax.proofs.cursor.Parser.+statement.Goals as goal
 use Rattle.tp_syntax.proofs.cursor.Parser.+statement.Goals.{alt-else-is_empty-via-then-is_empty+else-is_none, alt-else-is_empty-via-else-is_empty}
 
@@ -37,6 +47,34 @@ statements-more-preserved t c = record {
   reads = λ xs more stand deep ends e.
       let n = all_next statement_lexemes statement_part (λ x. statement_depth x ≤ c.args.left) more _ (c.more.invariant.reads xs more stand deep ends e) statement_begins (λ same. false≢true (c.more-test.ensures.end.1 (end_at _ more _ same ends))) in
       subst (RemainAll statement_lexemes statement_part (λ x. statement_depth x ≤ c.args.left) more) (sym (c.in_ok-statement.ensures.reads n.0 n.2 n.3 n.1 n.4)) n.5;
+  seen = λ hidden xs more stand deep ends could.
+      elim (all_seen statement_lexemes statement_part (λ x. statement_depth x ≤ c.args.left) hidden more _
+      (c.more.invariant.seen hidden xs more stand deep ends could) statement_begins) [
+        | inl n ↦ (n.2, n.3, n.4, c.in_ok-statement.ensures.reads_seen hidden n.0 _ n.5 n.1 n.6)
+        | inr next ↦
+            none_left_seen statement_lexemes statement_part (λ x. statement_depth x ≤ c.args.left) hidden more _
+            (elim (end_unseen hidden _ more _ ends (λ is. false≢true (c.more-test.ensures.end.1 is)) next) [
+              | inl h ↦ omega (arith, c.in_ok-statement.ensures.shorter)
+              | inr cut ↦ omega (arith, cut.1, c.in_ok-statement.ensures.beyond_all cut.0)
+            ])
+      ];
+  beyond_name = λ is.
+      loop_passes 1 _ _ _ (c.more.invariant.beyond_name is)
+      (λ same. c.in_ok-statement.ensures.beyond_name (subst (λ (p : Parser). is_name_in (token_at p.rest.now 0) ≡ true) (sym same) is))
+      (omega (arith, c.in_ok-statement.ensures.shorter));
+  beyond_dot = λ is dot.
+      loop_passes 2 _ _ _ (c.more.invariant.beyond_dot is dot)
+      (λ same.
+      c.in_ok-statement.ensures.beyond_dot (subst (λ (p : Parser). is_name_in (token_at p.rest.now 0) ≡ true) (sym same) is)
+      (subst (λ (p : Parser). token_at p.rest.now 1 ≡ Some (symbol Dot)) (sym same) dot))
+      (omega (arith, c.in_ok-statement.ensures.shorter));
+  beyond_start = λ is dot start.
+      loop_passes 3 _ _ _ (c.more.invariant.beyond_start is dot start)
+      (λ same.
+      c.in_ok-statement.ensures.beyond_start (subst (λ (p : Parser). is_name_in (token_at p.rest.now 0) ≡ true) (sym same) is)
+      (subst (λ (p : Parser). token_at p.rest.now 1 ≡ Some (symbol Dot)) (sym same) dot)
+      (subst (λ (p : Parser). token_at p.rest.now 2 ≡ Some (word w.Start)) (sym same) start))
+      (omega (arith, c.in_ok-statement.ensures.shorter));
   nested = rw c.in_ok-push.ensures.items
       (push_nests statement_depth c.more.statements.items c.in_ok-statement.statement c.args.left c.more.invariant.nested c.in_ok-statement.ensures.nested);
   tokens = rw c.in_ok-push.ensures.items
@@ -53,6 +91,17 @@ branches-more-preserved t c = record {
   reads = λ xs more stand deep other e.
       let n = all_next branch_lexemes branch_part (λ x. branch_depth x ≤ c.args.left) more _ (c.more.invariant.reads xs more stand deep other e) branch_begins (λ same. let both = c.more-test.ensures.0 refl in false≢true (sym other ∙ ap is_branch_ahead (sym same) ∙ branch_first _ both.0 both.1)) in
       subst (RemainAll branch_lexemes branch_part (λ x. branch_depth x ≤ c.args.left) more) (sym (c.in_ok-branch.ensures.reads n.0 n.2 n.3 n.1 n.4)) n.5;
+  seen = λ hidden xs more stand deep other could.
+      elim (all_seen branch_lexemes branch_part (λ x. branch_depth x ≤ c.args.left) hidden more _
+      (c.more.invariant.seen hidden xs more stand deep other could) branch_begins) [
+        | inl n ↦ (n.2, n.3, n.4, c.in_ok-branch.ensures.reads_seen hidden n.0 _ n.5 n.1 n.6)
+        | inr next ↦
+            let at = c.more-test.ensures.0 refl in
+            let seen = branch_unseen hidden more c.more.self.rest.now at other next in
+            none_left_seen branch_lexemes branch_part (λ x. branch_depth x ≤ c.args.left) hidden more _
+            (omega (arith, c.in_ok-branch.ensures.beyond_bracket at.0))
+      ];
+  none = rw c.in_ok-push.ensures.items (λ empty. absurd (one_more _ _ empty));
   nested = rw c.in_ok-push.ensures.items
       (push_nests branch_depth c.more.branches.items c.in_ok-branch.branch c.args.left c.more.invariant.nested c.in_ok-branch.ensures.nested);
   tokens = rw c.in_ok-push.ensures.items
@@ -155,6 +204,10 @@ statements-more-init t c = record {
   nested = first_of (search rules, grind (arith, common_steps));
   grammatical = rw c.new-statements.ensures.items (between_none _);
   reads = λ xs more stand deep ends e. (xs, all_deep statement_depth c.args.left xs deep, stand, e);
+  seen = λ hidden xs more stand deep ends could. (xs, all_deep statement_depth c.args.left xs deep, stand, could);
+  beyond_name = λ is. inl refl;
+  beyond_dot = λ is dot. inl refl;
+  beyond_start = λ is dot start. inl refl;
   shorter = first_of (search rules, grind (arith, common_steps));
   lines = rw c.new-statements.ensures.items (passes_none _);
 }
@@ -175,6 +228,8 @@ branches-more-init t c = record {
   nested = first_of (search rules, grind (arith, common_steps));
   grammatical = rw c.new-branches.ensures.items (between_none _);
   reads = λ xs more stand deep other e. (xs, all_deep branch_depth c.args.left xs deep, stand, e);
+  seen = λ hidden xs more stand deep other could. (xs, all_deep branch_depth c.args.left xs deep, stand, could);
+  none = λ empty. refl;
   shorter = first_of (search rules, grind (arith, common_steps));
   lines = rw c.new-branches.ensures.items (passes_none _);
 }
@@ -598,3 +653,602 @@ counted-returns-clause-lines t c =
 pub block-returns-clause-lines : goal.block-returns-clause-lines
 block-returns-clause-lines t c =
     passes_next c.in_ok-inner.ensures.forward c.in_ok-inner.ensures.tokens (passes_then c.in_ok-statements.ensures.lines (passes_one c.in_ok-symbol.ensures.forward c.in_ok-symbol.ensures.tokens))
+
+pub statements-returns-in_err-statement-clause-reads_seen : goal.statements-returns-in_err-statement-clause-reads_seen
+statements-returns-in_err-statement-clause-reads_seen t c =
+    λ hidden xs more stand deep ends could.
+    handed_seen hidden c.from_residual.result _ _ c.from_residual.ensures.1
+    (elim (all_seen statement_lexemes statement_part (λ x. statement_depth x ≤ c.args.left) hidden more _
+    (c.more.invariant.seen hidden xs more stand deep ends could) statement_begins) [
+      | inl n ↦ c.in_err-statement.ensures.reads_seen hidden n.0 _ n.5 n.1 n.6
+      | inr next ↦
+          elim (end_unseen hidden _ more _ ends (λ is. false≢true (c.more-test.ensures.end.1 is)) next) [
+            | inl h ↦ stands_hidden hidden 0 c.more.self _ (omega arith) c.in_err-statement.ensures.beyond
+            | inr cut ↦ stands_hidden hidden 1 c.more.self _ cut.1 (c.in_err-statement.ensures.beyond_all cut.0)
+          ]
+    ])
+
+pub statements-returns-clause-reads_seen : goal.statements-returns-clause-reads_seen
+statements-returns-clause-reads_seen t c =
+    λ hidden xs more stand deep ends could.
+    elim (all_seen statement_lexemes statement_part (λ x. statement_depth x ≤ c.args.left) hidden more _
+    (c.more.invariant.seen hidden xs more stand deep ends could) statement_begins) [
+      | inl n ↦
+          elim (statement_end_seen hidden _ n.0 _ _ (c.more-test.ensures.end.0 refl) n.6) [
+            | inl h ↦ inl (hidden_could h)
+            | inr cut ↦ inr cut
+          ]
+      | inr next ↦ inl next
+    ]
+
+pub statements-returns-in_err-statement-clause-beyond_name : goal.statements-returns-in_err-statement-clause-beyond_name
+statements-returns-in_err-statement-clause-beyond_name t c =
+    λ is.
+    handed_as (StandAtLeast 1 c.args.self.now) c.from_residual.result _ _ c.from_residual.ensures.1
+    (loop_stands 1 c.args.self.now c.more.self _ (c.more.invariant.beyond_name is)
+    (λ same. c.in_err-statement.ensures.beyond_name (subst (λ (p : Parser). is_name_in (token_at p.rest.now 0) ≡ true)
+    (sym same) is)) c.in_err-statement.ensures.beyond)
+
+pub statements-returns-clause-beyond_name : goal.statements-returns-clause-beyond_name
+statements-returns-clause-beyond_name t c =
+    λ is.
+    loop_ends 1 c.args.self.now c.more.self (c.more.invariant.beyond_name is)
+    (λ same. name_no_end _ c.more.self.rest.now (subst (λ (p : Parser). is_name_in (token_at p.rest.now 0) ≡ true) (sym same) is)
+    (c.more-test.ensures.end.0 refl))
+
+pub statements-returns-in_err-statement-clause-beyond_dot : goal.statements-returns-in_err-statement-clause-beyond_dot
+statements-returns-in_err-statement-clause-beyond_dot t c =
+    λ is dot.
+    handed_as (StandAtLeast 2 c.args.self.now) c.from_residual.result _ _ c.from_residual.ensures.1
+    (loop_stands 2 c.args.self.now c.more.self _ (c.more.invariant.beyond_dot is dot)
+    (λ same. c.in_err-statement.ensures.beyond_dot (subst (λ (p : Parser). is_name_in (token_at p.rest.now 0) ≡ true) (sym same) is)
+    (subst (λ (p : Parser). token_at p.rest.now 1 ≡ Some (symbol Dot)) (sym same) dot)) c.in_err-statement.ensures.beyond)
+
+pub statements-returns-clause-beyond_dot : goal.statements-returns-clause-beyond_dot
+statements-returns-clause-beyond_dot t c =
+    λ is dot.
+    loop_ends 2 c.args.self.now c.more.self (c.more.invariant.beyond_dot is dot)
+    (λ same. name_no_end _ c.more.self.rest.now (subst (λ (p : Parser). is_name_in (token_at p.rest.now 0) ≡ true) (sym same) is)
+    (c.more-test.ensures.end.0 refl))
+
+pub statements-returns-in_err-statement-clause-beyond_start : goal.statements-returns-in_err-statement-clause-beyond_start
+statements-returns-in_err-statement-clause-beyond_start t c =
+    λ is dot start.
+    handed_as (StandAtLeast 3 c.args.self.now) c.from_residual.result _ _ c.from_residual.ensures.1
+    (loop_stands 3 c.args.self.now c.more.self _ (c.more.invariant.beyond_start is dot start)
+    (λ same. c.in_err-statement.ensures.beyond_start (subst (λ (p : Parser). is_name_in (token_at p.rest.now 0) ≡ true) (sym same) is)
+    (subst (λ (p : Parser). token_at p.rest.now 1 ≡ Some (symbol Dot)) (sym same) dot)
+    (subst (λ (p : Parser). token_at p.rest.now 2 ≡ Some (word w.Start)) (sym same) start)) c.in_err-statement.ensures.beyond)
+
+pub statements-returns-clause-beyond_start : goal.statements-returns-clause-beyond_start
+statements-returns-clause-beyond_start t c =
+    λ is dot start.
+    loop_ends 3 c.args.self.now c.more.self (c.more.invariant.beyond_start is dot start)
+    (λ same. name_no_end _ c.more.self.rest.now (subst (λ (p : Parser). is_name_in (token_at p.rest.now 0) ≡ true) (sym same) is)
+    (c.more-test.ensures.end.0 refl))
+
+pub branches-returns-in_err-branch-clause-reads_seen : goal.branches-returns-in_err-branch-clause-reads_seen
+branches-returns-in_err-branch-clause-reads_seen t c =
+    λ hidden xs more stand deep other could.
+    handed_seen hidden c.from_residual.result _ _ c.from_residual.ensures.1
+    (elim (all_seen branch_lexemes branch_part (λ x. branch_depth x ≤ c.args.left) hidden more _
+    (c.more.invariant.seen hidden xs more stand deep other could) branch_begins) [
+      | inl n ↦ c.in_err-branch.ensures.reads_seen hidden n.0 _ n.5 n.1 n.6
+      | inr next ↦
+          let at = c.more-test.ensures.0 refl in
+          stands_hidden hidden 1 c.more.self _ (branch_unseen hidden more _ at other next) (c.in_err-branch.ensures.beyond_bracket at.0)
+    ])
+
+pub branches-returns-clause-reads_seen : goal.branches-returns-clause-reads_seen
+branches-returns-clause-reads_seen t c =
+    λ hidden xs more stand deep other could.
+    elim (all_seen branch_lexemes branch_part (λ x. branch_depth x ≤ c.args.left) hidden more _
+    (c.more.invariant.seen hidden xs more stand deep other could) branch_begins) [
+      | inl n ↦
+          elim (branch_end_seen hidden n.0 _ _ (λ at. false≢true (c.more-test.ensures.1 at)) n.6) [
+            | inl h ↦ inl (hidden_could h)
+            | inr cut ↦ inr cut
+          ]
+      | inr next ↦ inl next
+    ]
+
+pub statement-returns-in_err-action-clause-reads_seen : goal.statement-returns-in_err-action-clause-reads_seen
+statement-returns-in_err-action-clause-reads_seen t c =
+    λ hidden x more placed deep could.
+    let g = statement_given c.args.left x more (statement_lexemes x ++ more) placed deep refl in
+    let e0 = read_as g.read could in
+    handed_seen hidden c.from_residual.result _ _ c.from_residual.ensures.1 (c.in_err-action.ensures.reads_seen hidden
+    (out-Statement x).action _ g.right g.fits g.ends e0)
+
+pub statement-returns-in_err-has_semicolon-clause-reads_seen : goal.statement-returns-in_err-has_semicolon-clause-reads_seen
+statement-returns-in_err-has_semicolon-clause-reads_seen t c =
+    λ hidden x more placed deep could.
+    let g = statement_given c.args.left x more (statement_lexemes x ++ more) placed deep refl in
+    let e0 = read_as g.read could in
+    let e1 = c.in_ok-action.ensures.reads_seen hidden (out-Statement x).action _ g.right g.fits g.ends e0 in
+    handed_seen hidden c.from_residual-in_err-has_semicolon.result _ _ c.from_residual-in_err-has_semicolon.ensures.1
+    (elim (statement_ends_seen hidden c.args.left x more _ _ c.in_ok-action.action _ _ g c.in_ok-action.ensures.tokens e0 c.ends_in_block.ensures) [
+      | inl h ↦ hidden_place hidden c.action.new.self _ c.in_err-has_semicolon.ensures.place (omega (arith, c.in_ok-action.ensures.shorter))
+      | inr ended ↦ c.in_err-has_semicolon.ensures.reads_seen hidden (out-Statement x).has_semicolon more ended e1
+    ])
+
+pub statement-returns-clause-reads_seen : goal.statement-returns-clause-reads_seen
+statement-returns-clause-reads_seen t c =
+    λ hidden x more placed deep could.
+    let g = statement_given c.args.left x more (statement_lexemes x ++ more) placed deep refl in
+    let e0 = read_as g.read could in
+    let e1 = c.in_ok-action.ensures.reads_seen hidden (out-Statement x).action _ g.right g.fits g.ends e0 in
+    elim (statement_ends_seen hidden c.args.left x more _ _ c.in_ok-action.action _ _ g c.in_ok-action.ensures.tokens e0 c.ends_in_block.ensures) [
+      | inl h ↦ hidden_could (omega (arith, c.in_ok-action.ensures.shorter, c.in_ok-has_semicolon.ensures.shorter))
+      | inr ended ↦ c.in_ok-has_semicolon.ensures.reads_seen hidden (out-Statement x).has_semicolon more ended e1
+    ]
+
+pub branch-returns-in_err-open-clause-reads_seen : goal.branch-returns-in_err-open-clause-reads_seen
+branch-returns-in_err-open-clause-reads_seen t c =
+    λ hidden x more placed deep could.
+    let g = branch_given c.args.left x more (branch_lexemes x ++ more) placed deep refl in
+    let e0 = read_as g.read could in
+    handed_seen hidden c.from_residual.result _ _ c.from_residual.ensures.1 (c.in_err-open.ensures.reads_seen hidden _ g.room e0)
+
+pub branch-returns-in_err-symbol-clause-reads_seen : goal.branch-returns-in_err-symbol-clause-reads_seen
+branch-returns-in_err-symbol-clause-reads_seen t c =
+    λ hidden x more placed deep could.
+    let g = branch_given c.args.left x more (branch_lexemes x ++ more) placed deep refl in
+    let e0 = read_as g.read could in
+    let e1 = c.in_ok-open.ensures.reads_seen hidden _ g.room e0 in
+    handed_seen hidden c.from_residual-in_err-symbol.result _ _ c.from_residual-in_err-symbol.ensures.1 (c.in_err-symbol.ensures.reads_seen hidden _ e1)
+
+pub branch-returns-in_err-receive-clause-reads_seen : goal.branch-returns-in_err-receive-clause-reads_seen
+branch-returns-in_err-receive-clause-reads_seen t c =
+    λ hidden x more placed deep could.
+    let g = branch_given c.args.left x more (branch_lexemes x ++ more) placed deep refl in
+    let e0 = read_as g.read could in
+    let e1 = c.in_ok-open.ensures.reads_seen hidden _ g.room e0 in
+    let e2 = c.in_ok-symbol.ensures.reads_seen hidden _ e1 in
+    handed_seen hidden c.from_residual-in_err-receive.result _ _ c.from_residual-in_err-receive.ensures.1
+    (c.in_err-receive.ensures.reads_seen hidden (out-Branch x).receive _ g.right g.fits g.stops e2)
+
+pub branch-returns-in_err-body-clause-reads_seen : goal.branch-returns-in_err-body-clause-reads_seen
+branch-returns-in_err-body-clause-reads_seen t c =
+    λ hidden x more placed deep could.
+    let g = branch_given c.args.left x more (branch_lexemes x ++ more) placed deep refl in
+    let e0 = read_as g.read could in
+    let e1 = c.in_ok-open.ensures.reads_seen hidden _ g.room e0 in
+    let e2 = c.in_ok-symbol.ensures.reads_seen hidden _ e1 in
+    let e3 = c.in_ok-receive.ensures.reads_seen hidden (out-Branch x).receive _ g.right g.fits g.stops e2 in
+    handed_seen hidden c.from_residual-in_err-body.result _ _ c.from_residual-in_err-body.ensures.1
+    (c.in_err-body.ensures.reads_seen hidden (out-Branch x).body _ g.body_right g.body_fits g.body_ends e3)
+
+pub branch-returns-in_err-has_semicolon-clause-reads_seen : goal.branch-returns-in_err-has_semicolon-clause-reads_seen
+branch-returns-in_err-has_semicolon-clause-reads_seen t c =
+    λ hidden x more placed deep could.
+    let g = branch_given c.args.left x more (branch_lexemes x ++ more) placed deep refl in
+    let e0 = read_as g.read could in
+    let e1 = c.in_ok-open.ensures.reads_seen hidden _ g.room e0 in
+    let e2 = c.in_ok-symbol.ensures.reads_seen hidden _ e1 in
+    let e3 = c.in_ok-receive.ensures.reads_seen hidden (out-Branch x).receive _ g.right g.fits g.stops e2 in
+    let e4 = c.in_ok-body.ensures.reads_seen hidden (out-Branch x).body _ g.body_right g.body_fits g.body_ends e3 in
+    handed_seen hidden c.from_residual-in_err-has_semicolon.result _ _ c.from_residual-in_err-has_semicolon.ensures.1
+    (elim (branch_ends_seen hidden c.args.left x more _ _ c.in_ok-body.body _ _ g c.in_ok-body.ensures.tokens c.in_ok-body.ensures.braced e3
+    c.is_block.ensures) [
+      | inl h ↦ hidden_place hidden c.body.new.self _ c.in_err-has_semicolon.ensures.place (omega (arith, c.in_ok-body.ensures.shorter))
+      | inr ended ↦ c.in_err-has_semicolon.ensures.reads_seen hidden (out-Branch x).has_semicolon more ended e4
+    ])
+
+pub branch-returns-clause-reads_seen : goal.branch-returns-clause-reads_seen
+branch-returns-clause-reads_seen t c =
+    λ hidden x more placed deep could.
+    let g = branch_given c.args.left x more (branch_lexemes x ++ more) placed deep refl in
+    let e0 = read_as g.read could in
+    let e1 = c.in_ok-open.ensures.reads_seen hidden _ g.room e0 in
+    let e2 = c.in_ok-symbol.ensures.reads_seen hidden _ e1 in
+    let e3 = c.in_ok-receive.ensures.reads_seen hidden (out-Branch x).receive _ g.right g.fits g.stops e2 in
+    let e4 = c.in_ok-body.ensures.reads_seen hidden (out-Branch x).body _ g.body_right g.body_fits g.body_ends e3 in
+    elim (branch_ends_seen hidden c.args.left x more _ _ c.in_ok-body.body _ _ g c.in_ok-body.ensures.tokens c.in_ok-body.ensures.braced e3
+    c.is_block.ensures) [
+      | inl h ↦ hidden_could (omega (arith, c.in_ok-body.ensures.shorter, c.in_ok-has_semicolon.ensures.shorter))
+      | inr ended ↦ c.in_ok-has_semicolon.ensures.reads_seen hidden (out-Branch x).has_semicolon more ended e4
+    ]
+
+pub body-returns-then-not-is_symbol_at-clause-reads_seen : goal.body-returns-then-not-is_symbol_at-clause-reads_seen
+body-returns-then-not-is_symbol_at-clause-reads_seen t c =
+    λ hidden x more right deep ends could.
+    body_none_seen hidden x more _ could (iff_false c.is_symbol_at.ensures c.if-not-is_symbol_at.true)
+
+pub body-returns-in_err-block-clause-reads_seen : goal.body-returns-in_err-block-clause-reads_seen
+body-returns-in_err-block-clause-reads_seen t c =
+    λ hidden x more right deep ends could.
+    let at = c.is_symbol_at.ensures.0 c.if-not-is_symbol_at.false in
+    handed_seen hidden c.from_residual.result _ _ c.from_residual.ensures.1
+    (elim (body_next_seen hidden c.args.left x more _ right deep ends at could) [
+      | inl h ↦ stands_hidden hidden 0 c.args.self.now _ (omega arith) c.in_err-block.ensures.beyond
+      | inr b ↦ c.in_err-block.ensures.reads_seen hidden b.0 more b.1 b.2 b.3
+    ])
+
+pub body-returns-clause-reads_seen : goal.body-returns-clause-reads_seen
+body-returns-clause-reads_seen t c =
+    λ hidden x more right deep ends could.
+    let at = c.is_symbol_at.ensures.0 c.if-not-is_symbol_at.false in
+    elim (body_next_seen hidden c.args.left x more _ right deep ends at could) [
+      | inl h ↦ hidden_could (omega (arith, c.in_ok-block.ensures.shorter))
+      | inr b ↦ c.in_ok-block.ensures.reads_seen hidden b.0 more b.1 b.2 b.3
+    ]
+
+pub body-returns-clause-braced : goal.body-returns-clause-braced
+body-returns-clause-braced t c =
+    λ at. rw grammar.body_block refl
+
+pub otherwise-returns-then-not-is_symbol_at-clause-reads_seen : goal.otherwise-returns-then-not-is_symbol_at-clause-reads_seen
+otherwise-returns-then-not-is_symbol_at-clause-reads_seen t c =
+    λ hidden x more stand deep brace could.
+    no_otherwise_seen hidden x more _ could (iff_false c.is_symbol_at.ensures c.if-not-is_symbol_at.true)
+
+pub otherwise-returns-in_err-else_mark-clause-reads_seen : goal.otherwise-returns-in_err-else_mark-clause-reads_seen
+otherwise-returns-in_err-else_mark-clause-reads_seen t c =
+    λ hidden x more stand deep brace could.
+    let at = c.is_symbol_at.ensures.0 c.if-not-is_symbol_at.false in
+    handed_seen hidden c.from_residual.result _ _ c.from_residual.ensures.1
+    (elim (otherwise_next_seen hidden c.args.left x more _ stand deep brace at could) [
+      | inl h ↦ stands_hidden hidden 0 c.args.self.now _ (omega arith) c.in_err-else_mark.ensures.beyond
+      | inr b ↦
+          let room : 0 < c.args.left = omega (arith, b.3) in
+          c.in_err-else_mark.ensures.reads_seen hidden _ room b.4
+    ])
+
+pub otherwise-returns-in_err-block-clause-reads_seen : goal.otherwise-returns-in_err-block-clause-reads_seen
+otherwise-returns-in_err-block-clause-reads_seen t c =
+    λ hidden x more stand deep brace could.
+    let at = c.is_symbol_at.ensures.0 c.if-not-is_symbol_at.false in
+    handed_seen hidden c.from_residual-in_err-block.result _ _ c.from_residual-in_err-block.ensures.1
+    (elim (otherwise_next_seen hidden c.args.left x more _ stand deep brace at could) [
+      | inl h ↦ stands_hidden hidden 0 c.else_mark.new.self _ (omega (arith, c.in_ok-else_mark.ensures.shorter)) c.in_err-block.ensures.beyond
+      | inr b ↦
+          let room : 0 < c.args.left = omega (arith, b.3) in
+          let e1 = c.in_ok-else_mark.ensures.reads_seen hidden _ room b.4 in
+          c.in_err-block.ensures.reads_seen hidden b.0 _ b.2 b.3 e1
+    ])
+
+pub otherwise-returns-in_err-has_semicolon-clause-reads_seen : goal.otherwise-returns-in_err-has_semicolon-clause-reads_seen
+otherwise-returns-in_err-has_semicolon-clause-reads_seen t c =
+    λ hidden x more stand deep brace could.
+    let at = c.is_symbol_at.ensures.0 c.if-not-is_symbol_at.false in
+    handed_seen hidden c.from_residual-in_err-has_semicolon.result _ _ c.from_residual-in_err-has_semicolon.ensures.1
+    (elim (otherwise_next_seen hidden c.args.left x more _ stand deep brace at could) [
+      | inl h ↦ hidden_place hidden c.block.new.self _ c.in_err-has_semicolon.ensures.place
+          (omega (arith, c.in_ok-else_mark.ensures.shorter, c.in_ok-block.ensures.shorter))
+      | inr b ↦
+          let room : 0 < c.args.left = omega (arith, b.3) in
+          let e1 = c.in_ok-else_mark.ensures.reads_seen hidden _ room b.4 in
+          let e2 = c.in_ok-block.ensures.reads_seen hidden b.0 _ b.2 b.3 e1 in
+          let stands : MayStandBefore true more = ap (may_end_before true) brace in
+          c.in_err-has_semicolon.ensures.reads_seen hidden b.1 more stands e2
+    ])
+
+pub otherwise-returns-clause-reads_seen : goal.otherwise-returns-clause-reads_seen
+otherwise-returns-clause-reads_seen t c =
+    λ hidden x more stand deep brace could.
+    let at = c.is_symbol_at.ensures.0 c.if-not-is_symbol_at.false in
+    elim (otherwise_next_seen hidden c.args.left x more _ stand deep brace at could) [
+      | inl h ↦ hidden_could (omega (arith, c.in_ok-else_mark.ensures.shorter, c.in_ok-block.ensures.shorter, c.in_ok-has_semicolon.ensures.shorter))
+      | inr b ↦
+          let room : 0 < c.args.left = omega (arith, b.3) in
+          let e1 = c.in_ok-else_mark.ensures.reads_seen hidden _ room b.4 in
+          let e2 = c.in_ok-block.ensures.reads_seen hidden b.0 _ b.2 b.3 e1 in
+          let stands : MayStandBefore true more = ap (may_end_before true) brace in
+          c.in_ok-has_semicolon.ensures.reads_seen hidden b.1 more stands e2
+    ]
+
+pub counted-returns-in_err-turns-clause-reads_seen : goal.counted-returns-in_err-turns-clause-reads_seen
+counted-returns-in_err-turns-clause-reads_seen t c =
+    λ hidden x more right deep could.
+    let g = counted_given c.args.left x more (counted_lexemes x ++ more) right deep refl in
+    let e0 = read_as g.read could in
+    handed_seen hidden c.from_residual.result _ _ c.from_residual.ensures.1 (c.in_err-turns.ensures.reads_seen hidden
+    (out-Counted x).turns _ g.first_right g.bound_right g.room e0)
+
+pub counted-returns-in_err-block-clause-reads_seen : goal.counted-returns-in_err-block-clause-reads_seen
+counted-returns-in_err-block-clause-reads_seen t c =
+    λ hidden x more right deep could.
+    let g = counted_given c.args.left x more (counted_lexemes x ++ more) right deep refl in
+    let e0 = read_as g.read could in
+    let e1 = c.in_ok-turns.ensures.reads_seen hidden (out-Counted x).turns _ g.first_right g.bound_right g.room e0 in
+    handed_seen hidden c.from_residual-in_err-block.result _ _ c.from_residual-in_err-block.ensures.1
+    (c.in_err-block.ensures.reads_seen hidden (out-Counted x).block.items more g.right g.fits e1)
+
+pub counted-returns-clause-reads_seen : goal.counted-returns-clause-reads_seen
+counted-returns-clause-reads_seen t c =
+    λ hidden x more right deep could.
+    let g = counted_given c.args.left x more (counted_lexemes x ++ more) right deep refl in
+    let e0 = read_as g.read could in
+    let e1 = c.in_ok-turns.ensures.reads_seen hidden (out-Counted x).turns _ g.first_right g.bound_right g.room e0 in
+    c.in_ok-block.ensures.reads_seen hidden (out-Counted x).block.items more g.right g.fits e1
+
+pub block-returns-in_err-inner-clause-reads_seen : goal.block-returns-in_err-inner-clause-reads_seen
+block-returns-in_err-inner-clause-reads_seen t c =
+    λ hidden xs more right deep could.
+    let room : 0 < c.args.left = omega arith in
+    handed_seen hidden c.from_residual.result _ _ c.from_residual.ensures.1 (c.in_err-inner.ensures.reads_seen hidden _ room could)
+
+pub block-returns-in_err-statements-clause-reads_seen : goal.block-returns-in_err-statements-clause-reads_seen
+block-returns-in_err-statements-clause-reads_seen t c =
+    λ hidden xs more right deep could.
+    let room : 0 < c.args.left = omega arith in
+    let e1 = read_as (append_assoc (statements_lexemes xs) (symbol RightBrace ∷ []) more) (c.in_ok-inner.ensures.reads_seen hidden _ room could) in
+    let fits : statements_depth xs ≤ c.in_ok-inner.inner = omega (arith, c.in_ok-inner.ensures.inner) in
+    handed_seen hidden c.from_residual-in_err-statements.result _ _ c.from_residual-in_err-statements.ensures.1
+    (c.in_err-statements.ensures.reads_seen hidden xs (symbol RightBrace ∷ more)
+    (parts_stand (statements_parts xs) (symbol RightBrace ∷ more) right refl) fits refl e1)
+
+pub block-returns-in_err-symbol-clause-reads_seen : goal.block-returns-in_err-symbol-clause-reads_seen
+block-returns-in_err-symbol-clause-reads_seen t c =
+    λ hidden xs more right deep could.
+    let room : 0 < c.args.left = omega arith in
+    let e1 = read_as (append_assoc (statements_lexemes xs) (symbol RightBrace ∷ []) more) (c.in_ok-inner.ensures.reads_seen hidden _ room could) in
+    let fits : statements_depth xs ≤ c.in_ok-inner.inner = omega (arith, c.in_ok-inner.ensures.inner) in
+    let e2 : CouldBe hidden c.statements.new.self.rest.now (symbol RightBrace ∷ more) =
+    elim (c.in_ok-statements.ensures.reads_seen hidden xs (symbol RightBrace ∷ more)
+    (parts_stand (statements_parts xs) (symbol RightBrace ∷ more) right refl) fits refl e1) [ inl read ↦ read | inr cut ↦ absurd (false≢true cut.0) ] in
+    handed_seen hidden c.from_residual-in_err-symbol.result _ _ c.from_residual-in_err-symbol.ensures.1 (c.in_err-symbol.ensures.reads_seen hidden more e2)
+
+pub block-returns-clause-reads_seen : goal.block-returns-clause-reads_seen
+block-returns-clause-reads_seen t c =
+    λ hidden xs more right deep could.
+    let room : 0 < c.args.left = omega arith in
+    let e1 = read_as (append_assoc (statements_lexemes xs) (symbol RightBrace ∷ []) more) (c.in_ok-inner.ensures.reads_seen hidden _ room could) in
+    let fits : statements_depth xs ≤ c.in_ok-inner.inner = omega (arith, c.in_ok-inner.ensures.inner) in
+    let e2 : CouldBe hidden c.statements.new.self.rest.now (symbol RightBrace ∷ more) =
+    elim (c.in_ok-statements.ensures.reads_seen hidden xs (symbol RightBrace ∷ more)
+    (parts_stand (statements_parts xs) (symbol RightBrace ∷ more) right refl) fits refl e1) [ inl read ↦ read | inr cut ↦ absurd (false≢true cut.0) ] in
+    c.in_ok-symbol.ensures.reads_seen hidden more e2
+
+pub alt-returns-in_err-word-clause-reads_seen : goal.alt-returns-in_err-word-clause-reads_seen
+alt-returns-in_err-word-clause-reads_seen t c =
+    λ hidden xs x more some right deep could.
+    handed_seen hidden c.from_residual.result _ _ c.from_residual.ensures.1 (c.in_err-word.ensures.reads_seen hidden _ could)
+
+pub alt-returns-in_err-inner-clause-reads_seen : goal.alt-returns-in_err-inner-clause-reads_seen
+alt-returns-in_err-inner-clause-reads_seen t c =
+    λ hidden xs x more some right deep could.
+    let e1 = c.in_ok-word.ensures.reads_seen hidden _ could in
+    let room : 0 < c.args.left = omega arith in
+    handed_seen hidden c.from_residual-in_err-inner.result _ _ c.from_residual-in_err-inner.ensures.1 (c.in_err-inner.ensures.reads_seen hidden _ room e1)
+
+pub alt-returns-in_err-branches-clause-reads_seen : goal.alt-returns-in_err-branches-clause-reads_seen
+alt-returns-in_err-branches-clause-reads_seen t c =
+    λ hidden xs x more some right deep could.
+    let e1 = c.in_ok-word.ensures.reads_seen hidden _ could in
+    let room : 0 < c.args.left = omega arith in
+    let e2 = read_as (alt_given xs x more (((branches_lexemes xs ++ otherwise_lexemes x) ++ symbol RightBrace ∷ []) ++ more) refl)
+    (c.in_ok-inner.ensures.reads_seen hidden _ room e1) in
+    let branches_fit : branches_depth xs ≤ c.in_ok-inner.inner = omega (arith, c.in_ok-inner.ensures.inner) in
+    handed_seen hidden c.from_residual-in_err-branches.result _ _ c.from_residual-in_err-branches.ensures.1
+    (c.in_err-branches.ensures.reads_seen hidden xs (otherwise_lexemes x ++ symbol RightBrace ∷ more) (branches_stand xs x more right) branches_fit
+    (otherwise_no_branch x more) e2)
+
+pub alt-returns-in_err-otherwise-clause-reads_seen : goal.alt-returns-in_err-otherwise-clause-reads_seen
+alt-returns-in_err-otherwise-clause-reads_seen t c =
+    λ hidden xs x more some right deep could.
+    let e1 = c.in_ok-word.ensures.reads_seen hidden _ could in
+    let room : 0 < c.args.left = omega arith in
+    let e2 = read_as (alt_given xs x more (((branches_lexemes xs ++ otherwise_lexemes x) ++ symbol RightBrace ∷ []) ++ more) refl)
+    (c.in_ok-inner.ensures.reads_seen hidden _ room e1) in
+    let branches_fit : branches_depth xs ≤ c.in_ok-inner.inner = omega (arith, c.in_ok-inner.ensures.inner) in
+    let otherwise_fits : otherwise_depth x ≤ c.in_ok-inner.inner = omega (arith, c.in_ok-inner.ensures.inner) in
+    handed_seen hidden c.from_residual-in_err-otherwise.result _ _ c.from_residual-in_err-otherwise.ensures.1
+    (elim (c.in_ok-branches.ensures.reads_seen hidden xs (otherwise_lexemes x ++ symbol RightBrace ∷ more) (branches_stand xs x more right) branches_fit
+    (otherwise_no_branch x more) e2) [
+      | inl e3 ↦ c.in_err-otherwise.ensures.reads_seen hidden x (symbol RightBrace ∷ more) (otherwise_stands xs x more right) otherwise_fits refl e3
+      | inr cut ↦ stands_hidden hidden 1 c.branches.new.self _ cut.1 (c.in_err-otherwise.ensures.beyond_bracket cut.0)
+    ])
+
+pub alt-returns-then-is_none-clause-reads_seen : goal.alt-returns-then-is_none-clause-reads_seen
+alt-returns-then-is_none-clause-reads_seen t c =
+    λ hidden xs x more some right deep could.
+    let e1 = c.in_ok-word.ensures.reads_seen hidden _ could in
+    let room : 0 < c.args.left = omega arith in
+    let e2 = read_as (alt_given xs x more (((branches_lexemes xs ++ otherwise_lexemes x) ++ symbol RightBrace ∷ []) ++ more) refl)
+    (c.in_ok-inner.ensures.reads_seen hidden _ room e1) in
+    let branches_fit : branches_depth xs ≤ c.in_ok-inner.inner = omega (arith, c.in_ok-inner.ensures.inner) in
+    let otherwise_fits : otherwise_depth x ≤ c.in_ok-inner.inner = omega (arith, c.in_ok-inner.ensures.inner) in
+    let e4 : CouldBe hidden c.otherwise.new.self.rest.now (symbol RightBrace ∷ more) =
+    elim (c.in_ok-branches.ensures.reads_seen hidden xs (otherwise_lexemes x ++ symbol RightBrace ∷ more) (branches_stand xs x more right) branches_fit
+    (otherwise_no_branch x more) e2) [
+      | inl e3 ↦ c.in_ok-otherwise.ensures.reads_seen hidden x (symbol RightBrace ∷ more) (otherwise_stands xs x more right) otherwise_fits refl e3
+      | inr cut ↦ hidden_could (omega (arith, cut.1, c.in_ok-otherwise.ensures.beyond_bracket cut.0))
+    ] in
+    let no_branch = no_items c.in_ok-branches.branches.items (omega (
+      arith,
+      c.in_ok-branches.branches.ok.0,
+      zero_length _
+          (sym c.is_empty.ensures ∙ c.if-is_empty.true),
+    )) in
+    let no_else = not_some c.in_ok-otherwise.otherwise (c.is_none.ensures ∙ ap not c.if-is_none.true) in
+    let same = c.in_ok-otherwise.ensures.none no_else ∙ c.in_ok-branches.ensures.none no_branch in
+    let h : AllHidden hidden c.«open».new.self.rest.now = alt_hidden hidden xs x more c.«open».new.self.rest.now some e2 (same_could (sym same) e4) in
+    omega (arith, ap (λ (p : Parser). length p.rest.now) same)
+
+pub alt-returns-in_err-symbol-clause-reads_seen : goal.alt-returns-in_err-symbol-clause-reads_seen
+alt-returns-in_err-symbol-clause-reads_seen t c =
+    λ hidden xs x more some right deep could.
+    let e1 = c.in_ok-word.ensures.reads_seen hidden _ could in
+    let room : 0 < c.args.left = omega arith in
+    let e2 = read_as (alt_given xs x more (((branches_lexemes xs ++ otherwise_lexemes x) ++ symbol RightBrace ∷ []) ++ more) refl)
+    (c.in_ok-inner.ensures.reads_seen hidden _ room e1) in
+    let branches_fit : branches_depth xs ≤ c.in_ok-inner.inner = omega (arith, c.in_ok-inner.ensures.inner) in
+    let otherwise_fits : otherwise_depth x ≤ c.in_ok-inner.inner = omega (arith, c.in_ok-inner.ensures.inner) in
+    let e4 : CouldBe hidden c.otherwise.new.self.rest.now (symbol RightBrace ∷ more) =
+    elim (c.in_ok-branches.ensures.reads_seen hidden xs (otherwise_lexemes x ++ symbol RightBrace ∷ more) (branches_stand xs x more right) branches_fit
+    (otherwise_no_branch x more) e2) [
+      | inl e3 ↦ c.in_ok-otherwise.ensures.reads_seen hidden x (symbol RightBrace ∷ more) (otherwise_stands xs x more right) otherwise_fits refl e3
+      | inr cut ↦ hidden_could (omega (arith, cut.1, c.in_ok-otherwise.ensures.beyond_bracket cut.0))
+    ] in
+    handed_seen hidden c.from_residual-in_err-symbol.result _ _ c.from_residual-in_err-symbol.ensures.1 (c.in_err-symbol.ensures.reads_seen hidden more e4)
+
+pub alt-returns-clause-reads_seen : goal.alt-returns-clause-reads_seen
+alt-returns-clause-reads_seen t c =
+    λ hidden xs x more some right deep could.
+    let e1 = c.in_ok-word.ensures.reads_seen hidden _ could in
+    let room : 0 < c.args.left = omega arith in
+    let e2 = read_as (alt_given xs x more (((branches_lexemes xs ++ otherwise_lexemes x) ++ symbol RightBrace ∷ []) ++ more) refl)
+    (c.in_ok-inner.ensures.reads_seen hidden _ room e1) in
+    let branches_fit : branches_depth xs ≤ c.in_ok-inner.inner = omega (arith, c.in_ok-inner.ensures.inner) in
+    let otherwise_fits : otherwise_depth x ≤ c.in_ok-inner.inner = omega (arith, c.in_ok-inner.ensures.inner) in
+    let e4 : CouldBe hidden c.otherwise.new.self.rest.now (symbol RightBrace ∷ more) =
+    elim (c.in_ok-branches.ensures.reads_seen hidden xs (otherwise_lexemes x ++ symbol RightBrace ∷ more) (branches_stand xs x more right) branches_fit
+    (otherwise_no_branch x more) e2) [
+      | inl e3 ↦ c.in_ok-otherwise.ensures.reads_seen hidden x (symbol RightBrace ∷ more) (otherwise_stands xs x more right) otherwise_fits refl e3
+      | inr cut ↦ hidden_could (omega (arith, cut.1, c.in_ok-otherwise.ensures.beyond_bracket cut.0))
+    ] in
+    c.in_ok-symbol.ensures.reads_seen hidden more e4
+
+pub action-returns-in_err-send-in-Send-clause-reads_seen : goal.action-returns-in_err-send-in-Send-clause-reads_seen
+action-returns-in_err-send-in-Send-clause-reads_seen t c =
+    λ hidden x more right deep ends could.
+    let says : Says c.args.self.now.rest.now c.beginning.result = record { alt = c.beginning.ensures.alt; for_loop = c.beginning.ensures.for_loop; set_verdict = c.beginning.ensures.set_verdict; all_ports = c.beginning.ensures.all_ports; send = c.beginning.ensures.send; receive = c.beginning.ensures.receive; control = c.beginning.ensures.control } in
+    handed_seen hidden c.from_residual.result _ _ c.from_residual.ensures.1
+    (elim (action_seen hidden c.args.left x more _ c.beginning.result begins.Send says c.beginning.ensures.of_port c.in-Send.is right deep ends could) [
+      | inl untold ↦ port_stuck hidden c.args.self.now _ untold c.in_err-send-in-Send.ensures.beyond c.in_err-send-in-Send.ensures.beyond_name
+          c.in_err-send-in-Send.ensures.beyond_dot
+      | inr b ↦ c.in_err-send-in-Send.ensures.reads_seen hidden b.0 more b.1.0 b.1.1 b.1.2 b.2
+    ])
+
+pub action-returns-in_ok-send-in-Send-clause-reads_seen : goal.action-returns-in_ok-send-in-Send-clause-reads_seen
+action-returns-in_ok-send-in-Send-clause-reads_seen t c =
+    λ hidden x more right deep ends could.
+    let says : Says c.args.self.now.rest.now c.beginning.result = record { alt = c.beginning.ensures.alt; for_loop = c.beginning.ensures.for_loop; set_verdict = c.beginning.ensures.set_verdict; all_ports = c.beginning.ensures.all_ports; send = c.beginning.ensures.send; receive = c.beginning.ensures.receive; control = c.beginning.ensures.control } in
+    elim (action_seen hidden c.args.left x more _ c.beginning.result begins.Send says c.beginning.ensures.of_port c.in-Send.is right deep ends could) [
+      | inl untold ↦ port_passed hidden c.args.self.now.rest.now _ more untold (omega
+          (arith, c.in_ok-send-in-Send.ensures.shorter)) c.in_ok-send-in-Send.ensures.beyond_name c.in_ok-send-in-Send.ensures.beyond_dot
+      | inr b ↦ c.in_ok-send-in-Send.ensures.reads_seen hidden b.0 more b.1.0 b.1.1 b.1.2 b.2
+    ]
+
+pub action-returns-in_err-send-in-Send-clause-beyond_start : goal.action-returns-in_err-send-in-Send-clause-beyond_start
+action-returns-in_err-send-in-Send-clause-beyond_start t c =
+    λ is dot start. absurd (other_way _ begins.Control begins.Send (c.beginning.ensures.control port_operation.Start is start) c.in-Send.is (λ same. cc same))
+
+pub action-returns-in_ok-send-in-Send-clause-beyond_start : goal.action-returns-in_ok-send-in-Send-clause-beyond_start
+action-returns-in_ok-send-in-Send-clause-beyond_start t c =
+    λ is dot start. absurd (other_way _ begins.Control begins.Send (c.beginning.ensures.control port_operation.Start is start) c.in-Send.is (λ same. cc same))
+
+pub action-returns-in_err-receive-in-Receive-clause-reads_seen : goal.action-returns-in_err-receive-in-Receive-clause-reads_seen
+action-returns-in_err-receive-in-Receive-clause-reads_seen t c =
+    λ hidden x more right deep ends could.
+    let says : Says c.args.self.now.rest.now c.beginning.result = record { alt = c.beginning.ensures.alt; for_loop = c.beginning.ensures.for_loop; set_verdict = c.beginning.ensures.set_verdict; all_ports = c.beginning.ensures.all_ports; send = c.beginning.ensures.send; receive = c.beginning.ensures.receive; control = c.beginning.ensures.control } in
+    handed_seen hidden c.from_residual-in_err-receive-in-Receive.result _ _ c.from_residual-in_err-receive-in-Receive.ensures.1
+    (elim (action_seen hidden c.args.left x more _ c.beginning.result begins.Receive says c.beginning.ensures.of_port c.in-Receive.is right deep ends could) [
+      | inl untold ↦ port_stuck hidden c.args.self.now _ untold c.in_err-receive-in-Receive.ensures.beyond c.in_err-receive-in-Receive.ensures.beyond_name
+          c.in_err-receive-in-Receive.ensures.beyond_dot
+      | inr b ↦ c.in_err-receive-in-Receive.ensures.reads_seen hidden b.0 more b.1.0 b.1.1 b.1.2 b.2
+    ])
+
+pub action-returns-in_ok-receive-in-Receive-clause-reads_seen : goal.action-returns-in_ok-receive-in-Receive-clause-reads_seen
+action-returns-in_ok-receive-in-Receive-clause-reads_seen t c =
+    λ hidden x more right deep ends could.
+    let says : Says c.args.self.now.rest.now c.beginning.result = record { alt = c.beginning.ensures.alt; for_loop = c.beginning.ensures.for_loop; set_verdict = c.beginning.ensures.set_verdict; all_ports = c.beginning.ensures.all_ports; send = c.beginning.ensures.send; receive = c.beginning.ensures.receive; control = c.beginning.ensures.control } in
+    elim (action_seen hidden c.args.left x more _ c.beginning.result begins.Receive says c.beginning.ensures.of_port c.in-Receive.is right deep ends could) [
+      | inl untold ↦ port_passed hidden c.args.self.now.rest.now _ more untold (omega
+          (arith, c.in_ok-receive-in-Receive.ensures.shorter)) c.in_ok-receive-in-Receive.ensures.beyond_name c.in_ok-receive-in-Receive.ensures.beyond_dot
+      | inr b ↦ c.in_ok-receive-in-Receive.ensures.reads_seen hidden b.0 more b.1.0 b.1.1 b.1.2 b.2
+    ]
+
+pub action-returns-in_err-receive-in-Receive-clause-beyond_start : goal.action-returns-in_err-receive-in-Receive-clause-beyond_start
+action-returns-in_err-receive-in-Receive-clause-beyond_start t c =
+    λ is dot start. absurd (other_way _ begins.Control begins.Receive (c.beginning.ensures.control port_operation.Start is start) c.in-Receive.is
+    (λ same. cc same))
+
+pub action-returns-in_ok-receive-in-Receive-clause-beyond_start : goal.action-returns-in_ok-receive-in-Receive-clause-beyond_start
+action-returns-in_ok-receive-in-Receive-clause-beyond_start t c =
+    λ is dot start. absurd (other_way _ begins.Control begins.Receive (c.beginning.ensures.control port_operation.Start is start) c.in-Receive.is
+    (λ same. cc same))
+
+pub action-returns-in_err-control-in-Control-clause-reads_seen : goal.action-returns-in_err-control-in-Control-clause-reads_seen
+action-returns-in_err-control-in-Control-clause-reads_seen t c =
+    λ hidden x more right deep ends could.
+    let says : Says c.args.self.now.rest.now c.beginning.result = record { alt = c.beginning.ensures.alt; for_loop = c.beginning.ensures.for_loop; set_verdict = c.beginning.ensures.set_verdict; all_ports = c.beginning.ensures.all_ports; send = c.beginning.ensures.send; receive = c.beginning.ensures.receive; control = c.beginning.ensures.control } in
+    handed_seen hidden c.from_residual-in_err-control-in-Control.result _ _ c.from_residual-in_err-control-in-Control.ensures.1
+    (elim (action_seen hidden c.args.left x more _ c.beginning.result begins.Control says c.beginning.ensures.of_port c.in-Control.is right deep ends could) [
+      | inl untold ↦ port_stuck hidden c.args.self.now _ untold c.in_err-control-in-Control.ensures.beyond c.in_err-control-in-Control.ensures.beyond_name
+          c.in_err-control-in-Control.ensures.beyond_dot
+      | inr b ↦ c.in_err-control-in-Control.ensures.reads_seen hidden b.0 more b.1
+    ])
+
+pub action-returns-in_ok-control-in-Control-clause-reads_seen : goal.action-returns-in_ok-control-in-Control-clause-reads_seen
+action-returns-in_ok-control-in-Control-clause-reads_seen t c =
+    λ hidden x more right deep ends could.
+    let says : Says c.args.self.now.rest.now c.beginning.result = record { alt = c.beginning.ensures.alt; for_loop = c.beginning.ensures.for_loop; set_verdict = c.beginning.ensures.set_verdict; all_ports = c.beginning.ensures.all_ports; send = c.beginning.ensures.send; receive = c.beginning.ensures.receive; control = c.beginning.ensures.control } in
+    elim (action_seen hidden c.args.left x more _ c.beginning.result begins.Control says c.beginning.ensures.of_port c.in-Control.is right deep ends could) [
+      | inl untold ↦ port_passed hidden c.args.self.now.rest.now _ more untold (omega
+          (arith, c.in_ok-control-in-Control.ensures.shorter)) c.in_ok-control-in-Control.ensures.beyond_name c.in_ok-control-in-Control.ensures.beyond_dot
+      | inr b ↦ c.in_ok-control-in-Control.ensures.reads_seen hidden b.0 more b.1
+    ]
+
+pub action-returns-in_err-operation-in-AllPorts-clause-reads_seen : goal.action-returns-in_err-operation-in-AllPorts-clause-reads_seen
+action-returns-in_err-operation-in-AllPorts-clause-reads_seen t c =
+    λ hidden x more right deep ends could.
+    let says : Says c.args.self.now.rest.now c.beginning.result = record { alt = c.beginning.ensures.alt; for_loop = c.beginning.ensures.for_loop; set_verdict = c.beginning.ensures.set_verdict; all_ports = c.beginning.ensures.all_ports; send = c.beginning.ensures.send; receive = c.beginning.ensures.receive; control = c.beginning.ensures.control } in
+    handed_seen hidden c.from_residual-in_err-operation-in-AllPorts.result _ _ c.from_residual-in_err-operation-in-AllPorts.ensures.1
+    (elim (action_seen hidden c.args.left x more _ c.beginning.result begins.AllPorts says c.beginning.ensures.of_port c.in-AllPorts.is right deep ends could) [
+      | inl untold ↦ let h : AllHidden hidden c.args.self.now.rest.now = untold in
+          stands_hidden hidden 0 c.args.self.now _ (omega arith) c.in_err-operation-in-AllPorts.ensures.beyond
+      | inr b ↦ c.in_err-operation-in-AllPorts.ensures.reads_seen hidden b.0 more b.1
+    ])
+
+pub action-returns-in_ok-operation-in-AllPorts-clause-reads_seen : goal.action-returns-in_ok-operation-in-AllPorts-clause-reads_seen
+action-returns-in_ok-operation-in-AllPorts-clause-reads_seen t c =
+    λ hidden x more right deep ends could.
+    let says : Says c.args.self.now.rest.now c.beginning.result = record { alt = c.beginning.ensures.alt; for_loop = c.beginning.ensures.for_loop; set_verdict = c.beginning.ensures.set_verdict; all_ports = c.beginning.ensures.all_ports; send = c.beginning.ensures.send; receive = c.beginning.ensures.receive; control = c.beginning.ensures.control } in
+    elim (action_seen hidden c.args.left x more _ c.beginning.result begins.AllPorts says c.beginning.ensures.of_port c.in-AllPorts.is right deep ends could) [
+      | inl untold ↦ let h : AllHidden hidden c.args.self.now.rest.now = untold in hidden_could (omega (arith, c.in_ok-operation-in-AllPorts.ensures.shorter))
+      | inr b ↦ c.in_ok-operation-in-AllPorts.ensures.reads_seen hidden b.0 more b.1
+    ]
+
+pub action-returns-in_err-verdict-in-SetVerdict-clause-reads_seen : goal.action-returns-in_err-verdict-in-SetVerdict-clause-reads_seen
+action-returns-in_err-verdict-in-SetVerdict-clause-reads_seen t c =
+    λ hidden x more right deep ends could.
+    let says : Says c.args.self.now.rest.now c.beginning.result = record { alt = c.beginning.ensures.alt; for_loop = c.beginning.ensures.for_loop; set_verdict = c.beginning.ensures.set_verdict; all_ports = c.beginning.ensures.all_ports; send = c.beginning.ensures.send; receive = c.beginning.ensures.receive; control = c.beginning.ensures.control } in
+    handed_seen hidden c.from_residual-in_err-verdict-in-SetVerdict.result _ _ c.from_residual-in_err-verdict-in-SetVerdict.ensures.1
+    (elim (action_seen hidden c.args.left x more _ c.beginning.result begins.SetVerdict says c.beginning.ensures.of_port c.in-SetVerdict.is right deep ends
+    could) [
+      | inl untold ↦ let h : AllHidden hidden c.args.self.now.rest.now = untold in
+          stands_hidden hidden 0 c.args.self.now _ (omega arith) c.in_err-verdict-in-SetVerdict.ensures.beyond
+      | inr b ↦ c.in_err-verdict-in-SetVerdict.ensures.reads_seen hidden b.0 more b.1 b.2
+    ])
+
+pub action-returns-in_ok-verdict-in-SetVerdict-clause-reads_seen : goal.action-returns-in_ok-verdict-in-SetVerdict-clause-reads_seen
+action-returns-in_ok-verdict-in-SetVerdict-clause-reads_seen t c =
+    λ hidden x more right deep ends could.
+    let says : Says c.args.self.now.rest.now c.beginning.result = record { alt = c.beginning.ensures.alt; for_loop = c.beginning.ensures.for_loop; set_verdict = c.beginning.ensures.set_verdict; all_ports = c.beginning.ensures.all_ports; send = c.beginning.ensures.send; receive = c.beginning.ensures.receive; control = c.beginning.ensures.control } in
+    elim (action_seen hidden c.args.left x more _ c.beginning.result begins.SetVerdict says c.beginning.ensures.of_port c.in-SetVerdict.is right deep ends
+    could) [
+      | inl untold ↦ let h : AllHidden hidden c.args.self.now.rest.now = untold in hidden_could (omega (arith, c.in_ok-verdict-in-SetVerdict.ensures.shorter))
+      | inr b ↦ c.in_ok-verdict-in-SetVerdict.ensures.reads_seen hidden b.0 more b.1 b.2
+    ]
+
+pub action-returns-in_err-counted-in-For-clause-reads_seen : goal.action-returns-in_err-counted-in-For-clause-reads_seen
+action-returns-in_err-counted-in-For-clause-reads_seen t c =
+    λ hidden x more right deep ends could.
+    let says : Says c.args.self.now.rest.now c.beginning.result = record { alt = c.beginning.ensures.alt; for_loop = c.beginning.ensures.for_loop; set_verdict = c.beginning.ensures.set_verdict; all_ports = c.beginning.ensures.all_ports; send = c.beginning.ensures.send; receive = c.beginning.ensures.receive; control = c.beginning.ensures.control } in
+    handed_seen hidden c.from_residual-in_err-counted-in-For.result _ _ c.from_residual-in_err-counted-in-For.ensures.1
+    (elim (action_seen hidden c.args.left x more _ c.beginning.result begins.For says c.beginning.ensures.of_port c.in-For.is right deep ends could) [
+      | inl untold ↦ let h : AllHidden hidden c.args.self.now.rest.now = untold in
+          stands_hidden hidden 0 c.args.self.now _ (omega arith) c.in_err-counted-in-For.ensures.beyond
+      | inr b ↦ c.in_err-counted-in-For.ensures.reads_seen hidden b.0 more b.1.0 b.1.1 b.2
+    ])
+
+pub action-returns-in_ok-counted-in-For-clause-reads_seen : goal.action-returns-in_ok-counted-in-For-clause-reads_seen
+action-returns-in_ok-counted-in-For-clause-reads_seen t c =
+    λ hidden x more right deep ends could.
+    let says : Says c.args.self.now.rest.now c.beginning.result = record { alt = c.beginning.ensures.alt; for_loop = c.beginning.ensures.for_loop; set_verdict = c.beginning.ensures.set_verdict; all_ports = c.beginning.ensures.all_ports; send = c.beginning.ensures.send; receive = c.beginning.ensures.receive; control = c.beginning.ensures.control } in
+    elim (action_seen hidden c.args.left x more _ c.beginning.result begins.For says c.beginning.ensures.of_port c.in-For.is right deep ends could) [
+      | inl untold ↦ let h : AllHidden hidden c.args.self.now.rest.now = untold in hidden_could (omega (arith, c.in_ok-counted-in-For.ensures.shorter))
+      | inr b ↦ c.in_ok-counted-in-For.ensures.reads_seen hidden b.0 more b.1.0 b.1.1 b.2
+    ]
+
+pub action-returns-in-Alt-clause-reads_seen : goal.action-returns-in-Alt-clause-reads_seen
+action-returns-in-Alt-clause-reads_seen t c =
+    λ hidden x more right deep ends could.
+    let says : Says c.args.self.now.rest.now c.beginning.result = record { alt = c.beginning.ensures.alt; for_loop = c.beginning.ensures.for_loop; set_verdict = c.beginning.ensures.set_verdict; all_ports = c.beginning.ensures.all_ports; send = c.beginning.ensures.send; receive = c.beginning.ensures.receive; control = c.beginning.ensures.control } in
+    elim (action_seen hidden c.args.left x more _ c.beginning.result begins.Alt says c.beginning.ensures.of_port c.in-Alt.is right deep ends could) [
+      | inl untold ↦ hidden_result hidden c.args.self.now c.alt.new.self c.alt.result more untold c.alt.ensures.beyond
+      | inr b ↦ c.alt.ensures.reads_seen hidden b.0 b.1 more b.2.0 b.2.1 b.2.2 b.3
+    ]

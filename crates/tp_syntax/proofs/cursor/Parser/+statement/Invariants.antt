@@ -1,11 +1,16 @@
 -- The tokens passed are those read so far, no deeper than allowed; a bracket leaves one fewer.
-use Rattle.std.proofs.Common.{◌≡◌, ◌+◌, ◌*◌, ◌≤◌, ◌++◌, length, List, true, false, map}
-use Rattle.tp_syntax.specs.Ahead.{ahead}
+use Rattle.std.proofs.Common.{◌≡◌, ℕ, Some, [], ◌+◌, ◌*◌, ◌≤◌, ◌++◌, length, List, true, false, map}
+use Rattle.tp_syntax.specs.Ahead.{ahead, is_name_in, token_at}
+use Rattle.tp_syntax.specs.HiddenTokens.{CouldBe}
+use Rattle.tp_syntax.proofs.StandingTokens.{IsSameOrBeyond}
+use Rattle.tp_syntax.proofs.PartsInOrderSeen.{RemainAllSeen}
+use Rattle.tp_token.specs.declared.token.Symbol.TheVariants.{Dot}
+use Rattle.tp_token.specs.declared.word.Word.TheVariants.{Start}
 use Rattle.tp_syntax.specs.Statements.{statements_lexemes, branches_lexemes, statement_lexemes, branch_lexemes}
 use Rattle.tp_syntax.specs.Grammar.{branches_parts, statements_parts, statement_part, branch_part}
 use Rattle.tp_syntax.specs.Standing.{GoesOver}
 use Rattle.tp_syntax.specs.Nesting.{branches_depth, statements_depth, statement_depth, branch_depth}
-use Rattle.tp_token.specs.Lexeme.{Lexeme}
+use Rattle.tp_token.specs.Lexeme.{Lexeme, symbol, word}
 use Rattle.tp_syntax.specs.Reading.{AllStand, is_end_ahead, is_branch_ahead}
 use Rattle.tp_syntax.proofs.PartsLeftToRead.{RemainAll}
 use Rattle.tp_tree.specs.declared.tree.Statement.{Statement}
@@ -51,6 +56,11 @@ invariant-statements-more l = record {
   grammatical : GoesOver l.fn.self (statements_parts l.statements.items) l.self;
   reads : (xs : List Statement) (more : List Lexeme) → AllStand (statements_parts xs) more → statements_depth xs ≤ l.left → is_end_ahead l.is_case more ≡ true → ahead l.fn.self.rest.now ≡ statements_lexemes xs ++ more
       → RemainAll statement_lexemes statement_part (λ x. statement_depth x ≤ l.left) more (ahead l.self.rest.now);
+  seen : (hidden : ℕ) (xs : List Statement) (more : List Lexeme) → AllStand (statements_parts xs) more → statements_depth xs ≤ l.left → is_end_ahead l.is_case more ≡ true → CouldBe hidden l.fn.self.rest.now (statements_lexemes xs ++ more)
+      → RemainAllSeen statement_lexemes statement_part (λ x. statement_depth x ≤ l.left) hidden more l.self.rest.now;
+  beyond_name : is_name_in (token_at l.fn.self.rest.now 0) ≡ true → IsSameOrBeyond 1 l.fn.self l.self;
+  beyond_dot : is_name_in (token_at l.fn.self.rest.now 0) ≡ true → token_at l.fn.self.rest.now 1 ≡ Some (symbol Dot) → IsSameOrBeyond 2 l.fn.self l.self;
+  beyond_start : is_name_in (token_at l.fn.self.rest.now 0) ≡ true → token_at l.fn.self.rest.now 1 ≡ Some (symbol Dot) → token_at l.fn.self.rest.now 2 ≡ Some (word Start) → IsSameOrBeyond 3 l.fn.self l.self;
   shorter : length l.self.rest.now ≤ length l.fn.self.rest.now;
   lines : PassesNoted l.fn.self.rest.now (noted_in_order (map statement_notes l.statements.items)) l.self.rest.now;
 }
@@ -65,6 +75,9 @@ invariant-branches-more l = record {
   grammatical : GoesOver l.fn.self (branches_parts l.branches.items) l.self;
   reads : (xs : List Branch) (more : List Lexeme) → AllStand (branches_parts xs) more → branches_depth xs ≤ l.left → is_branch_ahead more ≡ false → ahead l.fn.self.rest.now ≡ branches_lexemes xs ++ more
       → RemainAll branch_lexemes branch_part (λ x. branch_depth x ≤ l.left) more (ahead l.self.rest.now);
+  seen : (hidden : ℕ) (xs : List Branch) (more : List Lexeme) → AllStand (branches_parts xs) more → branches_depth xs ≤ l.left → is_branch_ahead more ≡ false → CouldBe hidden l.fn.self.rest.now (branches_lexemes xs ++ more)
+      → RemainAllSeen branch_lexemes branch_part (λ x. branch_depth x ≤ l.left) hidden more l.self.rest.now;
+  none : l.branches.items ≡ [] → l.self ≡ l.fn.self;
   shorter : length l.self.rest.now ≤ length l.fn.self.rest.now;
   lines : PassesNoted l.fn.self.rest.now (noted_in_order (map branch_notes l.branches.items)) l.self.rest.now;
 }

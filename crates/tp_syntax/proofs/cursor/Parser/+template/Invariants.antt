@@ -1,13 +1,15 @@
 -- The tokens passed are those read so far, no deeper than allowed; a bracket leaves one fewer.
-use Rattle.std.proofs.Common.{◌≡◌, true, ◌+◌, ◌*◌, ◌<◌, ◌≤◌, ◌++◌, length, map, List}
+use Rattle.std.proofs.Common.{◌≡◌, ℕ, true, ◌+◌, ◌*◌, ◌<◌, ◌≤◌, ◌++◌, length, map, List}
 use Rattle.tp_syntax.specs.Ahead.{ahead}
 use Rattle.tp_syntax.specs.Sequences.{by_commas}
 use Rattle.tp_syntax.specs.Templates.{template_lexemes, template_field_lexemes}
 use Rattle.tp_syntax.specs.Grammar.{one_and_each, is_template, is_template_field}
 use Rattle.tp_syntax.specs.Nesting.{deepest, template_depth, template_field_depth}
 use Rattle.tp_token.specs.Lexeme.{Lexeme}
-use Rattle.tp_syntax.specs.Reading.{Stops}
+use Rattle.tp_syntax.specs.Reading.{IsField, Stops}
+use Rattle.tp_syntax.specs.HiddenTokens.{CouldBe}
 use Rattle.tp_syntax.proofs.PartsLeftToRead.{Remain}
+use Rattle.tp_syntax.proofs.PartsLeftSeen.{RemainSeen}
 use Rattle.tp_tree.specs.declared.message.Template.{Template}
 use Rattle.tp_tree.specs.declared.message.TemplateField.{TemplateField}
 use Rattle.tp_syntax.specs.Forward.{GoesForward}
@@ -42,6 +44,8 @@ invariant-templates-more l = record {
   some : 0 < length l.templates.items;
   reads : (xs : List Template) (more : List Lexeme) → one_and_each (map is_template xs) ≡ true → deepest (map template_depth xs) ≤ l.left → Stops more → ahead l.fn.self.rest.now ≡ by_commas (map template_lexemes xs) ++ more
       → Remain template_lexemes (λ x. (is_template x ≡ true) × (template_depth x ≤ l.left)) more (ahead l.self.rest.now);
+  seen : (hidden : ℕ) (xs : List Template) (more : List Lexeme) → one_and_each (map is_template xs) ≡ true → deepest (map template_depth xs) ≤ l.left → Stops more
+      → CouldBe hidden l.fn.self.rest.now (by_commas (map template_lexemes xs) ++ more) → RemainSeen template_lexemes (λ x. (is_template x ≡ true) × (template_depth x ≤ l.left)) hidden more l.self.rest.now;
   shorter : length l.self.rest.now < length l.fn.self.rest.now;
   forward : GoesForward l.fn.self l.self;
 }
@@ -57,6 +61,9 @@ invariant-template_fields-more l = record {
   some : 0 < length l.fields.items;
   reads : (xs : List TemplateField) (more : List Lexeme) → one_and_each (map is_template_field xs) ≡ true → deepest (map template_field_depth xs) ≤ l.left → Stops more → ahead l.fn.self.rest.now ≡ by_commas (map template_field_lexemes xs) ++ more
       → Remain template_field_lexemes (λ x. (is_template_field x ≡ true) × (template_field_depth x ≤ l.left)) more (ahead l.self.rest.now);
+  seen : (hidden : ℕ) (xs : List TemplateField) (more : List Lexeme) → one_and_each (map is_template_field xs) ≡ true → deepest (map template_field_depth xs) ≤ l.left → Stops more
+      → CouldBe hidden l.fn.self.rest.now (by_commas (map template_field_lexemes xs) ++ more) → RemainSeen template_field_lexemes (λ x. (is_template_field x ≡ true) × (template_field_depth x ≤ l.left)) hidden more l.self.rest.now;
+  beyond : IsField l.fn.self.rest.now → 2 + length l.self.rest.now ≤ length l.fn.self.rest.now;
   shorter : length l.self.rest.now < length l.fn.self.rest.now;
   forward : GoesForward l.fn.self l.self;
 }

@@ -1,13 +1,15 @@
 -- The tokens passed are those read so far, no deeper than allowed; a bracket leaves one fewer.
-use Rattle.std.proofs.Common.{◌≡◌, true, ◌+◌, ◌*◌, ◌<◌, ◌≤◌, ◌++◌, length, map, List}
+use Rattle.std.proofs.Common.{◌≡◌, ℕ, true, ◌+◌, ◌*◌, ◌<◌, ◌≤◌, ◌++◌, length, map, List}
 use Rattle.tp_syntax.specs.Ahead.{ahead}
 use Rattle.tp_syntax.specs.Sequences.{by_commas}
 use Rattle.tp_syntax.specs.Values.{value_lexemes, value_field_lexemes}
 use Rattle.tp_syntax.specs.Grammar.{one_and_each, is_value, is_value_field}
 use Rattle.tp_syntax.specs.Nesting.{deepest, value_depth, value_field_depth}
 use Rattle.tp_token.specs.Lexeme.{Lexeme}
-use Rattle.tp_syntax.specs.Reading.{Stops}
+use Rattle.tp_syntax.specs.Reading.{IsField, Stops}
+use Rattle.tp_syntax.specs.HiddenTokens.{CouldBe}
 use Rattle.tp_syntax.proofs.PartsLeftToRead.{Remain}
+use Rattle.tp_syntax.proofs.PartsLeftSeen.{RemainSeen}
 use Rattle.tp_tree.specs.declared.message.Value.{Value}
 use Rattle.tp_tree.specs.declared.message.ValueField.{ValueField}
 use Rattle.tp_syntax.specs.Forward.{GoesForward}
@@ -36,6 +38,8 @@ invariant-values-more l = record {
   some : 0 < length l.values.items;
   reads : (xs : List Value) (more : List Lexeme) → one_and_each (map is_value xs) ≡ true → deepest (map value_depth xs) ≤ l.left → Stops more → ahead l.fn.self.rest.now ≡ by_commas (map value_lexemes xs) ++ more
       → Remain value_lexemes (λ x. (is_value x ≡ true) × (value_depth x ≤ l.left)) more (ahead l.self.rest.now);
+  seen : (hidden : ℕ) (xs : List Value) (more : List Lexeme) → one_and_each (map is_value xs) ≡ true → deepest (map value_depth xs) ≤ l.left → Stops more
+      → CouldBe hidden l.fn.self.rest.now (by_commas (map value_lexemes xs) ++ more) → RemainSeen value_lexemes (λ x. (is_value x ≡ true) × (value_depth x ≤ l.left)) hidden more l.self.rest.now;
   shorter : length l.self.rest.now < length l.fn.self.rest.now;
   forward : GoesForward l.fn.self l.self;
 }
@@ -51,6 +55,9 @@ invariant-value_fields-more l = record {
   some : 0 < length l.fields.items;
   reads : (xs : List ValueField) (more : List Lexeme) → one_and_each (map is_value_field xs) ≡ true → deepest (map value_field_depth xs) ≤ l.left → Stops more → ahead l.fn.self.rest.now ≡ by_commas (map value_field_lexemes xs) ++ more
       → Remain value_field_lexemes (λ x. (is_value_field x ≡ true) × (value_field_depth x ≤ l.left)) more (ahead l.self.rest.now);
+  seen : (hidden : ℕ) (xs : List ValueField) (more : List Lexeme) → one_and_each (map is_value_field xs) ≡ true → deepest (map value_field_depth xs) ≤ l.left → Stops more
+      → CouldBe hidden l.fn.self.rest.now (by_commas (map value_field_lexemes xs) ++ more) → RemainSeen value_field_lexemes (λ x. (is_value_field x ≡ true) × (value_field_depth x ≤ l.left)) hidden more l.self.rest.now;
+  beyond : IsField l.fn.self.rest.now → 2 + length l.self.rest.now ≤ length l.fn.self.rest.now;
   shorter : length l.self.rest.now < length l.fn.self.rest.now;
   forward : GoesForward l.fn.self l.self;
 }

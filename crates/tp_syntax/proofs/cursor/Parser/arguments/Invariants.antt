@@ -1,10 +1,12 @@
 -- The tokens passed are those of the arguments so far, of which there is one at least.
-use Rattle.std.proofs.Common.{◌≡◌, ◌<◌, ◌++◌, length, List, Some}
+use Rattle.std.proofs.Common.{ℕ, ◌≡◌, ◌<◌, ◌++◌, length, List, Some}
 use Rattle.tp_syntax.specs.Ahead.{ahead}
 use Rattle.tp_syntax.specs.Definitions.{arguments_lexemes}
 use Rattle.tp_token.specs.Lexeme.{Lexeme, symbol}
 use Rattle.tp_syntax.specs.Reading.{first}
 use Rattle.tp_syntax.proofs.PartsLeftToRead.{Remain}
+use Rattle.tp_syntax.proofs.PartsLeftSeen.{RemainSeen}
+use Rattle.tp_syntax.specs.HiddenTokens.{CouldBe}
 use Rattle.tp_tree.specs.declared.tree.ComponentName.{ComponentName}
 use Rattle.tp_token.specs.declared.token.Symbol.TheVariants.{RightParen}
 use Rattle.tp_syntax.specs.Statements.{component_lexemes}
@@ -19,6 +21,8 @@ invariant-more l = record {
       → Remain component_lexemes (λ _. Unit {0}) more (ahead l.self.rest.now);
   shorter : length l.self.rest.now < length l.fn.self.rest.now;
   forward : GoesForward l.fn.self l.self;
+  seen : (hidden : ℕ) (xs : List ComponentName) (more : List Lexeme) → first more ≡ Some (symbol RightParen) → CouldBe hidden l.fn.self.rest.now (arguments_lexemes xs ++ more)
+      → RemainSeen component_lexemes (λ _. Unit {0}) hidden more l.self.rest.now;
 }
 
 abbrev pub decreases-more : goal.decreases-more

@@ -1,5 +1,7 @@
 -- One more definition is read behind the others, and nests no deeper than allowed.
-use Rattle.std.proofs.Common.{arith, sym, subst, ap, ◌∙◌, rules, ◌≤◌}
+use Rattle.std.proofs.Common.{inl, inr, arith, refl, sym, subst, ap, ◌∙◌, rules, ◌≤◌}
+use Rattle.tp_token.specs.declared.token.Symbol.TheVariants.{RightBrace}
+use Rattle.tp_token.specs.Lexeme.{symbol}
 use Rattle.tp_syntax.specs.Definitions.{definition_lexemes}
 use Rattle.tp_syntax.specs.Grammar.{definition_part}
 use Rattle.tp_syntax.proofs.ReadSequenceGrowth.{push_read_all}
@@ -12,6 +14,10 @@ use Rattle.std.proofs.lemmas.Grind.{common_steps}
 use Rattle.tp_syntax.proofs.FirstTokensAhead.{handed, brace_at, brace_first}
 use Rattle.tp_syntax.proofs.PartsLeftToRead.{RemainAll, all_next, all_last, no_brace, all_deep}
 use Rattle.tp_syntax.proofs.FirstTokensOfParts.{definition_begins}
+use Rattle.tp_syntax.proofs.FirstTokensSeen.{handed_seen}
+use Rattle.tp_syntax.proofs.PartsEndSeen.{closed_all_seen, next_or_hidden}
+use Rattle.tp_syntax.proofs.PartsInOrderSeen.{none_left_seen}
+use Rattle.tp_syntax.proofs.TokensBeyond.{hidden_stuck}
 use Rattle.tp_syntax.specs.Reading.{first}
 use Rattle.tp_syntax.specs.Lines.{definition_notes}
 use Rattle.tp_syntax.proofs.LinesOfPassedTokens.{passes_none, passes_push}
@@ -32,6 +38,11 @@ more-preserved c = record {
   shorter = omega (arith, c.more.invariant.shorter, c.in_ok-definition.ensures.shorter);
   lines = rw c.in_ok-push.ensures.items
       (passes_push definition_notes c.more.definitions.items c.in_ok-definition.definition c.more.invariant.lines c.in_ok-definition.ensures.lines);
+  seen = λ hidden xs more stand deep brace could.
+      elim (next_or_hidden definition_lexemes definition_part (λ x. defined_depth x.defined ≤ c.args.left) hidden (symbol RightBrace) more _ refl brace definition_begins (iff_false c.is_symbol_at.ensures c.more-test.true) (c.more.invariant.seen hidden xs more stand deep brace could)) [
+        | inl n ↦ (n.2, n.3, n.4, c.in_ok-definition.ensures.reads_seen hidden n.0 _ n.5 n.1 n.6)
+        | inr h ↦ none_left_seen definition_lexemes definition_part (λ x. defined_depth x.defined ≤ c.args.left) hidden more _ (omega (arith, h, c.in_ok-definition.ensures.shorter))
+      ];
 }
 
 pub more-init : goal.more-init
@@ -40,6 +51,7 @@ more-init c = record {
   nested = first_of (search rules, grind (arith, common_steps));
   grammatical = rw c.new-definitions.ensures.items (between_none _);
   reads = λ xs more stand deep brace e. (xs, all_deep _ c.args.left xs deep, stand, e);
+  seen = λ hidden xs more stand deep brace could. (xs, all_deep _ c.args.left xs deep, stand, could);
   shorter = first_of (search rules, grind (arith, common_steps));
   lines = rw c.new-definitions.ensures.items (passes_none _);
 }
@@ -53,3 +65,17 @@ returns-in_err-definition-clause-reads c =
 pub returns-clause-reads : goal.returns-clause-reads
 returns-clause-reads c =
     λ xs more stand deep brace e. all_last definition_lexemes definition_part (λ x. defined_depth x.defined ≤ c.args.left) more _ (c.more.invariant.reads xs more stand deep brace e) (λ y r same. no_brace _ (definition_begins y r) (ap first (sym same) ∙ brace_first _ (c.is_symbol_at.ensures.0 c.more-test.false)))
+
+pub returns-in_err-definition-clause-reads_seen : goal.returns-in_err-definition-clause-reads_seen
+returns-in_err-definition-clause-reads_seen c =
+    λ hidden xs more stand deep brace could.
+    elim (next_or_hidden definition_lexemes definition_part (λ x. defined_depth x.defined ≤ c.args.left) hidden (symbol RightBrace) more _ refl brace definition_begins (iff_false c.is_symbol_at.ensures c.more-test.true) (c.more.invariant.seen hidden xs more stand deep brace could)) [
+      | inl n ↦ handed_seen hidden c.from_residual.result _ _ c.from_residual.ensures.1 (c.in_err-definition.ensures.reads_seen hidden n.0 _ n.5 n.1 n.6)
+      | inr h ↦ handed_seen hidden c.from_residual.result _ _ c.from_residual.ensures.1 (hidden_stuck hidden c.more.self _ h c.in_err-definition.ensures.beyond)
+    ]
+
+pub returns-clause-reads_seen : goal.returns-clause-reads_seen
+returns-clause-reads_seen c =
+    λ hidden xs more stand deep brace could.
+    closed_all_seen definition_lexemes definition_part (λ x. defined_depth x.defined ≤ c.args.left) hidden more _ (c.is_symbol_at.ensures.0 c.more-test.false) definition_begins
+    (c.more.invariant.seen hidden xs more stand deep brace could)

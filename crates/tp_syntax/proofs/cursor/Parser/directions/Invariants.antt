@@ -1,5 +1,5 @@
 -- The tokens passed are those of the ways through the port so far.
-use Rattle.std.proofs.Common.{◌≡◌, ◌≤◌, ◌++◌, length, map, List, Some}
+use Rattle.std.proofs.Common.{◌≡◌, ℕ, [], ◌≤◌, ◌++◌, length, map, List, Some}
 use Rattle.tp_syntax.specs.Ahead.{ahead}
 use Rattle.tp_syntax.specs.Definitions.{directions_lexemes, direction_lexemes}
 use Rattle.tp_syntax.specs.Grammar.{direction_part}
@@ -10,6 +10,8 @@ use Rattle.tp_syntax.proofs.PartsLeftToRead.{RemainAll}
 use Rattle.tp_tree.specs.declared.tree.Direction.{Direction}
 use Rattle.tp_token.specs.declared.token.Symbol.TheVariants.{RightBrace}
 use Rattle.tp_syntax.specs.Forward.{GoesForward}
+use Rattle.tp_syntax.specs.HiddenTokens.{CouldBe}
+use Rattle.tp_syntax.proofs.PartsInOrderSeen.{RemainAllSeen}
 use Rattle.tp_syntax.proofs.cursor.Parser.directions.Given as goal
 
 abbrev pub invariant-more : goal.invariant-more
@@ -18,6 +20,10 @@ invariant-more l = record {
   grammatical : GoesOver l.fn.self (map direction_part l.directions.items) l.self;
   reads : (xs : List Direction) (more : List Lexeme) → AllStand (map direction_part xs) more → first more ≡ Some (symbol RightBrace) → ahead l.fn.self.rest.now ≡ directions_lexemes xs ++ more
       → RemainAll direction_lexemes direction_part (λ _. Unit {0}) more (ahead l.self.rest.now);
+  none : l.directions.items ≡ [] → l.self ≡ l.fn.self;
+  seen : (hidden : ℕ) (xs : List Direction) (more : List Lexeme) → AllStand (map direction_part xs) more → first more ≡ Some (symbol RightBrace) →
+      CouldBe hidden l.fn.self.rest.now (directions_lexemes xs ++ more)
+      → RemainAllSeen direction_lexemes direction_part (λ _. Unit {0}) hidden more l.self.rest.now;
   shorter : length l.self.rest.now ≤ length l.fn.self.rest.now;
   forward : GoesForward l.fn.self l.self;
 }

@@ -1,14 +1,16 @@
 -- A `;` that is missing is missing before a `}`, or where it may.
-use Rattle.std.proofs.Common.{◌≡◌, ◌≢◌, Bool, true, false, ◌||◌, List, ◌++◌, Option, Some, refl, ap, sym, ◌∙◌}
+use Rattle.std.proofs.Common.{inl, inr, ◌∷◌, ℕ, ◌≡◌, ◌≢◌, Bool, true, false, ◌||◌, List, ◌++◌, Option, Some, refl, ap, sym, ◌∙◌}
 use Rattle.std.proofs.lemmas.Bool.{iff_false, false≢true}
 use Rattle.tp_token.specs.declared.token.Placed.{Placed}
 use Rattle.tp_token.specs.declared.token.Symbol.TheVariants.{Semicolon, RightBrace}
 use Rattle.tp_token.specs.Lexeme.{Lexeme, symbol}
 use Rattle.tp_syntax.specs.declared.cursor.Parser.{Parser}
-use Rattle.tp_syntax.specs.Ahead.{ahead, token_at}
+use Rattle.tp_syntax.specs.Ahead.{ahead, lexemes, token_at}
+use Rattle.tp_syntax.specs.HiddenTokens.{AllHidden, CouldBe}
 use Rattle.tp_syntax.specs.Sequences.{end_lexemes}
 use Rattle.tp_syntax.specs.Reading.{first, may_end_before, MayStandBefore}
 use Rattle.tp_syntax.proofs.FirstTokensAhead.{brace_at}
+use Rattle.tp_syntax.proofs.FirstTokensSeen.{hidden_could, next_passed, front_seen, absent_seen, absent_first, shorter_hidden}
 use Rattle.tp_syntax.proofs.cursor.Parser.end.Goals as goal
 
 -- a part that isn't ended stands before a `}`
@@ -28,3 +30,39 @@ returns-clause-reads c =
     absurd (missing c.args.is_closed e _ c.has_symbol.new.self.rest.now more stands same c.if-has_symbol.ensures.other
     (ap (λ (p : Parser). ahead p.rest.now) c.if-has_symbol.ensures.no) c.if-is_closed.false
     (iff_false c.is_symbol_at.ensures c.if-is_symbol_at.false))
+
+seen_missing : (hidden : ℕ) (closed e : Bool) (ps : List Placed) (more : List Lexeme) → MayStandBefore (closed || e) more → (token_at ps 0 ≡ Some (symbol Semicolon) → ⊥)
+    → CouldBe hidden ps (end_lexemes e ++ more) → CouldBe hidden ps more
+seen_missing hidden closed true ps more stands other could = hidden_could (absent_seen hidden ps (symbol Semicolon) more refl could other)
+seen_missing hidden closed false ps more stands other could = could
+
+seen_shut : (hidden : ℕ) (closed e : Bool) (ps : List Placed) (more : List Lexeme) → MayStandBefore (closed || e) more → (token_at ps 0 ≡ Some (symbol Semicolon) → ⊥)
+    → closed ≡ false → (token_at ps 0 ≡ Some (symbol RightBrace) → ⊥) → CouldBe hidden ps (end_lexemes e ++ more) → AllHidden hidden ps
+seen_shut hidden closed true ps more stands other same shut could = absent_seen hidden ps (symbol Semicolon) more refl could other
+seen_shut hidden true false ps more stands other same shut could = absurd (false≢true (sym same))
+seen_shut hidden false false ps more stands other same shut could = absent_first hidden ps (symbol RightBrace) more refl (before_brace (first more) stands) could shut
+
+-- behind a `;` that was passed stands what may
+seen_ended : (hidden : ℕ) (closed e : Bool) (ps rest : List Placed) (more : List Lexeme) → MayStandBefore (closed || e) more → lexemes ps ≡ symbol Semicolon ∷ lexemes rest
+    → CouldBe hidden ps (end_lexemes e ++ more) → CouldBe hidden rest more
+seen_ended hidden closed true ps rest more stands e could = next_passed hidden ps rest _ (symbol Semicolon) more e refl could
+seen_ended hidden closed false ps rest more stands e could =
+    elim (front_seen hidden ps rest (symbol Semicolon) more e refl could) [
+      | inl h ↦ hidden_could (shorter_hidden ps rest (symbol Semicolon) e h)
+      | inr f ↦ absurd (false≢true (ap (λ (ts : List Lexeme). may_end_before (closed || false) (first ts)) (sym f.1) ∙ stands))
+    ]
+
+pub returns-then-has_symbol-clause-reads_seen : goal.returns-then-has_symbol-clause-reads_seen
+returns-then-has_symbol-clause-reads_seen c =
+    λ hidden e more stands could. seen_ended hidden c.args.is_closed e _ _ more stands c.if-has_symbol.ensures.passed could
+
+pub returns-then-is_closed-clause-reads_seen : goal.returns-then-is_closed-clause-reads_seen
+returns-then-is_closed-clause-reads_seen c =
+    λ hidden e more stands could.
+    rw c.if-has_symbol.ensures.no (seen_missing hidden c.args.is_closed e c.args.self.now.rest.now more stands c.if-has_symbol.ensures.absent could)
+
+pub returns-clause-reads_seen : goal.returns-clause-reads_seen
+returns-clause-reads_seen c =
+    λ hidden e more stands could.
+    rw c.if-has_symbol.ensures.no (seen_shut hidden c.args.is_closed e c.args.self.now.rest.now more stands c.if-has_symbol.ensures.absent c.if-is_closed.false
+    (λ at. iff_false c.is_symbol_at.ensures c.if-is_symbol_at.false (ap (λ (p : Parser). token_at p.rest.now 0) c.if-has_symbol.ensures.no ∙ at)) could)

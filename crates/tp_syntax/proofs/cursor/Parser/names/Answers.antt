@@ -1,5 +1,5 @@
 -- One more name of a port is read behind its comma.
-use Rattle.std.proofs.Common.{ap, arith, length-append, sym, subst, rules, string_bytes}
+use Rattle.std.proofs.Common.{ap, arith, length-append, sym, subst, rules, string_bytes, length}
 use Rattle.tp_syntax.specs.Definitions.{declared_name_lexemes}
 use Rattle.tp_syntax.proofs.ReadSequenceGrowth.{push_read}
 use Rattle.std.proofs.lemmas.Grind.{common_steps}
@@ -8,10 +8,19 @@ use Rattle.tp_syntax.proofs.PartsLeftToRead.{Remain, comma_first, comma_next, co
 use Rattle.tp_syntax.specs.declared.cursor.Parser.{Parser}
 use Rattle.tp_syntax.specs.Lines.{declared_name_notes}
 use Rattle.tp_syntax.proofs.LinesOfPassedTokens.{passes_comma, passes_first, passes_one, passes_same}
+use Rattle.tp_syntax.proofs.PartsLeftSeen.{first_part_seen, last_part_seen, next_part_seen}
+use Rattle.tp_syntax.proofs.FirstTokensSeen.{handed_as, handed_seen, same_could}
+use Rattle.tp_syntax.proofs.TokensBeyond.{behind_stands}
+use Rattle.tp_syntax.proofs.PartsEndSeen.{item_of}
+use Rattle.tp_syntax.specs.Stuck.{StandAtLeast}
 use Rattle.tp_syntax.proofs.cursor.Parser.names.Goals as goal
 
 pub more-preserved : goal.more-preserved
 more-preserved c = record {
+  seen = λ hidden xs more some stops could.
+      let n = next_part_seen declared_name_lexemes (λ _. Unit {0}) hidden more _ _ (item_of c.more.names.items c.more.invariant.some) tt
+      (c.more.invariant.seen hidden xs more some stops could) c.more-test.ensures.passed stops in
+      (n.2, n.3, c.in_ok-next.ensures.reads_seen hidden (string_bytes n.0.name) _ n.4);
   reads = λ xs more some stops e.
       let n = comma_next declared_name_lexemes (λ _. Unit {0}) more _ _ (c.more.invariant.reads xs more some stops e) c.more-test.ensures.yes stops in
       subst (Remain declared_name_lexemes (λ _. Unit {0}) more) (sym (c.in_ok-next.ensures.reads (string_bytes n.0.name) n.2 n.3)) n.4;
@@ -27,6 +36,9 @@ more-preserved c = record {
 
 pub more-init : goal.more-init
 more-init c = record {
+  seen = λ hidden xs more some stops could.
+      let n = first_part_seen declared_name_lexemes (λ _. Unit {0}) hidden xs more c.args.self.now.rest.now (all_any xs) some could in
+      (n.2, n.3, c.in_ok-first.ensures.reads_seen hidden (string_bytes n.0.name) _ n.4);
   tokens = first_of (search rules, grind (arith, common_steps));
   some = first_of (search rules, grind (arith, common_steps));
   reads = λ xs more some stops e.
@@ -55,3 +67,38 @@ returns-clause-reads c =
 
 pub returns-clause-lines : goal.returns-clause-lines
 returns-clause-lines c = passes_same (ap (λ (p : Parser). p.rest.now) c.more-test.ensures.no) c.more.invariant.lines
+
+pub returns-in_err-first-clause-reads_seen : goal.returns-in_err-first-clause-reads_seen
+returns-in_err-first-clause-reads_seen c =
+    λ hidden xs more some stops could.
+    handed_seen hidden c.from_residual.result _ _ c.from_residual.ensures.1
+    (let n = first_part_seen declared_name_lexemes (λ _. Unit {0}) hidden xs more c.args.self.now.rest.now
+    (all_any xs) some could in c.in_err-first.ensures.reads_seen hidden (string_bytes n.0.name) _ n.4)
+
+pub returns-in_err-next-clause-reads_seen : goal.returns-in_err-next-clause-reads_seen
+returns-in_err-next-clause-reads_seen c =
+    λ hidden xs more some stops could.
+    let n = next_part_seen declared_name_lexemes (λ _. Unit {0}) hidden more _ _ (item_of c.more.names.items c.more.invariant.some) tt
+    (c.more.invariant.seen hidden xs more some stops could) c.more-test.ensures.passed stops in
+    handed_seen hidden c.from_residual-in_err-next.result _ _ c.from_residual-in_err-next.ensures.1 (c.in_err-next.ensures.reads_seen hidden
+    (string_bytes n.0.name) _ n.4)
+
+pub returns-clause-reads_seen : goal.returns-clause-reads_seen
+returns-clause-reads_seen c =
+    λ hidden xs more some stops could.
+    same_could c.more-test.ensures.no (last_part_seen declared_name_lexemes (λ _. Unit {0}) hidden more _
+    (c.more.invariant.seen hidden xs more some stops could) c.more-test.ensures.absent)
+
+pub returns-in_err-first-clause-beyond : goal.returns-in_err-first-clause-beyond
+returns-in_err-first-clause-beyond c =
+    handed_as (StandAtLeast 0 c.args.self.now) c.from_residual.result _ _ c.from_residual.ensures.1 (behind_stands 0 c.args.self.now c.args.self.now _
+    (omega arith) c.in_err-first.ensures.place)
+
+pub returns-in_err-next-clause-beyond : goal.returns-in_err-next-clause-beyond
+returns-in_err-next-clause-beyond c =
+    handed_as (StandAtLeast 0 c.args.self.now) c.from_residual-in_err-next.result _ _ c.from_residual-in_err-next.ensures.1
+    (behind_stands 0 c.args.self.now c.has_symbol.new.self _ (omega (arith, c.more.invariant.shorter, c.more-test.ensures.shorter)) c.in_err-next.ensures.place)
+
+pub returns-clause-beyond : goal.returns-clause-beyond
+returns-clause-beyond c =
+    omega (arith, c.more.invariant.shorter, ap (λ (p : Parser). length p.rest.now) c.more-test.ensures.no)

@@ -1,10 +1,12 @@
 -- The tokens passed are those of the parameters so far, of which there is one at least.
-use Rattle.std.proofs.Common.{◌≡◌, ◌<◌, ◌++◌, length, List, Some, map}
+use Rattle.std.proofs.Common.{◌≡◌, ℕ, ◌<◌, ◌++◌, length, List, Some, map}
 use Rattle.tp_syntax.specs.Ahead.{ahead}
 use Rattle.tp_syntax.specs.Definitions.{parameters_lexemes, parameter_lexemes}
 use Rattle.tp_token.specs.Lexeme.{Lexeme, symbol}
 use Rattle.tp_syntax.specs.Reading.{first}
+use Rattle.tp_syntax.specs.HiddenTokens.{CouldBe}
 use Rattle.tp_syntax.proofs.PartsLeftToRead.{Remain}
+use Rattle.tp_syntax.proofs.PartsLeftSeen.{RemainSeen}
 use Rattle.tp_tree.specs.declared.tree.Parameter.{Parameter}
 use Rattle.tp_token.specs.declared.token.Symbol.TheVariants.{RightParen}
 use Rattle.tp_syntax.specs.Lines.{noted_by_commas, parameter_notes}
@@ -17,6 +19,8 @@ invariant-more l = record {
   some : 0 < length l.parameters.items;
   reads : (xs : List Parameter) (more : List Lexeme) → first more ≡ Some (symbol RightParen) → ahead l.fn.self.rest.now ≡ parameters_lexemes xs ++ more
       → Remain parameter_lexemes (λ _. Unit {0}) more (ahead l.self.rest.now);
+  seen : (hidden : ℕ) (xs : List Parameter) (more : List Lexeme) → first more ≡ Some (symbol RightParen) → CouldBe hidden l.fn.self.rest.now (parameters_lexemes xs ++ more)
+      → RemainSeen parameter_lexemes (λ _. Unit {0}) hidden more l.self.rest.now;
   shorter : length l.self.rest.now < length l.fn.self.rest.now;
   lines : PassesNoted l.fn.self.rest.now (noted_by_commas (map parameter_notes l.parameters.items)) l.self.rest.now;
 }

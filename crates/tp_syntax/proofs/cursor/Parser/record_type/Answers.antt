@@ -1,9 +1,230 @@
 -- A record type is passed with the lines of its fields.
 use Rattle.tp_syntax.specs.Lines.{record_type_notes}
 use Rattle.tp_syntax.proofs.LinesOfPassedTokens.{passes_next, passes_one, passes_then}
+use Rattle.tp_token.specs.Lexeme.{word}
+use Rattle.tp_syntax.proofs.FirstTokensSeen.{handed_as, memory_stands, handed_seen}
+use Rattle.tp_syntax.proofs.TokensBeyond.{behind_stands, beyond_stands, wrong_stands}
+use Rattle.std.proofs.Common.{arith, refl, sym, ◌∙◌, append_assoc}
+use Rattle.tp_syntax.specs.Stuck.{StandAtLeast}
+use Rattle.tp_syntax.proofs.FirstTokensAhead.{raw}
+use Rattle.tp_token.specs.declared.word.Word.TheVariants as w
+use Rattle.tp_syntax.specs.Definitions.{record_type_lexemes}
 use Rattle.tp_syntax.proofs.cursor.Parser.record_type.Goals as goal
 
 pub returns-clause-lines : goal.returns-clause-lines
 unfolding record_type_notes
 returns-clause-lines c =
     passes_next c.in_ok-word.ensures.forward c.in_ok-word.ensures.tokens (passes_next c.in_ok-word-2.ensures.forward c.in_ok-word-2.ensures.tokens (passes_next c.in_ok-name.ensures.forward c.in_ok-name.ensures.tokens (passes_next c.in_ok-symbol.ensures.forward c.in_ok-symbol.ensures.tokens (passes_then c.in_ok-fields.ensures.lines (passes_one c.in_ok-symbol-2.ensures.forward c.in_ok-symbol-2.ensures.tokens)))))
+
+pub returns-in_err-word-clause-beyond : goal.returns-in_err-word-clause-beyond
+returns-in_err-word-clause-beyond c =
+    handed_as (StandAtLeast 0 c.args.self.now) c.from_residual.result _ _ c.from_residual.ensures.1
+    (wrong_stands 0 0 c.args.self.now c.args.self.now _ (omega arith) c.in_err-word.ensures.place)
+
+pub returns-in_err-word-2-clause-beyond : goal.returns-in_err-word-2-clause-beyond
+returns-in_err-word-2-clause-beyond c =
+    handed_as (StandAtLeast 0 c.args.self.now) c.from_residual-in_err-word-2.result _ _ c.from_residual-in_err-word-2.ensures.1
+    (wrong_stands 0 0 c.args.self.now c.word.new.self _ (omega (arith, c.in_ok-word.ensures.shorter)) c.in_err-word-2.ensures.place)
+
+pub returns-in_err-name-clause-beyond : goal.returns-in_err-name-clause-beyond
+returns-in_err-name-clause-beyond c =
+    handed_as (StandAtLeast 0 c.args.self.now) c.from_residual-in_err-name.result _ _ c.from_residual-in_err-name.ensures.1
+    (behind_stands 0 c.args.self.now c.word-2.new.self _ (omega (arith, c.in_ok-word.ensures.shorter, c.in_ok-word-2.ensures.shorter))
+    c.in_err-name.ensures.place)
+
+pub returns-in_err-symbol-clause-beyond : goal.returns-in_err-symbol-clause-beyond
+returns-in_err-symbol-clause-beyond c =
+    handed_as (StandAtLeast 0 c.args.self.now) c.from_residual-in_err-symbol.result _ _ c.from_residual-in_err-symbol.ensures.1
+    (wrong_stands 0 0 c.args.self.now c.name.new.self _ (omega (
+      arith,
+      c.in_ok-word.ensures.shorter,
+      c.in_ok-word-2.ensures.shorter,
+      c.in_ok-name.ensures.shorter,
+    )) c.in_err-symbol.ensures.place)
+
+pub returns-in_err-fields-clause-beyond : goal.returns-in_err-fields-clause-beyond
+returns-in_err-fields-clause-beyond c =
+    handed_as (StandAtLeast 0 c.args.self.now) c.from_residual-in_err-fields.result _ _ c.from_residual-in_err-fields.ensures.1
+    (beyond_stands 0 0 c.args.self.now c.symbol.new.self _ (omega (
+      arith,
+      c.in_ok-word.ensures.shorter,
+      c.in_ok-word-2.ensures.shorter,
+      c.in_ok-name.ensures.shorter,
+      c.in_ok-symbol.ensures.shorter,
+    )) c.in_err-fields.ensures.beyond)
+
+pub returns-in_err-symbol-2-clause-beyond : goal.returns-in_err-symbol-2-clause-beyond
+returns-in_err-symbol-2-clause-beyond c =
+    handed_as (StandAtLeast 0 c.args.self.now) c.from_residual-in_err-symbol-2.result _ _ c.from_residual-in_err-symbol-2.ensures.1
+    (wrong_stands 0 0 c.args.self.now c.fields.new.self _ (omega (
+      arith,
+      c.in_ok-word.ensures.shorter,
+      c.in_ok-word-2.ensures.shorter,
+      c.in_ok-name.ensures.shorter,
+      c.in_ok-symbol.ensures.shorter,
+      c.in_ok-fields.ensures.shorter,
+    )) c.in_err-symbol-2.ensures.place)
+
+pub returns-in_err-word-clause-beyond_type : goal.returns-in_err-word-clause-beyond_type
+returns-in_err-word-clause-beyond_type c =
+    λ at.
+    handed_as (StandAtLeast 1 c.args.self.now) c.from_residual.result _ _ c.from_residual.ensures.1
+    (memory_stands 1 c.args.self.now _ (c.in_err-word.ensures.reads _ (raw c.args.self.now.rest.now (word w.Type) at refl).1))
+
+pub returns-in_err-word-2-clause-beyond_type : goal.returns-in_err-word-2-clause-beyond_type
+returns-in_err-word-2-clause-beyond_type c =
+    λ at.
+    handed_as (StandAtLeast 1 c.args.self.now) c.from_residual-in_err-word-2.result _ _ c.from_residual-in_err-word-2.ensures.1
+    (wrong_stands 1 0 c.args.self.now c.word.new.self _ (omega (arith, c.in_ok-word.ensures.shorter)) c.in_err-word-2.ensures.place)
+
+pub returns-in_err-name-clause-beyond_type : goal.returns-in_err-name-clause-beyond_type
+returns-in_err-name-clause-beyond_type c =
+    λ at.
+    handed_as (StandAtLeast 1 c.args.self.now) c.from_residual-in_err-name.result _ _ c.from_residual-in_err-name.ensures.1
+    (behind_stands 1 c.args.self.now c.word-2.new.self _ (omega (arith, c.in_ok-word.ensures.shorter, c.in_ok-word-2.ensures.shorter))
+    c.in_err-name.ensures.place)
+
+pub returns-in_err-symbol-clause-beyond_type : goal.returns-in_err-symbol-clause-beyond_type
+returns-in_err-symbol-clause-beyond_type c =
+    λ at.
+    handed_as (StandAtLeast 1 c.args.self.now) c.from_residual-in_err-symbol.result _ _ c.from_residual-in_err-symbol.ensures.1
+    (wrong_stands 1 0 c.args.self.now c.name.new.self _ (omega (
+      arith,
+      c.in_ok-word.ensures.shorter,
+      c.in_ok-word-2.ensures.shorter,
+      c.in_ok-name.ensures.shorter,
+    )) c.in_err-symbol.ensures.place)
+
+pub returns-in_err-fields-clause-beyond_type : goal.returns-in_err-fields-clause-beyond_type
+returns-in_err-fields-clause-beyond_type c =
+    λ at.
+    handed_as (StandAtLeast 1 c.args.self.now) c.from_residual-in_err-fields.result _ _ c.from_residual-in_err-fields.ensures.1
+    (beyond_stands 1 0 c.args.self.now c.symbol.new.self _ (omega (
+      arith,
+      c.in_ok-word.ensures.shorter,
+      c.in_ok-word-2.ensures.shorter,
+      c.in_ok-name.ensures.shorter,
+      c.in_ok-symbol.ensures.shorter,
+    )) c.in_err-fields.ensures.beyond)
+
+pub returns-in_err-symbol-2-clause-beyond_type : goal.returns-in_err-symbol-2-clause-beyond_type
+returns-in_err-symbol-2-clause-beyond_type c =
+    λ at.
+    handed_as (StandAtLeast 1 c.args.self.now) c.from_residual-in_err-symbol-2.result _ _ c.from_residual-in_err-symbol-2.ensures.1
+    (wrong_stands 1 0 c.args.self.now c.fields.new.self _ (omega (
+      arith,
+      c.in_ok-word.ensures.shorter,
+      c.in_ok-word-2.ensures.shorter,
+      c.in_ok-name.ensures.shorter,
+      c.in_ok-symbol.ensures.shorter,
+      c.in_ok-fields.ensures.shorter,
+    )) c.in_err-symbol-2.ensures.place)
+
+pub returns-in_err-word-clause-beyond_record : goal.returns-in_err-word-clause-beyond_record
+returns-in_err-word-clause-beyond_record c =
+    λ at is.
+    handed_as (StandAtLeast 2 c.args.self.now) c.from_residual.result _ _ c.from_residual.ensures.1
+    (memory_stands 2 c.args.self.now _ (c.in_err-word.ensures.reads _ (raw c.args.self.now.rest.now (word w.Type) at refl).1))
+
+pub returns-in_err-word-2-clause-beyond_record : goal.returns-in_err-word-2-clause-beyond_record
+returns-in_err-word-2-clause-beyond_record c =
+    λ at is.
+    handed_as (StandAtLeast 2 c.args.self.now) c.from_residual-in_err-word-2.result _ _ c.from_residual-in_err-word-2.ensures.1
+    (let a = raw c.args.self.now.rest.now (word w.Type) at refl in
+    let b = raw a.0 (word w.Record) (sym a.2 ∙ is) refl in
+    memory_stands 2 c.args.self.now _ (c.in_err-word-2.ensures.reads _ (c.in_ok-word.ensures.reads _ a.1 ∙ b.1)))
+
+pub returns-in_err-name-clause-beyond_record : goal.returns-in_err-name-clause-beyond_record
+returns-in_err-name-clause-beyond_record c =
+    λ at is.
+    handed_as (StandAtLeast 2 c.args.self.now) c.from_residual-in_err-name.result _ _ c.from_residual-in_err-name.ensures.1
+    (behind_stands 2 c.args.self.now c.word-2.new.self _ (omega (arith, c.in_ok-word.ensures.shorter, c.in_ok-word-2.ensures.shorter))
+    c.in_err-name.ensures.place)
+
+pub returns-in_err-symbol-clause-beyond_record : goal.returns-in_err-symbol-clause-beyond_record
+returns-in_err-symbol-clause-beyond_record c =
+    λ at is.
+    handed_as (StandAtLeast 2 c.args.self.now) c.from_residual-in_err-symbol.result _ _ c.from_residual-in_err-symbol.ensures.1
+    (wrong_stands 2 0 c.args.self.now c.name.new.self _ (omega (
+      arith,
+      c.in_ok-word.ensures.shorter,
+      c.in_ok-word-2.ensures.shorter,
+      c.in_ok-name.ensures.shorter,
+    )) c.in_err-symbol.ensures.place)
+
+pub returns-in_err-fields-clause-beyond_record : goal.returns-in_err-fields-clause-beyond_record
+returns-in_err-fields-clause-beyond_record c =
+    λ at is.
+    handed_as (StandAtLeast 2 c.args.self.now) c.from_residual-in_err-fields.result _ _ c.from_residual-in_err-fields.ensures.1
+    (beyond_stands 2 0 c.args.self.now c.symbol.new.self _ (omega (
+      arith,
+      c.in_ok-word.ensures.shorter,
+      c.in_ok-word-2.ensures.shorter,
+      c.in_ok-name.ensures.shorter,
+      c.in_ok-symbol.ensures.shorter,
+    )) c.in_err-fields.ensures.beyond)
+
+pub returns-in_err-symbol-2-clause-beyond_record : goal.returns-in_err-symbol-2-clause-beyond_record
+returns-in_err-symbol-2-clause-beyond_record c =
+    λ at is.
+    handed_as (StandAtLeast 2 c.args.self.now) c.from_residual-in_err-symbol-2.result _ _ c.from_residual-in_err-symbol-2.ensures.1
+    (wrong_stands 2 0 c.args.self.now c.fields.new.self _ (omega (
+      arith,
+      c.in_ok-word.ensures.shorter,
+      c.in_ok-word-2.ensures.shorter,
+      c.in_ok-name.ensures.shorter,
+      c.in_ok-symbol.ensures.shorter,
+      c.in_ok-fields.ensures.shorter,
+    )) c.in_err-symbol-2.ensures.place)
+
+pub returns-in_err-word-2-clause-reads_seen : goal.returns-in_err-word-2-clause-reads_seen
+unfolding record_type_lexemes
+returns-in_err-word-2-clause-reads_seen c =
+    λ hidden x more could.
+    let e0 = simp append_assoc at could in
+    let e1 = c.in_ok-word.ensures.reads_seen hidden _ e0 in
+    handed_seen hidden c.from_residual-in_err-word-2.result _ _ c.from_residual-in_err-word-2.ensures.1 (c.in_err-word-2.ensures.reads_seen hidden _ e1)
+
+pub returns-in_err-name-clause-reads_seen : goal.returns-in_err-name-clause-reads_seen
+unfolding record_type_lexemes
+returns-in_err-name-clause-reads_seen c =
+    λ hidden x more could.
+    let e0 = simp append_assoc at could in
+    let e1 = c.in_ok-word.ensures.reads_seen hidden _ e0 in
+    let e2 = c.in_ok-word-2.ensures.reads_seen hidden _ e1 in
+    handed_seen hidden c.from_residual-in_err-name.result _ _ c.from_residual-in_err-name.ensures.1 (c.in_err-name.ensures.reads_seen hidden _ _ e2)
+
+pub returns-in_err-symbol-clause-reads_seen : goal.returns-in_err-symbol-clause-reads_seen
+unfolding record_type_lexemes
+returns-in_err-symbol-clause-reads_seen c =
+    λ hidden x more could.
+    let e0 = simp append_assoc at could in
+    let e1 = c.in_ok-word.ensures.reads_seen hidden _ e0 in
+    let e2 = c.in_ok-word-2.ensures.reads_seen hidden _ e1 in
+    let e3 = c.in_ok-name.ensures.reads_seen hidden _ _ e2 in
+    handed_seen hidden c.from_residual-in_err-symbol.result _ _ c.from_residual-in_err-symbol.ensures.1 (c.in_err-symbol.ensures.reads_seen hidden _ e3)
+
+pub returns-in_err-fields-clause-reads_seen : goal.returns-in_err-fields-clause-reads_seen
+unfolding record_type_lexemes
+returns-in_err-fields-clause-reads_seen c =
+    λ hidden x more could.
+    let e0 = simp append_assoc at could in
+    let e1 = c.in_ok-word.ensures.reads_seen hidden _ e0 in
+    let e2 = c.in_ok-word-2.ensures.reads_seen hidden _ e1 in
+    let e3 = c.in_ok-name.ensures.reads_seen hidden _ _ e2 in
+    let e4 = c.in_ok-symbol.ensures.reads_seen hidden _ e3 in
+    handed_seen hidden c.from_residual-in_err-fields.result _ _ c.from_residual-in_err-fields.ensures.1
+    (c.in_err-fields.ensures.reads_seen hidden x.fields.items _ refl e4)
+
+pub returns-in_err-symbol-2-clause-reads_seen : goal.returns-in_err-symbol-2-clause-reads_seen
+unfolding record_type_lexemes
+returns-in_err-symbol-2-clause-reads_seen c =
+    λ hidden x more could.
+    let e0 = simp append_assoc at could in
+    let e1 = c.in_ok-word.ensures.reads_seen hidden _ e0 in
+    let e2 = c.in_ok-word-2.ensures.reads_seen hidden _ e1 in
+    let e3 = c.in_ok-name.ensures.reads_seen hidden _ _ e2 in
+    let e4 = c.in_ok-symbol.ensures.reads_seen hidden _ e3 in
+    let e5 = c.in_ok-fields.ensures.reads_seen hidden x.fields.items _ refl e4 in
+    handed_seen hidden c.from_residual-in_err-symbol-2.result _ _ c.from_residual-in_err-symbol-2.ensures.1
+    (c.in_err-symbol-2.ensures.reads_seen hidden more e5)

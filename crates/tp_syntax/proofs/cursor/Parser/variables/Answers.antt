@@ -1,5 +1,5 @@
 -- One more `var` statement is read behind the others.
-use Rattle.std.proofs.Common.{arith, sym, subst, ap, ◌∙◌, rules, refl}
+use Rattle.std.proofs.Common.{arith, sym, subst, ap, ◌∙◌, rules, refl, Some, inl, inr, length, true, ◌≡◌}
 use Rattle.tp_token.specs.declared.word.Word.TheVariants as w
 use Rattle.tp_syntax.specs.Statements.{variable_lexemes}
 use Rattle.tp_syntax.specs.Grammar.{variable_part}
@@ -14,10 +14,26 @@ use Rattle.tp_syntax.specs.Reading.{first}
 use Rattle.std.proofs.lemmas.Bool.{iff_false}
 use Rattle.tp_syntax.specs.Lines.{variable_notes}
 use Rattle.tp_syntax.proofs.LinesOfPassedTokens.{passes_none, passes_push}
+use Rattle.tp_syntax.proofs.PartsInOrderSeen.{none_left_seen}
+use Rattle.tp_syntax.proofs.FirstTokensSeen.{handed_as, handed_seen}
+use Rattle.tp_syntax.proofs.PartsEndSeen.{begun_or_hidden, other_all_seen}
+use Rattle.tp_syntax.specs.Ahead.{is_name_in, token_at}
+use Rattle.tp_syntax.proofs.TokensBeyond.{beyond_stands, hidden_stuck}
+use Rattle.tp_syntax.specs.declared.cursor.Parser.{Parser}
+use Rattle.tp_syntax.specs.Stuck.{StandAtLeast}
+use Rattle.tp_syntax.proofs.VariablesAhead.{variable_var}
 use Rattle.tp_syntax.proofs.cursor.Parser.variables.Goals as goal
 
 pub more-preserved : goal.more-preserved
 more-preserved c = record {
+  seen = λ hidden xs more stand other could.
+      elim (begun_or_hidden variable_lexemes variable_part (λ _. Unit {0}) hidden (word w.Var) more c.more.self.rest.now refl
+      (c.is_word_at.ensures.0 c.more-test.true) variable_begins other (c.more.invariant.seen hidden xs more stand other could)) [
+        | inl n ↦ (n.2, n.3, n.4, c.in_ok-variable.ensures.reads_seen hidden n.0 _ n.5 n.6)
+        | inr h ↦ none_left_seen variable_lexemes variable_part (λ _. Unit {0}) hidden more _ (omega (arith, c.in_ok-variable.ensures.shorter))
+      ];
+  moved = inr (omega (arith, c.more.invariant.shorter, c.in_ok-variable.ensures.three));
+  none = λ other. absurd (other (ap (λ (p : Parser). token_at p.rest.now 0) (sym (c.more.invariant.none other)) ∙ c.is_word_at.ensures.0 c.more-test.true));
   reads = λ xs more stand other e.
       let n = all_next variable_lexemes variable_part (λ _. Unit {0}) more _ (c.more.invariant.reads xs more stand other e) variable_begins (λ same. other (ap first (sym same) ∙ word_first _ w.Var (c.is_word_at.ensures.0 c.more-test.true))) in
       subst (RemainAll variable_lexemes variable_part (λ _. Unit {0}) more) (sym (c.in_ok-variable.ensures.reads n.0 n.2 n.3 n.4)) n.5;
@@ -32,6 +48,9 @@ more-preserved c = record {
 
 pub more-init : goal.more-init
 more-init c = record {
+  seen = λ hidden xs more stand other could. (xs, all_any xs, stand, could);
+  moved = inl refl;
+  none = λ _. refl;
   tokens = first_of (search rules, grind (arith, common_steps));
   grammatical = rw c.new-variables.ensures.items (between_none _);
   reads = λ xs more stand other e. (xs, all_any xs, stand, e);
@@ -48,3 +67,85 @@ returns-in_err-variable-clause-reads c =
 pub returns-clause-reads : goal.returns-clause-reads
 returns-clause-reads c =
     λ xs more stand other e. all_last variable_lexemes variable_part (λ _. Unit {0}) more _ (c.more.invariant.reads xs more stand other e) (λ y r same. iff_false c.is_word_at.ensures c.more-test.false (at_0 _ (word w.Var) _ same refl))
+
+pub returns-in_err-variable-clause-reads_seen : goal.returns-in_err-variable-clause-reads_seen
+returns-in_err-variable-clause-reads_seen c =
+    λ hidden xs more stand other could.
+    handed_seen hidden c.from_residual.result _ _ c.from_residual.ensures.1
+    (elim (begun_or_hidden variable_lexemes variable_part (λ _. Unit {0}) hidden (word w.Var) more c.more.self.rest.now refl
+    (c.is_word_at.ensures.0 c.more-test.true) variable_begins other (c.more.invariant.seen hidden xs more stand other could)) [
+      | inl n ↦ c.in_err-variable.ensures.reads_seen hidden n.0 _ n.5 n.6
+      | inr h ↦ hidden_stuck hidden c.more.self _ h c.in_err-variable.ensures.beyond
+    ])
+
+pub returns-clause-reads_seen : goal.returns-clause-reads_seen
+returns-clause-reads_seen c =
+    λ hidden xs more stand other could.
+    other_all_seen variable_lexemes variable_part (λ _. Unit {0}) hidden (word w.Var) more _ refl variable_var variable_begins
+    (iff_false c.is_word_at.ensures c.more-test.false) (c.more.invariant.seen hidden xs more stand other could)
+
+pub returns-in_err-variable-clause-beyond : goal.returns-in_err-variable-clause-beyond
+returns-in_err-variable-clause-beyond c =
+    handed_as (StandAtLeast 0 c.args.self.now) c.from_residual.result _ _ c.from_residual.ensures.1
+    (beyond_stands 0 0 c.args.self.now c.more.self _ (omega (arith, c.more.invariant.shorter)) c.in_err-variable.ensures.beyond)
+
+pub returns-in_err-variable-clause-beyond_var : goal.returns-in_err-variable-clause-beyond_var
+returns-in_err-variable-clause-beyond_var c =
+    λ at.
+    handed_as (StandAtLeast 1 c.args.self.now) c.from_residual.result _ _ c.from_residual.ensures.1
+    (elim c.more.invariant.moved [
+      | inl same ↦ beyond_stands 1 1 c.args.self.now c.more.self _ (omega (arith, ap (λ (p : Parser). length p.rest.now) same))
+          (c.in_err-variable.ensures.beyond_var (subst (λ (p : Parser). token_at p.rest.now 0 ≡ Some (word w.Var)) (sym same) at))
+      | inr h ↦ beyond_stands 1 0 c.args.self.now c.more.self _ (omega arith) c.in_err-variable.ensures.beyond
+    ])
+
+pub returns-clause-beyond_var : goal.returns-clause-beyond_var
+returns-clause-beyond_var c =
+    λ at.
+    elim c.more.invariant.moved [
+      | inl same ↦ absurd (iff_false c.is_word_at.ensures c.more-test.false (ap (λ (p : Parser). token_at p.rest.now 0) same ∙ at))
+      | inr h ↦ omega arith
+    ]
+
+pub returns-in_err-variable-clause-beyond_type : goal.returns-in_err-variable-clause-beyond_type
+returns-in_err-variable-clause-beyond_type c =
+    λ at is.
+    handed_as (StandAtLeast 2 c.args.self.now) c.from_residual.result _ _ c.from_residual.ensures.1
+    (elim c.more.invariant.moved [
+      | inl same ↦ beyond_stands 2 2 c.args.self.now c.more.self _ (omega (arith, ap (λ (p : Parser). length p.rest.now) same))
+          (c.in_err-variable.ensures.beyond_type (subst (λ (p : Parser). token_at p.rest.now 0 ≡ Some (word w.Var)) (sym same) at) (subst (λ
+          (p : Parser). is_name_in (token_at p.rest.now 1) ≡ true) (sym same) is))
+      | inr h ↦ beyond_stands 2 0 c.args.self.now c.more.self _ (omega arith) c.in_err-variable.ensures.beyond
+    ])
+
+pub returns-clause-beyond_type : goal.returns-clause-beyond_type
+returns-clause-beyond_type c =
+    λ at is.
+    elim c.more.invariant.moved [
+      | inl same ↦ absurd (iff_false c.is_word_at.ensures c.more-test.false (ap (λ (p : Parser). token_at p.rest.now 0) same ∙ at))
+      | inr h ↦ omega arith
+    ]
+
+pub returns-in_err-variable-clause-beyond_variable : goal.returns-in_err-variable-clause-beyond_variable
+returns-in_err-variable-clause-beyond_variable c =
+    λ at is also.
+    handed_as (StandAtLeast 3 c.args.self.now) c.from_residual.result _ _ c.from_residual.ensures.1
+    (elim c.more.invariant.moved [
+      | inl same ↦ beyond_stands 3 3 c.args.self.now c.more.self _ (omega (arith, ap (λ (p : Parser). length p.rest.now) same))
+          (c.in_err-variable.ensures.beyond_variable (subst (λ (p : Parser). token_at p.rest.now 0 ≡ Some (word w.Var)) (sym same) at) (subst (λ
+          (p : Parser). is_name_in (token_at p.rest.now 1) ≡ true) (sym same) is) (subst (λ (p : Parser). is_name_in (token_at p.rest.now 2) ≡ true)
+          (sym same) also))
+      | inr h ↦ beyond_stands 3 0 c.args.self.now c.more.self _ (omega arith) c.in_err-variable.ensures.beyond
+    ])
+
+pub returns-clause-beyond_variable : goal.returns-clause-beyond_variable
+returns-clause-beyond_variable c =
+    λ at is also.
+    elim c.more.invariant.moved [
+      | inl same ↦ absurd (iff_false c.is_word_at.ensures c.more-test.false (ap (λ (p : Parser). token_at p.rest.now 0) same ∙ at))
+      | inr h ↦ omega arith
+    ]
+
+pub returns-in_err-variable-clause-none : goal.returns-in_err-variable-clause-none
+returns-in_err-variable-clause-none c =
+    λ other. absurd (other (ap (λ (p : Parser). token_at p.rest.now 0) (sym (c.more.invariant.none other)) ∙ c.is_word_at.ensures.0 c.more-test.true))

@@ -1,0 +1,47 @@
+-- An `[else]` is passed, or the parser is stuck in it.
+use Rattle.std.proofs.Common.{arith}
+use Rattle.tp_syntax.proofs.FirstTokensSeen.{handed_as, handed_seen}
+use Rattle.tp_syntax.proofs.TokensBeyond.{beyond_stands, wrong_stands}
+use Rattle.tp_syntax.specs.Stuck.{StandAtLeast}
+use Rattle.tp_syntax.proofs.cursor.Parser.else_mark.Goals as goal
+
+pub returns-in_err-open-clause-beyond : goal.returns-in_err-open-clause-beyond
+returns-in_err-open-clause-beyond c =
+    handed_as (StandAtLeast 0 c.args.self.now) c.from_residual.result _ _ c.from_residual.ensures.1
+    (beyond_stands 0 0 c.args.self.now c.args.self.now _ (omega arith) c.in_err-open.ensures.beyond)
+
+pub returns-in_err-word-clause-beyond : goal.returns-in_err-word-clause-beyond
+returns-in_err-word-clause-beyond c =
+    handed_as (StandAtLeast 0 c.args.self.now) c.from_residual-in_err-word.result _ _ c.from_residual-in_err-word.ensures.1
+    (wrong_stands 0 0 c.args.self.now c.«open».new.self _ (omega (arith, c.in_ok-open.ensures.shorter)) c.in_err-word.ensures.place)
+
+pub returns-in_err-symbol-clause-beyond : goal.returns-in_err-symbol-clause-beyond
+returns-in_err-symbol-clause-beyond c =
+    handed_as (StandAtLeast 0 c.args.self.now) c.from_residual-in_err-symbol.result _ _ c.from_residual-in_err-symbol.ensures.1
+    (wrong_stands 0 0 c.args.self.now c.word.new.self _ (omega (arith, c.in_ok-open.ensures.shorter, c.in_ok-word.ensures.shorter))
+    c.in_err-symbol.ensures.place)
+
+pub returns-in_err-open-clause-beyond_bracket : goal.returns-in_err-open-clause-beyond_bracket
+returns-in_err-open-clause-beyond_bracket c =
+    λ at.
+    handed_as (StandAtLeast 1 c.args.self.now) c.from_residual.result _ _ c.from_residual.ensures.1
+    (c.in_err-open.ensures.beyond_bracket at)
+
+pub returns-in_err-word-clause-beyond_bracket : goal.returns-in_err-word-clause-beyond_bracket
+returns-in_err-word-clause-beyond_bracket c =
+    λ at.
+    handed_as (StandAtLeast 1 c.args.self.now) c.from_residual-in_err-word.result _ _ c.from_residual-in_err-word.ensures.1
+    (wrong_stands 1 0 c.args.self.now c.«open».new.self _ (omega (arith, c.in_ok-open.ensures.shorter)) c.in_err-word.ensures.place)
+
+pub returns-in_err-symbol-clause-beyond_bracket : goal.returns-in_err-symbol-clause-beyond_bracket
+returns-in_err-symbol-clause-beyond_bracket c =
+    λ at.
+    handed_as (StandAtLeast 1 c.args.self.now) c.from_residual-in_err-symbol.result _ _ c.from_residual-in_err-symbol.ensures.1
+    (wrong_stands 1 0 c.args.self.now c.word.new.self _ (omega (arith, c.in_ok-open.ensures.shorter, c.in_ok-word.ensures.shorter))
+    c.in_err-symbol.ensures.place)
+
+pub returns-in_err-word-clause-reads_seen : goal.returns-in_err-word-clause-reads_seen
+returns-in_err-word-clause-reads_seen c =
+    λ hidden more nested could.
+    let e1 = c.in_ok-open.ensures.reads_seen hidden _ nested could in
+    handed_seen hidden c.from_residual-in_err-word.result _ _ c.from_residual-in_err-word.ensures.1 (c.in_err-word.ensures.reads_seen hidden _ e1)

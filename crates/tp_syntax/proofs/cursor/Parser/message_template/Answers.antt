@@ -1,0 +1,38 @@
+-- What a message has to match, by what is seen of it: its type, a `:` and its template.
+use Rattle.std.proofs.Common.{List, ◌∷◌, subst, append_assoc}
+use Rattle.tp_token.specs.declared.token.Symbol.TheVariants.{Colon}
+use Rattle.tp_token.specs.Lexeme.{Lexeme, symbol}
+use Rattle.tp_syntax.specs.HiddenTokens.{CouldBe}
+use Rattle.tp_syntax.specs.Templates.{template_lexemes}
+use Rattle.tp_syntax.specs.Values.{type_lexemes}
+use Rattle.tp_syntax.proofs.FirstTokensSeen.{handed_seen}
+use Rattle.tp_syntax.proofs.cursor.Parser.message_template.Goals as goal
+
+pub returns-in_err-type_name-clause-reads_seen : goal.returns-in_err-type_name-clause-reads_seen
+returns-in_err-type_name-clause-reads_seen c =
+    λ hidden x more right deep could.
+    let e0 = subst (λ (ts : List Lexeme). CouldBe hidden c.args.self.now.rest.now ts) (append_assoc (type_lexemes x.type_name) (symbol Colon ∷ template_lexemes x.template) more) could in
+    handed_seen hidden c.from_residual.result _ _ c.from_residual.ensures.1 (c.in_err-type_name.ensures.reads_seen hidden x.type_name _ e0)
+
+pub returns-in_err-symbol-clause-reads_seen : goal.returns-in_err-symbol-clause-reads_seen
+returns-in_err-symbol-clause-reads_seen c =
+    λ hidden x more right deep could.
+    let e0 = subst (λ (ts : List Lexeme). CouldBe hidden c.args.self.now.rest.now ts) (append_assoc (type_lexemes x.type_name) (symbol Colon ∷ template_lexemes x.template) more) could in
+    let e1 = c.in_ok-type_name.ensures.reads_seen hidden x.type_name _ e0 in
+    handed_seen hidden c.from_residual-in_err-symbol.result _ _ c.from_residual-in_err-symbol.ensures.1 (c.in_err-symbol.ensures.reads_seen hidden _ e1)
+
+pub returns-in_err-template-clause-reads_seen : goal.returns-in_err-template-clause-reads_seen
+returns-in_err-template-clause-reads_seen c =
+    λ hidden x more right deep could.
+    let e0 = subst (λ (ts : List Lexeme). CouldBe hidden c.args.self.now.rest.now ts) (append_assoc (type_lexemes x.type_name) (symbol Colon ∷ template_lexemes x.template) more) could in
+    let e1 = c.in_ok-type_name.ensures.reads_seen hidden x.type_name _ e0 in
+    let e2 = c.in_ok-symbol.ensures.reads_seen hidden _ e1 in
+    handed_seen hidden c.from_residual-in_err-template.result _ _ c.from_residual-in_err-template.ensures.1 (c.in_err-template.ensures.reads_seen hidden x.template more right deep e2)
+
+pub returns-clause-reads_seen : goal.returns-clause-reads_seen
+returns-clause-reads_seen c =
+    λ hidden x more right deep could.
+    let e0 = subst (λ (ts : List Lexeme). CouldBe hidden c.args.self.now.rest.now ts) (append_assoc (type_lexemes x.type_name) (symbol Colon ∷ template_lexemes x.template) more) could in
+    let e1 = c.in_ok-type_name.ensures.reads_seen hidden x.type_name _ e0 in
+    let e2 = c.in_ok-symbol.ensures.reads_seen hidden _ e1 in
+    c.in_ok-template.ensures.reads_seen hidden x.template more right deep e2
