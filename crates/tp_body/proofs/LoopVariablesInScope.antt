@@ -45,7 +45,7 @@ use Rattle.tp_body.specs.Messages.{IsValue, AreElements, AreFields, AreNamed, Is
 use Rattle.tp_body.specs.Bodies as b
 use Rattle.tp_body.specs.Bodies.{IsSent, IsWanted, IsStatement, IsBlock, IsBranch, IsAfter, AreBranches, IsBody}
 use Rattle.tp_play.specs.Fills.{greatest, needed_step, needed, needed_template_step, needed_by_template, needed_by_wanted}
-use Rattle.tp_body.specs.Closed.{needed_by_sent, needed_statement_step, needed_branch_step, needed_around, needed_around_branch, needed_around_all}
+use Rattle.tp_body.specs.NeededLoopVariables.{needed_by_sent, needed_statement_step, needed_branch_step, needed_around, needed_around_branch, needed_around_all}
 use Rattle.tp_play.proofs.FilledValueEquations.{needed_turn, needed_record, needed_list, needed_by_exact, needed_by_one_of, needed_by_none_of, needed_by_record, needed_by_list}
 
 -- what is enough for all and for one more is enough for all of them

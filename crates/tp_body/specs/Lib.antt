@@ -2,7 +2,7 @@ pub mod Scoping
 pub mod Placing
 pub mod Messages
 pub mod Bodies
-pub mod Closed
+pub mod NeededLoopVariables
 pub mod BrokenValues
 pub mod BrokenTemplates
 pub mod BrokenOperations

@@ -4,7 +4,7 @@ ghost use Rattle.tp_name.specs.Named.{texts};
 ghost use Rattle.tp_name.specs.Refused.{IsRefusedBy, Tells, TellsAt};
 ghost use Rattle.tp_body.specs.Bodies.{AreBranches, IsAfter, IsBlock, IsBody, IsBranch, IsStatement};
 ghost use Rattle.tp_body.specs.BrokenBodies.{AfterBreaks, BlockBreaks, BodyBreaks, BranchBreaks, BranchesBreak, StatementBreaks};
-ghost use Rattle.tp_body.specs.Closed.{needed_around_all};
+ghost use Rattle.tp_body.specs.NeededLoopVariables.{needed_around_all};
 ghost use Rattle.tp_body.specs.Scoping.{AreTyped, IsSoundScope, reference_count};
 ghost use Rattle.tp_play.specs.Playable.{IsPlayable};
 
