@@ -17,7 +17,7 @@ use Rattle.tp_behaviour.specs.declared.outcome.Outcome.TheVariants as outcome
 use Rattle.tp_behaviour.specs.declared.task.Task.{Task}
 use Rattle.tp_behaviour.specs.declared.worker.Worker.{Worker}
 use Rattle.tp_behaviour.specs.declared.worker.Frame.{Frame}
-use Rattle.tp_behaviour.specs.Ends.{Stops, StopsWithin}
+use Rattle.tp_behaviour.specs.BehaviourEnds.{Stops, StopsWithin}
 use Rattle.tp_behaviour.specs.Held.{Actor, redirected}
 use Rattle.tp_behaviour.specs.Moments.{Moment}
 use Rattle.tp_behaviour.specs.Outcomes.{Ends, EndsStep, EndsTurns, Executed, Stepped, StopsTurn}

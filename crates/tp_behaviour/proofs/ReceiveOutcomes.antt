@@ -19,7 +19,7 @@ use Rattle.tp_behaviour.specs.declared.choosing.Choice.TheVariants as choice
 use Rattle.tp_behaviour.specs.declared.held.Held.{Held}
 use Rattle.tp_behaviour.specs.declared.held.Held.TheVariants as held
 use Rattle.tp_behaviour.specs.Choices.{IsChoice}
-use Rattle.tp_behaviour.specs.Ends.{StopsWithin}
+use Rattle.tp_behaviour.specs.BehaviourEnds.{StopsWithin}
 use Rattle.tp_behaviour.specs.Held.{Actor, guard_of, redirected, set_to}
 use Rattle.tp_behaviour.specs.Moments.{Moment}
 use Rattle.tp_behaviour.specs.Paths.{IsStep}

@@ -24,7 +24,7 @@ use Rattle.tp_history.specs.Desks.{Journal}
 use Rattle.tp_inbox.specs.Ledgers.{Inbox, SenderLedger, end_of}
 use Rattle.tp_history.proofs.PortQueuesMatchLog.{history-same}
 use Rattle.tp_behaviour.specs.declared.worker.Worker.{Worker}
-use Rattle.tp_behaviour.specs.Ends.{IsFailure}
+use Rattle.tp_behaviour.specs.BehaviourEnds.{IsFailure}
 use Rattle.tp_behaviour.specs.Held.{IsNamed, IsSentAs, NamesUnset, Actor, SendsUnset, Values}
 use Rattle.tp_behaviour.specs.Looks.{moment}
 use Rattle.tp_behaviour.specs.Moments.{Moment, moments}

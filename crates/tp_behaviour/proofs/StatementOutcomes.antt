@@ -7,7 +7,7 @@ use Rattle.tp_history.specs.declared.entry.Entry.{Entry}
 use Rattle.tp_history.specs.declared.entry.Entry.TheVariants as entry
 use Rattle.tp_history.specs.declared.ending.End.TheVariants as ending
 use Rattle.tp_history.specs.declared.send_fault.SendFault.{SendFault}
-use Rattle.tp_behaviour.specs.Ends.{StopsWithin}
+use Rattle.tp_behaviour.specs.BehaviourEnds.{StopsWithin}
 use Rattle.tp_behaviour.specs.Held.{Actor, Values}
 use Rattle.tp_behaviour.specs.Moments.{Moment, moments}
 use Rattle.tp_behaviour.specs.Seen.{TraceGrew}

@@ -4,7 +4,7 @@ use Rattle.tp_play.specs.declared.body.Statement.{Statement}
 use Rattle.tp_history.specs.declared.ending.End.{End}
 use Rattle.tp_behaviour.specs.declared.choice.Guard.{Guard}
 use Rattle.tp_behaviour.specs.declared.held.Held.{Held}
-use Rattle.tp_behaviour.specs.Ends.{Stops, StopsWithin}
+use Rattle.tp_behaviour.specs.BehaviourEnds.{Stops, StopsWithin}
 use Rattle.tp_behaviour.specs.Held.{Actor}
 use Rattle.tp_behaviour.specs.Moments.{Moment}
 

@@ -11,6 +11,6 @@ pub mod Outboxes
 pub mod Workers
 pub mod Seen
 pub mod Sends
-pub mod Ends
+pub mod BehaviourEnds
 pub mod Outcomes
 pub mod Parts

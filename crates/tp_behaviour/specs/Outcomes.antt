@@ -13,7 +13,7 @@ use Rattle.tp_behaviour.specs.declared.outcome.Outcome.TheVariants as outcome
 use Rattle.tp_behaviour.specs.declared.task.Task.{Task}
 use Rattle.tp_behaviour.specs.declared.worker.Worker.{Worker}
 use Rattle.tp_behaviour.specs.declared.worker.Frame.{Frame}
-use Rattle.tp_behaviour.specs.Ends.{Stops, StopsWithin}
+use Rattle.tp_behaviour.specs.BehaviourEnds.{Stops, StopsWithin}
 use Rattle.tp_behaviour.specs.Held.{Actor, unset}
 use Rattle.tp_behaviour.specs.Moments.{Moment, moments}
 use Rattle.tp_behaviour.specs.Paths.{AreTurns, IsPath, IsStep}

@@ -13,7 +13,7 @@ use Rattle.tp_history.specs.declared.entry.Entry.{Entry}
 use Rattle.tp_history.specs.declared.entry.Entry.TheVariants as entry
 use Rattle.tp_history.specs.declared.send_fault.SendFault.{SendFault}
 use Rattle.tp_history.specs.History.{next_of, sent_on}
-use Rattle.tp_behaviour.specs.Ends.{IsFailure}
+use Rattle.tp_behaviour.specs.BehaviourEnds.{IsFailure}
 use Rattle.tp_behaviour.specs.declared.held.Held.{Held}
 use Rattle.tp_behaviour.specs.declared.task.Task.{Task}
 use Rattle.tp_behaviour.specs.declared.worker.Worker.{Worker}

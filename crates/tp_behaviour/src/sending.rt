@@ -3,7 +3,7 @@ ghost use Rattle.std.specs.Prelude.{◌≡◌, ◌++◌, ◌∷◌, [], ℕ, All
 ghost use Rattle.std.specs.List.{AllZip};
 ghost use Rattle.tp_play.specs.declared.body.Receiver.TheVariants as receiver;
 ghost use Rattle.tp_play.specs.Playable.{CanSend};
-ghost use Rattle.tp_behaviour.specs.Ends.{IsFailure};
+ghost use Rattle.tp_behaviour.specs.BehaviourEnds.{IsFailure};
 ghost use Rattle.tp_behaviour.specs.Held.{IsNamed, IsSentAs};
 ghost use Rattle.tp_behaviour.specs.Outboxes.{routes_of};
 ghost use Rattle.tp_behaviour.specs.Outcomes.{HoldsAsDeclared, depth_of, stage_at};

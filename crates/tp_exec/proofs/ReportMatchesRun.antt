@@ -25,7 +25,7 @@ use Rattle.tp_report.specs.Verdicts.{endings, local_verdict, locals, overall_ver
 use Rattle.tp_behaviour.specs.declared.outcome.Outcome.{Outcome}
 use Rattle.tp_behaviour.specs.declared.outcome.Outcome.TheVariants as outcome
 use Rattle.tp_behaviour.specs.Choices.{NoneOpen}
-use Rattle.tp_behaviour.specs.Ends.{Follows}
+use Rattle.tp_behaviour.specs.BehaviourEnds.{Follows}
 use Rattle.tp_behaviour.specs.Fresh.{Fresh}
 use Rattle.tp_behaviour.specs.Held.{Actor}
 use Rattle.tp_behaviour.specs.Outcomes.{HasEnded, WaitsWithin}

@@ -14,7 +14,7 @@ use Rattle.tp_history.specs.History.{IsClocked, sent_on, sent_to, arrived_from, 
 use Rattle.tp_history.specs.declared.ending.End.{End}
 use Rattle.tp_report.specs.declared.report.Report.{Report}
 use Rattle.tp_report.specs.declared.report.CompReport.{CompReport}
-use Rattle.tp_behaviour.specs.Ends.{Follows}
+use Rattle.tp_behaviour.specs.BehaviourEnds.{Follows}
 use Rattle.tp_behaviour.specs.Fresh.{Fresh}
 use Rattle.tp_report.specs.Verdicts.{local_verdict, overall_verdict, endings, locals}
 

@@ -15,7 +15,7 @@ use Rattle.tp_history.specs.declared.posted.Posted.{Posted}
 use Rattle.tp_history.specs.History.{is_arrival, arrivals, arrival_on, arrived_on, arrival_from, arrived_from}
 use Rattle.tp_inbox.specs.Envelopes.{of, has, on_routes, InOrder, AreRouted}
 use Rattle.tp_inbox.specs.Routed.{AreRoutes, route_at, absent_route, arrival_of, arrivals_of, IsArrivalOn, AreArrivalsNumbered, posted_of}
-use Rattle.tp_inbox.specs.Ends.{AreFrom}
+use Rattle.tp_inbox.specs.InboxEndFields.{AreFrom}
 use Rattle.tp_inbox.proofs.EnvelopesOfOneRoute.{same_or_not}
 
 true_and : (a b : ℕ) (c d : ℕ) → (eqb a b && eqb c d) ≡ true → (a ≡ b) × (c ≡ d)

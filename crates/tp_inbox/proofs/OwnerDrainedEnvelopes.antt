@@ -20,7 +20,7 @@ use Rattle.tp_inbox.specs.Envelopes.{of, one_of, envelopes_before, EndsWith, Are
 use Rattle.tp_inbox.specs.Routed.{AreArrivals, arrival_of, arrivals_of, route_at, absent_route}
 use Rattle.tp_inbox.specs.Places.{route_eq}
 use Rattle.tp_inbox.specs.Ledgers.{Draining, drained_on}
-use Rattle.tp_inbox.specs.Ends.{GivesNext, IsOwner, KeepsRoutes, drained_of, inbox_of}
+use Rattle.tp_inbox.specs.InboxEndFields.{GivesNext, IsOwner, KeepsRoutes, drained_of, inbox_of}
 use Rattle.tp_inbox.proofs.EnvelopesOfOneRoute.{append_nil, length-of, counts_next}
 use Rattle.tp_inbox.proofs.OwnerStepInvariants.{in_order_before, routed_before, arrived, ends-append, ends_nothing, before_nothing}
 use Rattle.tp_inbox.proofs.ArrivalsOfEnvelopes.{are_on, arrivals-append, numbered_on, on_none, on_place}

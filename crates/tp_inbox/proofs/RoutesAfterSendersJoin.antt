@@ -18,7 +18,7 @@ use Rattle.tp_inbox.specs.Envelopes.{AreFronts, AreWhole, AreRouted, Begins, Led
 use Rattle.tp_inbox.specs.Rule.{owner_pass, sender_pass, Knows, Sound}
 use Rattle.tp_inbox.specs.Routed.{AreBegun, AreDelivered, AreArrivalsNumbered, IsArrivalOn, arrival_of, arrivals_of, posted_of, sources_behind, with_source}
 use Rattle.tp_inbox.specs.Ledgers.{Inbox, SenderLedger, AreSenders}
-use Rattle.tp_inbox.specs.Ends.{AreFrom, inbox_of, sent_by}
+use Rattle.tp_inbox.specs.InboxEndFields.{AreFrom, inbox_of, sent_by}
 use Rattle.tp_inbox.specs.Gathers.{IsPutOf}
 use Rattle.tp_inbox.proofs.OwnerStepInvariants.{take_front, sound_joined, routed_rest}
 use Rattle.tp_inbox.proofs.ArrivalsOfEnvelopes.{are_on, numbered_on, arrived_in, arrived_on-append, arrived_from-append, came_in, from_places}

@@ -19,7 +19,7 @@ use Rattle.tp_inbox.specs.Envelopes.{of, has, AreRouted}
 use Rattle.tp_inbox.specs.Rule.{sender_pass, PutsEnvelope}
 use Rattle.tp_inbox.specs.Routed.{AreRoutes, posted_of, route_at, absent_route}
 use Rattle.tp_inbox.specs.Ledgers.{SenderLedger, put_on_way}
-use Rattle.tp_inbox.specs.Ends.{AreTold, IsSender, inbox_of}
+use Rattle.tp_inbox.specs.InboxEndFields.{AreTold, IsSender, inbox_of}
 use Rattle.tp_inbox.proofs.EnvelopesOfOneRoute.{append_nil, of-append, of-here, of-else, routed-append, same_or_not}
 use Rattle.tp_inbox.proofs.ArrivalsOfEnvelopes.{same_place}
 

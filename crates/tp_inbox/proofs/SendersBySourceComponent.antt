@@ -13,7 +13,7 @@ use Rattle.tp_history.specs.History.{same_route}
 use Rattle.tp_inbox.specs.Envelopes.{has}
 use Rattle.tp_inbox.specs.Routed.{AreRoutes, absent_route, route_at, routes_by, with_source, sources_behind, sources_of}
 use Rattle.tp_inbox.specs.Ledgers.{Inbox, SenderLedger, AreMade, sender_by, new_sender, first_sender, extended}
-use Rattle.tp_inbox.specs.Ends.{AreFrom}
+use Rattle.tp_inbox.specs.InboxEndFields.{AreFrom}
 use Rattle.tp_inbox.proofs.RoutesAfterSendersJoin.{all_head, all_tail}
 use Rattle.tp_inbox.proofs.SenderPutInvariants.{same_places, route_same, route_itself, or_first, or_second}
 use Rattle.tp_inbox.proofs.EnvelopesOfOneRoute.{false_or}

@@ -11,7 +11,7 @@ use Rattle.tp_history.specs.declared.posted.Posted.{Posted}
 use Rattle.tp_inbox.specs.Envelopes.{Ledger}
 use Rattle.tp_inbox.specs.Rule.{Sound}
 use Rattle.tp_inbox.specs.Routed.{arrivals_of, rest_arrivals, posted_of}
-use Rattle.tp_inbox.specs.Ends.{AreFrom, sent_by}
+use Rattle.tp_inbox.specs.InboxEndFields.{AreFrom, sent_by}
 
 -- the arrivals that all make which was taken out
 abbrev pub all_arrivals : Inside → List Entry

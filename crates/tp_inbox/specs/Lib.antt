@@ -3,5 +3,5 @@ pub mod Rule
 pub mod Routed
 pub mod Places
 pub mod Ledgers
-pub mod Ends
+pub mod InboxEndFields
 pub mod Gathers

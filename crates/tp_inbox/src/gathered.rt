@@ -50,7 +50,7 @@ impl Model for Gathered {
 
     ghost use Rattle.tp_inbox.specs.Routed.{rest_arrivals};
     ghost use Rattle.tp_inbox.specs.Gathers.{IsGathered, all_sent, front_of};
-    ghost use Rattle.tp_inbox.specs.Ends.{inbox_of};
+    ghost use Rattle.tp_inbox.specs.InboxEndFields.{inbox_of};
 
     ghost view = { λ s. record {
       inbox = inbox_of (arc_value s.channel);

@@ -8,7 +8,7 @@ ghost use Rattle.tp_inbox.specs.Rule.{owner_pass, sender_pass};
 ghost use Rattle.tp_inbox.specs.Routed.{AreRoutes, sources_of};
 ghost use Rattle.tp_inbox.specs.Places.{AreFiled};
 ghost use Rattle.tp_inbox.specs.Ledgers.{AreMade, AreSenders, new_sender};
-ghost use Rattle.tp_inbox.specs.Ends.{inbox_of};
+ghost use Rattle.tp_inbox.specs.InboxEndFields.{inbox_of};
 ghost use Rattle.crossbeam_queue.specs.SegTies.{IsSegPassOf};
 ghost use Rattle.std.specs.Arc.{arc_value};
 

@@ -6,7 +6,7 @@ ghost use Rattle.tp_history.specs.History.{arrivals};
 ghost use Rattle.tp_history.specs.Desks.{adding, adding_all};
 ghost use Rattle.tp_inbox.specs.Rule.{Sound};
 ghost use Rattle.tp_inbox.specs.Envelopes.{EndsWith, one_of};
-ghost use Rattle.tp_inbox.specs.Ends.{Fetches, GivesNext, IsTakenCount, KeepsRoutes};
+ghost use Rattle.tp_inbox.specs.InboxEndFields.{Fetches, GivesNext, IsTakenCount, KeepsRoutes};
 ghost use Rattle.tp_inbox.specs.Routed.{AreArrivals, arrival_of};
 ghost use Rattle.tp_inbox.specs.Ledgers.{IsDeskOf, drained_on};
 
@@ -55,7 +55,7 @@ impl Model for Owner {
 
     ghost coded = { Prim.hlevel (codes, value_contract.the_row.coded) };
 
-    ghost use Rattle.tp_inbox.specs.Ends.{IsOwner, drained_of, inbox_of};
+    ghost use Rattle.tp_inbox.specs.InboxEndFields.{IsOwner, drained_of, inbox_of};
 
     ghost view = { λ s. record { inbox = inbox_of (arc_value s.channel); drained = drained_of s } };
 

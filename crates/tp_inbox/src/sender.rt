@@ -6,7 +6,7 @@ ghost use Rattle.tp_history.specs.declared.entry.Entry.TheVariants as entry;
 ghost use Rattle.tp_history.specs.History.{next_of};
 ghost use Rattle.tp_history.specs.Desks.{adding};
 ghost use Rattle.tp_inbox.specs.Rule.{sender_pass};
-ghost use Rattle.tp_inbox.specs.Ends.{inbox_of};
+ghost use Rattle.tp_inbox.specs.InboxEndFields.{inbox_of};
 ghost use Rattle.tp_inbox.specs.Ledgers.{end_of, extended, first_sender, put_on_way, putting};
 ghost use Rattle.tp_inbox.specs.Routed.{route_at};
 
@@ -67,7 +67,7 @@ impl Model for Sender {
     ghost coded = { Prim.hlevel (codes, value_contract.the_row.coded) };
 
     ghost use Rattle.tp_inbox.specs.Routed.{posted_of, route_at};
-    ghost use Rattle.tp_inbox.specs.Ends.{inbox_of, IsSender};
+    ghost use Rattle.tp_inbox.specs.InboxEndFields.{inbox_of, IsSender};
 
     ghost view = { λ s. record {
       inbox = inbox_of (arc_value s.channel);

@@ -2,7 +2,7 @@
 use Rattle.std.proofs.Common.{◌∙◌, ap, refl, sym, true≢false}
 use Rattle.tp_queue.specs.Queues.{QueueState}
 use Rattle.tp_value.specs.declared.message.Message.{Message}
-use Rattle.tp_behaviour.specs.Ends.{IsFailure}
+use Rattle.tp_behaviour.specs.BehaviourEnds.{IsFailure}
 use Rattle.tp_behaviour.proofs.sending.send.Goals as goal
 
 pub send_started-requires-clause-started : goal.send_started-requires-clause-started

@@ -1,7 +1,7 @@
 -- What is sent can be made or isn't set, and whoever is named is one component.
 use Rattle.std.proofs.Common.{◌≡◌, Option, Some, None, inl, refl}
 use Rattle.std.specs.Prelude.{MatchOption}
-use Rattle.tp_behaviour.specs.Ends.{IsFailure}
+use Rattle.tp_behaviour.specs.BehaviourEnds.{IsFailure}
 use Rattle.tp_behaviour.specs.Outcomes.{depth_of, stage_at}
 use Rattle.tp_behaviour.proofs.ValuesHeldByVariables.{can_fill, can_name}
 use Rattle.tp_behaviour.proofs.sending.send_started.Goals as goal

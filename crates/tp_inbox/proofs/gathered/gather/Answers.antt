@@ -11,7 +11,7 @@ use Rattle.tp_inbox.specs.Envelopes.{AreRouted, Ledger, one_of, envelopes_before
 use Rattle.tp_inbox.specs.Rule.{owner_pass}
 use Rattle.tp_inbox.specs.Routed.{AreRoutes, arrivals_of, posted_of, rest_arrivals, route_at}
 use Rattle.tp_inbox.specs.Ledgers.{Draining, Inbox, SenderLedger, IsSenderInto, put_by}
-use Rattle.tp_inbox.specs.Ends.{inbox_of, sent_by}
+use Rattle.tp_inbox.specs.InboxEndFields.{inbox_of, sent_by}
 use Rattle.tp_inbox.specs.Gathers.{IsPutOf}
 use Rattle.tp_inbox.proofs.StepsKeepDeliveryRule.{joins_as}
 use Rattle.tp_inbox.proofs.OwnerDrainedEnvelopes.{owner_arrivals}

@@ -7,7 +7,7 @@ use Rattle.std.specs.Arc.{arc_value}
 use Rattle.crossbeam_queue.specs.SegTies.{IsSegPassOf}
 use Rattle.tp_inbox.specs.Rule.{owner_pass}
 use Rattle.tp_inbox.specs.Ledgers.{IsSenderInto, put_by}
-use Rattle.tp_inbox.specs.Ends.{inbox_of, sent_by}
+use Rattle.tp_inbox.specs.InboxEndFields.{inbox_of, sent_by}
 use Rattle.tp_inbox.specs.Gathers.{IsPutOf}
 use Rattle.tp_inbox.proofs.gathered.gather.Given as goal
 

@@ -8,7 +8,7 @@ use Rattle.tp_config.specs.declared.port_type.RouteId.{RouteId}
 use Rattle.tp_inbox.specs.declared.channel.Channel.{Channel}
 use Rattle.tp_inbox.specs.Routed.{absent_route, route_at}
 use Rattle.tp_inbox.specs.Ledgers.{SenderLedger, AreMade, extended, sender_by}
-use Rattle.tp_inbox.specs.Ends.{inbox_of}
+use Rattle.tp_inbox.specs.InboxEndFields.{inbox_of}
 use Rattle.tp_inbox.proofs.SendersBySourceComponent.{found_is, made_found, made_new, apart_routes}
 use Rattle.tp_inbox.proofs.making.add_route.Goals as goal
 

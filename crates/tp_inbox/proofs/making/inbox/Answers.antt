@@ -1,7 +1,7 @@
 -- The senders are those of the inbox that the owner is of.
 use Rattle.std.proofs.Common.{subst, sym}
 use Rattle.std.specs.Arc.{arc_value}
-use Rattle.tp_inbox.specs.Ends.{inbox_of}
+use Rattle.tp_inbox.specs.InboxEndFields.{inbox_of}
 use Rattle.tp_inbox.specs.Ledgers.{Inbox, AreSenders}
 use Rattle.tp_inbox.proofs.StepsKeepDeliveryRule.{begins}
 use Rattle.tp_inbox.proofs.NewInboxContents.{new_are_senders}

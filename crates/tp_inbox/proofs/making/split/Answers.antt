@@ -1,7 +1,7 @@
 -- The pass may be split once more, for the next route, and at the end there are the senders of all.
 use Rattle.std.proofs.Common.{◌≡◌, length, arith}
 use Rattle.std.specs.Arc.{arc_value}
-use Rattle.tp_inbox.specs.Ends.{inbox_of}
+use Rattle.tp_inbox.specs.InboxEndFields.{inbox_of}
 use Rattle.tp_inbox.proofs.StepsKeepDeliveryRule.{splits_as}
 use Rattle.tp_inbox.proofs.SendersBySourceComponent.{made_all}
 use Rattle.tp_inbox.proofs.making.split.Goals as goal

@@ -4,7 +4,7 @@ use Rattle.std.specs.Arc.{arc_value}
 use Rattle.crossbeam_queue.specs.SegTies.{IsSegPassOf}
 use Rattle.tp_inbox.specs.Rule.{owner_pass}
 use Rattle.tp_inbox.specs.Ledgers.{AreMade}
-use Rattle.tp_inbox.specs.Ends.{inbox_of}
+use Rattle.tp_inbox.specs.InboxEndFields.{inbox_of}
 use Rattle.tp_inbox.proofs.making.split.Given as goal
 
 abbrev pub invariant-loop-place : goal.invariant-loop-place

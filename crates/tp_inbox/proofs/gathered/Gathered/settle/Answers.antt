@@ -8,7 +8,7 @@ use Rattle.tp_inbox.specs.declared.channel.Channel.{Channel}
 use Rattle.tp_inbox.specs.Envelopes.{Ledger}
 use Rattle.tp_inbox.specs.Routed.{AreDelivered, AreArrivalsNumbered, arrivals_of, rest_arrivals}
 use Rattle.tp_inbox.specs.Ledgers.{Gathering}
-use Rattle.tp_inbox.specs.Ends.{sent_by}
+use Rattle.tp_inbox.specs.InboxEndFields.{sent_by}
 use Rattle.tp_inbox.specs.Gathers.{IsPutOf}
 use Rattle.tp_inbox.proofs.OwnerStepInvariants.{routed_rest}
 use Rattle.tp_inbox.proofs.RoutesAfterSendersJoin.{Knowing, Sent, begun_at, delivered_at, numbered_at, rest_at, front_and_back}

@@ -5,7 +5,7 @@ use Rattle.std.specs.Arc.{arc_value}
 use Rattle.crossbeam_queue.specs.SegTies.{IsSegPassOf}
 use Rattle.tp_inbox.specs.Rule.{Sound}
 use Rattle.tp_inbox.specs.Routed.{arrivals_of, rest_arrivals}
-use Rattle.tp_inbox.specs.Ends.{sent_by}
+use Rattle.tp_inbox.specs.InboxEndFields.{sent_by}
 use Rattle.tp_inbox.specs.Gathers.{IsPutOf}
 use Rattle.tp_inbox.proofs.gathered.Gathered.settle.Given as goal
 
