@@ -16,7 +16,7 @@ use Rattle.tp_judge.specs.declared.line.Act.TheVariants as act
 use Rattle.tp_judge.specs.declared.line.IndexedLine.{IndexedLine}
 use Rattle.tp_judge.specs.declared.place.Rule.{Rule}
 use Rattle.tp_judge.specs.declared.place.UnlawfulPlace.{UnlawfulPlace}
-use Rattle.tp_judge.specs.Gathered.{lines_at}
+use Rattle.tp_judge.specs.LinesByNumber.{lines_at}
 use Rattle.tp_judge.specs.Lines.{envelope_of, event_of}
 use Rattle.tp_judge.specs.Rules.{history_of, Breaks, IsBroken}
 use Rattle.tp_judge.proofs.ReferencedLinesGrowth.{at_seam, filter_map-more, seen_at, seen-take, split_line}

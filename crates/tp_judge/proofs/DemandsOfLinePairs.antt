@@ -6,7 +6,7 @@ use Rattle.std.proofs.lemmas.List.Elements.{All-append, All-cons, All-nil, All-h
 use Rattle.tp_order.specs.declared.demand.Demand.{Demand}
 use Rattle.tp_order.specs.Order.{IsBelow}
 use Rattle.tp_judge.specs.declared.line.IndexedLine.{IndexedLine}
-use Rattle.tp_judge.specs.Gathered.{lines_at}
+use Rattle.tp_judge.specs.LinesByNumber.{lines_at}
 use Rattle.tp_judge.specs.Demands.{from_each, pairs}
 
 -- a demand

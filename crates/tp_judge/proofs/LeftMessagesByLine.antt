@@ -16,7 +16,7 @@ use Rattle.tp_judge.specs.declared.line.Act.{Act}
 use Rattle.tp_judge.specs.declared.line.Act.TheVariants as act
 use Rattle.tp_judge.specs.declared.line.IndexedLine.{IndexedLine}
 use Rattle.tp_judge.specs.declared.place.Rule.TheVariants as rule
-use Rattle.tp_judge.specs.Gathered.{lines_at}
+use Rattle.tp_judge.specs.LinesByNumber.{lines_at}
 use Rattle.tp_judge.specs.Lines.{left_of}
 use Rattle.tp_judge.specs.Rules.{left_in}
 use Rattle.tp_judge.specs.Lawful.{IsCloserNumber, IsCloserOf, IsLeftBroken, IsNoEndBefore, IsToldFirst}

@@ -6,7 +6,7 @@ use Rattle.std.proofs.lemmas.List.Elements.{All-head, All-tail}
 use Rattle.std.proofs.lemmas.Option.{slice_get_within}
 use Rattle.tp_judge.specs.declared.line.Parcel.{Parcel}
 use Rattle.tp_judge.specs.declared.line.IndexedLine.{IndexedLine}
-use Rattle.tp_judge.specs.Gathered.{lines_at}
+use Rattle.tp_judge.specs.LinesByNumber.{lines_at}
 use Rattle.tp_judge.specs.Lines.{parcel_of}
 use Rattle.tp_judge.specs.Delivered.{NamesParcel, ParcelAt, parcels}
 

@@ -7,7 +7,7 @@ use Rattle.std.proofs.lemmas.List.{take_more}
 use Rattle.std.proofs.lemmas.Option.{get_or_from_slice_get, slice_get_within}
 use Rattle.std.proofs.lemmas.List.Elements.{filter_map-append}
 use Rattle.tp_judge.specs.declared.line.IndexedLine.{IndexedLine}
-use Rattle.tp_judge.specs.Gathered.{lines_at}
+use Rattle.tp_judge.specs.LinesByNumber.{lines_at}
 
 alone : {Y : Type 0} (o : Option Y) → cons_option o [] ≡ option_to_list o
 alone None = refl

@@ -11,7 +11,7 @@ use Rattle.tp_judge.specs.declared.trace.IndexedTrace.{IndexedTrace}
 use Rattle.tp_judge.specs.Lines.{is_number, key_of}
 use Rattle.tp_judge.specs.Before.{HappensBefore, NoCircle, between, came_on, earlier, section_of, sent}
 use Rattle.tp_judge.specs.Delivered.{Delivered}
-use Rattle.tp_judge.specs.Gathered.{lines_at}
+use Rattle.tp_judge.specs.LinesByNumber.{lines_at}
 use Rattle.tp_judge.specs.TextOrder.{AreAscending, AreSentFirst, StandBefore}
 
 -- the lines below the place ascend, and the number is above theirs

@@ -1,5 +1,5 @@
 pub mod Lines
-pub mod Gathered
+pub mod LinesByNumber
 pub mod Replayed
 pub mod Rules
 pub mod Lawful

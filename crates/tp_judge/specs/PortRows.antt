@@ -8,7 +8,7 @@ use Rattle.tp_judge.specs.declared.line.By.TheVariants as by
 use Rattle.tp_judge.specs.declared.line.IndexedLine.{IndexedLine}
 use Rattle.tp_judge.specs.declared.trace.IndexedTrace.{IndexedTrace}
 use Rattle.tp_judge.specs.declared.ports.PortRows.{PortRows}
-use Rattle.tp_judge.specs.Gathered.{AreGathered, lines_at}
+use Rattle.tp_judge.specs.LinesByNumber.{AreGathered, lines_at}
 use Rattle.tp_judge.specs.Lawful.{IsCloserOf}
 
 -- of each section the number of the line that closes it, none where it is open

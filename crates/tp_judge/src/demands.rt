@@ -1,7 +1,7 @@
 //! The demands on an order of the lines: what happens before what.
 ghost use Rattle.std.specs.Prelude.{◌≡◌, ◌++◌, ◌<◌, IfOk, OnOk, drop, length};
 ghost use Rattle.tp_judge.specs.Demands.{demands_of, from_each, pairs, route_demands, section_demands};
-ghost use Rattle.tp_judge.specs.Gathered.{AreGathered, lines_at};
+ghost use Rattle.tp_judge.specs.LinesByNumber.{AreGathered, lines_at};
 ghost use Rattle.tp_judge.specs.Lawful.{AreWithin};
 ghost use Rattle.tp_judge.specs.RouteRows.{AreRouteRows};
 

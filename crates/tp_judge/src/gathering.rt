@@ -1,6 +1,6 @@
 //! The lines of a trace, gathered by a number of theirs.
 ghost use Rattle.std.specs.Prelude.{◌≡◌, [], All, IfOk, length};
-ghost use Rattle.tp_judge.specs.Gathered.{AreGathered};
+ghost use Rattle.tp_judge.specs.LinesByNumber.{AreGathered};
 ghost use Rattle.tp_judge.specs.Lines.{HasKeyBelow};
 
 use crate::line::{By, IndexedLine};

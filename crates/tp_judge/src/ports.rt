@@ -1,7 +1,7 @@
 //! The rule on ports.
 ghost use Rattle.std.specs.Prelude.{◌≡◌, ◌↔◌, ◌<◌, [], All, IfOk, IsTrue, MatchOption, Some, length, slice_get};
 ghost use Rattle.tp_queue.specs.Queues.{AtHistory};
-ghost use Rattle.tp_judge.specs.Gathered.{lines_at};
+ghost use Rattle.tp_judge.specs.LinesByNumber.{lines_at};
 ghost use Rattle.tp_judge.specs.Lawful.{AreWithin, IsCloserNumber, IsCloserOf, IsLawfulAt, IsLawfulPort};
 ghost use Rattle.tp_judge.specs.Lawful.{IsLeftBroken, IsPortPlace, IsToldLeft, IsUnlawfulAt};
 ghost use Rattle.tp_judge.specs.Lawful.{IsUnlawfulPort, LawfulPorts};

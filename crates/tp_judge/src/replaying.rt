@@ -4,7 +4,7 @@ ghost use Rattle.std.specs.Option.{option_to_list};
 ghost use Rattle.tp_event.specs.declared.event.Event.TheVariants as event;
 ghost use Rattle.tp_queue.specs.History.{top};
 ghost use Rattle.tp_queue.specs.Queues.{AtHistory, StandsFor};
-ghost use Rattle.tp_judge.specs.Gathered.{lines_at};
+ghost use Rattle.tp_judge.specs.LinesByNumber.{lines_at};
 ghost use Rattle.tp_judge.specs.Lines.{envelope_of, event_of};
 ghost use Rattle.tp_judge.specs.Replayed.{IsReplay};
 ghost use Rattle.tp_judge.specs.declared.line.Act.TheVariants as acts;

@@ -3,7 +3,7 @@ ghost use Rattle.std.specs.Prelude.{◌≡◌, ◌↔◌, ◌<◌, All, IfSome, 
 ghost use Rattle.tp_judge.specs.Delivered.{AgreesBelow, AreParcelsNumbered, DiffersAt, CameAsSent};
 ghost use Rattle.tp_judge.specs.Delivered.{IsMisnumbered, IsOvertaken, IsPlaceOfLine, IsUnlawfulRoute};
 ghost use Rattle.tp_judge.specs.Delivered.{IsWrongAt, NamesParcel, ParcelAt, parcels};
-ghost use Rattle.tp_judge.specs.Gathered.{lines_at};
+ghost use Rattle.tp_judge.specs.LinesByNumber.{lines_at};
 ghost use Rattle.tp_judge.specs.Routed.{HasNumberFrom, NoNumberFrom};
 
 use crate::line::{IndexedLine, Parcel};

@@ -3,7 +3,7 @@
 ghost use Rattle.std.specs.Prelude.{◌≡◌, ◌<◌, ℕ, IsTrue, length};
 ghost use Rattle.tp_judge.specs.Before.{NoCircle};
 ghost use Rattle.tp_judge.specs.Delivered.{Delivered};
-ghost use Rattle.tp_judge.specs.Gathered.{lines_at};
+ghost use Rattle.tp_judge.specs.LinesByNumber.{lines_at};
 ghost use Rattle.tp_judge.specs.RouteRows.{AreRouteRows};
 ghost use Rattle.tp_judge.specs.TextOrder.{AreAscending, AreSentFirst, StandBefore};
 

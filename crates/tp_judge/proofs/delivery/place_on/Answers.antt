@@ -3,7 +3,7 @@ use Rattle.std.proofs.Common.{Some, ap, sym, ◌∙◌}
 use Rattle.std.proofs.lemmas.List.Elements.{All-same}
 use Rattle.std.proofs.lemmas.Option.{slice_get-get_or}
 use Rattle.tp_judge.specs.Delivered.{NamesParcel}
-use Rattle.tp_judge.specs.Gathered.{lines_at}
+use Rattle.tp_judge.specs.LinesByNumber.{lines_at}
 use Rattle.tp_judge.proofs.RouteLinesNameParcels.{names_sent, names_came, route_found}
 use Rattle.tp_judge.proofs.delivery.place_on.Goals as goal
 

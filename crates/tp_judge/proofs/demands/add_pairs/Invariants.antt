@@ -1,7 +1,7 @@
 -- The pairs so far are added.
 use Rattle.std.proofs.Common.{◌≡◌, ◌++◌, take}
 use Rattle.tp_judge.specs.Demands.{pairs}
-use Rattle.tp_judge.specs.Gathered.{lines_at}
+use Rattle.tp_judge.specs.LinesByNumber.{lines_at}
 use Rattle.tp_judge.proofs.demands.add_pairs.Given as goal
 
 abbrev pub invariant-loop-place : goal.invariant-loop-place

@@ -5,7 +5,7 @@ use Rattle.std.proofs.lemmas.Option.{slice_get-get_or}
 use Rattle.tp_order.specs.declared.demand.Demand.{Demand}
 use Rattle.tp_judge.specs.Before.{came_on, sent_on}
 use Rattle.tp_judge.specs.Demands.{pairs, route_demands, where_joined}
-use Rattle.tp_judge.specs.Gathered.{lines_at}
+use Rattle.tp_judge.specs.LinesByNumber.{lines_at}
 use Rattle.tp_judge.proofs.demands.add_route.Goals as goal
 
 pub returns-then-not-index : goal.returns-then-not-index

@@ -1,6 +1,6 @@
 -- The lines so far are gathered.
 use Rattle.std.proofs.Common.{take}
-use Rattle.tp_judge.specs.Gathered.{AreGathered}
+use Rattle.tp_judge.specs.LinesByNumber.{AreGathered}
 use Rattle.tp_judge.proofs.gathering.gather_rows.Given as goal
 
 abbrev pub invariant-loop-line : goal.invariant-loop-line

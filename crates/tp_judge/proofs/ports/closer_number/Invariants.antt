@@ -1,5 +1,5 @@
 -- None so far says that the component ended.
-use Rattle.tp_judge.specs.Gathered.{lines_at}
+use Rattle.tp_judge.specs.LinesByNumber.{lines_at}
 use Rattle.tp_judge.specs.Lawful.{IsNoEndBefore}
 use Rattle.tp_judge.proofs.ports.closer_number.Given as goal
 

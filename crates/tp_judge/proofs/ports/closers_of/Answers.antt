@@ -2,7 +2,7 @@
 use Rattle.std.proofs.Common.{◌+◌, get_or, take, subst, sym, arith}
 use Rattle.std.proofs.lemmas.List.{take_all}
 use Rattle.std.proofs.lemmas.Option.{slice_get-get_or}
-use Rattle.tp_judge.specs.Gathered.{lines_at}
+use Rattle.tp_judge.specs.LinesByNumber.{lines_at}
 use Rattle.tp_judge.specs.Lawful.{IsCloserOf}
 use Rattle.tp_judge.specs.PortRows.{AreClosers}
 use Rattle.tp_judge.proofs.PairedItemsGrowth.{zip_next}

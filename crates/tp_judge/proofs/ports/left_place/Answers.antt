@@ -7,7 +7,7 @@ use Rattle.tp_event.specs.declared.event.Env.{Env}
 use Rattle.tp_queue.specs.History.{queued}
 use Rattle.tp_queue.specs.Queues.{QueueState}
 use Rattle.tp_judge.specs.declared.line.MessageId.{MessageId}
-use Rattle.tp_judge.specs.Gathered.{lines_at}
+use Rattle.tp_judge.specs.LinesByNumber.{lines_at}
 use Rattle.tp_judge.specs.Lawful.{IsCloserNumber}
 use Rattle.tp_judge.specs.Lines.{envelope_of, left_of}
 use Rattle.tp_judge.proofs.LeftMessagesByLine.{TellsFirst, tells_missing, tells_one, tells_none, tells_wrong, not_left}

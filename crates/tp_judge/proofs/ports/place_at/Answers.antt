@@ -2,7 +2,7 @@
 use Rattle.std.proofs.Common.{◌<◌, get_or, subst, sym, arith}
 use Rattle.std.proofs.lemmas.Slice.Zip.{AllZip-long}
 use Rattle.std.proofs.lemmas.List.Elements.{All-get_or}
-use Rattle.tp_judge.specs.Gathered.{lines_at}
+use Rattle.tp_judge.specs.LinesByNumber.{lines_at}
 use Rattle.tp_judge.specs.Lawful.{IsCloserOf}
 use Rattle.tp_judge.proofs.LeftMessagesByLine.{closer_at}
 use Rattle.tp_judge.proofs.ports.place_at.Goals as goal

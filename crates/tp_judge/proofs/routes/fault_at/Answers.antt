@@ -2,7 +2,7 @@
 use Rattle.std.proofs.Common.{◌≡◌, ◌≢◌, Some, ap, sym, ◌∙◌, arith}
 use Rattle.std.proofs.lemmas.Option.{slice_get_within}
 use Rattle.std.specs.Prelude.{slice_get}
-use Rattle.tp_judge.specs.Gathered.{lines_at}
+use Rattle.tp_judge.specs.LinesByNumber.{lines_at}
 use Rattle.tp_judge.specs.Delivered.{parcels, invented, changed}
 use Rattle.tp_judge.proofs.LinesNameOneParcel.{named_within}
 use Rattle.tp_judge.proofs.UnlawfulRouteExclusions.{doubled_here, first_arrival, same_parcel}

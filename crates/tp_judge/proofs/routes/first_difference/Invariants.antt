@@ -1,5 +1,5 @@
 -- What came so far was sent there.
-use Rattle.tp_judge.specs.Gathered.{lines_at}
+use Rattle.tp_judge.specs.LinesByNumber.{lines_at}
 use Rattle.tp_judge.specs.Delivered.{AgreesBelow}
 use Rattle.tp_judge.proofs.routes.first_difference.Given as goal
 

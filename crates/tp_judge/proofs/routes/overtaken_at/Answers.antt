@@ -1,6 +1,6 @@
 -- A message whose place another took: it never comes, or later, or another does with its number.
 use Rattle.std.proofs.Common.{◌≡◌, sym, subst, arith}
-use Rattle.tp_judge.specs.Gathered.{lines_at}
+use Rattle.tp_judge.specs.LinesByNumber.{lines_at}
 use Rattle.tp_judge.specs.Delivered.{IsFirstArrival, changed_later, reordered}
 use Rattle.tp_judge.proofs.LinesNameOneParcel.{named_within}
 use Rattle.tp_judge.proofs.UnlawfulRouteExclusions.{later_arrival, lost_overtaken, same_parcel}

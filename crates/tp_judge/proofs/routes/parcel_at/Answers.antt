@@ -1,6 +1,6 @@
 -- Each of these lines names a parcel.
 use Rattle.std.proofs.Common.{sym, ◌∙◌}
-use Rattle.tp_judge.specs.Gathered.{lines_at}
+use Rattle.tp_judge.specs.LinesByNumber.{lines_at}
 use Rattle.tp_judge.proofs.ReferencedLinesGrowth.{seen_at}
 use Rattle.tp_judge.proofs.LinesNameOneParcel.{named_at, names_none}
 use Rattle.tp_judge.proofs.routes.parcel_at.Goals as goal

@@ -1,6 +1,6 @@
 -- What came is what was sent, or there is a place.
 use Rattle.std.proofs.Common.{length, ◌∙◌, arith}
-use Rattle.tp_judge.specs.Gathered.{lines_at}
+use Rattle.tp_judge.specs.LinesByNumber.{lines_at}
 use Rattle.tp_judge.specs.Delivered.{different, numbering, parcels}
 use Rattle.tp_judge.proofs.LinesNameOneParcel.{length-parcels, length-seen, named_there, named_within}
 use Rattle.tp_judge.proofs.UnlawfulRouteExclusions.{lost_behind, same_lists}

@@ -1,5 +1,5 @@
 -- The pairs so far stand so.
-use Rattle.tp_judge.specs.Gathered.{lines_at}
+use Rattle.tp_judge.specs.LinesByNumber.{lines_at}
 use Rattle.tp_judge.proofs.TextOrderWithoutCircle.{StandBelow}
 use Rattle.tp_judge.proofs.text_order.stand_before.Given as goal
 
