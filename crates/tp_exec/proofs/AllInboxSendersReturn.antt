@@ -18,7 +18,7 @@ use Rattle.tp_inbox.proofs.ArrivalsOfEnvelopes.{arrivals-append}
 use Rattle.tp_inbox.proofs.ComponentMessagesByRoute.{came_by_routes, sent_by_routes}
 use Rattle.tp_behaviour.specs.Outboxes.{routes_of}
 use Rattle.tp_exec.specs.declared.ended.EndedComponent.{EndedComponent}
-use Rattle.tp_exec.specs.Held.{HasAll, HasCome, HasComeFrom, IsCounted, IsHandedBack, ShareNone, links_by}
+use Rattle.tp_exec.specs.ReturnedSenders.{HasAll, HasCome, HasComeFrom, IsCounted, IsHandedBack, ShareNone, links_by}
 use Rattle.tp_exec.specs.Rounds.{Link, link_by, links_in}
 use Rattle.tp_exec.proofs.PairwiseDifferentElements.{flat_there, mapped_pairs}
 use Rattle.tp_exec.proofs.RoutesBySourceComponent.{among_by, by_among, source_there, sources_apart}

@@ -12,7 +12,7 @@ use Rattle.tp_inbox.specs.Ledgers.{SenderLedger, end_of}
 use Rattle.tp_inbox.proofs.EnvelopesOfOneRoute.{same_or_not}
 use Rattle.tp_behaviour.specs.Workers.{IsLedgerOf}
 use Rattle.tp_exec.specs.Rounds.{Link, comes_from}
-use Rattle.tp_exec.specs.Held.{AreAtHand, CanTake, Gives, IsHandedBack, Leaves}
+use Rattle.tp_exec.specs.ReturnedSenders.{AreAtHand, CanTake, Gives, IsHandedBack, Leaves}
 
 abbrev Hand : Type 0
 Hand = IntoIter SenderLedger Global

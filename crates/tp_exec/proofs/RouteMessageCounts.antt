@@ -14,7 +14,7 @@ use Rattle.tp_inbox.proofs.ArrivalsOfEnvelopes.{same_default}
 use Rattle.tp_inbox.proofs.RoutePlaceTableGrowth.{eq_same}
 use Rattle.tp_inbox.proofs.SenderPutInvariants.{route_itself, route_same}
 use Rattle.tp_behaviour.specs.Outboxes.{routes_of}
-use Rattle.tp_exec.specs.Held.{AreFiledOf, IsCounted, IsFiled, ShareNone}
+use Rattle.tp_exec.specs.ReturnedSenders.{AreFiledOf, IsCounted, IsFiled, ShareNone}
 use Rattle.tp_exec.proofs.PairwiseDifferentElements.{flat_from}
 
 -- of the first n routes of a sender it is filed how much was put there, and of none that isn't one of its routes

@@ -19,7 +19,7 @@ use Rattle.tp_behaviour.specs.Workers.{IsConsistent, IsLedgerOf}
 use Rattle.tp_exec.specs.declared.idle.Idle.{Idle}
 use Rattle.tp_exec.specs.declared.played.Played.{Played}
 use Rattle.tp_exec.specs.Rounds.{AreWorkers, Link, all_links, comp_at, comes_from, workers_of, link_by, links_in}
-use Rattle.tp_exec.specs.Held.{AreAtHand, IsIdleComponent, idle_of, log_at, outbox_of, links_to}
+use Rattle.tp_exec.specs.ReturnedSenders.{AreAtHand, IsIdleComponent, idle_of, log_at, outbox_of, links_to}
 use Rattle.tp_exec.proofs.IncomingRouteEnds.{sources_within}
 
 abbrev Hand : Type 0

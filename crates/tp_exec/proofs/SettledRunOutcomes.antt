@@ -28,7 +28,7 @@ use Rattle.tp_exec.specs.declared.played.Played.{Played}
 use Rattle.tp_exec.specs.Delivery.{IsDeliveredBetween, IsOnRoute}
 use Rattle.tp_exec.specs.Rounds.{AreWorkers, comp_at, workers_of}
 use Rattle.tp_exec.specs.Settlings.{AreSettled, IsAllThere, IsSettled}
-use Rattle.tp_exec.specs.Held.{HasCome, HasComeFrom, HasEndedWithAll, IsEndingOf, idle_of, log_at}
+use Rattle.tp_exec.specs.ReturnedSenders.{HasCome, HasComeFrom, HasEndedWithAll, IsEndingOf, idle_of, log_at}
 use Rattle.tp_exec.proofs.NoMessagesWithoutRoutes.{none_came, none_sent, links_out}
 use Rattle.tp_exec.proofs.RoutesBySourceComponent.{source_or_not}
 use Rattle.tp_exec.proofs.IncomingRouteEnds.{leads_to, receiver_within, source_within}

@@ -1,7 +1,7 @@
 pub mod Delivery
 pub mod Faults
 pub mod Openings
-pub mod Held
+pub mod ReturnedSenders
 pub mod Order
 pub mod Returns
 pub mod Rounds

@@ -5,7 +5,7 @@ ghost use Rattle.tp_config.specs.declared.port_type.RouteId.{RouteId as Route};
 ghost use Rattle.tp_inbox.specs.Ledgers.{SenderLedger};
 ghost use Rattle.tp_inbox.specs.Places.{KeepsOtherRoutes, route_eq};
 ghost use Rattle.tp_behaviour.specs.Outboxes.{routes_of};
-ghost use Rattle.tp_exec.specs.Held.{AreFiledOf, IsCounted, ShareNone};
+ghost use Rattle.tp_exec.specs.ReturnedSenders.{AreFiledOf, IsCounted, ShareNone};
 
 use indexmap::IndexMap;
 use std::alloc::Global;

@@ -3,7 +3,7 @@ ghost use Rattle.std.specs.Prelude.{◌≡◌, ◌∷◌, [], IfOk, MatchOption,
 ghost use Rattle.std.specs.Vec.Iter.{into_iter_items};
 ghost use Rattle.tp_inbox.specs.Ledgers.{Inbox};
 ghost use Rattle.tp_inbox.specs.Routed.{sources_of};
-ghost use Rattle.tp_exec.specs.Held.{CanTake, Gives, Leaves, idle_of, outbox_of, links_by};
+ghost use Rattle.tp_exec.specs.ReturnedSenders.{CanTake, Gives, Leaves, idle_of, outbox_of, links_by};
 ghost use Rattle.tp_exec.specs.Rounds.{link_by};
 
 use crate::idle::Idle;

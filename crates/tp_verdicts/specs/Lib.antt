@@ -1,4 +1,4 @@
-pub mod Held
+pub mod HeldNumbers
 pub mod Ports
 pub mod Runs
 pub mod Standing

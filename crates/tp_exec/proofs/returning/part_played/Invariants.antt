@@ -1,7 +1,7 @@
 -- What was parted, and then the rest, is all.
 use Rattle.std.proofs.Common.{◌≡◌, ◌++◌, map}
 use Rattle.std.specs.Vec.Iter.{into_iter_items}
-use Rattle.tp_exec.specs.Held.{idle_of, outbox_of}
+use Rattle.tp_exec.specs.ReturnedSenders.{idle_of, outbox_of}
 use Rattle.tp_exec.proofs.returning.part_played.Given as goal
 
 abbrev pub invariant-loop-one : goal.invariant-loop-one

@@ -9,7 +9,7 @@ use Rattle.tp_config.specs.declared.port_type.CompId.{CompId}
 use Rattle.tp_history.specs.declared.entry.Entry.{Entry}
 use Rattle.tp_inbox.specs.Ledgers.{Inbox, SenderLedger}
 use Rattle.tp_inbox.proofs.RoutesAfterSendersJoin.{move_one}
-use Rattle.tp_exec.specs.Held.{AreAtHand, CanTake, IsHandedBack, links_by}
+use Rattle.tp_exec.specs.ReturnedSenders.{AreAtHand, CanTake, IsHandedBack, links_by}
 use Rattle.tp_exec.specs.Rounds.{Link, link_by}
 use Rattle.tp_exec.proofs.OneSenderReturns.{no_rest}
 use Rattle.tp_exec.proofs.returning.take_back.Goals as goal

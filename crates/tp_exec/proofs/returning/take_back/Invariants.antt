@@ -4,7 +4,7 @@ use Rattle.std.specs.List.{AllZip}
 use Rattle.std.specs.Vec.Iter.{into_iter_items}
 use Rattle.tp_history.specs.declared.entry.Entry.{Entry}
 use Rattle.tp_inbox.specs.Ledgers.{Inbox, SenderLedger}
-use Rattle.tp_exec.specs.Held.{AreAtHand, IsHandedBack, links_by}
+use Rattle.tp_exec.specs.ReturnedSenders.{AreAtHand, IsHandedBack, links_by}
 use Rattle.tp_exec.specs.Rounds.{Link}
 use Rattle.tp_exec.proofs.returning.take_back.Given as goal
 

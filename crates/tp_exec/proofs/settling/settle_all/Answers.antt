@@ -7,7 +7,7 @@ use Rattle.std.proofs.lemmas.List.Elements.{All-head, All-tail}
 use Rattle.tp_inbox.proofs.RoutesAfterSendersJoin.{move_one}
 use Rattle.tp_exec.specs.declared.ended.EndedComponent.{EndedComponent}
 use Rattle.tp_exec.specs.declared.idle.Idle.{Idle}
-use Rattle.tp_exec.specs.Held.{AreAtHand, HasEndedWithAll, IsIdleComponent, idle_of, log_at, links_to}
+use Rattle.tp_exec.specs.ReturnedSenders.{AreAtHand, HasEndedWithAll, IsIdleComponent, idle_of, log_at, links_to}
 use Rattle.tp_exec.proofs.OneSenderReturns.{no_rest}
 use Rattle.tp_exec.proofs.SendersAfterBehaviours.{all_held, all_idle}
 use Rattle.tp_exec.proofs.SettledRunOutcomes.{all_settled}

@@ -3,7 +3,7 @@ use Rattle.std.proofs.Common.{◌++◌, All, List, map}
 use Rattle.std.specs.List.{AllZip}
 use Rattle.std.specs.Vec.Iter.{into_iter_items}
 use Rattle.tp_exec.specs.declared.ended.EndedComponent.{EndedComponent}
-use Rattle.tp_exec.specs.Held.{AreAtHand, HasEndedWithAll, IsIdleComponent, idle_of, log_at, links_to}
+use Rattle.tp_exec.specs.ReturnedSenders.{AreAtHand, HasEndedWithAll, IsIdleComponent, idle_of, log_at, links_to}
 use Rattle.tp_exec.proofs.settling.settle_all.Given as goal
 
 abbrev pub invariant-loop-idle : goal.invariant-loop-idle

@@ -8,7 +8,7 @@ use Rattle.tp_config.specs.Routes.{routes_into}
 use Rattle.tp_inbox.specs.Ledgers.{AreSenders, Inbox, SenderLedger}
 use Rattle.tp_inbox.specs.Routed.{sources_of}
 use Rattle.tp_behaviour.specs.Outboxes.{routes_of}
-use Rattle.tp_exec.specs.Held.{CanTake, Gives, Leaves, ShareNone, links_by}
+use Rattle.tp_exec.specs.ReturnedSenders.{CanTake, Gives, Leaves, ShareNone, links_by}
 use Rattle.tp_exec.specs.Rounds.{links_in}
 use Rattle.tp_exec.proofs.AllInboxSendersReturn.{are_senders, have_all, share_none}
 use Rattle.tp_exec.proofs.settling.take_senders.Goals as goal
