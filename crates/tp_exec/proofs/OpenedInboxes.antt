@@ -11,7 +11,7 @@ use Rattle.tp_inbox.specs.Ledgers.{Inbox, SenderLedger, end_of, new_sender}
 use Rattle.tp_inbox.specs.Routed.{sources_of}
 use Rattle.tp_behaviour.specs.declared.worker.Worker.{Worker}
 use Rattle.tp_exec.specs.declared.inboxes.Opened.{Opened}
-use Rattle.tp_exec.specs.Openings.{AreOpened, IsBare, IsOpened, IsUnused}
+use Rattle.tp_exec.specs.OpenedWorkers.{AreOpened, IsBare, IsOpened, IsUnused}
 use Rattle.tp_exec.specs.Rounds.{all_links, link_by, links_in}
 
 -- what stands at a place of a list with one more is of the list, or is the one

@@ -11,7 +11,7 @@ use Rattle.std.proofs.lemmas.List.Kept.{AllPairs-filter}
 use Rattle.std.proofs.lemmas.Option.{same_Some}
 use Rattle.tp_inbox.specs.Ledgers.{SenderLedger}
 use Rattle.tp_behaviour.specs.declared.worker.Worker.{Worker}
-use Rattle.tp_exec.specs.Openings.{AreApart, AreHandedOut, AreTwo, HasGiven, IsBare, IsFirstThere, IsFromOneOf, giving, is_of, rest_of}
+use Rattle.tp_exec.specs.OpenedWorkers.{AreApart, AreHandedOut, AreTwo, HasGiven, IsBare, IsFirstThere, IsFromOneOf, giving, is_of, rest_of}
 use Rattle.tp_exec.proofs.PairwiseDifferentElements.{all_before, pairs_before}
 
 -- of all the senders, those before the rest have been handed out

@@ -22,7 +22,7 @@ use Rattle.tp_behaviour.specs.Outboxes.{routes_of}
 use Rattle.tp_behaviour.specs.Paths.{own_port}
 use Rattle.tp_behaviour.specs.Workers.{IsLedgerOf, AreEndsOf, IsSenderOf, IsSentBy}
 use Rattle.tp_exec.specs.declared.inboxes.Opened.{Opened}
-use Rattle.tp_exec.specs.Openings.{AreApart, AreHandedOut, AreOpened, IsFromOneOf, IsOpened, IsUnused, is_of, rest_of}
+use Rattle.tp_exec.specs.OpenedWorkers.{AreApart, AreHandedOut, AreOpened, IsFromOneOf, IsOpened, IsUnused, is_of, rest_of}
 use Rattle.tp_exec.specs.Rounds.{AreWorkers, HasNotBegun, IsWorkerOf, Link, all_links, comp_at, comes_from, link_by, links_in}
 use Rattle.tp_exec.proofs.SendersGivenToWorkers.{as_many}
 use Rattle.tp_exec.proofs.PairwiseDifferentElements.{flat_there, mapped_pairs, passed, passes}

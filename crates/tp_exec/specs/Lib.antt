@@ -1,6 +1,6 @@
 pub mod Delivery
 pub mod Faults
-pub mod Openings
+pub mod OpenedWorkers
 pub mod ReturnedSenders
 pub mod Order
 pub mod Returns

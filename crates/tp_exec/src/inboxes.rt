@@ -3,8 +3,8 @@
 ghost use Rattle.std.specs.Prelude.{◌≡◌, ◌+◌, All, IfOk, OnOk, length};
 ghost use Rattle.tp_config.specs.Allowed.{IsSetup};
 ghost use Rattle.tp_config.specs.Setup.{IsComponent};
-ghost use Rattle.tp_exec.specs.Openings.{AreApart, AreHandedOut, AreOpened, HasGiven};
-ghost use Rattle.tp_exec.specs.Openings.{IsBare, IsFirstThere, IsFromOneOf};
+ghost use Rattle.tp_exec.specs.OpenedWorkers.{AreApart, AreHandedOut, AreOpened, HasGiven};
+ghost use Rattle.tp_exec.specs.OpenedWorkers.{IsBare, IsFirstThere, IsFromOneOf};
 ghost use Rattle.tp_exec.specs.Rounds.{AreWorkers, HasNotBegun};
 
 use std::alloc::Global;

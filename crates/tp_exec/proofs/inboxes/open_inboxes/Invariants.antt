@@ -1,5 +1,5 @@
 -- The inboxes of the first components are opened.
-use Rattle.tp_exec.specs.Openings.{AreOpened}
+use Rattle.tp_exec.specs.OpenedWorkers.{AreOpened}
 use Rattle.tp_exec.proofs.inboxes.open_inboxes.Given as goal
 
 abbrev pub invariant-loop-place : goal.invariant-loop-place
