@@ -12,7 +12,7 @@ use Rattle.tp_history.specs.History.{arrival_from, arrived_from, sending_to, sen
 use Rattle.tp_report.specs.declared.report.CompReport.{CompReport}
 use Rattle.tp_report.specs.declared.report.Report.{Report}
 use Rattle.tp_exec.specs.Delivery.{IsReportOf}
-use Rattle.tp_exec.specs.Order.{Spot, log_of}
+use Rattle.tp_exec.specs.CausalOrder.{Spot, log_of}
 use Rattle.tp_exec.specs.OneOrder.{IsOrderOf, entry_at_spot, log_in, logs_of, sender_to, sends_to, source_of}
 use Rattle.tp_exec.specs.Greedy.{many}
 use Rattle.tp_exec.specs.LookLaws.{posted_at, posted_by, sending_in}

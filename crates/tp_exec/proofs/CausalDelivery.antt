@@ -18,7 +18,7 @@ use Rattle.tp_history.specs.declared.entry.Entry.TheVariants as entry
 use Rattle.tp_report.specs.declared.report.CompReport.{CompReport}
 use Rattle.tp_report.specs.declared.report.Report.{Report}
 use Rattle.tp_exec.specs.Delivery.{IsReportOf}
-use Rattle.tp_exec.specs.Order.{CameAt, HappensBefore, Spot, StandsAt, log_of}
+use Rattle.tp_exec.specs.CausalOrder.{CameAt, HappensBefore, Spot, StandsAt, log_of}
 use Rattle.tp_exec.specs.OneOrder.{IsAt, IsInOneOrder, IsOrderOf, IsOwn, came_before, entry_at_spot, log_in, logs_of, sender_to, sends_to, source_of, sources}
 use Rattle.tp_exec.specs.LookLaws.{sending_in}
 use Rattle.tp_exec.specs.MessageLaws.{DeliveryIsCausal, all_came_to, came_to}

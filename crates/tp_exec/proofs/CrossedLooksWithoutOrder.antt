@@ -10,7 +10,7 @@ use Rattle.tp_history.specs.declared.entry.Entry.{Entry}
 use Rattle.tp_history.specs.declared.entry.Entry.TheVariants as entry
 use Rattle.tp_history.specs.History.{is_arrival}
 use Rattle.tp_behaviour.specs.Fresh.{LooksAtPorts}
-use Rattle.tp_exec.specs.Order.{Spot}
+use Rattle.tp_exec.specs.CausalOrder.{Spot}
 use Rattle.tp_exec.specs.OneOrder.{HasOneOrder, IsAt, IsOrderOf, IsOwn, came_before, entry_at_spot, log_in, sender_to, senders_to, sends_to}
 use Rattle.tp_exec.specs.Greedy.{many, count_sent_to}
 use Rattle.tp_exec.specs.LookLaws.{CrossedLooks, Misses}

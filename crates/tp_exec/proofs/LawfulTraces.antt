@@ -18,7 +18,7 @@ use Rattle.tp_report.specs.declared.report.CompReport.{CompReport}
 use Rattle.tp_report.specs.declared.report.Report.{Report}
 use Rattle.tp_exec.specs.Delivery.{IsReportOf, numbers_from}
 use Rattle.tp_exec.specs.Laws.{IsLawfulRoute}
-use Rattle.tp_exec.specs.Order.{log_of}
+use Rattle.tp_exec.specs.CausalOrder.{log_of}
 use Rattle.tp_exec.proofs.NoHappenedBeforeCircle.{on_route}
 
 first_is : {B : Type 0} (x y : B) (xs ys : List B) → x ∷ xs ≡ y ∷ ys → x ≡ y

@@ -15,7 +15,7 @@ use Rattle.tp_history.specs.declared.posted.Posted.{Posted}
 use Rattle.tp_history.specs.History.{arrival_from, arrived_from, is_arrival, sending_to, sent_to}
 use Rattle.tp_report.specs.declared.report.CompReport.{CompReport}
 use Rattle.tp_behaviour.specs.Fresh.{LooksAtPorts}
-use Rattle.tp_exec.specs.Order.{Spot}
+use Rattle.tp_exec.specs.CausalOrder.{Spot}
 use Rattle.tp_exec.specs.OneOrder.{IsAt, IsOrderOf, IsOwn, entry_at_spot, log_in, logs_of, sender_to, sends_to, source_of}
 use Rattle.tp_exec.specs.Greedy.{many}
 use Rattle.tp_exec.specs.LookLaws.{LooksSeeSent, sending_in, posted_at, posted_by}

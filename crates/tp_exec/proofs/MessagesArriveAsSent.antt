@@ -21,7 +21,7 @@ use Rattle.tp_history.specs.History.{arrival_on, arrived_on, event_at, history_o
 use Rattle.tp_report.specs.declared.report.CompReport.{CompReport}
 use Rattle.tp_report.specs.declared.report.Report.{Report}
 use Rattle.tp_exec.specs.Delivery.{IsDelivered, IsReportOf, numbers_from}
-use Rattle.tp_exec.specs.Order.{Spot, StandsAt, log_of}
+use Rattle.tp_exec.specs.CausalOrder.{Spot, StandsAt, log_of}
 use Rattle.tp_exec.specs.OneOrder.{IsAt, IsFrontOf, IsOrderOf, entry_at_spot, logs_of}
 use Rattle.tp_exec.specs.LookLaws.{sending_in}
 use Rattle.tp_exec.specs.MessageLaws.{HadOnTop, MessagesComeAsSent, all_came_to, all_sent_to, came_to}

@@ -21,7 +21,7 @@ use Rattle.tp_report.specs.declared.report.Report.{Report}
 use Rattle.tp_report.specs.declared.report.CompReport.{CompReport}
 use Rattle.tp_exec.specs.declared.fault.RunFault.{RunFault}
 use Rattle.tp_exec.specs.Delivery.{IsReportOf, IsDelivered, numbers_from}
-use Rattle.tp_exec.specs.Order.{Spot, HappensBefore, NoCircle, log_of}
+use Rattle.tp_exec.specs.CausalOrder.{Spot, HappensBefore, NoCircle, log_of}
 
 head_is : (x y : ℕ) (xs ys : List ℕ) → x ∷ xs ≡ y ∷ ys → x ≡ y
 head_is x y xs ys e = cc

@@ -16,7 +16,7 @@ use Rattle.tp_inbox.proofs.ComponentMessagesByRoute.{sent_by_routes}
 use Rattle.tp_report.specs.declared.report.Report.{Report}
 use Rattle.tp_exec.specs.declared.fault.RunFault.{RunFault}
 use Rattle.tp_exec.specs.Delivery.{IsReportOf, numbers_from}
-use Rattle.tp_exec.specs.Order.{CameAt, NoneOvertakes, log_of}
+use Rattle.tp_exec.specs.CausalOrder.{CameAt, NoneOvertakes, log_of}
 use Rattle.tp_exec.proofs.PlacesOfGivenElements.{given_at, given_later, given_tells, so_much}
 use Rattle.tp_exec.proofs.NoHappenedBeforeCircle.{history, number_is, on_route, reported}
 

@@ -14,7 +14,7 @@ use Rattle.tp_history.specs.History.{is_arrival}
 use Rattle.tp_behaviour.specs.Fresh.{LooksAtPorts}
 use Rattle.tp_exec.specs.declared.kind.EntryKind.{EntryKind}
 use Rattle.tp_exec.specs.declared.kind.EntryKind.TheVariants as kind
-use Rattle.tp_exec.specs.Order.{Spot}
+use Rattle.tp_exec.specs.CausalOrder.{Spot}
 use Rattle.tp_exec.specs.OneOrder.{IsAt, IsOrderOf, IsOwn, came_before, entry_at_spot, log_in, sender_to, senders_to, sends_to, source_of, sources}
 use Rattle.tp_exec.specs.OrderProgress.{IsGone, kind_of}
 use Rattle.tp_exec.specs.Greedy.{AreLookedBefore, CanHappen, IsGreedy, IsStuck, many, count_sent_to}

@@ -19,7 +19,7 @@ use Rattle.tp_exec.specs.declared.kind.EntryKind.{EntryKind}
 use Rattle.tp_exec.specs.declared.kind.EntryKind.TheVariants as kind
 use Rattle.tp_exec.specs.OneOrder.{HasOneOrder, entry_at_spot, log_in, logs_of, sender_to, senders_to, sends_to, source_of, sources}
 use Rattle.tp_exec.specs.OrderProgress.{awaited_sources, kind_of, came_then, sent_then}
-use Rattle.tp_exec.specs.Order.{Spot}
+use Rattle.tp_exec.specs.CausalOrder.{Spot}
 use Rattle.tp_exec.specs.Greedy.{CanHappen, IsProgressBy, IsGreedy, many, count_sent_to}
 use Rattle.tp_exec.proofs.EntryKinds.{of_came, of_looked, of_quiet, of_sent}
 use Rattle.tp_exec.proofs.NoOrderWhereStuck.{unit, many_here, many_sent, many_there, no_send, sum_one}

@@ -11,7 +11,7 @@ use Rattle.tp_history.specs.declared.entry.Entry.{Entry}
 use Rattle.tp_history.specs.declared.entry.Entry.TheVariants as entry
 use Rattle.tp_history.specs.History.{is_arrival}
 use Rattle.tp_behaviour.specs.Fresh.{LooksAtPorts}
-use Rattle.tp_exec.specs.Order.{Spot}
+use Rattle.tp_exec.specs.CausalOrder.{Spot}
 use Rattle.tp_exec.specs.OneOrder.{IsAt, IsFrontOf, IsOrderOf, IsOwn, entry_at_spot, log_in, sender_to, senders_to, source_of, sources}
 use Rattle.tp_exec.specs.OrderProgress.{IsGone, MayComeNext}
 

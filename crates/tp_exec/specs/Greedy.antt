@@ -10,7 +10,7 @@ use Rattle.tp_exec.specs.declared.progress.OrderProgress.{OrderProgress}
 use Rattle.tp_exec.specs.declared.kind.AwaitedArrival.{AwaitedArrival}
 use Rattle.tp_exec.specs.declared.kind.EntryKind.{EntryKind}
 use Rattle.tp_exec.specs.declared.kind.EntryKind.TheVariants as kind
-use Rattle.tp_exec.specs.Order.{Spot}
+use Rattle.tp_exec.specs.CausalOrder.{Spot}
 use Rattle.tp_exec.specs.OneOrder.{log_in, logs_of, senders_to, sends_to, sources}
 use Rattle.tp_exec.specs.OrderProgress.{IsGone, awaited_sources, kind_of}
 

@@ -10,7 +10,7 @@ use Rattle.tp_history.specs.History.{arrived_on, sent_on}
 use Rattle.tp_report.specs.declared.report.CompReport.{CompReport}
 use Rattle.tp_report.specs.declared.report.Report.{Report}
 use Rattle.tp_exec.specs.Delivery.{IsDeliveredBetween, IsReportOf, numbers_from}
-use Rattle.tp_exec.specs.Order.{NoCircle}
+use Rattle.tp_exec.specs.CausalOrder.{NoCircle}
 
 -- what is delivered between two components is delivered on each route between them
 abbrev pub RoutesFollow : Type 0

@@ -2,7 +2,7 @@ pub mod Delivery
 pub mod Faults
 pub mod OpenedWorkers
 pub mod ReturnedSenders
-pub mod Order
+pub mod CausalOrder
 pub mod Returns
 pub mod Rounds
 pub mod Children

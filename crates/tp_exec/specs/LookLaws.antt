@@ -11,7 +11,7 @@ use Rattle.tp_report.specs.declared.report.CompReport.{CompReport}
 use Rattle.tp_report.specs.declared.report.Report.{Report}
 use Rattle.tp_behaviour.specs.Fresh.{LooksAtPorts}
 use Rattle.tp_exec.specs.Delivery.{IsReportOf}
-use Rattle.tp_exec.specs.Order.{Spot}
+use Rattle.tp_exec.specs.CausalOrder.{Spot}
 use Rattle.tp_exec.specs.OneOrder.{HasOneOrder, IsAt, IsOrderOf, came_before, entry_at_spot, log_in, logs_of, sends_to}
 use Rattle.tp_exec.specs.Greedy.{many, count_sent_to}
 

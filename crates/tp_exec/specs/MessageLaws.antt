@@ -14,7 +14,7 @@ use Rattle.tp_history.specs.declared.entry.Entry.TheVariants as entry
 use Rattle.tp_report.specs.declared.report.CompReport.{CompReport}
 use Rattle.tp_report.specs.declared.report.Report.{Report}
 use Rattle.tp_exec.specs.Delivery.{IsReportOf}
-use Rattle.tp_exec.specs.Order.{CameAt, HappensBefore, Spot, StandsAt}
+use Rattle.tp_exec.specs.CausalOrder.{CameAt, HappensBefore, Spot, StandsAt}
 use Rattle.tp_exec.specs.OneOrder.{IsAt, IsFrontOf, IsInOneOrder, IsOrderOf, entry_at_spot, logs_of}
 use Rattle.tp_exec.specs.LookLaws.{sending_in}
 

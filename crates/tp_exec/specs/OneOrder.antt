@@ -9,7 +9,7 @@ use Rattle.tp_history.specs.History.{is_arrival}
 use Rattle.tp_report.specs.declared.report.CompReport.{CompReport}
 use Rattle.tp_report.specs.declared.report.Report.{Report}
 use Rattle.tp_behaviour.specs.Fresh.{LooksAtPorts}
-use Rattle.tp_exec.specs.Order.{Spot}
+use Rattle.tp_exec.specs.CausalOrder.{Spot}
 
 -- the histories of these components
 abbrev pub logs_of : List CompReport → List (List Entry)

@@ -7,7 +7,7 @@ use Rattle.tp_exec.specs.declared.kind.EntryKind.{EntryKind}
 use Rattle.tp_exec.specs.declared.kind.EntryKind.TheVariants as kind
 use Rattle.tp_exec.specs.declared.kind.AwaitedArrival.{AwaitedArrival}
 use Rattle.tp_exec.specs.declared.progress.OrderProgress.{OrderProgress}
-use Rattle.tp_exec.specs.Order.{Spot}
+use Rattle.tp_exec.specs.CausalOrder.{Spot}
 use Rattle.tp_exec.specs.OneOrder.{IsAt, IsFrontOf, IsOwn, came_before, entry_at_spot, log_in, senders_to, sources}
 
 -- what an entry is for the order

@@ -2,7 +2,7 @@
 ghost use Rattle.std.specs.Prelude.{◌≡◌, IfErr, IfOk, length};
 ghost use Rattle.tp_exec.specs.Delivery.{IsReportOf};
 ghost use Rattle.tp_exec.specs.OneOrder.{IsInOneOrder};
-ghost use Rattle.tp_exec.specs.Order.{NoCircle, NoneOvertakes};
+ghost use Rattle.tp_exec.specs.CausalOrder.{NoCircle, NoneOvertakes};
 ghost use Rattle.tp_exec.specs.Reporting.{IsRunFault, living_below};
 ghost use Rattle.tp_report.specs.Reports.{IsReportable};
 

@@ -9,7 +9,7 @@ use Rattle.tp_exec.specs.declared.fault.RunFault.{RunFault}
 use Rattle.tp_exec.specs.Delivery.{IsReportOf}
 use Rattle.tp_exec.specs.Faults.{run_fault_text}
 use Rattle.tp_exec.specs.OneOrder.{IsInOneOrder}
-use Rattle.tp_exec.specs.Order.{NoCircle}
+use Rattle.tp_exec.specs.CausalOrder.{NoCircle}
 use Rattle.tp_exec.specs.Reporting.{IsRunFault}
 use Rattle.tpr_ordered.specs.declared.orders.Order.{Order}
 
