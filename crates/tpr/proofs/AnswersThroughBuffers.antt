@@ -9,7 +9,7 @@ use Rattle.tp_port.specs.declared.replay.QueueFault.{QueueFault}
 use Rattle.tp_port.specs.declared.replay.QueueFault.TheVariants as q
 use Rattle.tp_port.specs.Faults.{HasFault, IsReplayed}
 use Rattle.tpr.specs.Handed.{BeginsWith, IsAnswered, IsHanded, IsJust}
-use Rattle.tpr.specs.Outcome.{HasLine, IsQueueAnswer, fault_status, fault_text}
+use Rattle.tpr.specs.FaultLines.{HasLine, IsQueueAnswer, fault_status, fault_text}
 
 module _ {W : Type 0} (contents : W → Option (List ℕ)) where
   -- a line is written, and then nothing more

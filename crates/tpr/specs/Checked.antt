@@ -15,7 +15,7 @@ use Rattle.tp_script.specs.Scripts.{IsScriptFaultOf, IsScriptOf}
 use Rattle.tp_script.specs.Told.{script_refusal}
 use Rattle.tpr.specs.declared.checking.CheckFault.{CheckFault}
 use Rattle.tpr.specs.declared.checking.CheckFault.TheVariants as check_fault
-use Rattle.tpr.specs.Outcome.{memory_text, refused_text, unread_text}
+use Rattle.tpr.specs.FaultLines.{memory_text, refused_text, unread_text}
 
 -- a text that is too long has its fault at line 0
 abbrev pub check_fault_of : ReadFault → CheckFault

@@ -15,7 +15,7 @@ use Rattle.tp_referee.specs.Answers.{ruling_status, ruling_text}
 use Rattle.tp_referee.specs.Rulings.{IsRulingOf}
 use Rattle.tpr.specs.declared.judging.JudgeFault.{JudgeFault}
 use Rattle.tpr.specs.declared.judging.JudgeFault.TheVariants as judge_fault
-use Rattle.tpr.specs.Outcome.{memory_text, refused_text, unread_text}
+use Rattle.tpr.specs.FaultLines.{memory_text, refused_text, unread_text}
 
 abbrev pub judge_fault_of : ReadFault → JudgeFault
 judge_fault_of read_fault.Read = judge_fault.Read

@@ -1,5 +1,5 @@
 pub mod Line
-pub mod Outcome
+pub mod FaultLines
 pub mod Checked
 pub mod Ran
 pub mod Judged

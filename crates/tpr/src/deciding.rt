@@ -5,7 +5,7 @@ ghost use Rattle.tp_verdicts.specs.Found.{IsVerdictsOf};
 ghost use Rattle.tp_verdicts.specs.Texts.{verdicts_status};
 ghost use Rattle.tpr.specs.Decided.{IsDecided, IsDecidedOf, IsAlwaysKept, IsVerdictsAnswer};
 ghost use Rattle.tpr.specs.Handed.{IsAnswered, IsJust};
-ghost use Rattle.tpr.specs.Outcome.{memory_text};
+ghost use Rattle.tpr.specs.FaultLines.{memory_text};
 
 use crate::checking::{answer_check_fault, check_script};
 use crate::modes::{ANSWERED, FAULTED, ended, write_memory};

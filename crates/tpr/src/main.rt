@@ -14,7 +14,7 @@ ghost use Rattle.tpr.specs.Checked.{IsCheckAnswer};
 ghost use Rattle.tpr.specs.Decided.{IsAlwaysKept, IsVerdictsAnswer};
 ghost use Rattle.tpr.specs.Handed.{BeginsWith, IsAnswered, IsHanded, IsJust};
 ghost use Rattle.tpr.specs.Judged.{IsJudgeAnswer};
-ghost use Rattle.tpr.specs.Outcome.{IsQueueAnswer, unread_text};
+ghost use Rattle.tpr.specs.FaultLines.{IsQueueAnswer, unread_text};
 ghost use Rattle.tpr.specs.Ran.{IsRunAnswer, IsTraceAnswer};
 
 mod checking;
