@@ -13,7 +13,7 @@ use Rattle.tp_behaviour.specs.declared.choosing.Choice.TheVariants as choice
 use Rattle.tp_behaviour.specs.Choices.{IsChoice, IsDrop, NoneOpen}
 use Rattle.tp_behaviour.specs.Looks.{moment}
 use Rattle.tp_behaviour.specs.Moments.{Moment, moments}
-use Rattle.tp_behaviour.specs.Seen.{Chose, TraceGrew}
+use Rattle.tp_behaviour.specs.LookOutcomes.{Chose, TraceGrew}
 
 -- the place of a choice is below this, where a branch was chosen
 abbrev IsBelow : ℕ → Option (ℕ × Env Message) → Type 0

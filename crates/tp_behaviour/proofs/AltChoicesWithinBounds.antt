@@ -18,7 +18,7 @@ use Rattle.tp_behaviour.specs.Held.{Actor, Values, guard_of}
 use Rattle.tp_behaviour.specs.Outcomes.{stage_at}
 use Rattle.tp_behaviour.specs.Parts.{Enters, IsEntered}
 use Rattle.tp_behaviour.specs.Paths.{guards_of}
-use Rattle.tp_behaviour.specs.Seen.{Chose, TraceGrew}
+use Rattle.tp_behaviour.specs.LookOutcomes.{Chose, TraceGrew}
 use Rattle.tp_behaviour.specs.Workers.{IsConsistent, role_of}
 use Rattle.tp_behaviour.proofs.AltChoiceOutcomes.{chosen_below}
 use Rattle.tp_behaviour.proofs.UnchangedWorkerPorts.{ports_there}

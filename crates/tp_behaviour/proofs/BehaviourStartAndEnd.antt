@@ -12,7 +12,7 @@ use Rattle.tp_behaviour.specs.declared.outcome.Outcome.{Outcome}
 use Rattle.tp_behaviour.specs.Held.{Actor, unset}
 use Rattle.tp_behaviour.specs.Moments.{moments}
 use Rattle.tp_behaviour.specs.Outcomes.{Ends, HasEnded}
-use Rattle.tp_behaviour.specs.Seen.{TraceGrew}
+use Rattle.tp_behaviour.specs.LookOutcomes.{TraceGrew}
 use Rattle.tp_behaviour.specs.Workers.{AreHeld, IsHeldAs}
 
 -- a variable that isn't set may be of any type

@@ -17,7 +17,7 @@ use Rattle.tp_behaviour.specs.Moments.{Moment, moments}
 use Rattle.tp_behaviour.specs.Outcomes.{Ends, EndsTurns}
 use Rattle.tp_behaviour.specs.Parts.{ExecutedIn, Turned}
 use Rattle.tp_behaviour.specs.Paths.{AreTurns, IsPath}
-use Rattle.tp_behaviour.specs.Seen.{TraceGrew}
+use Rattle.tp_behaviour.specs.LookOutcomes.{TraceGrew}
 use Rattle.tp_behaviour.specs.Workers.{role_of}
 use Rattle.tp_behaviour.proofs.StatementOutcomes.{grew_on}
 

@@ -20,7 +20,7 @@ use Rattle.tp_behaviour.specs.Fresh.{HasOwn}
 use Rattle.tp_behaviour.specs.Held.{Actor}
 use Rattle.tp_behaviour.specs.Moments.{Moment, moments}
 use Rattle.tp_behaviour.specs.Paths.{AreOperated, IsStep, operated}
-use Rattle.tp_behaviour.specs.Seen.{TraceGrew}
+use Rattle.tp_behaviour.specs.LookOutcomes.{TraceGrew}
 use Rattle.tp_behaviour.specs.Workers.{IsPlain}
 use Rattle.tp_behaviour.proofs.RouteHistoryGrowth.{no_arrival}
 use Rattle.tp_behaviour.proofs.WorkerInvariantOnActions.{quiet, sent_on_same}

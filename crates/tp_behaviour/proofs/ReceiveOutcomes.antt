@@ -23,7 +23,7 @@ use Rattle.tp_behaviour.specs.BehaviourEnds.{StopsWithin}
 use Rattle.tp_behaviour.specs.Held.{Actor, guard_of, redirected, set_to}
 use Rattle.tp_behaviour.specs.Moments.{Moment}
 use Rattle.tp_behaviour.specs.Paths.{IsStep}
-use Rattle.tp_behaviour.specs.Seen.{Chose, TraceGrew}
+use Rattle.tp_behaviour.specs.LookOutcomes.{Chose, TraceGrew}
 use Rattle.tp_behaviour.specs.Workers.{AreHeld, IsHeldAs}
 use Rattle.tp_behaviour.proofs.AltChoiceOutcomes.{chosen_below}
 

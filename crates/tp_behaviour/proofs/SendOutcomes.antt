@@ -30,7 +30,7 @@ use Rattle.tp_behaviour.specs.Looks.{moment}
 use Rattle.tp_behaviour.specs.Moments.{Moment, moments}
 use Rattle.tp_behaviour.specs.Outboxes.{routes_of}
 use Rattle.tp_behaviour.specs.Paths.{IsSentOn, IsStarted, IsStep, own_port}
-use Rattle.tp_behaviour.specs.Seen.{TraceGrew}
+use Rattle.tp_behaviour.specs.LookOutcomes.{TraceGrew}
 use Rattle.tp_behaviour.specs.Sends.{Sends}
 use Rattle.tp_behaviour.specs.Workers.{KeepsInboxes}
 

@@ -10,7 +10,7 @@ use Rattle.tp_history.specs.declared.send_fault.SendFault.{SendFault}
 use Rattle.tp_behaviour.specs.BehaviourEnds.{StopsWithin}
 use Rattle.tp_behaviour.specs.Held.{Actor, Values}
 use Rattle.tp_behaviour.specs.Moments.{Moment, moments}
-use Rattle.tp_behaviour.specs.Seen.{TraceGrew}
+use Rattle.tp_behaviour.specs.LookOutcomes.{TraceGrew}
 use Rattle.tp_behaviour.specs.Sends.{Sends}
 use Rattle.std.specs.Prelude.{Some}
 

@@ -26,7 +26,7 @@ use Rattle.tp_behaviour.specs.Held.{Actor}
 use Rattle.tp_behaviour.specs.Looks.{Looked, moment}
 use Rattle.tp_behaviour.specs.Moments.{Moment, moments}
 use Rattle.tp_behaviour.specs.Outboxes.{routes_of}
-use Rattle.tp_behaviour.specs.Seen.{Saw}
+use Rattle.tp_behaviour.specs.LookOutcomes.{Saw}
 use Rattle.tp_behaviour.specs.Workers.{IsConsistent, IsLedgerOf, IsPlain, IsSentBy}
 use Rattle.tp_behaviour.proofs.RouteHistoryGrowth.{sent_to_more}
 use Rattle.tp_behaviour.proofs.WorkerInvariantOnArrivals.{all_as}

@@ -9,7 +9,7 @@ pub mod Lasting
 pub mod Fresh
 pub mod Outboxes
 pub mod Workers
-pub mod Seen
+pub mod LookOutcomes
 pub mod Sends
 pub mod BehaviourEnds
 pub mod Outcomes

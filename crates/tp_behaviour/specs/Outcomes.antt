@@ -17,7 +17,7 @@ use Rattle.tp_behaviour.specs.BehaviourEnds.{Stops, StopsWithin}
 use Rattle.tp_behaviour.specs.Held.{Actor, unset}
 use Rattle.tp_behaviour.specs.Moments.{Moment, moments}
 use Rattle.tp_behaviour.specs.Paths.{AreTurns, IsPath, IsStep}
-use Rattle.tp_behaviour.specs.Seen.{TraceGrew}
+use Rattle.tp_behaviour.specs.LookOutcomes.{TraceGrew}
 use Rattle.tp_behaviour.specs.Workers.{AreHeld, role_of}
 
 -- statements that end so: they are carried out, and the variables then hold these values; or they stop at a send that

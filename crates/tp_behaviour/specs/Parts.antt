@@ -17,7 +17,7 @@ use Rattle.tp_behaviour.specs.Held.{redirected}
 use Rattle.tp_behaviour.specs.Moments.{Moment}
 use Rattle.tp_behaviour.specs.Outcomes.{Ends, EndsTurns, Executed}
 use Rattle.tp_behaviour.specs.Paths.{guards_of}
-use Rattle.tp_behaviour.specs.Seen.{Ending, TraceGrew}
+use Rattle.tp_behaviour.specs.LookOutcomes.{Ending, TraceGrew}
 use Rattle.tp_behaviour.specs.Workers.{role_of, values_of}
 
 -- the branches of an `alt`, by what loop variables and references stand for

@@ -20,7 +20,7 @@ use Rattle.tp_behaviour.specs.declared.worker.Worker.{Worker}
 use Rattle.tp_behaviour.specs.declared.worker.Frame.{Frame}
 use Rattle.tp_behaviour.specs.Held.{Actor, Values}
 use Rattle.tp_behaviour.specs.Paths.{IsStep}
-use Rattle.tp_behaviour.specs.Seen.{TraceGrew, One}
+use Rattle.tp_behaviour.specs.LookOutcomes.{TraceGrew, One}
 use Rattle.tp_behaviour.specs.Workers.{HoldsNoMessage, HoldsMessages, role_of, values_of}
 
 -- what is sent speaks of so many loop variables at most, or of a variable for messages

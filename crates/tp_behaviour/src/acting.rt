@@ -4,7 +4,7 @@ ghost use Rattle.tp_play.specs.declared.body.Statement.TheVariants as statement;
 ghost use Rattle.tp_history.specs.Desks.{adding};
 ghost use Rattle.tp_behaviour.specs.Fresh.{HasOwn};
 ghost use Rattle.tp_behaviour.specs.Paths.{operated};
-ghost use Rattle.tp_behaviour.specs.Seen.{AddsEntry, Carries};
+ghost use Rattle.tp_behaviour.specs.LookOutcomes.{AddsEntry, Carries};
 ghost use Rattle.tp_behaviour.specs.Workers.{IsConsistent, KeepsInboxes, role_of};
 
 use crate::execution::Execution;

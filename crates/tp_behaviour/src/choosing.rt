@@ -1,6 +1,6 @@
 //! What an `alt` comes to.
 ghost use Rattle.std.specs.Prelude.{◌<◌, All, IfOk, OnOk};
-ghost use Rattle.tp_behaviour.specs.Seen.{Chose, TraceGrew};
+ghost use Rattle.tp_behaviour.specs.LookOutcomes.{Chose, TraceGrew};
 ghost use Rattle.tp_behaviour.specs.Workers.{IsConsistent, KeepsInboxes, role_of};
 ghost use Rattle.tp_behaviour.specs.Views.{all_viewed};
 

@@ -4,7 +4,7 @@ ghost use Rattle.tp_history.specs.Desks.{NamesNoPort};
 ghost use Rattle.tp_inbox.specs.Routed.{AreArrivals};
 ghost use Rattle.tp_behaviour.specs.Fresh.{HasOwn, LooksAtPorts};
 ghost use Rattle.tp_behaviour.specs.Moments.{moments};
-ghost use Rattle.tp_behaviour.specs.Seen.{AddsEntry, Saw};
+ghost use Rattle.tp_behaviour.specs.LookOutcomes.{AddsEntry, Saw};
 ghost use Rattle.tp_behaviour.specs.Workers.{IsConsistent, IsPlain, KeepsInboxes, role_of};
 ghost use Rattle.tp_behaviour.specs.Views.{all_viewed};
 

@@ -8,7 +8,7 @@ ghost use Rattle.tp_behaviour.specs.Held.{IsNamed, IsSentAs};
 ghost use Rattle.tp_behaviour.specs.Outboxes.{routes_of};
 ghost use Rattle.tp_behaviour.specs.Outcomes.{HoldsAsDeclared, depth_of, stage_at};
 ghost use Rattle.tp_behaviour.specs.Paths.{IsSentOn, IsStarted};
-ghost use Rattle.tp_behaviour.specs.Seen.{AddsEntry, TraceGrew};
+ghost use Rattle.tp_behaviour.specs.LookOutcomes.{AddsEntry, TraceGrew};
 ghost use Rattle.tp_behaviour.specs.Sends.{CanName, SendsAt, next_sent};
 ghost use Rattle.tp_behaviour.specs.Workers.{IsConsistent, KeepsInboxes, role_of, values_of};
 

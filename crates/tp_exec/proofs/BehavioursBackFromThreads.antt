@@ -6,7 +6,7 @@ use Rattle.tp_config.specs.declared.port_type.CompId.{CompId}
 use Rattle.tp_config.specs.Setup.{Setup}
 use Rattle.tp_play.specs.declared.test_case.Behaviour.{Behaviour as BorrowedBehaviour}
 use Rattle.tp_play.specs.Behaviours.{Behaviour}
-use Rattle.tp_play.specs.Seen.{as_behaviour}
+use Rattle.tp_play.specs.BorrowedBehaviours.{as_behaviour}
 use Rattle.tp_play.specs.TestCases.{Made, behaviour_at}
 use Rattle.tp_history.specs.declared.entry.Entry.{Entry}
 use Rattle.tp_inbox.specs.Ledgers.{Inbox}

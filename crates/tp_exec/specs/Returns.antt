@@ -1,7 +1,7 @@
 -- What goes into the threads of a run, and what comes back.
 use Rattle.std.specs.Prelude.{◌≡◌, ◌≢◌, ℕ, Some, None, List, [], map}
 use Rattle.tp_config.specs.declared.port_type.CompId.{CompId}
-use Rattle.tp_play.specs.Seen.{as_behaviour}
+use Rattle.tp_play.specs.BorrowedBehaviours.{as_behaviour}
 use Rattle.tp_play.specs.TestCases.{Made, behaviour_at}
 use Rattle.tp_inbox.specs.Ledgers.{Inbox, end_of}
 use Rattle.tp_behaviour.specs.declared.task.Task.{Task}

@@ -1,7 +1,7 @@
 -- What a component is given to do, it can do.
 use Rattle.std.proofs.Common.{◌≡◌, ℕ, Option, None, Some, IfSome, option_map, sym}
 use Rattle.tp_play.specs.TestCases.{Made, behaviour_at}
-use Rattle.tp_play.specs.Seen.{as_behaviour}
+use Rattle.tp_play.specs.BorrowedBehaviours.{as_behaviour}
 use Rattle.tp_play.specs.declared.test_case.Behaviour.{Behaviour as BorrowedBehaviour}
 use Rattle.tp_play.specs.Ready.{CanDo, IsReady}
 

@@ -5,5 +5,5 @@ pub mod Sizes
 pub mod Behaviours
 pub mod Instances
 pub mod TestCases
-pub mod Seen
+pub mod BorrowedBehaviours
 pub mod Ready

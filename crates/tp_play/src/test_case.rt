@@ -7,7 +7,7 @@ ghost use Rattle.tp_config.specs.Setup.{IsComponent};
 ghost use Rattle.tp_play.specs.TestCases.{behaviour_at};
 ghost use Rattle.tp_play.specs.Instances.{body_in, behaviour_of};
 ghost use Rattle.tp_play.specs.Ready.{CanDo, HasMain, HasNoSystem, IsReady, IsSystem};
-ghost use Rattle.tp_play.specs.Seen.{as_behaviour};
+ghost use Rattle.tp_play.specs.BorrowedBehaviours.{as_behaviour};
 
 use crate::bodies::{Behaviours, Bodies};
 use crate::body::Body;

@@ -2,7 +2,7 @@
 use Rattle.std.proofs.Common.{◌≡◌, ◌∙◌, add-one, ap, arith, length, refl, subst, sym}
 use Rattle.tp_config.specs.Setup.{ports_at}
 use Rattle.tp_history.specs.Desks.{Journal}
-use Rattle.tp_behaviour.specs.Seen.{TraceGrew}
+use Rattle.tp_behaviour.specs.LookOutcomes.{TraceGrew}
 use Rattle.tp_behaviour.specs.Workers.{role_of}
 use Rattle.tp_behaviour.proofs.PortOperationOutcomes.{AreSoFar, few_ports, grew_further, grew_start, stepped_all}
 use Rattle.tp_behaviour.proofs.WorkerInvariantOnArrivals.{same_itself, same_then}

@@ -1,7 +1,7 @@
 -- On how many of the ports the operation was carried out.
 use Rattle.std.proofs.Common.{◌≡◌}
 use Rattle.tp_behaviour.specs.Fresh.{HasOwn}
-use Rattle.tp_behaviour.specs.Seen.{TraceGrew}
+use Rattle.tp_behaviour.specs.LookOutcomes.{TraceGrew}
 use Rattle.tp_behaviour.specs.Workers.{IsConsistent, KeepsInboxes, role_of}
 use Rattle.tp_behaviour.proofs.PortOperationOutcomes.{AreSoFar}
 use Rattle.tp_behaviour.proofs.acting.all_ports.Given as goal

@@ -2,7 +2,7 @@
 use Rattle.std.proofs.Common.{◌≡◌}
 use Rattle.std.specs.Prelude.{All}
 use Rattle.tp_behaviour.specs.Choices.{IsDrop}
-use Rattle.tp_behaviour.specs.Seen.{TraceGrew}
+use Rattle.tp_behaviour.specs.LookOutcomes.{TraceGrew}
 use Rattle.tp_behaviour.specs.Workers.{IsConsistent, KeepsInboxes, role_of}
 use Rattle.tp_behaviour.specs.Views.{all_viewed}
 use Rattle.tp_behaviour.proofs.choosing.choose.Given as goal

@@ -7,7 +7,7 @@ use Rattle.tp_behaviour.specs.declared.choosing.Choice.TheVariants as choice
 use Rattle.tp_behaviour.specs.declared.held.Held.{Held}
 use Rattle.tp_behaviour.specs.Held.{guard_of}
 use Rattle.tp_behaviour.specs.Paths.{IsStep}
-use Rattle.tp_behaviour.specs.Seen.{Chose, TraceGrew}
+use Rattle.tp_behaviour.specs.LookOutcomes.{Chose, TraceGrew}
 use Rattle.tp_behaviour.specs.Workers.{role_of, values_of}
 use Rattle.tp_behaviour.specs.Views.{viewed}
 use Rattle.tp_behaviour.proofs.ReceiveOutcomes.{received, waits_for}

@@ -2,7 +2,7 @@
 use Rattle.std.proofs.Common.{◌∙◌, [], ◌∷◌, ◌++◌, Contains, ap, get_or, refl, subst, sym}
 use Rattle.tp_value.specs.declared.message.Message.{Message}
 use Rattle.tp_inbox.specs.Routed.{absent_route}
-use Rattle.tp_behaviour.specs.Seen.{AddsEntry}
+use Rattle.tp_behaviour.specs.LookOutcomes.{AddsEntry}
 use Rattle.tp_behaviour.specs.Sends.{next_sent}
 use Rattle.tp_behaviour.proofs.WorkerInvariantOnArrivals.{same_then}
 use Rattle.tp_behaviour.proofs.SendOutcomes.{routes_stay, sent_on_more}

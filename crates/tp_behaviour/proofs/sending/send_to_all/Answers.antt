@@ -4,7 +4,7 @@ use Rattle.std.specs.Prelude.{vec_len}
 use Rattle.std.proofs.lemmas.List.Elements.{Contains-get_or}
 use Rattle.std.specs.List.{AllZip}
 use Rattle.tp_behaviour.specs.Paths.{IsSentOn}
-use Rattle.tp_behaviour.specs.Seen.{TraceGrew}
+use Rattle.tp_behaviour.specs.LookOutcomes.{TraceGrew}
 use Rattle.tp_behaviour.specs.Workers.{role_of, values_of}
 use Rattle.tp_behaviour.proofs.SendOutcomes.{cause_none, no_items, sends_all, some_items}
 use Rattle.tp_behaviour.proofs.sending.send_to_all.Goals as goal

@@ -4,7 +4,7 @@ use Rattle.tp_play.specs.declared.instance.Instance.{Instance}
 use Rattle.tp_play.specs.Instances.{behaviour_of}
 use Rattle.tp_play.specs.TestCases.{Made}
 use Rattle.tp_play.specs.Ready.{CanDo}
-use Rattle.tp_play.specs.Seen.{as_behaviour}
+use Rattle.tp_play.specs.BorrowedBehaviours.{as_behaviour}
 use Rattle.tp_play.proofs.PlayableBehaviours.{can_at}
 use Rattle.tp_play.proofs.test_case.TestCase.body.Goals as goal
 
