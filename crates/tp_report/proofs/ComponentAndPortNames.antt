@@ -11,7 +11,7 @@ use Rattle.tp_config.specs.declared.port_type.PortRef.{PortRef}
 use Rattle.tp_config.specs.declared.port_type.PortType.{PortType}
 use Rattle.tp_config.specs.Setup.{Setup, Member, PortDecl, IsComponent, IsPort, decl_at, names_of_components, ports_at}
 use Rattle.tp_config.specs.Shape.{decl_of, ports_of}
-use Rattle.tp_report.specs.Words.{component_name, port_name}
+use Rattle.tp_report.specs.ReportWords.{component_name, port_name}
 
 pub component_is : (s : Setup) (c : CompId) (x : List ℕ) → slice_get (names_of_components s) c.0 ≡ Some x → x ≡ component_name s c
 unfolding component_name

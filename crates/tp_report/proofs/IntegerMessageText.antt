@@ -9,7 +9,7 @@ use Rattle.tp_value.specs.ValueText.{value_text}
 use Rattle.tp_value.proofs.HasTypeEquations.{has_int}
 use Rattle.tp_value.proofs.WrittenValueTexts.{text_int}
 use Rattle.tp_report.specs.Integers.{IsInteger}
-use Rattle.tp_report.specs.Words.{message_text, type_name}
+use Rattle.tp_report.specs.ReportWords.{message_text, type_name}
 use Rattle.tp_report.proofs.TypeTestIsExact.{typed}
 use Rattle.tp_report.proofs.PiecewiseWrittenText.{typed_text}
 

@@ -23,7 +23,7 @@ use Rattle.tp_report.specs.declared.telling.Telling.{Telling}
 use Rattle.tp_report.specs.Lines.{envelope_line, heading, entry_text, end_text, verdict_line, left_at, left_below, component_port}
 use Rattle.tp_report.specs.Reports.{component_text, told_text}
 use Rattle.tp_report.specs.Typed.{is_typed}
-use Rattle.tp_report.specs.Words.{type_name, message_text}
+use Rattle.tp_report.specs.ReportWords.{type_name, message_text}
 
 pub typed_text : (types : Types) (m : Message) → is_typed types m.ty m.value ≡ true → (type_name types m.ty ++ codes ":") ++ value_text types m.ty m.value
     ≡ message_text types m

@@ -1,6 +1,6 @@
 pub mod Verdicts
 pub mod Typed
-pub mod Words
+pub mod ReportWords
 pub mod Integers
 pub mod LineOpenings
 pub mod Lines

@@ -7,7 +7,7 @@ use Rattle.tp_report.specs.declared.opening.Opening.{Opening}
 use Rattle.tp_report.specs.declared.opening.Opening.TheVariants as opening
 use Rattle.tp_report.specs.declared.opening.OpeningPieces.{OpeningPieces}
 use Rattle.tp_report.specs.declared.opening.KeptOpening.{KeptOpening}
-use Rattle.tp_report.specs.Words.{component_name, full_name, port_name}
+use Rattle.tp_report.specs.ReportWords.{component_name, full_name, port_name}
 
 -- the word for what happened to a message, with the space behind it
 abbrev pub fate_word : Fate → List ℕ

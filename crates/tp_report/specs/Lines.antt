@@ -20,7 +20,7 @@ use Rattle.tp_history.specs.declared.send_fault.SendFault.{SendFault}
 use Rattle.tp_history.specs.Faults.{send_refusal}
 use Rattle.tp_report.specs.declared.telling.Telling.{Telling}
 use Rattle.tp_report.specs.declared.telling.Telling.TheVariants as telling
-use Rattle.tp_report.specs.Words.{line, component_name, port_name, full_name, message_text, verdict_word}
+use Rattle.tp_report.specs.ReportWords.{line, component_name, port_name, full_name, message_text, verdict_word}
 
 -- a component
 abbrev pub heading : Made → CompId → List ℕ

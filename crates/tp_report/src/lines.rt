@@ -5,7 +5,7 @@ ghost use Rattle.tp_text.specs.Watching.{Writes};
 ghost use Rattle.tp_refusal.specs.Label.{label};
 ghost use Rattle.tp_config.specs.Setup.{IsComponent, IsPort};
 ghost use Rattle.tp_history.specs.Faults.{send_refusal};
-ghost use Rattle.tp_report.specs.Words.{component_name, line, message_text, port_name, verdict_word};
+ghost use Rattle.tp_report.specs.ReportWords.{component_name, line, message_text, port_name, verdict_word};
 ghost use Rattle.tp_report.specs.LineOpenings.{HasItsText, fate_word};
 ghost use Rattle.tp_report.specs.Lines.{end_text, heading, sender_of, sent_line};
 

@@ -3,7 +3,7 @@ ghost use Rattle.std.specs.Prelude.{◌∷◌, ◌++◌, [], IfSome, codes};
 ghost use Rattle.std.specs.Fmt.{decimal, signed_decimal};
 ghost use Rattle.tp_text.specs.Watching.{Writes};
 ghost use Rattle.tp_report.specs.Integers.{IsInteger};
-ghost use Rattle.tp_report.specs.Words.{message_text, rest_of_line};
+ghost use Rattle.tp_report.specs.ReportWords.{message_text, rest_of_line};
 
 use crate::backward::{put_bytes, put_integer};
 use crate::words::{write_message, write_spaced};

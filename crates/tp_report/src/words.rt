@@ -5,7 +5,7 @@ ghost use Rattle.tp_text.specs.Watching.{Writes};
 ghost use Rattle.tp_value.specs.declared.types.Ty.TheVariants as ty;
 ghost use Rattle.tp_config.specs.Setup.{IsComponent, IsPort};
 ghost use Rattle.tp_report.specs.Typed.{is_typed};
-ghost use Rattle.tp_report.specs.Words.{component_name, message_text, port_name, type_name, verdict_word};
+ghost use Rattle.tp_report.specs.ReportWords.{component_name, message_text, port_name, type_name, verdict_word};
 
 use itoa::write_digits;
 use std::io::Write;

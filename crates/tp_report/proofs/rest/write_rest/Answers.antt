@@ -3,7 +3,7 @@ use Rattle.std.proofs.Common.{List, ℕ, [], ◌∷◌, append_assoc, subst, to_
 use Rattle.std.specs.Fmt.{decimal}
 use Rattle.tp_text.specs.Watching.{Writes}
 use Rattle.tp_text.proofs.WatchedWriterGrowth.{writes_both}
-use Rattle.tp_report.specs.Words.{rest_of_line}
+use Rattle.tp_report.specs.ReportWords.{rest_of_line}
 use Rattle.tp_report.proofs.IntegerMessageText.{integer_text}
 use Rattle.tp_report.proofs.rest.write_rest.Goals as goal
 
