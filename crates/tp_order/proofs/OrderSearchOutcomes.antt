@@ -7,7 +7,7 @@ use Rattle.tp_order.specs.Places.{no_demand, before_at, after_at}
 use Rattle.tp_order.specs.Order.{IsBelow, IsNumberAt, StandsBefore, IsOrder, CanBeOrdered}
 use Rattle.tp_order.specs.Counts.{AreWaits}
 use Rattle.tp_order.specs.Progress.{AreFree, IsOrderedUpTo}
-use Rattle.tp_order.specs.Ended.{IsEnded, IsWaiting, AreStuck}
+use Rattle.tp_order.specs.AfterOrdering.{IsEnded, IsWaiting, AreStuck}
 use Rattle.tp_order.proofs.CountsBelowBound.{count_some}
 use Rattle.tp_order.proofs.NumberPlaceGrowth.{stands_within}
 use Rattle.tp_order.proofs.WaitsAfterDemandRemoval.{waits_some}
