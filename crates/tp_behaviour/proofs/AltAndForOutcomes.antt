@@ -21,7 +21,7 @@ use Rattle.tp_behaviour.specs.BehaviourEnds.{Stops, StopsWithin}
 use Rattle.tp_behaviour.specs.Held.{Actor, redirected}
 use Rattle.tp_behaviour.specs.Moments.{Moment}
 use Rattle.tp_behaviour.specs.Outcomes.{Ends, EndsStep, EndsTurns, Executed, Stepped, StopsTurn}
-use Rattle.tp_behaviour.specs.Parts.{Decided, Enters, EntersElse, ExecutedAt, Turned}
+use Rattle.tp_behaviour.specs.PartOutcomes.{Decided, Enters, EntersElse, ExecutedAt, Turned}
 use Rattle.tp_behaviour.specs.Paths.{IsPath, IsStep, guards_of}
 use Rattle.tp_behaviour.specs.LookOutcomes.{TraceGrew}
 use Rattle.tp_behaviour.specs.Workers.{role_of}

@@ -16,7 +16,7 @@ use Rattle.tp_behaviour.specs.declared.task.Task.{Task}
 use Rattle.tp_behaviour.specs.declared.worker.Worker.{Worker}
 use Rattle.tp_behaviour.specs.Held.{Actor, Values, guard_of}
 use Rattle.tp_behaviour.specs.Outcomes.{stage_at}
-use Rattle.tp_behaviour.specs.Parts.{Enters, IsEntered}
+use Rattle.tp_behaviour.specs.PartOutcomes.{Enters, IsEntered}
 use Rattle.tp_behaviour.specs.Paths.{guards_of}
 use Rattle.tp_behaviour.specs.LookOutcomes.{Chose, TraceGrew}
 use Rattle.tp_behaviour.specs.Workers.{IsConsistent, role_of}

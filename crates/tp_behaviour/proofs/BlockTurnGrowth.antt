@@ -15,7 +15,7 @@ use Rattle.tp_behaviour.specs.declared.worker.Frame.{Frame}
 use Rattle.tp_behaviour.specs.Held.{Actor}
 use Rattle.tp_behaviour.specs.Moments.{Moment, moments}
 use Rattle.tp_behaviour.specs.Outcomes.{Ends, EndsTurns}
-use Rattle.tp_behaviour.specs.Parts.{ExecutedIn, Turned}
+use Rattle.tp_behaviour.specs.PartOutcomes.{ExecutedIn, Turned}
 use Rattle.tp_behaviour.specs.Paths.{AreTurns, IsPath}
 use Rattle.tp_behaviour.specs.LookOutcomes.{TraceGrew}
 use Rattle.tp_behaviour.specs.Workers.{role_of}

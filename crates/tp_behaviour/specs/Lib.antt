@@ -13,4 +13,4 @@ pub mod LookOutcomes
 pub mod Sends
 pub mod BehaviourEnds
 pub mod Outcomes
-pub mod Parts
+pub mod PartOutcomes

@@ -3,7 +3,7 @@ ghost use Rattle.std.specs.Prelude.{◌≡◌, ◌<◌, IfOk, OnOk, length};
 ghost use Rattle.tp_play.specs.Playable.{CanEnterAll};
 ghost use Rattle.tp_behaviour.specs.Lasting.{AreLastingBranches};
 ghost use Rattle.tp_behaviour.specs.Outcomes.{HoldsAsDeclared, depth_of, stage_at};
-ghost use Rattle.tp_behaviour.specs.Parts.{Decided, IsEntered, IsDecisionOf, RestsWithin};
+ghost use Rattle.tp_behaviour.specs.PartOutcomes.{Decided, IsEntered, IsDecisionOf, RestsWithin};
 ghost use Rattle.tp_behaviour.specs.Workers.{IsConsistent, KeepsInboxes, role_of};
 
 use crate::choice::Guard;

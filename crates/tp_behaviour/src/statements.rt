@@ -4,7 +4,7 @@ ghost use Rattle.tp_play.specs.Playable.{CanEnterAll, CanPlay, CanPlayAll};
 ghost use Rattle.tp_play.specs.Sizes.{turns_between};
 ghost use Rattle.tp_behaviour.specs.Lasting.{AreLasting, AreLastingBranches, IsLasting};
 ghost use Rattle.tp_behaviour.specs.Outcomes.{Executed, HoldsAsDeclared, Stepped, WaitsWithin, depth_of, stage_at};
-ghost use Rattle.tp_behaviour.specs.Parts.{ExecutedAt, ExecutedIn, Turned};
+ghost use Rattle.tp_behaviour.specs.PartOutcomes.{ExecutedAt, ExecutedIn, Turned};
 ghost use Rattle.tp_behaviour.specs.Workers.{IsConsistent, KeepsInboxes, role_of};
 
 use crate::deciding::{Decision, decide};

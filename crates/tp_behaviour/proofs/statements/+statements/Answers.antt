@@ -14,7 +14,7 @@ use Rattle.tp_behaviour.specs.declared.deciding.Decision.TheVariants as decision
 use Rattle.tp_behaviour.specs.declared.lasting.Lasting.{out-Lasting}
 use Rattle.tp_behaviour.specs.Lasting.{AreLasting, AreLastingBranches, IsLasting, IsLastingBranch}
 use Rattle.tp_behaviour.specs.Outcomes.{Executed, Stepped, depth_of, stage_at}
-use Rattle.tp_behaviour.specs.Parts.{Decided, ExecutedIn, IsDecisionOf, Turned}
+use Rattle.tp_behaviour.specs.PartOutcomes.{Decided, ExecutedIn, IsDecisionOf, Turned}
 use Rattle.tp_behaviour.proofs.AltAndForOutcomes.{step_branch, step_else, step_for, step_waits}
 use Rattle.tp_behaviour.proofs.BlockPathGrowth.{passed_all, passed_more, passed_start, passed_stop}
 use Rattle.tp_behaviour.proofs.LastingStatementRules.{lasts_alt, lasts_block, lasts_else, lasts_for, lasts_receive, zipped_get, zipped_long}
