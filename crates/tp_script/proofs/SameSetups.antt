@@ -25,7 +25,7 @@ use Rattle.tp_config.specs.declared.port_type.PortRef.{PortRef}
 use Rattle.tp_config.specs.declared.port_type.Role.TheVariants as role
 use Rattle.tp_config.specs.Setup.{Setup, PortDecl}
 use Rattle.tp_name.specs.Tables.{AreDistinct, IsNumbered, place_of_name}
-use Rattle.tp_setup.specs.declared.starts.Started.{Started}
+use Rattle.tp_setup.specs.declared.starts.StartedComponent.{StartedComponent}
 use Rattle.tp_setup.specs.declared.starts.Starts.{Starts}
 use Rattle.tp_setup.specs.Components.{creation_of, creations, variable_name, variables, Declared, created, main_component, interface, component_list, IsMember, HasPorts}
 use Rattle.tp_setup.specs.Configuring as configuring
@@ -222,7 +222,7 @@ component_named_same names component_name.Mtc component_name.Mtc e = refl
 component_named_same names component_name.SelfComponent component_name.SelfComponent e = refl
 component_named_same names x y e = absurd (cc e)
 
-start_moves : (fs gs : List Function) (names types : List (List ℕ)) → AllZip SameFunction fs gs → (x y : ComponentStart) (w : Started) → SameStart x y → IsStartOf fs names types x w
+start_moves : (fs gs : List Function) (names types : List (List ℕ)) → AllZip SameFunction fs gs → (x y : ComponentStart) (w : StartedComponent) → SameStart x y → IsStartOf fs names types x w
     → IsStartOf gs names types y w
 start_moves fs gs names types z x y w e h =
     let i = zip_get SameFunction fs gs w.function h.function z h.function_known in

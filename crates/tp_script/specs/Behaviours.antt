@@ -2,7 +2,7 @@
 use Rattle.std.specs.Prelude.{◌≡◌, ◌<◌, ◌+◌, ℕ, Option, Some, None, List, [], ◌∷◌, ◌++◌, Contains, length, map, slice_get, string_bytes}
 use Rattle.tp_tree.specs.declared.tree.Function.{Function}
 use Rattle.tp_tree.specs.declared.tree.TestCase.{TestCase}
-use Rattle.tp_setup.specs.declared.starts.Started.{Started}
+use Rattle.tp_setup.specs.declared.starts.StartedComponent.{StartedComponent}
 use Rattle.tp_setup.specs.declared.starts.Starts.{Starts}
 use Rattle.tp_setup.specs.Configuring.{interface_number}
 use Rattle.tp_setup.specs.Rules.{sut}
@@ -28,7 +28,7 @@ pub data Does (known : Known) (functions : List Function) (case : TestCase) (sta
   main : (d : Behaviour) → IsMainBody known case d.body → AreReferences 0 [] (length known.components) d.references
       → Does known functions case starts 0 (Some d)
   -- a component that is made: the body of the function that its start names, with the arguments of this start
-  started : (k place : ℕ) (x : Started) (f : Function) (d : Behaviour) → slice_get starts.places.items k ≡ Some place
+  started : (k place : ℕ) (x : StartedComponent) (f : Function) (d : Behaviour) → slice_get starts.places.items k ≡ Some place
       → slice_get starts.starts.items place ≡ Some x → slice_get functions x.function ≡ Some f
       → IsFunctionBody known f d.body
       → AreReferences (k + 1) (map (λ c. c.0) x.arguments.items) (length known.components) d.references

@@ -3,7 +3,7 @@ use Rattle.std.specs.Prelude.{◌≡◌, ◌<◌, ◌≤◌, ◌+◌, ℕ, Optio
 use Rattle.std.specs.Prelude.{if◌then◌else◌}
 use Rattle.std.specs.List.{slice_index_or}
 use Rattle.tp_setup.specs.declared.prepared.Prepared.{Prepared}
-use Rattle.tp_setup.specs.declared.starts.Started.{Started}
+use Rattle.tp_setup.specs.declared.starts.StartedComponent.{StartedComponent}
 use Rattle.tp_setup.specs.Rules.{sut}
 use Rattle.tp_name.specs.Tables.{place_of_name}
 use Rattle.tp_play.specs.declared.instance.Instance.{Instance}
@@ -27,7 +27,7 @@ pub data IsInstance (p : Prepared) : ℕ → Option Instance → Type 0 where
   main : (x : Instance) → x.source ≡ source.TestCase
       → AreReferences 0 [] (length p.variables) (map (λ c. c.0) x.references.items)
       → IsInstance p 0 (Some x)
-  started : (k place : ℕ) (s : Started) (x : Instance) → slice_get p.starts.places.items k ≡ Some place
+  started : (k place : ℕ) (s : StartedComponent) (x : Instance) → slice_get p.starts.places.items k ≡ Some place
       → slice_get p.starts.starts.items place ≡ Some s → x.source ≡ source.Function s.function
       → AreReferences (k + 1) (map (λ c. c.0) s.arguments.items) (length p.variables)
       (map (λ c. c.0) x.references.items)

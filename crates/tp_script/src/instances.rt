@@ -10,7 +10,7 @@ use tp_config::port_type::CompId;
 use tp_name::fault::{ModuleFault, ModuleRule, refused};
 use tp_play::instance::{Instance, Source};
 use tp_setup::prepared::Prepared;
-use tp_setup::starts::{Started, Starts};
+use tp_setup::starts::{StartedComponent, Starts};
 
 /// Adds the components of so many component variables, which are numbered from 1.
 fn add_variables(references: &mut Vec<CompId>, count: u32) -> Result<(), ModuleFault>
@@ -74,7 +74,7 @@ fn started_count(starts: &Starts) -> usize
 }
 
 /// The start at this place.
-fn start_at(starts: &Starts, place: u32) -> Option<&Started>
+fn start_at(starts: &Starts, place: u32) -> Option<&StartedComponent>
     ensures { option_copied result ≡ slice_get starts.now.starts.items place }
 {
     starts.starts.get(place as usize)

@@ -16,7 +16,7 @@ use Rattle.tp_name.specs.declared.fault.ModuleFault.{ModuleFault}
 use Rattle.tp_name.specs.Refused.{Tells, TellsAt}
 use Rattle.tp_name.specs.Tables.{IsNumbered, place_of_name}
 use Rattle.tp_name.proofs.NameSetLookups.{named_at, place_known}
-use Rattle.tp_setup.specs.declared.starts.Started.{Started}
+use Rattle.tp_setup.specs.declared.starts.StartedComponent.{StartedComponent}
 use Rattle.tp_setup.specs.BrokenStarts.{ArgumentBreaks, ArgumentsBreak, IsNeverStarted, IsStartFunction, StartBreaks, StartBreaksAmong, one_argument}
 use Rattle.tp_setup.specs.Components.{creation_of, creations, variable_name, variables}
 use Rattle.tp_setup.specs.Starting.{HasParameterType, IsArgument, IsStartOf, IsStartPlace, started_names}
@@ -48,7 +48,7 @@ start_function functions names x place f named placed there = record {
 
 -- a start breaks a rule behind those before it
 pub start_among : (functions : List Function) (names types : List (List ℕ)) (xs : List ComponentStart) (i : ℕ) (x : ComponentStart)
-    (started : List (List ℕ)) (made : List Started) (f : ModuleFault) → i < length xs → x ≡ get_or xs i x
+    (started : List (List ℕ)) (made : List StartedComponent) (f : ModuleFault) → i < length xs → x ≡ get_or xs i x
     → AllZip (IsStartOf functions names types) (take i xs) made → started ≡ started_names (take i xs) → IsNumbered started
     → TellsAt x.line (StartBreaks functions names types started x) f → Tells (StartBreaksAmong functions names types xs) f
 start_among functions names types xs i x started made f lt is each named once told =

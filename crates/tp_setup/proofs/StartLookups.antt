@@ -10,7 +10,7 @@ use Rattle.tp_tree.specs.declared.tree.Function.{Function}
 use Rattle.tp_tree.specs.declared.tree.SetupStatement.{SetupStatement}
 use Rattle.tp_name.specs.Tables.{AreDistinct, place_of_name}
 use Rattle.tp_name.proofs.NameSetLookups.{place_there, place_unknown}
-use Rattle.tp_setup.specs.declared.starts.Started.{Started}
+use Rattle.tp_setup.specs.declared.starts.StartedComponent.{StartedComponent}
 use Rattle.tp_setup.specs.Components.{creation_of, creations, variable_name, variables}
 use Rattle.tp_setup.specs.Starting.{HasParameterType, IsArgument, IsStartOf, IsStartPlace}
 use Rattle.tp_config.specs.declared.port_type.CompId.{CompId}
@@ -47,18 +47,18 @@ place_behind o k n e f = sym (same_Some (k + 1) n (sym (ap (option_map (λ k. k 
 
 module _ (functions : List Function) (names : List (List ℕ)) (named : names ≡ map (λ (f : Function). string_bytes f.name) functions)
     (variables types : List (List ℕ)) (x : ComponentStart) where
-  stands : (made : Started) → IsStartOf functions variables types x made → slice_get names made.function ≡ Some (string_bytes x.function)
+  stands : (made : StartedComponent) → IsStartOf functions variables types x made → slice_get names made.function ≡ Some (string_bytes x.function)
   stands made h =
       ap (λ l. slice_get l made.function) named ∙ slice_get-map (λ (f : Function). string_bytes f.name) functions made.function
       ∙ ap (option_map (λ (f : Function). string_bytes f.name)) h.function_known ∙ ap (λ (n : List ℕ). Some n) h.named
 
   -- the function of a start is there
-  pub no_function : None ≡ place_of_name names (string_bytes x.function) → (made : Started) × IsStartOf functions variables types x made → ⊥
+  pub no_function : None ≡ place_of_name names (string_bytes x.function) → (made : StartedComponent) × IsStartOf functions variables types x made → ⊥
   no_function none r = place_unknown names (string_bytes x.function) none (contains_at names r.0.function (string_bytes x.function) (stands r.0 r.1))
 
   -- it is the one that stands at the place of its name
   pub same_function : (place : ℕ) (one : Function) → AreDistinct names → Some place ≡ place_of_name names (string_bytes x.function)
-      → slice_get functions place ≡ Some one → (made : Started) (h : IsStartOf functions variables types x made) → h.function ≡ one
+      → slice_get functions place ≡ Some one → (made : StartedComponent) (h : IsStartOf functions variables types x made) → h.function ≡ one
   same_function place one apart placed there made h =
       let same : made.function ≡ place =
       once names (string_bytes x.function) made.function place apart (stands made h) (place_there names (string_bytes x.function) place placed) in
@@ -67,14 +67,14 @@ module _ (functions : List Function) (names : List (List ℕ)) (named : names �
   -- it runs on the type of the component
   pub runs_there : (comp place : ℕ) (one : Function) → AreDistinct names → Some place ≡ place_of_name names (string_bytes x.function)
       → slice_get functions place ≡ Some one → option_map (λ k. k + 1) (place_of_name variables (string_bytes x.component)) ≡ Some comp
-      → (made : Started) → IsStartOf functions variables types x made → slice_get types comp ≡ Some (string_bytes one.runs_on)
+      → (made : StartedComponent) → IsStartOf functions variables types x made → slice_get types comp ≡ Some (string_bytes one.runs_on)
   runs_there comp place one apart placed there behind made h =
       ap (slice_get types) (place_behind (place_of_name variables (string_bytes x.component)) h.variable comp h.variable_known behind) ∙ h.runs_on
       ∙ ap (λ (f : Function). Some (string_bytes f.runs_on)) (same_function place one apart placed there made h)
 
   -- and is given what it takes
   pub given_there : (place : ℕ) (one : Function) → AreDistinct names → Some place ≡ place_of_name names (string_bytes x.function)
-      → slice_get functions place ≡ Some one → (made : Started) × IsStartOf functions variables types x made
+      → slice_get functions place ≡ Some one → (made : StartedComponent) × IsStartOf functions variables types x made
       → (made : List CompId) × AllZip (IsArgument variables) x.arguments.items made × AllZip (HasParameterType types) one.parameters.items made
   given_there place one apart placed there r = (
     r.0.arguments.items,

@@ -13,7 +13,7 @@ use Rattle.tp_config.specs.declared.port_type.CompId.{CompId}
 use Rattle.tp_name.specs.declared.fault.ModuleRule.{ModuleRule}
 use Rattle.tp_name.specs.declared.fault.ModuleRule.TheVariants.{Unknown, WrongType, Limit, NotInSut, NoDone, NotStarted}
 use Rattle.tp_name.specs.Tables.{IsNumbered, place_of_name}
-use Rattle.tp_setup.specs.declared.starts.Started.{Started}
+use Rattle.tp_setup.specs.declared.starts.StartedComponent.{StartedComponent}
 use Rattle.tp_setup.specs.Components.{creation_of, creations, variable_name, variables}
 use Rattle.tp_setup.specs.Rules.{sut}
 use Rattle.tp_setup.specs.Starting.{HasParameterType, IsArgument, IsStartOf, component_named, started_names}
@@ -83,7 +83,7 @@ pub data StartBreaks (functions : List Function) (names types started : List (Li
 -- components types of these names
 pub record AreStarted (functions : List Function) (names types : List (List ℕ)) (starts : List ComponentStart)
     : Type 0 where
-  pub made : List Started
+  pub made : List StartedComponent
   pub each : AllZip (IsStartOf functions names types) starts made
   pub once : IsNumbered (started_names starts)
 

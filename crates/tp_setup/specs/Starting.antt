@@ -11,7 +11,7 @@ use Rattle.tp_tree.specs.declared.tree.Parameter.{Parameter}
 use Rattle.tp_tree.specs.declared.tree.Creation.{Creation}
 use Rattle.tp_tree.specs.declared.tree.TestCase.{TestCase}
 use Rattle.tp_config.specs.declared.port_type.CompId.{CompId}
-use Rattle.tp_setup.specs.declared.starts.Started.{Started}
+use Rattle.tp_setup.specs.declared.starts.StartedComponent.{StartedComponent}
 use Rattle.tp_setup.specs.declared.starts.Starts.{Starts}
 use Rattle.tp_name.specs.Tables.{IsNumbered, place_of_name}
 use Rattle.tp_setup.specs.Rules.{sut}
@@ -38,7 +38,7 @@ type_names_of case =
 
 -- a start obeys its rules and starts this, where the functions are these, the component variables have these names and
 -- the components types of these names
-pub record IsStartOf (functions : List Function) (names types : List (List ℕ)) (x : ComponentStart) (made : Started)
+pub record IsStartOf (functions : List Function) (names types : List (List ℕ)) (x : ComponentStart) (made : StartedComponent)
     : Type 0 where
   pub variable : ℕ
   pub variable_known : place_of_name names (string_bytes x.component) ≡ Some variable

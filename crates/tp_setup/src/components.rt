@@ -131,7 +131,7 @@ fn check_variable<'m>(
 /// Where the components could not all be made: the setup statements before the one that is refused,
 /// and its fault.
 #[derive(Drop)]
-pub struct Stopped<'m> {
+pub struct StoppedCreation<'m> {
     /// The statements before it.
     pub before: &'m [SetupStatement],
     /// The fault.
@@ -226,7 +226,7 @@ pub(crate) fn create_components<'m>(
     config: &mut Config,
     rules: &VariableRules,
     setups: &'m [SetupStatement],
-) -> Result<(), Stopped<'m>>
+) -> Result<(), StoppedCreation<'m>>
     ensures sound { OnOk result (HasSoundVariables rules.now.types.now rules.now.ports.now
         rules.now.most (creations setups.now)) }
     ensures added { OnOk result (AddsAll rules.now.types.now
@@ -251,7 +251,7 @@ pub(crate) fn create_components<'m>(
         let at = CreationAt { line, creation };
         if let Err(fault) = create(alloc, config, &mut variables, rules, at) {
             let before = &setups[..i];
-            return Err(Stopped { before, fault });
+            return Err(StoppedCreation { before, fault });
         }
     }
     Ok(())

@@ -15,7 +15,7 @@ ghost use Rattle.tp_setup.specs.Components.{AddsAll, HasSoundVariables, created,
 ghost use Rattle.tp_setup.specs.Configuring.{AreOwnPorts, AreSoundVariables, CanSetUp, CanSetUpBeside, Connects, HasFirst, HaveOwnPorts, HavePorts, IsPortOfEnd, IsSetUp, IsStep, Makes, Maps, end_component_number, most_variables};
 
 use crate::components::{
-    DeclaredComponent, Stopped, VariableRules, add_component, add_interface, create_components,
+    DeclaredComponent, StoppedCreation, VariableRules, add_component, add_interface, create_components,
     ports_of_type, variable_component,
 };
 use crate::config_faults::{connect_fault_at, map_fault_at};
@@ -238,7 +238,7 @@ fn first_fault(
     config: &mut Config,
     rules: &VariableRules,
     case: CaseAt<'_>,
-    stopped: Stopped<'_>,
+    stopped: StoppedCreation<'_>,
 ) -> ModuleFault
     requires first { HasFirst rules.now.types.now case.case.now stopped.before.now config.old }
     requires broken { HavePorts rules.now.types.now config.old.types

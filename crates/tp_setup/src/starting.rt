@@ -8,7 +8,7 @@ ghost use Rattle.tp_name.specs.Refused.{IsRefusedBy, Tells, TellsAt};
 ghost use Rattle.tp_setup.specs.BrokenStarts.{AfterStartsBreaks, ArgumentBreaks, ArgumentsBreak, IsNeverStarted, StartBreaks, StartBreaksAmong, StartsBreak};
 ghost use Rattle.tp_tree.specs.declared.tree.Function.{Function};
 ghost use Rattle.tp_config.specs.declared.port_type.CompId.{CompId};
-ghost use Rattle.tp_setup.specs.declared.starts.Started.{Started};
+ghost use Rattle.tp_setup.specs.declared.starts.StartedComponent.{StartedComponent};
 ghost use Rattle.tp_setup.specs.declared.starts.Starts.{Starts};
 ghost use Rattle.tp_setup.specs.Components.{creations, variables};
 ghost use Rattle.tp_setup.specs.Starting.{AreStarts, HasParameterType, IsArgument, IsStartPlace, IsStartOf, component_named, started_names, type_names_of};
@@ -16,7 +16,7 @@ ghost use Rattle.tp_setup.specs.Starting.{AreStarts, HasParameterType, IsArgumen
 use crate::components::{as_creation, variable_component};
 use crate::definitions::is_sut;
 use crate::sorted::{Sorted, definition_at};
-use crate::starts::{Started, Starts};
+use crate::starts::{StartedComponent, Starts};
 use crate::unique_names::CaseAt;
 use std::alloc::Global;
 use tp_config::port_type::CompId;
@@ -121,11 +121,11 @@ fn check_start(
     variables: &NameSet,
     types: &[&str],
     start: &ComponentStart,
-) -> Result<Started, ModuleFault>
+) -> Result<StartedComponent, ModuleFault>
     requires { AreFunctionsNamed sorted.now }
     ensures start { IfOk result (IsStartOf (functions_in sorted.now) variables.now
         (map (λ t. t.now) types.now) start.now) }
-    ensures refused { IsNumbered variables.now → IfErr result (IsRefusedBy ((made : Started)
+    ensures refused { IsNumbered variables.now → IfErr result (IsRefusedBy ((made : StartedComponent)
         × IsStartOf (functions_in sorted.now) variables.now (map (λ t. t.now) types.now)
         start.now made)) }
     ensures told { (started : List (List ℕ)) → IsNumbered variables.now
@@ -150,7 +150,7 @@ fn check_start(
         return Err(refused(ModuleRule::WrongType, line));
     }
     let arguments = check_arguments(alloc, variables, types, &function.parameters, start)?;
-    Ok(Started {
+    Ok(StartedComponent {
         function: place,
         arguments,
     })
@@ -249,14 +249,14 @@ fn check_each<'m>(
     variables: &NameSet,
     types: &[&str],
     starts: &'m [ComponentStart],
-) -> Result<(NameSet<'m>, Vec<Started>), ModuleFault>
+) -> Result<(NameSet<'m>, Vec<StartedComponent>), ModuleFault>
     requires { AreFunctionsNamed sorted.now }
     ensures started { IfOk result (λ r. AllZip
         (IsStartOf (functions_in sorted.now) variables.now (map (λ t. t.now) types.now))
         starts.now r.1.items) }
     ensures names { IfOk result (λ r. r.0 ≡ started_names starts.now) }
     ensures numbered { IfOk result (λ r. IsNumbered r.0) }
-    ensures refused { IsNumbered variables.now → IfErr result (IsRefusedBy ((made : List Started)
+    ensures refused { IsNumbered variables.now → IfErr result (IsRefusedBy ((made : List StartedComponent)
         × AllZip (IsStartOf (functions_in sorted.now) variables.now (map (λ t. t.now) types.now))
         starts.now made × IsNumbered (started_names starts.now))) }
     ensures told { IsNumbered variables.now → IfErr result (Tells (
@@ -279,14 +279,14 @@ fn start_all<'m>(
     sorted: &Sorted,
     case: &'m TestCase,
     names: &NameSet,
-) -> Result<(NameSet<'m>, Vec<Started>), ModuleFault>
+) -> Result<(NameSet<'m>, Vec<StartedComponent>), ModuleFault>
     requires { AreFunctionsNamed sorted.now }
     ensures started { IfOk result (λ r. AllZip
         (IsStartOf (functions_in sorted.now) names.now (type_names_of case.now))
         case.now.starts.items r.1.items) }
     ensures names { IfOk result (λ r. r.0 ≡ started_names case.now.starts.items) }
     ensures numbered { IfOk result (λ r. IsNumbered r.0) }
-    ensures refused { IsNumbered names.now → IfErr result (IsRefusedBy ((made : List Started)
+    ensures refused { IsNumbered names.now → IfErr result (IsRefusedBy ((made : List StartedComponent)
         × AllZip (IsStartOf (functions_in sorted.now) names.now (type_names_of case.now))
         case.now.starts.items made × IsNumbered (started_names case.now.starts.items))) }
     ensures told { IsNumbered names.now → IfErr result (Tells (StartBreaksAmong

@@ -3,7 +3,7 @@ use tp_config::port_type::CompId;
 
 /// What a start starts.
 #[derive(Drop)]
-pub struct Started {
+pub struct StartedComponent {
     /// The place of the function among the functions of the module.
     pub function: u32,
     /// The components that the arguments name.
@@ -14,7 +14,7 @@ pub struct Started {
 #[derive(Drop)]
 pub struct Starts {
     /// The starts, in the order of the text.
-    pub starts: Vec<Started>,
+    pub starts: Vec<StartedComponent>,
     /// For each component variable, in the order of the text, the place of its start.
     pub places: Vec<u32>,
 }
