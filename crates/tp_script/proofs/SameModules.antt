@@ -21,7 +21,7 @@ use Rattle.tp_config.specs.Shape.{ports_of}
 use Rattle.tp_name.specs.Tables.{IsNumbered}
 use Rattle.tp_setup.specs.declared.starts.Starts.{Starts}
 use Rattle.tp_setup.specs.Definitions.{inner_names, type_names, port_type_names, component_type_names, type_definitions, port_types, component_types, functions, test_cases, declared}
-use Rattle.tp_setup.specs.Configuring.{AreSoundVariables, IsSetUp}
+use Rattle.tp_setup.specs.Configuring.{AreSoundVariables, IsConfigBySetup}
 use Rattle.tp_setup.specs.Rules.{sut, HasUniqueNames, IsSound}
 use Rattle.tp_setup.specs.Resolved.{IsNamedType, IsComponentType, AreTypes, AreComponentTypes}
 use Rattle.tp_setup.specs.Sorted.{HasSoundDefinitions}
@@ -95,7 +95,7 @@ config_moves m n x y config same e h =
       types = h.types;
       types_are = component_types_move m n h.types same h.types_are;
       few_ports = h.few_ports;
-      set_up = subst (λ (t : List (List ℕ)). IsSetUp t (map ports_of h.types) y config) (component_type_names_same m n same)
+      set_up = subst (λ (t : List (List ℕ)). IsConfigBySetup t (map ports_of h.types) y config) (component_type_names_same m n same)
           (set_up_moves (component_type_names m) (map ports_of h.types) x y config e h.set_up);
     }
 

@@ -29,7 +29,7 @@ use Rattle.tp_setup.specs.declared.starts.StartedComponent.{StartedComponent}
 use Rattle.tp_setup.specs.declared.starts.Starts.{Starts}
 use Rattle.tp_setup.specs.Components.{creation_of, creations, variable_name, variables, Declared, created, main_component, interface, component_list, IsMember, HasPorts}
 use Rattle.tp_setup.specs.Configuring as configuring
-use Rattle.tp_setup.specs.Configuring.{end_component_number, IsPortOfEnd, Connects, Maps, IsStep, Makes, interface_number, most_variables, IsSetUp, AreSoundVariables}
+use Rattle.tp_setup.specs.Configuring.{end_component_number, IsPortOfEnd, Connects, Maps, IsStep, Makes, interface_number, most_variables, IsConfigBySetup, AreSoundVariables}
 use Rattle.tp_setup.specs.Starting.{component_named, IsArgument, HasParameterType, type_names_of, IsStartOf, started_names, IsStartPlace, AreStarts}
 use Rattle.tp_script.proofs.ListsAlikeByPlace.{sequence_zip, zip_map, zip_all, zip_zip, zip_get, zip_contains, zip_push, zip_nil, BothOrNone, zip_filter_map}
 use Rattle.tp_script.proofs.SameDefinitions.{SameComponent, SameFunction, SameCase, SameParameter, parameters_zip, declared_ports_same}
@@ -170,7 +170,7 @@ makes_moves system start _ _ (configuring.one_more xs s x t made step) ys z =
     (configuring.one_more i.0 s i.1 t (makes_moves system start xs s made i.0 i.3)
     (subst (λ (k : List (List ℕ)). IsStep s k system i.1.action t) (variables_same xs i.0 i.3) (step_moves s (variables xs) system x.action i.1.action t (action_same x i.1 i.4) step)))
 
-pub set_up_moves : (names : List (List ℕ)) (types : List (List PortDecl)) (x y : TestCase) (config : Setup) → SameCase x y → IsSetUp names types x config → IsSetUp names types y config
+pub set_up_moves : (names : List (List ℕ)) (types : List (List PortDecl)) (x y : TestCase) (config : Setup) → SameCase x y → IsConfigBySetup names types x config → IsConfigBySetup names types y config
 set_up_moves names types x y config e h =
     record {
       start = h.start;

@@ -18,7 +18,7 @@ use Rattle.tp_config.specs.Causes.{HasSystem}
 use Rattle.tp_name.specs.Tables.{AreDistinct, IsNumbered}
 use Rattle.tp_name.proofs.NameSetLookups.{place_known}
 use Rattle.tp_setup.specs.Components.{Adds, AddsAll, CanAdd, CanAddAll, Declared, HasSoundVariables, IsMember, component_list, HasStopped, created, creation_of, creations, interface, main_component, variable_name, variables}
-use Rattle.tp_setup.specs.Configuring.{CanSetUp, CanSetUpBeside, HasFirst, HavePorts, IsSetUp, Makes, interface_number, most_variables}
+use Rattle.tp_setup.specs.Configuring.{CanSetUp, CanSetUpBeside, HasFirst, HavePorts, IsConfigBySetup, Makes, interface_number, most_variables}
 use Rattle.tp_setup.proofs.AddableComponents.{names_created}
 use Rattle.tp_setup.proofs.StartLookups.{all_got}
 use Rattle.tp_setup.proofs.DistinctNamesInParts.{distinct_first}
@@ -74,7 +74,7 @@ face s = record { name = codes "system"; type_name = string_bytes s; role = role
 whole : List (List PortDecl) → List Member → List (PortRef × PortRef) → List (PortRef × PortRef) → Setup
 whole types components connected mapped = record { types = types; components = components; connected = connected; mapped = mapped }
 
-module _ (names : List (List ℕ)) (made : List (List PortDecl)) (case : TestCase) (config : Setup) (r : IsSetUp names made case config) where
+module _ (names : List (List ℕ)) (made : List (List PortDecl)) (case : TestCase) (config : Setup) (r : IsConfigBySetup names made case config) where
   -- `mtc` can be added
   pub main_can : HavePorts names made → (s : Setup) → s ≡ empty_setup made → CanAdd names (main_component case) s
   main_can have s empty = rw empty (record {

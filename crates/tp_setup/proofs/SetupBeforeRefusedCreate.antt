@@ -14,7 +14,7 @@ use Rattle.tp_config.specs.Setup.{Setup, PortDecl, Member, empty_setup}
 use Rattle.tp_name.specs.Tables.{IsNumbered, place_of_name}
 use Rattle.tp_name.proofs.NameSetLookups.{place_there}
 use Rattle.tp_setup.specs.Components.{AddsAll, Declared, IsMember, component_list, created, creation_of, creations, interface, main_component, variable_name, variables}
-use Rattle.tp_setup.specs.Configuring.{CanSetUpBeside, HasFirst, IsSetUp, Makes, end_component_number, interface_number}
+use Rattle.tp_setup.specs.Configuring.{CanSetUpBeside, HasFirst, IsConfigBySetup, Makes, end_component_number, interface_number}
 use Rattle.tp_setup.proofs.UniqueConfigurations.{makes_first}
 use Rattle.tp_setup.proofs.DistinctNamesInParts.{numbered_first}
 use Rattle.tp_setup.proofs.RulesOfAddedComponents.{member_one, names_split, numbered_variables}
@@ -95,7 +95,7 @@ module _ (front middle : List Member) (case : TestCase) (system : Option ℕ) (m
   found names end_component.SelfComponent n small e = (0, refl, sym (same_Some 0 n e) ∙ sym (shift_low front middle 0 (omega (arith, few))))
   found names end_component.System n small e = let r = by_system case.system n e in (r.0, number ∙ r.1, r.2)
 
-module _ (names : List (List ℕ)) (made : List (List PortDecl)) (case : TestCase) (config : Setup) (r : IsSetUp names made case config)
+module _ (names : List (List ℕ)) (made : List (List PortDecl)) (case : TestCase) (config : Setup) (r : IsConfigBySetup names made case config)
     (before rest : List SetupStatement) (split : case.setups.items ≡ before ++ rest) (first s : Setup) (system : Option ℕ)
     (added : AddsAll names (main_component case ∷ map created (creations before)) (empty_setup made) first) (last : AddsAll names (interface case) first s)
     (number : system ≡ option_map (λ _. length first.components) case.system) where

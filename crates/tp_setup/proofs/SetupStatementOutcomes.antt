@@ -9,7 +9,7 @@ use Rattle.tp_tree.specs.declared.tree.TestCase.{TestCase}
 use Rattle.tp_config.specs.Setup.{Setup, PortDecl, empty_setup, names_of_components}
 use Rattle.tp_name.specs.Tables.{AreDistinct}
 use Rattle.tp_setup.specs.Components.{Adds, AddsAll, Declared, IsMember, created, creations, interface, main_component}
-use Rattle.tp_setup.specs.Configuring.{IsSetUp, Makes}
+use Rattle.tp_setup.specs.Configuring.{IsConfigBySetup, Makes}
 use Rattle.tp_setup.proofs.CreatedComponentGrowth.{adds_more, adds_none}
 
 pub adds_append : (types : List (List ℕ)) (xs ys : List Declared) (old mid new : Setup) → AddsAll types xs old mid → AddsAll types ys mid new
@@ -39,7 +39,7 @@ pub set_up_is : (names : List (List ℕ)) (types : List (List PortDecl)) (case :
     → empty ≡ empty_setup types → AddsAll names (main_component case ∷ map created (creations case.setups.items)) empty made
     → AddsAll names (interface case) made start → system ≡ option_map (λ _. length made.components) case.system → setups ≡ case.setups.items
     → Makes system start setups config
-    → IsSetUp names types case config
+    → IsConfigBySetup names types case config
 set_up_is names types case empty made start config system setups is_empty first last number statements makes =
     let inner : List Declared = main_component case ∷ map created (creations case.setups.items) in
     let all : AddsAll names (inner ++ interface case) empty start = adds_append names inner (interface case) empty made start first last in

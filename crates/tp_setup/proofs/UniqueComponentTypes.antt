@@ -20,7 +20,7 @@ use Rattle.tp_name.specs.Tables.{AreDistinct, IsNumbered}
 use Rattle.tp_setup.specs.declared.definitions.Definitions.{Definitions}
 use Rattle.tp_setup.specs.declared.starts.Starts.{Starts}
 use Rattle.tp_setup.specs.Components.{HaveDistinctPorts}
-use Rattle.tp_setup.specs.Configuring.{AreOwnPorts, AreSoundVariables, CanSetUp, IsSetUp, names_of_ports}
+use Rattle.tp_setup.specs.Configuring.{AreOwnPorts, AreSoundVariables, CanSetUp, IsConfigBySetup, names_of_ports}
 use Rattle.tp_setup.specs.Defining.{IsDefined}
 use Rattle.tp_setup.specs.Definitions.{component_type_of, component_type_names, component_types, declared, declared_ports, functions, inner_names, name_of, port_type_of, port_type_names, port_types, test_cases, type_names}
 use Rattle.tp_setup.specs.Prepared.{IsWellDeclared}
@@ -137,9 +137,9 @@ module _ (m : Module) (d : Definitions) (made : IsDefined m d) where
               (subst (λ l. AreSoundVariables (component_type_names m) l d.case.case.now) (sym made.sorted.components.items_are)
               (subst (AreSoundVariables (component_type_names m) (component_types m)) same r.variables));
           config = r.config;
-          is_set_up = subst (λ n. IsSetUp n (map ports_of d.components.items) d.case.case.now r.config) (sym made.sorted.components.names_are)
-              (subst (λ p. IsSetUp (component_type_names m) p d.case.case.now r.config) ports
-              (subst (λ c. IsSetUp (component_type_names m) (map ports_of r.connections.types) c r.config) same r.connections.set_up));
+          is_set_up = subst (λ n. IsConfigBySetup n (map ports_of d.components.items) d.case.case.now r.config) (sym made.sorted.components.names_are)
+              (subst (λ p. IsConfigBySetup (component_type_names m) p d.case.case.now r.config) ports
+              (subst (λ c. IsConfigBySetup (component_type_names m) (map ports_of r.connections.types) c r.config) same r.connections.set_up));
         },
         (
           r.started,

@@ -12,7 +12,7 @@ use Rattle.tp_setup.specs.Definitions.{BeginsAmong, component_type_names, compon
 use Rattle.tp_setup.specs.Rules.{HasUniqueNames}
 use Rattle.tp_setup.specs.Sorted.{HasSoundDefinitions}
 use Rattle.tp_setup.specs.Resolved.{AreComponentTypes}
-use Rattle.tp_setup.specs.Configuring.{AreSoundVariables, IsSetUp}
+use Rattle.tp_setup.specs.Configuring.{AreSoundVariables, IsConfigBySetup}
 use Rattle.tp_setup.specs.BrokenNames.{NamesBreak}
 use Rattle.tp_setup.specs.BrokenDefinitions.{DefinitionsOfBreak}
 use Rattle.tp_setup.specs.BrokenSetup.{CaseSetupBreaks}
@@ -33,7 +33,7 @@ pub data ThirdPassBreaks (names : List (List ℕ)) (types : List ComponentType) 
       → ThirdPassBreaks names types made functions case begins rule line
   -- else on starts
   on_starts : (config : Setup) (rule : ModuleRule) (line : ℕ) → AreSoundVariables names types case
-      → IsSetUp names made case config → StartsBreak functions case begins rule line
+      → IsConfigBySetup names made case config → StartsBreak functions case begins rule line
       → ThirdPassBreaks names types made functions case begins rule line
 
 -- the same over the component types of the module

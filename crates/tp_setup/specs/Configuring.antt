@@ -71,7 +71,7 @@ most_variables case = if is_some case.system then 62 else 63
 
 -- the configuration of a test case, where the component types have these names and ports: it has the components that
 -- are declared, and the connections and mappings of the setup statements alone
-pub record IsSetUp (names : List (List ℕ)) (types : List (List PortDecl)) (case : TestCase) (config : Setup)
+pub record IsConfigBySetup (names : List (List ℕ)) (types : List (List PortDecl)) (case : TestCase) (config : Setup)
     : Type 0 where
   pub start : Setup
   pub types_are : start.types ≡ types
@@ -94,7 +94,7 @@ pub record CanSetUp (names : List (List ℕ)) (types : List ComponentType) (port
     (case : TestCase) : Type 0 where
   pub variables : AreSoundVariables names types case
   pub config : Setup
-  pub is_set_up : IsSetUp names ports case config
+  pub is_set_up : IsConfigBySetup names ports case config
 
 -- the names of ports
 abbrev pub names_of_ports : List PortDecl → List (List ℕ)
@@ -113,7 +113,7 @@ pub record HavePorts (names : List (List ℕ)) (made : List (List PortDecl)) : T
 pub record CanSetUpBeside (names ports : List (List ℕ)) (made : List (List PortDecl)) (case : TestCase) : Type 0 where
   pub sound : HasSoundVariables names ports (most_variables case) (creations case.setups.items)
   pub config : Setup
-  pub is_set_up : IsSetUp names made case config
+  pub is_set_up : IsConfigBySetup names made case config
 
 -- the configuration has `mtc` and the components of the first of the setup statements, and nothing else
 pub record HasFirst (names : List (List ℕ)) (case : TestCase) (before : List SetupStatement) (s : Setup) : Type 0 where

@@ -12,7 +12,7 @@ use Rattle.tp_setup.specs.Rules.{HasUniqueNames}
 use Rattle.tp_setup.specs.Sorted.{AreSorted, HasSoundDefinitions}
 use Rattle.tp_setup.specs.Resolved.{AreTypes, AreComponentTypes}
 use Rattle.tp_setup.specs.Components.{variables}
-use Rattle.tp_setup.specs.Configuring.{AreSoundVariables, IsSetUp}
+use Rattle.tp_setup.specs.Configuring.{AreSoundVariables, IsConfigBySetup}
 use Rattle.tp_setup.specs.Starting.{AreStarts}
 
 -- the configuration is that of the test case, over the component types of the module
@@ -20,7 +20,7 @@ pub record IsConfigOf (m : Module) (case : TestCase) (config : Setup) : Type 0 w
   pub types : List CompType
   pub types_are : AreComponentTypes m types
   pub few_ports : All (λ t. length t.ports.entries ≤ 64) types
-  pub set_up : IsSetUp (component_type_names m) (map ports_of types) case config
+  pub set_up : IsConfigBySetup (component_type_names m) (map ports_of types) case config
 
 -- what was made of a module
 pub record IsPreparedOf (m : Module) (p : Prepared) : Type 0 where

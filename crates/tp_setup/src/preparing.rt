@@ -6,7 +6,7 @@ ghost use Rattle.tp_setup.specs.Broken.{DeclarationsBreak, ThirdPassBreaks};
 ghost use Rattle.tp_setup.specs.Rules.{AreComponentTypesKnown};
 ghost use Rattle.tp_tree.specs.declared.tree.Defined.{Defined};
 ghost use Rattle.tp_setup.specs.Components.{variables};
-ghost use Rattle.tp_setup.specs.Configuring.{AreOwnPorts, AreSoundVariables, CanSetUp, IsSetUp};
+ghost use Rattle.tp_setup.specs.Configuring.{AreOwnPorts, AreSoundVariables, CanSetUp, IsConfigBySetup};
 ghost use Rattle.tp_setup.specs.Defining.{IsDefined};
 ghost use Rattle.tp_setup.specs.Definitions.{BeginsAmong, test_cases};
 ghost use Rattle.tp_setup.specs.Prepared.{IsPreparedOf, IsWellDeclared};
@@ -17,7 +17,7 @@ ghost use Rattle.tp_setup.specs.declared.starts.Starts.{Starts};
 
 use crate::definitions::{Definitions, define};
 use crate::prepared::Prepared;
-use crate::setup::{SetUp, set_up};
+use crate::setup::{SetupResult, set_up};
 use crate::sorted::Sorted;
 use crate::starting::check_starts;
 use crate::starts::Starts;
@@ -46,7 +46,7 @@ fn find_definitions(alloc: Global, parsed: &Module) -> Result<Definitions<'_>, M
 #[derive(Drop)]
 struct Configured<'m> {
     /// The configuration and the component variables.
-    made: SetUp<'m>,
+    made: SetupResult<'m>,
     /// What starts each component.
     starts: Starts,
 }
@@ -62,7 +62,7 @@ fn set_up_and_start<'m>(
     requires components { AreComponentsNamed sorted.now }
     requires functions { AreFunctionsNamed sorted.now }
     requires few { All (λ t. length t.ports.entries ≤ 64) components.items }
-    ensures config { IfOk result (λ c. IsSetUp sorted.now.component_names
+    ensures config { IfOk result (λ c. IsConfigBySetup sorted.now.component_names
         (map ports_of components.items) case.entry.case.now c.made.config) }
     ensures variables { IfOk result (λ c. c.made.variables
         ≡ variables case.entry.case.now.setups.items) }

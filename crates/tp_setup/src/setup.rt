@@ -12,7 +12,7 @@ ghost use Rattle.tp_tree.specs.declared.tree.Defined.{Defined};
 ghost use Rattle.tp_setup.specs.Sorted.{AreComponentsNamed, component_types_in};
 ghost use Rattle.std.specs.Option.{option_map, option_to_list};
 ghost use Rattle.tp_setup.specs.Components.{AddsAll, HasSoundVariables, created, creation_of, creations, main_component, component_number, variable_name, variables};
-ghost use Rattle.tp_setup.specs.Configuring.{AreOwnPorts, AreSoundVariables, CanSetUp, CanSetUpBeside, Connects, HasFirst, HaveOwnPorts, HavePorts, IsPortOfEnd, IsSetUp, IsStep, Makes, Maps, end_component_number, most_variables};
+ghost use Rattle.tp_setup.specs.Configuring.{AreOwnPorts, AreSoundVariables, CanSetUp, CanSetUpBeside, Connects, HasFirst, HaveOwnPorts, HavePorts, IsPortOfEnd, IsConfigBySetup, IsStep, Makes, Maps, end_component_number, most_variables};
 
 use crate::components::{
     DeclaredComponent, StoppedCreation, VariableRules, add_component, add_interface, create_components,
@@ -211,7 +211,7 @@ pub fn connect_all<'m>(
 
 /// The configuration of a test case, and its component variables.
 #[derive(Drop)]
-pub struct SetUp<'m> {
+pub struct SetupResult<'m> {
     /// The configuration: `mtc`, the components that are made, and the test system interface, in
     /// this order.
     pub config: Config,
@@ -368,7 +368,7 @@ fn configure<'m>(
 ) -> Result<NameSet<'m>, ModuleFault>
     requires named { AreComponentsNamed sorted.now }
     requires empty { config.old ≡ empty_setup config.old.types }
-    ensures config { OnOk result (IsSetUp sorted.now.component_names config.old.types
+    ensures config { OnOk result (IsConfigBySetup sorted.now.component_names config.old.types
         case.entry.case.now config.new) }
     ensures variables { IfOk result (λ known. known ≡ variables case.entry.case.now.setups.items) }
     ensures numbered { IfOk result (λ known. IsNumbered known) }
@@ -400,10 +400,10 @@ pub fn set_up<'m>(
     sorted: &Sorted<'m>,
     case: CaseAt<'m>,
     components: Vec<CompType>,
-) -> Result<SetUp<'m>, ModuleFault>
+) -> Result<SetupResult<'m>, ModuleFault>
     requires named { AreComponentsNamed sorted.now }
     requires few { All (λ t. length t.ports.entries ≤ 64) components.items }
-    ensures config { IfOk result (λ s. IsSetUp sorted.now.component_names
+    ensures config { IfOk result (λ s. IsConfigBySetup sorted.now.component_names
         (map ports_of components.items) case.entry.case.now s.config) }
     ensures variables { IfOk result (λ s. s.variables
         ≡ variables case.entry.case.now.setups.items) }
@@ -420,5 +420,5 @@ pub fn set_up<'m>(
 {
     let mut config = Config::new(alloc, components);
     let variables = configure(alloc, &mut config, sorted, case)?;
-    Ok(SetUp { config, variables })
+    Ok(SetupResult { config, variables })
 }

@@ -4,7 +4,7 @@ use Rattle.tp_tree.specs.declared.tree.ComponentType.{ComponentType}
 use Rattle.tp_tree.specs.declared.tree.Function.{Function}
 use Rattle.tp_config.specs.Shape.{ports_of}
 use Rattle.tp_setup.specs.Definitions.{component_types}
-use Rattle.tp_setup.specs.Configuring.{AreSoundVariables, IsSetUp}
+use Rattle.tp_setup.specs.Configuring.{AreSoundVariables, IsConfigBySetup}
 use Rattle.tp_setup.specs.Starting.{AreStarts}
 use Rattle.tp_setup.specs.Prepared.{IsConfigOf}
 use Rattle.tp_setup.proofs.UniqueComponentTypes.{declared_part, own_made}
@@ -36,7 +36,7 @@ returns-clause-rules c =
       types = d.components.items;
       types_are = made.components;
       few_ports = made.few_ports;
-      set_up = subst (λ n. IsSetUp n (map ports_of d.components.items) case c.in_ok-configured.configured.made.config) made.sorted.components.names_are
+      set_up = subst (λ n. IsConfigBySetup n (map ports_of d.components.items) case c.in_ok-configured.configured.made.config) made.sorted.components.names_are
           c.in_ok-configured.ensures.config;
     } in
     record {
@@ -66,7 +66,7 @@ returns-clause-made c =
         types = d.components.items;
         types_are = made.components;
         few_ports = made.few_ports;
-        set_up = subst (λ n. IsSetUp n (map ports_of d.components.items) case c.in_ok-configured.configured.made.config) made.sorted.components.names_are
+        set_up = subst (λ n. IsConfigBySetup n (map ports_of d.components.items) case c.in_ok-configured.configured.made.config) made.sorted.components.names_are
             c.in_ok-configured.ensures.config;
       };
       variables_are = c.in_ok-configured.ensures.variables;
