@@ -3,7 +3,7 @@ use tp_config::port_type::CompId;
 
 /// Which body.
 #[derive(Clone, Copy)]
-pub enum Source {
+pub enum WhichBody {
     /// The test case's own.
     TestCase,
     /// That of the function at this place among the functions of the module.
@@ -15,7 +15,7 @@ pub enum Source {
 #[derive(Drop)]
 pub struct Instance {
     /// The body.
-    pub source: Source,
+    pub which_body: WhichBody,
     /// The components: `mtc`, the component itself, the arguments of its start, and those of the
     /// component variables of the test case.
     pub references: Vec<CompId>,

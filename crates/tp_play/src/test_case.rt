@@ -11,7 +11,7 @@ ghost use Rattle.tp_play.specs.BorrowedBehaviours.{as_behaviour};
 
 use crate::bodies::{Behaviours, Bodies};
 use crate::body::Body;
-use crate::instance::{Instance, Source};
+use crate::instance::{Instance, WhichBody};
 use std::marker::Model;
 use tp_config::config::Config;
 use tp_config::port_type::CompId;
@@ -65,12 +65,12 @@ fn instance_at(instances: &[Option<Instance>], comp: CompId) -> Option<&Instance
 }
 
 /// The body that is meant.
-fn body_of(bodies: &Bodies, source: Source) -> Option<&Body>
-    ensures { option_copied result ≡ body_in bodies.now source }
+fn body_of(bodies: &Bodies, which_body: WhichBody) -> Option<&Body>
+    ensures { option_copied result ≡ body_in bodies.now which_body }
 {
-    match source {
-        Source::TestCase => Some(&bodies.main),
-        Source::Function(place) => bodies.functions.get(place as usize),
+    match which_body {
+        WhichBody::TestCase => Some(&bodies.main),
+        WhichBody::Function(place) => bodies.functions.get(place as usize),
     }
 }
 
@@ -86,7 +86,7 @@ fn find_behaviour<'t>(
     let Some(instance) = instance_at(instances, comp) else {
         return None;
     };
-    let Some(body) = body_of(bodies, instance.source) else {
+    let Some(body) = body_of(bodies, instance.which_body) else {
         return None;
     };
     Some(Behaviour {

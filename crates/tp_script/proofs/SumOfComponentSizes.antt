@@ -10,8 +10,8 @@ use Rattle.tp_play.specs.Sizes.{size_limit, capped, size_of_body}
 use Rattle.tp_body.proofs.CappedStatementSizes.{cap_add, cap_above, cap_below}
 use Rattle.tp_play.specs.declared.bodies.Bodies.{Bodies}
 use Rattle.tp_play.specs.declared.instance.Instance.{Instance}
-use Rattle.tp_play.specs.declared.instance.Source.{Source}
-use Rattle.tp_play.specs.declared.instance.Source.TheVariants as source
+use Rattle.tp_play.specs.declared.instance.WhichBody.{WhichBody}
+use Rattle.tp_play.specs.declared.instance.WhichBody.TheVariants as which_body
 use Rattle.tp_play.specs.Behaviours.{size_of_behaviour}
 use Rattle.tp_play.specs.Instances.{body_in, behaviour_of}
 use Rattle.tp_script.specs.Instances.{size_from, size_of_instance}
@@ -29,17 +29,17 @@ capped_size (Some b) refs = cap_twice (size_of_body b)
 
 module _ (bodies : Bodies) (own : ℕ) (sizes : List ℕ) (own_is : own ≡ capped (size_of_body bodies.main))
     (sizes_are : sizes ≡ map (λ b. capped (size_of_body b)) bodies.functions.items) where
-  from : (s : Source) (refs : List ℕ)
+  from : (s : WhichBody) (refs : List ℕ)
       → capped (size_from own sizes s) ≡ capped (size_of_behaviour (option_map (λ b. record { body = b; references = refs }) (body_in bodies s)))
-  from source.TestCase refs = ap capped own_is ∙ cap_twice (size_of_body bodies.main)
-  from (source.Function k) refs =
+  from which_body.TestCase refs = ap capped own_is ∙ cap_twice (size_of_body bodies.main)
+  from (which_body.Function k) refs =
       ap (λ (l : List ℕ). capped (slice_index_or l k 0)) sizes_are
       ∙ ap capped (get_or_mapped (λ b. capped (size_of_body b)) bodies.functions.items k 0)
       ∙ capped_size (slice_get bodies.functions.items k) refs
 
   of_instance : (x : Option Instance) → capped (size_of_instance own sizes x) ≡ capped (size_of_behaviour (behaviour_of bodies x))
   of_instance None = refl
-  of_instance (Some instance) = from instance.source (map (λ c. c.0) instance.references.items)
+  of_instance (Some instance) = from instance.which_body (map (λ c. c.0) instance.references.items)
 
   pub sums : (instances : List (Option Instance)) → capped (sum (map (size_of_instance own sizes) instances)) ≡ capped
       (sum (map size_of_behaviour (map (behaviour_of bodies) instances)))

@@ -116,7 +116,7 @@ module _ (m : Module) (p : Prepared) (of : IsPreparedOf m p) where
   module _ (bodies : Bodies) (own : IsMainBody (known_in p) p.case.case.now bodies.main)
       (others : AllZip (IsFunctionBody (known_in p)) (functions m) bodies.functions.items) where
     -- a instance whose body is known makes this behaviour
-    made_of : (x : Instance) (b : Body) → body_in bodies x.source ≡ Some b
+    made_of : (x : Instance) (b : Body) → body_in bodies x.which_body ≡ Some b
         → behaviour_of bodies (Some x) ≡ Some (record { body = b; references = map (λ c. c.0) x.references.items })
     made_of x b e = ap (option_map (λ (b : Body). record { body = b; references = map (λ c. c.0) x.references.items })) e
 

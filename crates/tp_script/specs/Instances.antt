@@ -7,8 +7,8 @@ use Rattle.tp_setup.specs.declared.starts.StartedComponent.{StartedComponent}
 use Rattle.tp_setup.specs.Rules.{sut}
 use Rattle.tp_name.specs.Tables.{place_of_name}
 use Rattle.tp_play.specs.declared.instance.Instance.{Instance}
-use Rattle.tp_play.specs.declared.instance.Source.{Source}
-use Rattle.tp_play.specs.declared.instance.Source.TheVariants as source
+use Rattle.tp_play.specs.declared.instance.WhichBody.{WhichBody}
+use Rattle.tp_play.specs.declared.instance.WhichBody.TheVariants as which_body
 use Rattle.tp_script.specs.Scopes.{Known}
 use Rattle.tp_script.specs.Behaviours.{AreReferences}
 
@@ -24,16 +24,16 @@ known_in p =
 
 -- the component of this number has this instance of a body
 pub data IsInstance (p : Prepared) : ℕ → Option Instance → Type 0 where
-  main : (x : Instance) → x.source ≡ source.TestCase
+  main : (x : Instance) → x.which_body ≡ which_body.TestCase
       → AreReferences 0 [] (length p.variables) (map (λ c. c.0) x.references.items)
       → IsInstance p 0 (Some x)
   started : (k place : ℕ) (s : StartedComponent) (x : Instance) → slice_get p.starts.places.items k ≡ Some place
-      → slice_get p.starts.starts.items place ≡ Some s → x.source ≡ source.Function s.function
+      → slice_get p.starts.starts.items place ≡ Some s → x.which_body ≡ which_body.Function s.function
       → AreReferences (k + 1) (map (λ c. c.0) s.arguments.items) (length p.variables)
       (map (λ c. c.0) x.references.items)
       → IsInstance p (k + 1) (Some x)
   system : (n place : ℕ) (x : Instance) → IsSome p.case.case.now.system → n ≡ length p.starts.places.items + 1
-      → place_of_name p.sorted.function_names sut ≡ Some place → x.source ≡ source.Function place
+      → place_of_name p.sorted.function_names sut ≡ Some place → x.which_body ≡ which_body.Function place
       → AreReferences n [] (length p.variables) (map (λ c. c.0) x.references.items)
       → IsInstance p n (Some x)
   nobody : (n : ℕ) → IsSome p.case.case.now.system → n ≡ length p.starts.places.items + 1
@@ -49,13 +49,13 @@ abbrev pub instance_count : Prepared → ℕ
 instance_count p = length p.starts.places.items + 1 + (if is_some p.case.case.now.system then 1 else 0)
 
 -- the size of what a component does, where the bodies have these sizes
-abbrev pub size_from : ℕ → List ℕ → Source → ℕ
-size_from own functions source.TestCase = own
-size_from own functions (source.Function place) = slice_index_or functions place 0
+abbrev pub size_from : ℕ → List ℕ → WhichBody → ℕ
+size_from own functions which_body.TestCase = own
+size_from own functions (which_body.Function place) = slice_index_or functions place 0
 
 abbrev pub size_of_instance : ℕ → List ℕ → Option Instance → ℕ
 size_of_instance own functions None = 0
-size_of_instance own functions (Some instance) = size_from own functions instance.source
+size_of_instance own functions (Some instance) = size_from own functions instance.which_body
 
 -- there are few component variables, and each is started
 pub record AreFew (p : Prepared) : Type 0 where

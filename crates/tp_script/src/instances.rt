@@ -1,14 +1,14 @@
 //! What the components of a test case do.
 ghost use Rattle.std.specs.Prelude.{◌≡◌, ◌<◌, ◌≤◌, ◌+◌, [], Some, IfErr, IfNone, IfOk, IfSome, IsSome, OnOk, length, map, slice_get};
 ghost use Rattle.std.specs.Option.{option_copied};
-ghost use Rattle.tp_play.specs.declared.instance.Source.TheVariants as source;
+ghost use Rattle.tp_play.specs.declared.instance.WhichBody.TheVariants as which_body;
 ghost use Rattle.tp_script.specs.Behaviours.{AreReferences, Numbers};
 ghost use Rattle.tp_script.specs.Instances.{AreFew, AreInstances, IsInstance, instance_count};
 
 use std::alloc::Global;
 use tp_config::port_type::CompId;
 use tp_name::fault::{ModuleFault, ModuleRule, refused};
-use tp_play::instance::{Instance, Source};
+use tp_play::instance::{Instance, WhichBody};
 use tp_setup::prepared::Prepared;
 use tp_setup::starts::{StartedComponent, Starts};
 
@@ -82,14 +82,14 @@ fn start_at(starts: &Starts, place: u32) -> Option<&StartedComponent>
 
 /// What `mtc` does.
 fn main_instance(alloc: Global, count: u32) -> Result<Instance, ModuleFault>
-    ensures source { IfOk result (λ instance. instance.source ≡ source.TestCase) }
+    ensures which_body { IfOk result (λ instance. instance.which_body ≡ which_body.TestCase) }
     ensures references { IfOk result (λ instance.
         AreReferences 0 [] count (map (λ c. c.0) instance.references.items)) }
     ensures refused { IfErr result (λ fault. fault ≡ ModuleFault.Memory (record {})) }
 {
     let references = references(alloc, CompId(0), &[], count)?;
     Ok(Instance {
-        source: Source::TestCase,
+        which_body: WhichBody::TestCase,
         references,
     })
 }
@@ -117,7 +117,7 @@ fn started_instance(
     };
     let references = references(alloc, itself, &started.arguments, count)?;
     Ok(Instance {
-        source: Source::Function(started.function),
+        which_body: WhichBody::Function(started.function),
         references,
     })
 }
@@ -144,7 +144,7 @@ fn system_instance(
     };
     let references = references(alloc, itself, &[], count)?;
     Ok(Some(Instance {
-        source: Source::Function(place),
+        which_body: WhichBody::Function(place),
         references,
     }))
 }

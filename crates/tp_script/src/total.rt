@@ -12,7 +12,7 @@ use tp_body::size::{COUNTED, cap, count_body};
 use tp_name::fault::{ModuleFault, ModuleRule, refused};
 use tp_play::bodies::Bodies;
 use tp_play::body::Body;
-use tp_play::instance::{Instance, Source};
+use tp_play::instance::{Instance, WhichBody};
 
 /// How many statements each body has, up to [`COUNTED`].
 fn count_bodies(alloc: Global, bodies: &[Body]) -> Result<Vec<u64>, ModuleFault>
@@ -44,9 +44,9 @@ fn instance_size(main: u64, functions: &[u64], instance: &Option<Instance>) -> u
     let Some(instance) = instance else {
         return 0;
     };
-    match instance.source {
-        Source::TestCase => main,
-        Source::Function(place) => size_at(functions, place),
+    match instance.which_body {
+        WhichBody::TestCase => main,
+        WhichBody::Function(place) => size_at(functions, place),
     }
 }
 

@@ -16,7 +16,7 @@ loop-place-init c =
     c.in_ok-push.ensures.items ∙ ap (λ l. l ++ Some instance ∷ []) c.new-instances.ensures.items in
     record {
       instances = instances_more p [] c.push.new.self.items (Some instance) (instances_none p)
-          (main instance c.in_ok-main.ensures.source
+          (main instance c.in_ok-main.ensures.which_body
           (subst (λ n. AreReferences 0 [] n (map (λ x. x.0) instance.references.items)) c.requires c.in_ok-main.ensures.references)) first;
       count = ap length first;
     }
