@@ -201,12 +201,12 @@ posted_as comp source routes e true here same =
       source = record { 0 = from i };
       to = record { comp = sym here i; port = r.to.port };
     } in
-    let made : RouteId → Posted = λ q. record { route = q; number = e.number; stamped = e.stamped } in
-    ap (λ b. cond b (Some (made record { source = source; to = record { comp = comp; port = r.to.port } })) None) same ∙ ap (λ q. Some (made q)) whole
+    let split_off : RouteId → Posted = λ q. record { route = q; number = e.number; stamped = e.stamped } in
+    ap (λ b. cond b (Some (split_off record { source = source; to = record { comp = comp; port = r.to.port } })) None) same ∙ ap (λ q. Some (split_off q)) whole
 posted_as comp source routes e false here same =
     let r = route_at routes e.place in
-    let made : RouteId → Posted = λ q. record { route = q; number = e.number; stamped = e.stamped } in
-    ap (λ b. cond b (Some (made record { source = source; to = record { comp = comp; port = r.to.port } })) None) same
+    let split_off : RouteId → Posted = λ q. record { route = q; number = e.number; stamped = e.stamped } in
+    ap (λ b. cond b (Some (split_off record { source = source; to = record { comp = comp; port = r.to.port } })) None) same
 
 map_cond : {A B : Type 0} (f : A → B) (b : Bool) (x : A) (l : List A) → cons_option (cond b (Some (f x)) None) (map f l) ≡ map f (cond b (x ∷ l) l)
 map_cond f true x l = refl

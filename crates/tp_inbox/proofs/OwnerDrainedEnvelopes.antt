@@ -37,7 +37,7 @@ pub owner_arrivals : (s : owner.Inside) (v : Draining) → IsOwner s → seen s 
 owner_arrivals s v o e =
     let channel = arc_value s.channel in
     let routes = channel.routes.items in
-    let routed : AreRouted (length routes) (moved s) = routed_before _ _ s.pass.me.view.client.taken (one_of s.hand) o.made o.sound.routed in
+    let routed : AreRouted (length routes) (moved s) = routed_before _ _ s.pass.me.view.client.taken (one_of s.hand) o.split_off o.sound.routed in
     subst (λ (x : Draining). AreArrivals x.inbox.routes x.drained) e
     record {
       routed = are_on routes (moved s) routed;
@@ -58,7 +58,7 @@ pub next_of_route : (s : owner.Inside) (w : View) (e : Envelope) → IsOwner s �
     → GivesNext s.pass.me.view.client s.hand (Some e) w
     → (e.place < length (arc_value s.channel).routes.items) × (e.number ≡ length (of e.place (moved s))) × (w.taken ≡ moved s ++ e ∷ [])
 next_of_route s w e h sound same is =
-    let a = arrived w (moved s) e (length (arc_value s.channel).routes.items) sound (same.0 ∙ h.made) is in (a.0, a.1, is)
+    let a = arrived w (moved s) e (length (arc_value s.channel).routes.items) sound (same.0 ∙ h.split_off) is in (a.0, a.1, is)
 
 -- where it is in hand again, what was drained stands before it, as it did
 pub hand-back : (all xs : List Envelope) (e : Envelope) (o : Option Envelope) → o ≡ Some e → all ≡ xs ++ e ∷ []
@@ -125,7 +125,7 @@ counted_at s v route place n o is found at =
     let routes = channel.routes.items in
     let known = o.places.known route place found in
     let low = known.0 in
-    let routed = routed_before _ _ s.pass.me.view.client.taken (one_of s.hand) o.made o.sound.routed in
+    let routed = routed_before _ _ s.pass.me.view.client.taken (one_of s.hand) o.split_off o.sound.routed in
     let here : route.to.comp ≡ channel.comp = ap (λ (r : RouteId). r.to.comp) (sym known.1) ∙ channel.routed.here place absent_route low in
     at ∙ o.counts.1 place low ∙ ap length (sym (on_place channel.comp channel.ports routes channel.routed place low (moved s) routed))
     ∙ ap (λ r. length (arrived_on r (drained_of s))) known.1
@@ -146,7 +146,7 @@ none_counted s v route o is none = by (cases_Bool (eqb route.to.comp.0 channel.c
     by : (eqb route.to.comp.0 channel.comp.0 ≡ true) ⊎ (eqb route.to.comp.0 channel.comp.0 ≡ false) → 0 ≡ drained_on (seen s) route
     by (inl same) =
         let to : route.to.comp ≡ channel.comp = λ i. record { 0 = eqb-true route.to.comp.0 channel.comp.0 same i } in
-        let routed = routed_before _ _ s.pass.me.view.client.taken (one_of s.hand) o.made o.sound.routed in
+        let routed = routed_before _ _ s.pass.me.view.client.taken (one_of s.hand) o.split_off o.sound.routed in
         ap length (sym (on_none channel.comp channel.ports channel.routes.items channel.routed route to apart (moved s) routed))
         ∙ ap (λ b. cond b (length (arrived_on route (drained_of s))) 0) (sym same)
     by (inr other) = ap (λ b. cond b (length (arrived_on route (drained_of s))) 0) (sym other)

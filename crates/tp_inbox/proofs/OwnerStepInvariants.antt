@@ -29,7 +29,7 @@ sound_taken v e w s t =
     subst Sound (sym t.0) record {
       owner = refl;
       order = t.2;
-      routed = routed-append v.made v.taken (e ∷ []) s.routed (t.1, tt);
+      routed = routed-append v.split_off v.taken (e ∷ []) s.routed (t.1, tt);
       fronts = t.3;
     }
 
@@ -55,7 +55,7 @@ at_some P None p = tt
 at_some P (Some x) p = p
 
 -- the owner's pass once the senders have joined, and the queue was looked at
-pub sound_joined : (v u w : View) (known : List Ledger) (n : ℕ) → Sound v → u ≡ owner_pass v.made v.taken known → w ≡ u → Held n (Knows u) → Sound w
+pub sound_joined : (v u w : View) (known : List Ledger) (n : ℕ) → Sound v → u ≡ owner_pass v.split_off v.taken known → w ≡ u → Held n (Knows u) → Sound w
 sound_joined v u w known n s e same held =
     subst Sound (sym (same ∙ e)) record {
       owner = refl;
@@ -64,11 +64,11 @@ sound_joined v u w known n s e same held =
       fronts = subst (λ (x : View). AreFronts x.taken x.known) e (fronts_of_known u held.0 held.2);
     }
 
-pub gathered : (v u w : View) (known : List Ledger) (routes : ℕ) (hand : Option Envelope) (rest : List Envelope) → v.made ≡ routes
-    → EndsWith v.taken (one_of hand) → rest ≡ [] → u ≡ owner_pass v.made v.taken known → w ≡ u
-    → (w.made ≡ routes) × (w.known ≡ known) × EndsWith w.taken (one_of hand ++ rest) × IfSome hand (λ _. rest ≡ [])
-gathered v u w known routes hand rest made ends none e same = (
-  ap (λ (x : View). x.made) (same ∙ e) ∙ made,
+pub gathered : (v u w : View) (known : List Ledger) (routes : ℕ) (hand : Option Envelope) (rest : List Envelope) → v.split_off ≡ routes
+    → EndsWith v.taken (one_of hand) → rest ≡ [] → u ≡ owner_pass v.split_off v.taken known → w ≡ u
+    → (w.split_off ≡ routes) × (w.known ≡ known) × EndsWith w.taken (one_of hand ++ rest) × IfSome hand (λ _. rest ≡ [])
+gathered v u w known routes hand rest split_off ends none e same = (
+  ap (λ (x : View). x.split_off) (same ∙ e) ∙ split_off,
   ap (λ (x : View). x.known) (same ∙ e),
   subst (λ (x : List Envelope × List Envelope). EndsWith x.0 x.1)
       (λ i. (ap (λ (x : View). x.taken) (sym (same ∙ e)) i, (sym (append_nil (one_of hand)) ∙ ap (λ l. one_of hand ++ l) (sym none)) i)) ends,
@@ -83,10 +83,10 @@ pub routed_rest : (n m : ℕ) (all xs ys : List Envelope) → n ≡ m → all �
 routed_rest n m all xs ys e is h = routed-back m xs ys (subst (λ (x : ℕ × List Envelope). AreRouted x.0 x.1) (λ i. (e i, is i)) h)
 
 -- what was taken out is of a route that there is, and the next of its route
-pub arrived : (w : View) (xs : List Envelope) (e : Envelope) (routes : ℕ) → Sound w → w.made ≡ routes → w.taken ≡ xs ++ e ∷ [] → (e.place < routes)
+pub arrived : (w : View) (xs : List Envelope) (e : Envelope) (routes : ℕ) → Sound w → w.split_off ≡ routes → w.taken ≡ xs ++ e ∷ [] → (e.place < routes)
     × (e.number ≡ length (of e.place xs))
 arrived w xs e routes s m t = (
-  (routed_rest w.made routes w.taken xs (e ∷ []) m t s.routed).0,
+  (routed_rest w.split_off routes w.taken xs (e ∷ []) m t s.routed).0,
   next_number xs e (subst InOrder t s.order),
 )
 

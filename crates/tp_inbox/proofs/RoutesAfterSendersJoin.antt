@@ -46,11 +46,11 @@ front_and_back all xs ys is = is ∙ ap (λ l. l ++ ys) (sym (front_is all xs ys
 -- what the owner's pass knows, and of whom
 pub record Knowing (channel : Channel) (v : View) (sent : List Sent) : Type 0 where
   pub sound : Sound v
-  pub made : v.made ≡ length channel.routes.items
+  pub split_off : v.split_off ≡ length channel.routes.items
   pub known : AllZip (IsPutOf channel.routes.items) v.known sent
 
 pub routed_at : (channel : Channel) (v : View) (sent : List Sent) → Knowing channel v sent → AreRouted (length channel.routes.items) v.taken
-routed_at channel v sent h = subst (λ (n : ℕ). AreRouted n v.taken) h.made h.sound.routed
+routed_at channel v sent h = subst (λ (n : ℕ). AreRouted n v.taken) h.split_off h.sound.routed
 
 -- what came from a component is what of its sender's envelopes was taken out
 came_of : (channel : Channel) (taken : List Envelope) → AreRouted (length channel.routes.items) taken → (x : Ledger) (s : Sent) → IsPutOf channel.routes.items x s
@@ -116,19 +116,19 @@ numbered_at channel v sent drained rest log h is same k d low =
           ∙ ap (arrived_on r) (sym is) ∙ n.1,
     )
 
-pub rest_at : (channel : Channel) (v : View) (inbox : Inbox) (drained rest : List Entry) → Sound v → v.made ≡ length channel.routes.items → inbox_of channel ≡ inbox
+pub rest_at : (channel : Channel) (v : View) (inbox : Inbox) (drained rest : List Entry) → Sound v → v.split_off ≡ length channel.routes.items → inbox_of channel ≡ inbox
     → arrivals_of channel.routes.items v.taken ≡ drained ++ rest → All (IsArrivalOn inbox.routes) rest
-rest_at channel v inbox drained rest sound made same is =
-    let on = are_on channel.routes.items v.taken (subst (λ (n : ℕ). AreRouted n v.taken) made sound.routed) in
+rest_at channel v inbox drained rest sound split_off same is =
+    let on = are_on channel.routes.items v.taken (subst (λ (n : ℕ). AreRouted n v.taken) split_off sound.routed) in
     let back = all_back (IsArrivalOn channel.routes.items) drained rest (subst (All (IsArrivalOn channel.routes.items)) is on) in
     subst (λ (i : Inbox). All (IsArrivalOn i.routes) rest) same back
 
 -- the owner's pass once the senders have joined, and the queue was looked at
-pub joined : (v u w : View) (known : List Ledger) (n : ℕ) → Sound v → u ≡ owner_pass v.made v.taken known → w ≡ u → Held n (Knows u)
-    → Sound w × (w.made ≡ v.made) × (w.taken ≡ v.taken) × (w.known ≡ known)
+pub joined : (v u w : View) (known : List Ledger) (n : ℕ) → Sound v → u ≡ owner_pass v.split_off v.taken known → w ≡ u → Held n (Knows u)
+    → Sound w × (w.split_off ≡ v.split_off) × (w.taken ≡ v.taken) × (w.known ≡ known)
 joined v u w known n s e same held = (
   sound_joined v u w known n s e same held,
-  ap (λ (x : View). x.made) (same ∙ e),
+  ap (λ (x : View). x.split_off) (same ∙ e),
   ap (λ (x : View). x.taken) (same ∙ e),
   ap (λ (x : View). x.known) (same ∙ e),
 )

@@ -215,11 +215,11 @@ pub found_is : (inbox : Inbox) (n k : ℕ) (senders : List SenderLedger) (x : Se
     → (k < length (sources_of (take n inbox.routes)))
     × (get_or (sources_of (take n inbox.routes)) k (route_at inbox.routes n).source ≡ (route_at inbox.routes n).source)
     × (x ≡ sender_by inbox n (route_at inbox.routes n).source)
-found_is inbox n k senders x made few at is =
+found_is inbox n k senders x split_off few at is =
     let source = (route_at inbox.routes n).source in
     let cs = sources_of (take n inbox.routes) in
-    let within : k < length cs = omega (arith, few, ap length made, length-map cs (sender_by inbox n)) in
-    let read : get_or senders k x ≡ sender_by inbox n (get_or cs k source) = ap (λ l. get_or l k x) made
+    let within : k < length cs = omega (arith, few, ap length split_off, length-map cs (sender_by inbox n)) in
+    let read : get_or senders k x ≡ sender_by inbox n (get_or cs k source) = ap (λ l. get_or l k x) split_off
     ∙ get_or-map (sender_by inbox n) cs k source x within in
     let here : get_or cs k source ≡ source = ap (λ (y : SenderLedger). y.source) (sym read) ∙ at x in
     (within, here, is ∙ read ∙ ap (sender_by inbox n) here)
@@ -228,12 +228,12 @@ found_is inbox n k senders x made few at is =
 pub made_found : (inbox : Inbox) (n k : ℕ) (senders : List SenderLedger) (x s : SenderLedger) → n < length inbox.routes → AreMade inbox n senders → k < length senders
     → HoldsAt (λ (y : SenderLedger). y.source ≡ (route_at inbox.routes n).source) senders k → x ≡ get_or senders k x
     → s ≡ extended x (route_at inbox.routes n) → AreMade inbox (n + 1) (set senders k s)
-made_found inbox n k senders x s low made few at is grown =
+made_found inbox n k senders x s low split_off few at is grown =
     let r = route_at inbox.routes n in
     let cs = sources_of (take n inbox.routes) in
-    let f = found_is inbox n k senders x made few at is in
+    let f = found_is inbox n k senders x split_off few at is in
     let there = is_among_at cs k r.source f.0 f.1 in
-    ap (λ l. set l k s) made
+    ap (λ l. set l k s) split_off
     ∙ one_more inbox n k cs s low (apart-behind [] (take n inbox.routes) apart_none) f.0 f.1 (grown ∙ ap (λ y. extended y r) f.2)
     ∙ ap (map (sender_by inbox (n + 1))) (sym (grown_sources inbox n low ∙ ap (λ b. cond b cs (cs ++ r.source ∷ [])) there))
 
@@ -258,14 +258,14 @@ apart_routes comp ports routes are n low source =
 pub made_new : (inbox : Inbox) (n : ℕ) (senders more : List SenderLedger) (s : SenderLedger) → n < length inbox.routes → AreMade inbox n senders
     → All (λ (x : SenderLedger). x.source ≢ (route_at inbox.routes n).source) senders → s ≡ first_sender inbox (route_at inbox.routes n)
     → more ≡ senders ++ s ∷ [] → AreMade inbox (n + 1) more
-made_new inbox n senders more s low made none is grows =
+made_new inbox n senders more s low split_off none is grows =
     let r = route_at inbox.routes n in
     let cs = sources_of (take n inbox.routes) in
-    let apart : is_among r.source cs ≡ false = none_among cs (subst (All (λ (x : SenderLedger). x.source ≢ r.source)) made none) in
+    let apart : is_among r.source cs ≡ false = none_among cs (subst (All (λ (x : SenderLedger). x.source ≢ r.source)) split_off none) in
     let only : s ≡ sender_by inbox (n + 1) r.source = is
     ∙ (λ i. record { inbox = inbox; source = r.source; routes = ap (λ l. l ++ r ∷ []) (sym (none_by r.source [] (take n inbox.routes) apart)) i; ledger = [] })
     ∙ same_here inbox n r.source low refl in
-    grows ∙ (λ i. (made ∙ same_all inbox n cs low apart) i ++ only i ∷ []) ∙ sym (map-append (sender_by inbox (n + 1)) cs (r.source ∷ []))
+    grows ∙ (λ i. (split_off ∙ same_all inbox n cs low apart) i ++ only i ∷ []) ∙ sym (map-append (sender_by inbox (n + 1)) cs (r.source ∷ []))
     ∙ ap (map (sender_by inbox (n + 1))) (sym (grown_sources inbox n low ∙ ap (λ b. cond b cs (cs ++ r.source ∷ [])) apart))
   where
     none_among : (cs : List CompId) → All (λ (x : SenderLedger). x.source ≢ (route_at inbox.routes n).source) (map (sender_by inbox n) cs)
@@ -287,6 +287,6 @@ take_whole (x ∷ xs) (suc n) e = ap (λ l. x ∷ l) (take_whole xs n (omega ari
 -- the senders of all routes
 pub made_all : (inbox : Inbox) (n : ℕ) (senders : List SenderLedger) → n ≡ length inbox.routes → AreMade inbox n senders
     → senders ≡ map (new_sender inbox) (sources_of inbox.routes)
-made_all inbox n senders all made =
+made_all inbox n senders all split_off =
     subst (λ (l : List RouteId). senders ≡ map (λ c. record { inbox = inbox; source = c; routes = routes_by c l; ledger = [] }) (sources_of l))
-    (take_whole inbox.routes n all) made
+    (take_whole inbox.routes n all) split_off

@@ -66,7 +66,7 @@ each_snoc F views w old mine j u e =
 pub begins : Delivers [] (owner_pass 0 [] [] ∷ [])
 begins = record {
   owner = 0;
-  made = 0;
+  split_off = 0;
   holder = λ p. none;
   taken = [];
   routed = tt;
@@ -88,12 +88,12 @@ sends n pass places put e own num items views _ h here =
       w,
       record {
         owner = h.owner;
-        made = h.made;
+        split_off = h.split_off;
         holder = h.holder;
         taken = h.taken;
-        routed = subst (AreRouted h.made) whole (routed-append h.made all (e ∷ []) h.routed (there.0, tt));
+        routed = subst (AreRouted h.split_off) whole (routed-append h.split_off all (e ∷ []) h.routed (there.0, tt));
         order = subst InOrder whole (in_order-push all e h.order count);
-        senders = each_set (FitsSender h.made h.holder (h.taken ++ (items ++ e ∷ []))) views pass w
+        senders = each_set (FitsSender h.split_off h.holder (h.taken ++ (items ++ e ∷ []))) views pass w
             (λ _. (mine.0, ap (on_routes places) (sym whole) ∙ among-here places all e own ∙ ap (λ l. l ++ e ∷ []) mine.1))
             (λ j u apart e' s.
             let o = h.senders j u e' s in (
@@ -102,7 +102,7 @@ sends n pass places put e own num items views _ h here =
                   ∙ among-else u.places all e
                   (false_or (has u.places e.place) (λ yes_. apart (some-injective j pass (sym (o.0 e.place yes_).1 ∙ there.1)))) ∙ o.1,
             ));
-        owners = each_set (FitsOwner h.owner h.made h.holder h.taken (h.taken ++ (items ++ e ∷ []))) views pass w (λ o. absurd (off o))
+        owners = each_set (FitsOwner h.owner h.split_off h.holder h.taken (h.taken ++ (items ++ e ∷ []))) views pass w (λ o. absurd (off o))
             (λ j u apart e' o.
             let f = h.owners j u e' o in (
               f.0,
@@ -119,32 +119,32 @@ sends n pass places put e own num items views _ h here =
       refl,
     )
 
-pub takes : (pass made : ℕ) (taken : List Envelope) (known : List Ledger) → Pops Delivers pass (owner_pass made taken known) (Takes (owner_pass made taken known))
-takes pass made taken known e items views h here =
-    let mine = h.owners pass (owner_pass made taken known) here refl in
-    let w = owner_pass made (taken ++ e ∷ []) known in
+pub takes : (pass split_off : ℕ) (taken : List Envelope) (known : List Ledger) → Pops Delivers pass (owner_pass split_off taken known) (Takes (owner_pass split_off taken known))
+takes pass split_off taken known e items views h here =
+    let mine = h.owners pass (owner_pass split_off taken known) here refl in
+    let w = owner_pass split_off (taken ++ e ∷ []) known in
     let more = h.taken ++ e ∷ [] in
     let whole : h.taken ++ (e ∷ items) ≡ more ++ items = sym (append_assoc h.taken (e ∷ []) items) in
-    let low = (routed-back h.made h.taken (e ∷ items) h.routed).0 in
+    let low = (routed-back h.split_off h.taken (e ∷ items) h.routed).0 in
     let mores : more ++ items ≡ (taken ++ e ∷ []) ++ items = ap (λ l. (l ++ e ∷ []) ++ items) (sym mine.2) in
     let ends : AreWhole (more ++ items) known = subst (λ l. AreWhole l known) whole mine.4 in (
       w,
       record {
         owner = h.owner;
-        made = h.made;
+        split_off = h.split_off;
         holder = h.holder;
         taken = more;
-        routed = subst (AreRouted h.made) whole h.routed;
+        routed = subst (AreRouted h.split_off) whole h.routed;
         order = subst InOrder whole h.order;
-        senders = each_set (FitsSender h.made h.holder (more ++ items)) views pass w (λ s. absurd (off s))
-            (λ j u _ e'. subst (λ l. FitsSender h.made h.holder l j u) whole (h.senders j u e'));
-        owners = each_set (FitsOwner h.owner h.made h.holder more (more ++ items)) views pass w
+        senders = each_set (FitsSender h.split_off h.holder (more ++ items)) views pass w (λ s. absurd (off s))
+            (λ j u _ e'. subst (λ l. FitsSender h.split_off h.holder l j u) whole (h.senders j u e'));
+        owners = each_set (FitsOwner h.owner h.split_off h.holder more (more ++ items)) views pass w
             (λ _. (mine.0, mine.1, ap (λ l. l ++ e ∷ []) mine.2, mine.3, ends))
             (λ j u apart e' o. absurd (apart ((h.owners j u e' o).0 ∙ sym mine.0)));
       },
       (
         refl,
-        (let l : e.place < h.made = low in let m : made ≡ h.made = mine.1 in omega arith),
+        (let l : e.place < h.split_off = low in let m : split_off ≡ h.split_off = mine.1 in omega arith),
         in_order-front (taken ++ e ∷ []) items (subst InOrder (whole ∙ mores) h.order),
         λ k d below.
             let x = get_or known k d in
@@ -152,54 +152,54 @@ takes pass made taken known e items views h here =
       ),
     )
 
-pub learns : (pass made : ℕ) (taken : List Envelope) (known : List Ledger) → Learns Delivers pass (owner_pass made taken known)
-    (Knows (owner_pass made taken known))
-learns pass made taken known items views h here =
-    let mine = h.owners pass (owner_pass made taken known) here refl in
+pub learns : (pass split_off : ℕ) (taken : List Envelope) (known : List Ledger) → Learns Delivers pass (owner_pass split_off taken known)
+    (Knows (owner_pass split_off taken known))
+learns pass split_off taken known items views h here =
+    let mine = h.owners pass (owner_pass split_off taken known) here refl in
     subst (λ l. AreWhole (l ++ items) known) (sym mine.2) mine.4
 
-pub splits : (pass made : ℕ) (taken : List Envelope) (known : List Ledger) → Forks Delivers pass (owner_pass made taken known)
-    (owner_pass (made + 1) taken known) (sender_pass (made ∷ []) [])
-splits pass made taken known items views h here =
-    let mine = h.owners pass (owner_pass made taken known) here refl in
-    let same : made ≡ h.made = mine.1 in
-    let left = owner_pass (made + 1) taken known in
-    let right = sender_pass (made ∷ []) [] in
+pub splits : (pass split_off : ℕ) (taken : List Envelope) (known : List Ledger) → Forks Delivers pass (owner_pass split_off taken known)
+    (owner_pass (split_off + 1) taken known) (sender_pass (split_off ∷ []) [])
+splits pass split_off taken known items views h here =
+    let mine = h.owners pass (owner_pass split_off taken known) here refl in
+    let same : split_off ≡ h.split_off = mine.1 in
+    let left = owner_pass (split_off + 1) taken known in
+    let right = sender_pass (split_off ∷ []) [] in
     let vs = set views pass left in
     let new = some (length vs) in
-    let holder = at h.holder made new in
+    let holder = at h.holder split_off new in
     let all = h.taken ++ items in
     record {
       owner = h.owner;
-      made = h.made + 1;
+      split_off = h.split_off + 1;
       holder = holder;
       taken = h.taken;
-      routed = routed-more h.made all h.routed;
+      routed = routed-more h.split_off all h.routed;
       order = h.order;
-      senders = each_snoc (FitsSender (h.made + 1) holder all) vs right
-          (each_set (FitsSender (h.made + 1) holder all) views pass left (λ s. absurd (off s))
+      senders = each_snoc (FitsSender (h.split_off + 1) holder all) vs right
+          (each_set (FitsSender (h.split_off + 1) holder all) views pass left (λ s. absurd (off s))
           (λ j u _ e s.
           let o = h.senders j u e s in (
             λ p yes_.
                 let l = (o.0 p yes_).0 in
-                (omega arith, at-else h.holder made new p (λ eq. omega arith) ∙ (o.0 p yes_).1),
+                (omega arith, at-else h.holder split_off new p (λ eq. omega arith) ∙ (o.0 p yes_).1),
             o.1,
           )))
           (λ _. (
             λ p yes_.
-                let is = has-one made p yes_ in
-                (omega arith, ap holder is ∙ at-here h.holder made new),
-            ap (λ n. on_routes (n ∷ []) all) same ∙ among-new h.made all h.routed,
+                let is = has-one split_off p yes_ in
+                (omega arith, ap holder is ∙ at-here h.holder split_off new),
+            ap (λ n. on_routes (n ∷ []) all) same ∙ among-new h.split_off all h.routed,
           ));
-      owners = each_snoc (FitsOwner h.owner (h.made + 1) holder h.taken all) vs right
-          (each_set (FitsOwner h.owner (h.made + 1) holder h.taken all) views pass left
+      owners = each_snoc (FitsOwner h.owner (h.split_off + 1) holder h.taken all) vs right
+          (each_set (FitsOwner h.owner (h.split_off + 1) holder h.taken all) views pass left
           (λ _. (
             mine.0,
             omega arith,
             mine.2,
             λ k d low p yes_.
                 let l = (mine.3 k d low p yes_).0 in
-                (omega arith, at-else h.holder made new p (λ eq. omega arith) ∙ (mine.3 k d low p yes_).1),
+                (omega arith, at-else h.holder split_off new p (λ eq. omega arith) ∙ (mine.3 k d low p yes_).1),
             mine.4,
           ))
           (λ j u apart e o. absurd (apart ((h.owners j u e o).0 ∙ sym mine.0))))
@@ -210,30 +210,30 @@ all_one : {A : Type 0} (P : A → Type 0) (x : A) → P x → All P (x ∷ [])
 all_one P x h zero d low = h
 all_one P x h (suc k) d low = absurd (omega arith)
 
-pub joins : (pass made : ℕ) (taken : List Envelope) (known : List Ledger) (other : ℕ) (places : List ℕ) (put : List Envelope)
-    → Merges Delivers pass (owner_pass made taken known) other (sender_pass places put) (owner_pass made taken (known ++ (places, put) ∷ [])) spent
-joins pass made taken known other places put items views h here two there =
-    let mine = h.owners pass (owner_pass made taken known) here refl in
-    let both = owner_pass made taken (known ++ (places, put) ∷ []) in
+pub joins : (pass split_off : ℕ) (taken : List Envelope) (known : List Ledger) (other : ℕ) (places : List ℕ) (put : List Envelope)
+    → Merges Delivers pass (owner_pass split_off taken known) other (sender_pass places put) (owner_pass split_off taken (known ++ (places, put) ∷ [])) spent
+joins pass split_off taken known other places put items views h here two there =
+    let mine = h.owners pass (owner_pass split_off taken known) here refl in
+    let both = owner_pass split_off taken (known ++ (places, put) ∷ []) in
     let w = sender_pass places put in
     let vs = set views pass both in
     let was : get_elem? views other ≡ some w = ⊎_elim (λ x. absurd (two x.0)) (λ x. x.1) (at_set views pass other both w there) in
     let theirs = h.senders other w was refl in
     let holder = at_all h.holder places none in
     let all = h.taken ++ items in
-    let S : ℕ → View → Type 0 = λ j u. j ≢ other → FitsSender h.made holder all j u in
-    let O = FitsOwner h.owner h.made holder h.taken all in
-    let Left : Ledger → Type 0 = λ x. (p : ℕ) → has x.0 p ≡ true → (p < h.made) × (holder p ≡ none) in
+    let S : ℕ → View → Type 0 = λ j u. j ≢ other → FitsSender h.split_off holder all j u in
+    let O = FitsOwner h.owner h.split_off holder h.taken all in
+    let Left : Ledger → Type 0 = λ x. (p : ℕ) → has x.0 p ≡ true → (p < h.split_off) × (holder p ≡ none) in
     let Whole : Ledger → Type 0 = λ x. on_routes x.0 all ≡ x.1 in
     let free : (p : ℕ) → h.holder p ≡ none → holder p ≡ none = λ p is. stays (has places p) (h.holder p) is in
     record {
       owner = h.owner;
-      made = h.made;
+      split_off = h.split_off;
       holder = holder;
       taken = h.taken;
       routed = h.routed;
       order = h.order;
-      senders = each_set (FitsSender h.made holder all) vs other spent (λ s. absurd (off s))
+      senders = each_set (FitsSender h.split_off holder all) vs other spent (λ s. absurd (off s))
           (λ j u apart e.
           each_set S views pass both (λ _ s. absurd (off s))
           (λ i v _ e' not s.
@@ -276,17 +276,17 @@ pairs pass places put other others items views h here two there =
     let theirs = h.senders other w was refl in
     let holder = at_all h.holder others (some pass) in
     let all = h.taken ++ items in
-    let S : ℕ → View → Type 0 = λ j u. j ≢ other → FitsSender h.made holder all j u in
-    let O : ℕ → View → Type 0 = FitsOwner h.owner h.made holder h.taken all in
+    let S : ℕ → View → Type 0 = λ j u. j ≢ other → FitsSender h.split_off holder all j u in
+    let O : ℕ → View → Type 0 = FitsOwner h.owner h.split_off holder h.taken all in
     let kept : (p : ℕ) → h.holder p ≡ some pass → holder p ≡ some pass = λ p is. stays (has others p) (h.holder p) is in
     record {
       owner = h.owner;
-      made = h.made;
+      split_off = h.split_off;
       holder = holder;
       taken = h.taken;
       routed = h.routed;
       order = h.order;
-      senders = each_set (FitsSender h.made holder all) vs other spent (λ s. absurd (off s))
+      senders = each_set (FitsSender h.split_off holder all) vs other spent (λ s. absurd (off s))
           (λ j u apart e.
           each_set S views pass both
           (λ _ _. (
@@ -334,27 +334,27 @@ pub sends_as : (n pass : ℕ) (v : View) (places : List ℕ) (put : List Envelop
     → e.number ≡ length (of e.place put) → Pushes Delivers n pass v e (PutsEnvelope v e)
 sends_as n pass v places put e is own num = subst (λ (u : View). Pushes Delivers n pass u e (PutsEnvelope u e)) (sym is) (sends n pass places put e own num)
 
-pub takes_as : (pass : ℕ) (v : View) (made : ℕ) (taken : List Envelope) (known : List Ledger) → v ≡ owner_pass made taken known
+pub takes_as : (pass : ℕ) (v : View) (split_off : ℕ) (taken : List Envelope) (known : List Ledger) → v ≡ owner_pass split_off taken known
     → Pops Delivers pass v (Takes v)
-takes_as pass v made taken known is = subst (λ (u : View). Pops Delivers pass u (Takes u)) (sym is) (takes pass made taken known)
+takes_as pass v split_off taken known is = subst (λ (u : View). Pops Delivers pass u (Takes u)) (sym is) (takes pass split_off taken known)
 
-pub learns_as : (pass : ℕ) (v : View) (made : ℕ) (taken : List Envelope) (known : List Ledger) → v ≡ owner_pass made taken known
+pub learns_as : (pass : ℕ) (v : View) (split_off : ℕ) (taken : List Envelope) (known : List Ledger) → v ≡ owner_pass split_off taken known
     → Learns Delivers pass v (Knows v)
-learns_as pass v made taken known is = subst (λ (u : View). Learns Delivers pass u (Knows u)) (sym is) (learns pass made taken known)
+learns_as pass v split_off taken known is = subst (λ (u : View). Learns Delivers pass u (Knows u)) (sym is) (learns pass split_off taken known)
 
-pub splits_as : (pass : ℕ) (v : View) (made : ℕ) (taken : List Envelope) (known : List Ledger) → v ≡ owner_pass made taken known
-    → Forks Delivers pass v (owner_pass (v.made + 1) v.taken v.known) (sender_pass (v.made ∷ []) [])
-splits_as pass v made taken known is =
-    subst (λ (u : View). Forks Delivers pass u (owner_pass (u.made + 1) u.taken u.known) (sender_pass (u.made ∷ []) [])) (sym is)
-    (splits pass made taken known)
+pub splits_as : (pass : ℕ) (v : View) (split_off : ℕ) (taken : List Envelope) (known : List Ledger) → v ≡ owner_pass split_off taken known
+    → Forks Delivers pass v (owner_pass (v.split_off + 1) v.taken v.known) (sender_pass (v.split_off ∷ []) [])
+splits_as pass v split_off taken known is =
+    subst (λ (u : View). Forks Delivers pass u (owner_pass (u.split_off + 1) u.taken u.known) (sender_pass (u.split_off ∷ []) [])) (sym is)
+    (splits pass split_off taken known)
 
-pub joins_as : (pass : ℕ) (v : View) (other : ℕ) (w : View) (made : ℕ) (taken : List Envelope) (known : List Ledger) (places : List ℕ)
-    (put : List Envelope) → v ≡ owner_pass made taken known → w ≡ sender_pass places put
-    → Merges Delivers pass v other w (owner_pass v.made v.taken (v.known ++ (w.places, w.put) ∷ [])) spent
-joins_as pass v other w made taken known places put is its =
-    subst (λ (x : View × View). Merges Delivers pass x.0 other x.1 (owner_pass x.0.made x.0.taken (x.0.known ++ (x.1.places, x.1.put) ∷ [])) spent)
+pub joins_as : (pass : ℕ) (v : View) (other : ℕ) (w : View) (split_off : ℕ) (taken : List Envelope) (known : List Ledger) (places : List ℕ)
+    (put : List Envelope) → v ≡ owner_pass split_off taken known → w ≡ sender_pass places put
+    → Merges Delivers pass v other w (owner_pass v.split_off v.taken (v.known ++ (w.places, w.put) ∷ [])) spent
+joins_as pass v other w split_off taken known places put is its =
+    subst (λ (x : View × View). Merges Delivers pass x.0 other x.1 (owner_pass x.0.split_off x.0.taken (x.0.known ++ (x.1.places, x.1.put) ∷ [])) spent)
     (λ i. (sym is i, sym its i))
-    (joins pass made taken known other places put)
+    (joins pass split_off taken known other places put)
 
 pub pairs_as : (pass : ℕ) (v : View) (other : ℕ) (w : View) (places : List ℕ) (put : List Envelope) (others : List ℕ) → v ≡ sender_pass places put
     → w ≡ sender_pass others [] → Merges Delivers pass v other w (sender_pass (v.places ++ w.places) v.put) spent

@@ -33,6 +33,6 @@ all_sent s = sent_by (arc_value s.channel).routes.items s.sources.items s.pass.m
 pub record IsGathered (s : Inside) : Type 0 where
   pub pass : IsSegPassOf (arc_value s.channel).queue s.pass
   pub sound : Sound s.pass.me.view.client
-  pub made : s.pass.me.view.client.made ≡ length (arc_value s.channel).routes.items
+  pub split_off : s.pass.me.view.client.split_off ≡ length (arc_value s.channel).routes.items
   pub known : AllZip (IsPutOf (arc_value s.channel).routes.items) s.pass.me.view.client.known (all_sent s)
   pub ends : all_arrivals s ≡ front_of s ++ rest_arrivals s.rest.items

@@ -57,7 +57,7 @@ IsTakenCount n v = n ≡ length v.taken % 2 ^ 64
 pub record IsOwner (s : owner.Inside) : Type 0 where
   pub pass : IsSegPassOf (arc_value s.channel).queue s.pass
   pub sound : Sound s.pass.me.view.client
-  pub made : s.pass.me.view.client.made ≡ length (arc_value s.channel).routes.items
+  pub split_off : s.pass.me.view.client.split_off ≡ length (arc_value s.channel).routes.items
   pub known : s.pass.me.view.client.known ≡ []
   pub ends : EndsWith s.pass.me.view.client.taken (one_of s.hand)
   pub taken : IsTakenCount s.taken s.pass.me.view.client
@@ -73,7 +73,7 @@ pub record IsOwner (s : owner.Inside) : Type 0 where
 
 -- the owner's pass is of as many routes as before, and of those that have joined it knows what it knew
 abbrev pub KeepsRoutes : View → View → Type 0
-KeepsRoutes v w = (w.made ≡ v.made) × (w.known ≡ v.known)
+KeepsRoutes v w = (w.split_off ≡ v.split_off) × (w.known ≡ v.known)
 
 -- one envelope more was taken out; or none, and of each route that has joined all is taken out that was put there
 abbrev pub Fetches : View → Option Envelope → View → Type 0

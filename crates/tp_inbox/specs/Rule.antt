@@ -9,51 +9,51 @@ use Rattle.tp_inbox.specs.Envelopes.{InOrder, AreFronts, AreWhole, AreRouted, Le
 -- the pass of a sender: the places of its routes, and what it has put on them
 abbrev pub sender_pass : List ℕ → List Envelope → View
 sender_pass places put =
-    record { sends = true; places = places; put = put; owns = false; made = 0; taken = []; known = [] }
+    record { sends = true; places = places; put = put; owns = false; split_off = 0; taken = []; known = [] }
 
 -- the pass of the owner: how many routes it has split off, what it has taken out, and the ledgers of those senders that
 -- have joined
 abbrev pub owner_pass : ℕ → List Envelope → List Ledger → View
-owner_pass made taken known =
-    record { sends = false; places = []; put = []; owns = true; made = made; taken = taken; known = known }
+owner_pass split_off taken known =
+    record { sends = false; places = []; put = []; owns = true; split_off = split_off; taken = taken; known = known }
 
 -- a pass that has joined
 abbrev pub spent : View
-spent = record { sends = false; places = []; put = []; owns = false; made = 0; taken = []; known = [] }
+spent = record { sends = false; places = []; put = []; owns = false; split_off = 0; taken = []; known = [] }
 
 -- what a sender's pass has to do with the whole: it alone has its routes, and of all envelopes so far those of its
 -- routes are what it has put, in its order
 abbrev pub FitsSender : ℕ → (ℕ → Option ℕ) → List Envelope → ℕ → View → Type 0
-FitsSender made holder all pass v =
+FitsSender split_off holder all pass v =
     v.sends ≡ true
-    → ((p : ℕ) → has v.places p ≡ true → (p < made) × (holder p ≡ some pass)) × (on_routes v.places all ≡ v.put)
+    → ((p : ℕ) → has v.places p ≡ true → (p < split_off) × (holder p ≡ some pass)) × (on_routes v.places all ≡ v.put)
 
 -- the owner's, of which there is one: it knows what was taken out, how many routes there are, and what those put that
 -- have joined, whose routes nobody has any more
 abbrev pub FitsOwner : ℕ → ℕ → (ℕ → Option ℕ) → List Envelope → List Envelope → ℕ → View → Type 0
-FitsOwner owner made holder taken all pass v =
+FitsOwner owner split_off holder taken all pass v =
     v.owns ≡ true
-    → (pass ≡ owner) × (v.made ≡ made) × (v.taken ≡ taken)
-    × All (λ (x : Ledger). (p : ℕ) → has x.0 p ≡ true → (p < made) × (holder p ≡ none)) v.known × AreWhole all v.known
+    → (pass ≡ owner) × (v.split_off ≡ split_off) × (v.taken ≡ taken)
+    × All (λ (x : Ledger). (p : ℕ) → has x.0 p ≡ true → (p < split_off) × (holder p ≡ none)) v.known × AreWhole all v.known
 
 -- for each sender the envelopes of its routes, of what was taken out and then of what is held, are what it has put, in
 -- its order over all its routes; on each route they are numbered from 0, and there is no other route
 pub record Delivers (items : List Envelope) (views : List View) : Type 0 where
   pub owner : ℕ
-  pub made : ℕ
+  pub split_off : ℕ
   pub holder : ℕ → Option ℕ
   pub taken : List Envelope
-  pub routed : AreRouted made (taken ++ items)
+  pub routed : AreRouted split_off (taken ++ items)
   pub order : InOrder (taken ++ items)
-  pub senders : (pass : ℕ) (v : View) → get_elem? views pass ≡ some v → FitsSender made holder (taken ++ items) pass v
+  pub senders : (pass : ℕ) (v : View) → get_elem? views pass ≡ some v → FitsSender split_off holder (taken ++ items) pass v
   pub owners : (pass : ℕ) (v : View) → get_elem? views pass ≡ some v
-      → FitsOwner owner made holder taken (taken ++ items) pass v
+      → FitsOwner owner split_off holder taken (taken ++ items) pass v
 
 -- an envelope that was taken out is the next of its route, and of a route that there is
 abbrev pub Takes : View → Envelope → View → Type 0
 Takes v e w =
-    (w ≡ owner_pass v.made (v.taken ++ e ∷ []) v.known)
-    × (e.place < v.made) × InOrder (v.taken ++ e ∷ []) × AreFronts (v.taken ++ e ∷ []) v.known
+    (w ≡ owner_pass v.split_off (v.taken ++ e ∷ []) v.known)
+    × (e.place < v.split_off) × InOrder (v.taken ++ e ∷ []) × AreFronts (v.taken ++ e ∷ []) v.known
 
 abbrev pub PutsEnvelope : View → Envelope → View → Type 0
 PutsEnvelope v e w = w ≡ sender_pass v.places (v.put ++ e ∷ [])
@@ -64,7 +64,7 @@ Knows v items = AreWhole (v.taken ++ items) v.known
 
 -- the owner's pass, with what follows from the rule
 pub record Sound (v : View) : Type 0 where
-  pub owner : v ≡ owner_pass v.made v.taken v.known
+  pub owner : v ≡ owner_pass v.split_off v.taken v.known
   pub order : InOrder v.taken
-  pub routed : AreRouted v.made v.taken
+  pub routed : AreRouted v.split_off v.taken
   pub fronts : AreFronts v.taken v.known

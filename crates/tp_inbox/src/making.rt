@@ -101,7 +101,7 @@ fn split(
     requires queue { IsSegPassOf (arc_value channel.now).queue pass.old }
     requires fresh { pass.old.me.view.client ≡ owner_pass 0 [] [] }
     ensures queue { IfOk result (λ _. IsSegPassOf (arc_value channel.now).queue pass.new) }
-    ensures made { IfOk result (λ _. pass.new.me.view.client
+    ensures split_off { IfOk result (λ _. pass.new.me.view.client
         ≡ owner_pass (length (arc_value channel.now).routes.items) [] []) }
     ensures senders { IfOk result (λ senders. senders.items
         ≡ map (new_sender (inbox_of (arc_value channel.now)))
@@ -120,7 +120,7 @@ fn split(
 /// was split off.
 fn begin_owner(alloc: Global, channel: Arc<Channel, Global>, pass: Pass) -> Result<Owner, Memory>
     requires queue { IsSegPassOf (arc_value channel).queue pass }
-    requires made { pass.me.view.client
+    requires split_off { pass.me.view.client
         ≡ owner_pass (length (arc_value channel).routes.items) [] [] }
     ensures inbox { IfOk result (λ owner. owner.inbox ≡ inbox_of (arc_value channel)) }
     ensures drained { IfOk result (λ owner. owner.drained ≡ []) }

@@ -20,7 +20,7 @@ pub(crate) struct View {
     /// It is the owner's.
     pub owns: bool,
     /// How many routes the owner has split off.
-    pub made: usize,
+    pub split_off: usize,
     /// What the owner has taken out, in order.
     pub taken: LinkedList<Envelope>,
     /// Of each sender that has joined, the places of its routes and what it had put.
@@ -46,16 +46,16 @@ impl Split<View> for Route {
     ghost use Rattle.std.specs.Prelude.{[], ◌∷◌, ◌+◌};
     ghost use Rattle.tp_inbox.specs.Rule.{owner_pass, sender_pass};
 
-    ghost left = { λ v. owner_pass (v.made + 1) v.taken v.known };
+    ghost left = { λ v. owner_pass (v.split_off + 1) v.taken v.known };
 
-    ghost right = { λ v. sender_pass (v.made ∷ []) [] };
+    ghost right = { λ v. sender_pass (v.split_off ∷ []) [] };
 }
 
 impl Join<View> for Route {
     ghost use Rattle.std.specs.Prelude.{[], ◌∷◌, ◌++◌};
     ghost use Rattle.tp_inbox.specs.Rule.{owner_pass, spent};
 
-    ghost both = { λ v w. owner_pass v.made v.taken (v.known ++ (w.places, w.put) ∷ []) };
+    ghost both = { λ v w. owner_pass v.split_off v.taken (v.known ++ (w.places, w.put) ∷ []) };
 
     ghost spent = { spent };
 }

@@ -51,7 +51,7 @@ loop-sender-preserved g c =
     let left = into_iter_items c.next.new.self in
     let steps = c.in-Some.ensures.steps.0 in
     let ss = sent_by channel.routes.items c.loop-sender.sources.items c.loop-sender.pass.me.view.client.known in
-    let made = c.owner.inside.pass.me.view.client.made in
+    let split_off = c.owner.inside.pass.me.view.client.split_off in
     let taken = c.owner.inside.pass.me.view.client.taken in
     let known = c.loop-sender.pass.me.view.client.known in
     let theirs = c.sender.inside.pass.me.view.client in
@@ -62,13 +62,13 @@ loop-sender-preserved g c =
     let lists : (arc_value c.sender.inside.channel).routes.items ≡ channel.routes.items = ap (λ (i : Inbox). i.routes) own in
     let put : s.ledger ≡ map (posted_of channel.routes.items) theirs.put =
     sym (ap (λ (x : SenderLedger). x.ledger) c.sender.view_is) ∙ ap (λ r. map (posted_of r) theirs.put) lists in
-    let view = c.absorb.ensures.rule ∙ ap (λ (v : View). owner_pass v.made v.taken (v.known ++ (theirs.places, theirs.put) ∷ [])) was.view in
+    let view = c.absorb.ensures.rule ∙ ap (λ (v : View). owner_pass v.split_off v.taken (v.known ++ (theirs.places, theirs.put) ∷ [])) was.view in
     let more = ap (λ (v : View). v.known) view in
     let grown = sent-push channel.routes.items c.loop-sender.sources.items c.push_reserved.new.self.items known _ c.sender.inside.source
     (theirs.places, theirs.put) (put_by s) was.as_many c.push_reserved.ensures.items more source (sym put) in
     record {
       pass = search rules;
-      view = view ∙ ap (owner_pass made taken) (sym more);
+      view = view ∙ ap (owner_pass split_off taken) (sym more);
       known = known-push channel.routes.items known _ ss _ theirs c.sender.inside.places.items theirs.put (put_by s) was.known more grown c.sender.invariant.view
           (from_routes channel.comp channel.ports channel.routes.items channel.routed s.source c.sender.inside.places.items
           (subst (λ (r : List RouteId). All (λ p. p < length r) c.sender.inside.places.items) lists c.sender.invariant.low)
@@ -93,7 +93,7 @@ pub with_hand-rest-requires-clause-routed : goal.with_hand-rest-requires-clause-
 with_hand-rest-requires-clause-routed g c =
     let owner = c.owner.invariant in
     subst (λ (h : Channel). AreRouted (length h.routes.items) (one_of c.owner.inside.hand)) (sym c.deref-3.ensures)
-    (hand_routed _ _ c.owner.inside.pass.me.view.client.taken c.owner.inside.hand owner.made owner.sound.routed owner.ends)
+    (hand_routed _ _ c.owner.inside.pass.me.view.client.taken c.owner.inside.hand owner.split_off owner.sound.routed owner.ends)
 
 -- what the owner's pass knows, and what was taken out
 known_all : (g : _) (c : goal.After-drop-owner-inside-5 g) → Knowing (arc_value c.owner.inside.channel) c.len_as.new.pass.me.view.client
@@ -111,7 +111,7 @@ known_all g c =
     c.loop-sender.pass.me.view.client.known _ owner.sound was.view c.len_as.ensures.queue.2 c.len_as.ensures.rule in (
       record {
         sound = j.0;
-        made = j.1 ∙ owner.made;
+        split_off = j.1 ∙ owner.split_off;
         known =
             subst (λ (k : List Ledger). AllZip (IsPutOf channel.routes.items) k (sent_by channel.routes.items c.loop-sender.sources.items k)) (sym j.3) was.known;
       },
@@ -126,7 +126,7 @@ invariant_of-result g c =
     record {
       pass = search rules;
       sound = k.0.sound;
-      made = k.0.made;
+      split_off = k.0.split_off;
       known = k.0.known;
       ends = front_and_back _ _ (rest_arrivals c.with_hand-rest.result.items) k.1;
     }

@@ -19,7 +19,7 @@ invariant-loop-sender g l =
     let sent = sent_by (arc_value l.channel).routes.items l.sources.items ledgers in
     record {
       pass : IsSegPassOf (arc_value l.channel).queue l.pass;
-      view : l.pass.me.view.client ≡ owner_pass was.made was.taken ledgers;
+      view : l.pass.me.view.client ≡ owner_pass was.split_off was.taken ledgers;
       known : AllZip (IsPutOf (arc_value l.channel).routes.items) ledgers sent;
       as_many : length l.sources.items ≡ length ledgers;
       inbox : All (IsSenderInto (inbox_of (arc_value l.channel))) rest;

@@ -27,11 +27,11 @@ stands : (channel shown : Channel) (place k : ℕ) (senders looked : List Sender
     → AreMade (inbox_of channel) place senders → x ≡ get_or senders k x
     → (k < length senders) × ((d : SenderLedger) → (get_or senders k d).source ≡ (route_at channel.routes.items place).source)
     × (x ≡ sender_by (inbox_of channel) place (route_at channel.routes.items place).source)
-stands channel shown place k senders looked x r same low read are found made at =
+stands channel shown place k senders looked x r same low read are found split_off at =
     let route = read_route channel shown place r same low read in
     let some = subst (λ (l : List SenderLedger). (k < length l) × ((d : SenderLedger) → (get_or l k d).source ≡ r.source)) are found in
     let there : (d : SenderLedger) → (get_or senders k d).source ≡ (route_at channel.routes.items place).source = λ d. some.1 d ∙ ap (λ (q : RouteId). q.source) route in
-    (some.0, there, (found_is (inbox_of channel) place k senders x made some.0 there at).2)
+    (some.0, there, (found_is (inbox_of channel) place k senders x split_off some.0 there at).2)
 
 found : (c : goal.After-index_mut) → (c.in-Some.index < length c.args.senders.now.items)
     × ((d : SenderLedger) → (get_or c.args.senders.now.items c.in-Some.index d).source

@@ -17,7 +17,7 @@ pub invariant_of-result : goal.invariant_of-result
 invariant_of-result c = record {
   pass = search rules;
   sound = search rules;
-  made = search rules;
+  split_off = search rules;
   known = search rules;
   ends = search rules;
   taken = search rules;

@@ -22,7 +22,7 @@ returns-then-is_err-clause-begun g c =
     let sent = sent_by channel.routes.items c.self.inside.sources.items v.known in
     let rest = rest_arrivals c.reserve.new.self.items in
     let taken = was.taken ∙ ap (λ l. c.args.self.drained ++ rest_arrivals l) (sym c.reserve.ensures.items) in
-    let know : Knowing channel v sent = record { sound = was.sound; made = was.made; known = was.known } in
+    let know : Knowing channel v sent = record { sound = was.sound; split_off = was.split_off; known = was.known } in
     begun_at channel v sent _ _ know (front_and_back _ c.args.self.drained rest taken) (ap (λ (x : Gathering). x.inbox.comp) c.self.view_is)
 
 -- what was taken out is what was drained and then the rest, and what is known of the senders
@@ -37,7 +37,7 @@ emptied g c =
     let same = c.take_out.ensures.same in (
       record {
         sound = c.take_out.ensures.sound;
-        made = same.0 ∙ was.made;
+        split_off = same.0 ∙ was.split_off;
         known =
             subst (λ (y : List Ledger × List Ledger). AllZip (IsPutOf channel.routes.items) y.0 (sent_by channel.routes.items c.self.inside.sources.items y.1))
             (λ i. (sym same.1 i, was.same i)) was.known;
@@ -68,12 +68,12 @@ returns-in-None-take_out-clause-routed g c =
     let e = emptied g c in
     let channel = arc_value c.self.inside.channel in
     rest_at channel c.take_out.new.pass.me.view.client c.args.self.inbox c.args.self.drained (rest_arrivals c.reserve.new.self.items) c.take_out.ensures.sound
-    e.0.made (ap (λ (x : Gathering). x.inbox) c.self.view_is) e.1
+    e.0.split_off (ap (λ (x : Gathering). x.inbox) c.self.view_is) e.1
 
 pub addressed-requires : goal.addressed-requires
 addressed-requires g c =
     let was = c.loop.invariant in
     let e = c.in-Some-take_out.envelope in
     let routed = routed_rest _ _ c.take_out.new.pass.me.view.client.taken c.loop.pass.me.view.client.taken (e ∷ [])
-    (c.take_out.ensures.same.0 ∙ was.made) c.in-Some-take_out.ensures.found c.take_out.ensures.sound.routed in
+    (c.take_out.ensures.same.0 ∙ was.split_off) c.in-Some-take_out.ensures.found c.take_out.ensures.sound.routed in
     subst (λ (h : Channel). e.place < length h.routes.items) (sym c.deref-in-Some-take_out.ensures) routed.0

@@ -16,7 +16,7 @@ invariant-loop g l =
     record {
       pass : IsSegPassOf (arc_value l.channel).queue l.pass;
       sound : Sound client;
-      made : client.made ≡ length routes;
+      split_off : client.split_off ≡ length routes;
       same : client.known ≡ l.initial.pass.me.view.client.known;
       known : AllZip (IsPutOf routes) client.known (sent_by routes l.sources.items client.known);
       taken : arrivals_of routes client.taken ≡ l.fn.self.drained ++ rest_arrivals l.rest.items;

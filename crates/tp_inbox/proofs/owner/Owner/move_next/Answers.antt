@@ -67,7 +67,7 @@ invariant_of-self-in_err-deliver g c =
     record {
       pass = search rules;
       sound = f.sound;
-      made = f.same.0 ∙ was.made;
+      split_off = f.same.0 ∙ was.split_off;
       known = f.same.1 ∙ was.known;
       ends = back.1;
       taken = f.counted;
@@ -92,7 +92,7 @@ invariant_of-self-2 g c =
     record {
       pass = search rules;
       sound = f.sound;
-      made = f.same.0 ∙ was.made;
+      split_off = f.same.0 ∙ was.split_off;
       known = f.same.1 ∙ was.known;
       ends = ends-none _ _ none;
       taken = f.counted;
