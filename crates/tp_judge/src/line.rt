@@ -97,13 +97,13 @@ impl IndexedLine {
             By::Came => self.act.came(),
             By::Port => self.act.port(),
             By::Left => self.act.left(),
-            By::Closing => self.closed(),
+            By::Closing => self.closed_section(),
             By::Component => Some(self.component),
         }
     }
 
     /// The component whose section it closes, if it does.
-    fn closed(&self) -> Option<u32>
+    fn closed_section(&self) -> Option<u32>
         ensures { result ≡ key_of By.Closing self.now }
     {
         match self.act {
