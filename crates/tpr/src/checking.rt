@@ -5,7 +5,7 @@ ghost use Rattle.tp_script.specs.Scripts.{IsScriptOf};
 ghost use Rattle.tpr.specs.Handed.{IsAnswered, IsJust};
 ghost use Rattle.tpr.specs.Checked.{HasCheckFault, IsCheckAnswer, IsRight, accepted_text, check_fault_status, check_fault_text};
 
-use crate::modes::{ANSWERED, FAULTED, REFUSED, ended, write_memory, write_refused, write_unread};
+use crate::modes::{ANSWERED, FAULTED, REFUSED, status_if_written, write_memory, write_refused, write_unread};
 use std::alloc::Global;
 use std::io::{Read, Write};
 use tp_play::test_case::TestCase;
@@ -90,7 +90,7 @@ pub fn answer_check_fault<W: Write>(writer: &mut Watched<W>, fault: CheckFault) 
         writer.old writer.new result }
 {
     write_check_fault(writer, fault);
-    ended(writer, check_fault_status(fault))
+    status_if_written(writer, check_fault_status(fault))
 }
 
 /// Prints that a script is right. The status is 0; `None` where the writer failed.
@@ -98,7 +98,7 @@ fn answer_accepted<W: Write>(writer: &mut Watched<W>) -> Option<u8>
     ensures { IsAnswered W.contents (IsJust accepted_text 0) writer.old writer.new result }
 {
     write_bytes(b"accepted\n", writer);
-    ended(writer, ANSWERED)
+    status_if_written(writer, ANSWERED)
 }
 
 /// Reads a script and checks it: prints `accepted` where it is right, and else the line of its

@@ -8,7 +8,7 @@ ghost use Rattle.tpr.specs.Handed.{IsAnswered, IsJust};
 ghost use Rattle.tpr.specs.FaultLines.{memory_text};
 
 use crate::checking::{answer_check_fault, check_script};
-use crate::modes::{ANSWERED, FAULTED, ended, write_memory};
+use crate::modes::{ANSWERED, FAULTED, status_if_written, write_memory};
 use std::alloc::Global;
 use std::io::{Read, Write};
 use tp_play::test_case::TestCase;
@@ -46,7 +46,7 @@ fn answer_found<W: Write>(
     ensures { IsAnswered W.contents (IsDecided test_case.now) writer.old writer.new result }
 {
     write_verdicts(test_case.config(), verdicts, writer);
-    ended(writer, verdicts_status(verdicts))
+    status_if_written(writer, verdicts_status(verdicts))
 }
 
 /// Prints that memory was refused. The status is 3; `None` where the writer failed.
@@ -54,7 +54,7 @@ fn answer_want_of_memory<W: Write>(writer: &mut Watched<W>) -> Option<u8>
     ensures { IsAnswered W.contents (IsJust memory_text 3) writer.old writer.new result }
 {
     write_memory(writer);
-    ended(writer, FAULTED)
+    status_if_written(writer, FAULTED)
 }
 
 /// Prints the verdicts that this test case can come to, or that memory was refused.

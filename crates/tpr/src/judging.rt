@@ -6,7 +6,7 @@ ghost use Rattle.tp_referee.specs.Rulings.{IsRulingOf};
 ghost use Rattle.tpr.specs.Handed.{IsAnswered, IsJust};
 ghost use Rattle.tpr.specs.Judged.{HasJudgeFault, IsJudgeAnswer, judge_fault_status, judge_fault_text};
 
-use crate::modes::{ANSWERED, FAULTED, REFUSED, ended, write_memory, write_refused, write_unread};
+use crate::modes::{ANSWERED, FAULTED, REFUSED, status_if_written, write_memory, write_refused, write_unread};
 use std::alloc::Global;
 use std::io::{Read, Write};
 use tp_referee::ruling::{Ruling, referee};
@@ -87,7 +87,7 @@ fn answer_judge_fault<W: Write>(writer: &mut Watched<W>, fault: JudgeFault) -> O
         writer.old writer.new result }
 {
     write_judge_fault(writer, fault);
-    ended(writer, judge_fault_status(fault))
+    status_if_written(writer, judge_fault_status(fault))
 }
 
 /// The status where a trace was judged.
@@ -106,7 +106,7 @@ fn answer_ruling<W: Write>(writer: &mut Watched<W>, ruling: &Ruling) -> Option<u
         writer.old writer.new result }
 {
     write_ruling(writer, ruling);
-    ended(writer, ruling_status(ruling))
+    status_if_written(writer, ruling_status(ruling))
 }
 
 /// Reads a trace, and prints what [`write_ruling`] says of it: a place for each port and each route

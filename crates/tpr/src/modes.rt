@@ -70,7 +70,7 @@ fn write_fault<W: Write>(writer: &mut Watched<W>, fault: QueueFault)
 }
 
 /// The status, where the writer has taken all that was written; `None` where it has failed.
-pub fn ended<W: Write>(writer: &mut Watched<W>, status: u8) -> Option<u8>
+pub fn status_if_written<W: Write>(writer: &mut Watched<W>, status: u8) -> Option<u8>
     ensures written { Writes W.contents writer.old writer.new [] }
     ensures told { MatchOption result (HasFailed writer.new)
         (λ s. (s ≡ status) × (writer.new.failed ≡ false)) }
@@ -99,7 +99,7 @@ pub fn answer_fault<W: Write>(writer: &mut Watched<W>, fault: QueueFault) -> Opt
         writer.old writer.new result }
 {
     write_fault(writer, fault);
-    ended(writer, fault_status(fault))
+    status_if_written(writer, fault_status(fault))
 }
 
 /// Reads a queue file, and prints the answers to its lines and what is left, or the line of its
@@ -116,7 +116,7 @@ pub fn answer_queue<R: Read, W: Write>(
         writer.old writer.new result }
 {
     match replay(alloc, reader, writer) {
-        Ok(()) => ended(writer, ANSWERED),
+        Ok(()) => status_if_written(writer, ANSWERED),
         Err(fault) => answer_fault(writer, fault),
     }
 }

@@ -5,7 +5,7 @@ ghost use Rattle.tpr.specs.Handed.{IsAnswered, IsJust};
 ghost use Rattle.tpr.specs.Ran.{IsRunAnswer, IsRunOf, IsTraceAnswer};
 
 use crate::checking::{answer_check_fault, check_script};
-use crate::modes::{ANSWERED, FAULTED, ended};
+use crate::modes::{ANSWERED, FAULTED, status_if_written};
 use std::alloc::Global;
 use std::io::{Read, Write};
 use std::mem;
@@ -24,7 +24,7 @@ fn answer_run_fault<W: Write>(writer: &mut Watched<W>, fault: RunFault) -> Optio
     ensures { IsAnswered W.contents (IsJust (run_fault_text fault) 3) writer.old writer.new result }
 {
     write_run_fault(writer, fault);
-    ended(writer, FAULTED)
+    status_if_written(writer, FAULTED)
 }
 
 /// Runs a test case, and prints its report or the trace of it, or the line of the fault by which
@@ -45,7 +45,7 @@ fn answer_test_case<T: Threads + Wait + Sync, W: Write, G: Gate>(
             write_report(test_case, telling, &report, writer);
             // The process ends behind this: to drop a long history first is a tenth of a run.
             mem::forget(report);
-            ended(writer, ANSWERED)
+            status_if_written(writer, ANSWERED)
         }
         Err(fault) => answer_run_fault(writer, fault),
     }

@@ -14,6 +14,6 @@ returns g c =
       text = verdicts_text c.args.test_case.now.config c.args.verdicts.now;
       status = verdicts_status c.args.verdicts.now;
       allowed = record { verdicts = c.args.verdicts.now; found = c.requires; code = refl; said = refl };
-      written = writes_first g.W.Write.contents _ _ _ _ (rw c.config.ensures at c.write_verdicts.ensures) c.ended.ensures.written;
-      told = rw c.verdicts_status.ensures at c.ended.ensures.told;
+      written = writes_first g.W.Write.contents _ _ _ _ (rw c.config.ensures at c.write_verdicts.ensures) c.status_if_written.ensures.written;
+      told = rw c.verdicts_status.ensures at c.status_if_written.ensures.told;
     }

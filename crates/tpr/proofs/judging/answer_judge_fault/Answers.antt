@@ -4,4 +4,4 @@ use Rattle.tpr.proofs.judging.answer_judge_fault.Goals as goal
 
 pub returns : goal.returns
 returns g c =
-    answered _ _ _ _ _ _ _ c.write_judge_fault.ensures c.ended.ensures.written (rw c.judge_fault_status.ensures at c.ended.ensures.told)
+    answered _ _ _ _ _ _ _ c.write_judge_fault.ensures c.status_if_written.ensures.written (rw c.judge_fault_status.ensures at c.status_if_written.ensures.told)

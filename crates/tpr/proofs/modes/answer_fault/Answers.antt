@@ -4,4 +4,4 @@ use Rattle.tpr.proofs.modes.answer_fault.Goals as goal
 
 pub returns : goal.returns
 returns g c =
-    answered _ _ _ _ _ _ _ c.write_fault.ensures c.ended.ensures.written (rw c.fault_status.ensures at c.ended.ensures.told)
+    answered _ _ _ _ _ _ _ c.write_fault.ensures c.status_if_written.ensures.written (rw c.fault_status.ensures at c.status_if_written.ensures.told)

@@ -4,7 +4,7 @@ use Rattle.tpr.proofs.AnswersThroughBuffers.{not_replayed, replayed}
 use Rattle.tpr.proofs.modes.answer_queue.Goals as goal
 
 pub returns-in-Ok : goal.returns-in-Ok
-returns-in-Ok g c = replayed g.W.Write.contents _ _ _ _ _ _ _ c.in-Ok.ensures.written c.ended.ensures.written c.ended.ensures.told
+returns-in-Ok g c = replayed g.W.Write.contents _ _ _ _ _ _ _ c.in-Ok.ensures.written c.status_if_written.ensures.written c.status_if_written.ensures.told
 
 pub returns-in-Err : goal.returns-in-Err
 returns-in-Err g c =

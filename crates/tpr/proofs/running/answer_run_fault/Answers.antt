@@ -4,4 +4,4 @@ use Rattle.tpr.proofs.running.answer_run_fault.Goals as goal
 
 pub returns : goal.returns
 returns g c =
-    answered _ _ _ _ _ _ _ c.write_run_fault.ensures c.ended.ensures.written c.ended.ensures.told
+    answered _ _ _ _ _ _ _ c.write_run_fault.ensures c.status_if_written.ensures.written c.status_if_written.ensures.told

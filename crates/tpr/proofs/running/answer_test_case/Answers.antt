@@ -19,8 +19,8 @@ returns-in-Ok g c =
         code = refl;
         said = refl;
       });
-      written = writes_first g.W.Write.contents _ _ _ _ c.write_report.ensures c.ended.ensures.written;
-      told = c.ended.ensures.told;
+      written = writes_first g.W.Write.contents _ _ _ _ c.write_report.ensures c.status_if_written.ensures.written;
+      told = c.status_if_written.ensures.told;
     }
 
 pub returns-in-Err : goal.returns-in-Err
