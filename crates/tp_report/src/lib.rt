@@ -5,7 +5,7 @@
 #![tactic(auto)]
 
 mod backward;
-mod entries;
+mod entry_texts;
 mod left;
 mod lines;
 mod opening;

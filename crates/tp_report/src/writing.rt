@@ -4,7 +4,7 @@ ghost use Rattle.std.specs.List.{flat_map};
 ghost use Rattle.tp_text.specs.Watching.{Writes};
 ghost use Rattle.tp_report.specs.Reports.{IsPresent, IsReportable, component_text, told_text};
 
-use crate::entries::write_entries;
+use crate::entry_texts::write_entries;
 use crate::left::write_left;
 use crate::lines::{write_end, write_heading, write_verdict};
 use crate::report::{CompReport, Report};

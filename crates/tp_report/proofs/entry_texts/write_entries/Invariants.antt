@@ -4,7 +4,7 @@ use Rattle.std.specs.List.{flat_map}
 use Rattle.tp_text.specs.Watching.{Writes}
 use Rattle.tp_report.specs.Lines.{entry_text}
 use Rattle.tp_report.specs.LineOpenings.{HasItsText}
-use Rattle.tp_report.proofs.entries.write_entries.Given as goal
+use Rattle.tp_report.proofs.entry_texts.write_entries.Given as goal
 
 abbrev pub invariant-loop-entry : goal.invariant-loop-entry
 invariant-loop-entry g l = record {
