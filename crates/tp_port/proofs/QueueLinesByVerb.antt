@@ -1,13 +1,13 @@
 -- Which lines a verb has.
 use Rattle.std.proofs.Common.{◌≡◌, ℕ, Bool, true, false, List, [], refl, ap, sym, ◌∙◌}
-use Rattle.tp_port.specs.declared.command.Verb.{Verb}
-use Rattle.tp_port.specs.declared.command.Verb.TheVariants as verb
+use Rattle.tp_port.specs.declared.command.CommandVerb.{CommandVerb}
+use Rattle.tp_port.specs.declared.command.CommandVerb.TheVariants as verb
 use Rattle.tp_text.specs.Cutting.{words_of}
 use Rattle.tp_port.specs.Line.{Line, arrive, receive, check, trigger, clear, start, stop, halt, operands, verb_of}
 use Rattle.tp_port.proofs.SplitTextHasWords.{some_word}
 
 -- the verb has no operands
-abbrev is_bare : Verb → Bool
+abbrev is_bare : CommandVerb → Bool
 is_bare verb.Arrive = false
 is_bare verb.Receive = false
 is_bare verb.Check = false

@@ -9,13 +9,13 @@ use Rattle.std.proofs.lemmas.Fmt.{decimal_is_IsNumeral}
 use Rattle.std.proofs.lemmas.Str.Parse.{digit_from_value}
 use Rattle.tp_port.specs.declared.pattern.Pattern.{Pattern}
 use Rattle.tp_port.specs.declared.pattern.Pattern.TheVariants as pattern
-use Rattle.tp_port.specs.declared.command.Verb.{Verb}
-use Rattle.tp_port.specs.declared.command.Verb.TheVariants as verb
+use Rattle.tp_port.specs.declared.command.CommandVerb.{CommandVerb}
+use Rattle.tp_port.specs.declared.command.CommandVerb.TheVariants as verb
 use Rattle.tp_text.specs.Cutting.{lines_of}
 use Rattle.tp_port.specs.Line.{Line, arrive, receive, check, trigger, clear, start, stop, halt, Wish, IsWish, IsQueueLine, PatternFits, Spells, Says, operands, verb_of, verb_text, pattern_text, from_words, wish_words}
 
 -- from a verb's word back to the verb, by its first two bytes and its third
-abbrev verb_at : ℕ → ℕ → ℕ → Verb
+abbrev verb_at : ℕ → ℕ → ℕ → CommandVerb
 verb_at a b c =
     if a == 97 then verb.Arrive
     else (if a == 114 then verb.Receive
@@ -25,7 +25,7 @@ verb_at a b c =
     else (if c == 97 then verb.Start
     else verb.Stop)))))
 
-verb_back : (v : Verb) → verb_at (get_or (verb_text v) 0 0) (get_or (verb_text v) 1 0) (get_or (verb_text v) 2 0) ≡ v
+verb_back : (v : CommandVerb) → verb_at (get_or (verb_text v) 0 0) (get_or (verb_text v) 1 0) (get_or (verb_text v) 2 0) ≡ v
 verb_back verb.Arrive = refl
 verb_back verb.Receive = refl
 verb_back verb.Check = refl
@@ -35,7 +35,7 @@ verb_back verb.Start = refl
 verb_back verb.Stop = refl
 verb_back verb.Halt = refl
 
-same_verb : (v w : Verb) → verb_text v ≡ verb_text w → v ≡ w
+same_verb : (v w : CommandVerb) → verb_text v ≡ verb_text w → v ≡ w
 same_verb v w e = sym (verb_back v) ∙ ap (λ t. verb_at (get_or t 0 0) (get_or t 1 0) (get_or t 2 0)) e ∙ verb_back w
 
 same_decimal : (n m : ℕ) → n < 2 ^ 64 → m < 2 ^ 64 → decimal n ≡ decimal m → n ≡ m

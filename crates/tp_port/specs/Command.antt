@@ -4,7 +4,7 @@ use Rattle.std.specs.Borrow.{Bor}
 use Rattle.std.specs.Option.{option_copied}
 use Rattle.tp_text.specs.Cutting.{words_after}
 use Rattle.tp_port.specs.declared.command.Criteria.{Criteria}
-use Rattle.tp_port.specs.declared.command.Verb.{Verb}
+use Rattle.tp_port.specs.declared.command.CommandVerb.{CommandVerb}
 use Rattle.tp_port.specs.declared.command.Command.{Command}
 use Rattle.tp_port.specs.declared.command.Command.TheVariants as command
 use Rattle.tp_port.specs.Line.{Line, Wish, IsQueueLine, arrive, receive, check, trigger, clear, start, stop, halt, operands, verb_of}
@@ -28,6 +28,6 @@ line_of command.Stop = stop
 line_of command.Halt = halt
 
 -- a line of this verb and these operands was read, or none where there is no such line
-abbrev pub IsRead : Verb → List (List ℕ) → Option Command → Type 0
+abbrev pub IsRead : CommandVerb → List (List ℕ) → Option Command → Type 0
 IsRead verb words None = (line : Line) → verb_of line ≡ verb → IsQueueLine line → words ≡ operands line → ⊥
 IsRead verb words (Some c) = (verb_of (line_of c) ≡ verb) × IsQueueLine (line_of c) × (words ≡ operands (line_of c))

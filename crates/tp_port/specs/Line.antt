@@ -7,8 +7,8 @@ use Rattle.std.specs.Fmt.{signed_decimal}
 use Rattle.tp_text.specs.Cutting.{lines_of, words_of}
 use Rattle.tp_port.specs.declared.pattern.Pattern.{Pattern}
 use Rattle.tp_port.specs.declared.pattern.Pattern.TheVariants as pattern
-use Rattle.tp_port.specs.declared.command.Verb.{Verb}
-use Rattle.tp_port.specs.declared.command.Verb.TheVariants as verb
+use Rattle.tp_port.specs.declared.command.CommandVerb.{CommandVerb}
+use Rattle.tp_port.specs.declared.command.CommandVerb.TheVariants as verb
 
 abbrev pub starts_with_letter : List ℕ → Bool
 starts_with_letter [] = false
@@ -37,7 +37,7 @@ pub data Line : Type 0 where
   halt : Line
 
 -- the first word of a line
-abbrev pub verb_text : Verb → List ℕ
+abbrev pub verb_text : CommandVerb → List ℕ
 verb_text verb.Arrive = codes "arrive"
 verb_text verb.Receive = codes "receive"
 verb_text verb.Check = codes "check"
@@ -47,7 +47,7 @@ verb_text verb.Start = codes "start"
 verb_text verb.Stop = codes "stop"
 verb_text verb.Halt = codes "halt"
 
-abbrev pub verb_of : Line → Verb
+abbrev pub verb_of : Line → CommandVerb
 verb_of (arrive name n) = verb.Arrive
 verb_of (receive wish) = verb.Receive
 verb_of (check wish) = verb.Check

@@ -16,7 +16,7 @@ pub const NAME_LIMIT: usize = 20;
 
 /// The first word of a line: its name in small letters.
 #[derive(Clone, Copy)]
-pub enum Verb {
+pub enum CommandVerb {
     /// `arrive`
     Arrive,
     /// `receive`
@@ -67,20 +67,20 @@ pub enum Command<'t> {
 
 /// The verb that a word is.
 #[inline(always)]
-fn verb_in(word: &[u8]) -> Option<Verb>
+fn verb_in(word: &[u8]) -> Option<CommandVerb>
     ensures { MatchOption result
         ((verb : _) → word.now ≡ verb_text verb → ⊥)
         (λ verb. word.now ≡ verb_text verb) }
 {
     match word {
-        b"arrive" => Some(Verb::Arrive),
-        b"receive" => Some(Verb::Receive),
-        b"check" => Some(Verb::Check),
-        b"trigger" => Some(Verb::Trigger),
-        b"clear" => Some(Verb::Clear),
-        b"start" => Some(Verb::Start),
-        b"stop" => Some(Verb::Stop),
-        b"halt" => Some(Verb::Halt),
+        b"arrive" => Some(CommandVerb::Arrive),
+        b"receive" => Some(CommandVerb::Receive),
+        b"check" => Some(CommandVerb::Check),
+        b"trigger" => Some(CommandVerb::Trigger),
+        b"clear" => Some(CommandVerb::Clear),
+        b"start" => Some(CommandVerb::Start),
+        b"stop" => Some(CommandVerb::Stop),
+        b"halt" => Some(CommandVerb::Halt),
         _ => None,
     }
 }
@@ -233,21 +233,21 @@ fn alone<'t>(command: Command<'t>, words: Option<&[u8]>) -> Option<Command<'t>>
 
 /// The command that this verb and the words after it are.
 #[inline(always)]
-fn command_with(verb: Verb, words: Option<&[u8]>) -> Option<Command<'_>>
+fn command_with(verb: CommandVerb, words: Option<&[u8]>) -> Option<Command<'_>>
     ensures { IsRead verb (words_left words.entry) result }
 {
     match verb {
-        Verb::Arrive => {
+        CommandVerb::Arrive => {
             let (sender, value) = arrival_of(words)?;
             Some(Command::Arrive(sender, value))
         }
-        Verb::Receive => criteria_of(words).map(Command::Receive),
-        Verb::Check => criteria_of(words).map(Command::Check),
-        Verb::Trigger => criteria_of(words).map(Command::Trigger),
-        Verb::Clear => alone(Command::Clear, words),
-        Verb::Start => alone(Command::Start, words),
-        Verb::Stop => alone(Command::Stop, words),
-        Verb::Halt => alone(Command::Halt, words),
+        CommandVerb::Receive => criteria_of(words).map(Command::Receive),
+        CommandVerb::Check => criteria_of(words).map(Command::Check),
+        CommandVerb::Trigger => criteria_of(words).map(Command::Trigger),
+        CommandVerb::Clear => alone(Command::Clear, words),
+        CommandVerb::Start => alone(Command::Start, words),
+        CommandVerb::Stop => alone(Command::Stop, words),
+        CommandVerb::Halt => alone(Command::Halt, words),
     }
 }
 
