@@ -7,8 +7,8 @@ use Rattle.std.specs.Fmt.{decimal, signed_decimal}
 use Rattle.std.specs.Str.Parse.{AllDigits, digits_value}
 use Rattle.std.proofs.lemmas.Fmt.{decimal_is_IsNumeral}
 use Rattle.std.proofs.lemmas.Str.Parse.{digit_from_value}
-use Rattle.tp_port.specs.declared.pattern.Pattern.{Pattern}
-use Rattle.tp_port.specs.declared.pattern.Pattern.TheVariants as pattern
+use Rattle.tp_port.specs.declared.pattern.IntegerPattern.{IntegerPattern}
+use Rattle.tp_port.specs.declared.pattern.IntegerPattern.TheVariants as pattern
 use Rattle.tp_port.specs.declared.command.CommandVerb.{CommandVerb}
 use Rattle.tp_port.specs.declared.command.CommandVerb.TheVariants as verb
 use Rattle.tp_text.specs.Cutting.{lines_of}
@@ -65,7 +65,7 @@ no_mark (pos n) p e =
     absurd (omega (arith, digit_from_value 63 (subst D (sym e) d).0))
 no_mark (negsuc n) p e = absurd (omega (arith, ap (λ l. get_or l 0 0) e))
 
-same_pattern : (p q : Pattern) → PatternFits p → PatternFits q → pattern_text p ≡ pattern_text q → p ≡ q
+same_pattern : (p q : IntegerPattern) → PatternFits p → PatternFits q → pattern_text p ≡ pattern_text q → p ≡ q
 same_pattern pattern.Any pattern.Any p q e = refl
 same_pattern pattern.Any (pattern.Number m) p q e = absurd (no_mark m q e)
 same_pattern (pattern.Number n) pattern.Any p q e = absurd (no_mark n p (sym e))

@@ -5,8 +5,8 @@ use Rattle.std.specs.List.{list_all, AllZip}
 use Rattle.std.specs.Char.{is_ascii_alphabetic, is_ascii_alphanumeric}
 use Rattle.std.specs.Fmt.{signed_decimal}
 use Rattle.tp_text.specs.Cutting.{lines_of, words_of}
-use Rattle.tp_port.specs.declared.pattern.Pattern.{Pattern}
-use Rattle.tp_port.specs.declared.pattern.Pattern.TheVariants as pattern
+use Rattle.tp_port.specs.declared.pattern.IntegerPattern.{IntegerPattern}
+use Rattle.tp_port.specs.declared.pattern.IntegerPattern.TheVariants as pattern
 use Rattle.tp_port.specs.declared.command.CommandVerb.{CommandVerb}
 use Rattle.tp_port.specs.declared.command.CommandVerb.TheVariants as verb
 
@@ -22,7 +22,7 @@ pub record IsName (name : List ℕ) : Type 0 where
 
 -- what a receiving operation asks of a message: its value, and its sender, if one is named
 pub record Wish : Type 0 where
-  pub value : Pattern
+  pub value : IntegerPattern
   pub from : Option (List ℕ)
 
 -- what a line says
@@ -62,7 +62,7 @@ abbrev pub BeginsAsInteger : List ℕ → Type 0
 BeginsAsInteger word =
     (word ≡ codes "0") ⊎ IsInRange 49 57 (get_or word 0 0) ⊎ ((get_or word 0 0 ≡ 45) × IsInRange 49 57 (get_or word 1 0))
 
-abbrev pub pattern_text : Pattern → List ℕ
+abbrev pub pattern_text : IntegerPattern → List ℕ
 pattern_text pattern.Any = codes "?"
 pattern_text (pattern.Number n) = signed_decimal n
 
@@ -89,7 +89,7 @@ operands stop = []
 operands halt = []
 
 -- an integer has 64 signed bits
-abbrev pub PatternFits : Pattern → Type 0
+abbrev pub PatternFits : IntegerPattern → Type 0
 PatternFits pattern.Any = Unit {0}
 PatternFits (pattern.Number n) = FitsSigned w64 n
 

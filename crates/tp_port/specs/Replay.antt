@@ -8,8 +8,8 @@ use Rattle.std.specs.Fmt.{decimal, signed_decimal}
 use Rattle.tp_event.specs.declared.event.Env.{Env}
 use Rattle.tp_event.specs.declared.event.Event.{Event}
 use Rattle.tp_event.specs.declared.event.Event.TheVariants as event
-use Rattle.tp_port.specs.declared.pattern.Pattern.{Pattern}
-use Rattle.tp_port.specs.declared.pattern.Pattern.TheVariants as pattern
+use Rattle.tp_port.specs.declared.pattern.IntegerPattern.{IntegerPattern}
+use Rattle.tp_port.specs.declared.pattern.IntegerPattern.TheVariants as pattern
 use Rattle.tp_queue.specs.History.{accepted, queued, status_of, top}
 use Rattle.tp_queue.specs.Answers.{halted_count}
 use Rattle.tp_port.specs.Line.{Line, arrive, receive, check, trigger, clear, start, stop, halt, Wish}
@@ -47,7 +47,7 @@ sender_name senders number = unwrap_or (slice_get senders number) []
 abbrev pub arriving : Progress → List ℕ → ℤ → Env ℤ
 arriving s name n = record { sender = sender_number s.senders name; number = length (accepted s.history); msg = n }
 
-abbrev pub is_admitted : Pattern → ℤ → Bool
+abbrev pub is_admitted : IntegerPattern → ℤ → Bool
 is_admitted pattern.Any n = true
 is_admitted (pattern.Number wanted) n = int_eq n wanted
 
@@ -56,11 +56,11 @@ is_from None sender = true
 is_from (Some wanted) sender = sender == wanted
 
 -- the envelope has a wanted value, and comes from the wanted sender, if one is named
-abbrev pub meets : Pattern → Option ℕ → Env ℤ → Bool
+abbrev pub meets : IntegerPattern → Option ℕ → Env ℤ → Bool
 meets value from e = is_admitted value e.msg && is_from from e.sender
 
 -- the envelope that a receiving operation succeeds with: the top, if it is wanted
-abbrev pub found : Pattern → Option ℕ → List (Event ℤ) → Option (Env ℤ)
+abbrev pub found : IntegerPattern → Option ℕ → List (Event ℤ) → Option (Env ℤ)
 found value from h = option_and_then (λ e. if meets value from e then Some e else None) (top h)
 
 -- the number of the wanted sender
@@ -100,7 +100,7 @@ abbrev pub trigger_word : Bool → List ℕ
 trigger_word true = codes "took "
 trigger_word false = codes "dropped "
 
-abbrev pub triggered_text : List (List ℕ) → Pattern → Option ℕ → Option (Env ℤ) → List ℕ
+abbrev pub triggered_text : List (List ℕ) → IntegerPattern → Option ℕ → Option (Env ℤ) → List ℕ
 triggered_text senders value from None = codes "no\n"
 triggered_text senders value from (Some e) = trigger_word (meets value from e) ++ envelope_text senders e
 

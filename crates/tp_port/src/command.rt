@@ -8,7 +8,7 @@ ghost use Rattle.tp_text.specs.Cutting.{words_of};
 ghost use Rattle.tp_port.specs.Line.{BeginsAsInteger, IsArriveLine, IsGood, SaysOneAtMost, IsName, IsWish, PatternFits, Spells, arrival_words, operands, pattern_text, verb_of, verb_text, wish_words};
 ghost use Rattle.tp_port.specs.Command.{IsRead, line_of, wish_of, words_left};
 
-use crate::pattern::Pattern;
+use crate::pattern::IntegerPattern;
 use tp_text::cut::{first_word, utf8_text};
 
 /// The most letters and digits that a name has.
@@ -39,7 +39,7 @@ pub enum CommandVerb {
 #[derive(Clone, Copy)]
 pub struct Criteria<'t> {
     /// The wanted value.
-    pub value: Pattern,
+    pub value: IntegerPattern,
     /// The name after `from`, if there is one.
     pub from: Option<&'t str>,
 }
@@ -147,16 +147,16 @@ fn integer_of(word: &[u8]) -> Option<i64>
 }
 
 /// The pattern that a word is.
-fn pattern_of(word: &[u8]) -> Option<Pattern>
+fn pattern_of(word: &[u8]) -> Option<IntegerPattern>
     ensures { MatchOption result
         ((p : _) → PatternFits p → word.now ≡ pattern_text p → ⊥)
         (λ p. (word.now ≡ pattern_text p) × PatternFits p) }
 {
     if word == b"?".as_slice() {
-        return Some(Pattern::Any);
+        return Some(IntegerPattern::Any);
     }
     let value = integer_of(word)?;
-    Some(Pattern::Number(value))
+    Some(IntegerPattern::Number(value))
 }
 
 /// The one word that there is.

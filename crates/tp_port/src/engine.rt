@@ -11,7 +11,7 @@ ghost use Rattle.tp_port.specs.Replay.{Progress, envelope_or_no, first_progress,
 
 use crate::answers::{write_count, write_envelope_or_no, write_left};
 use crate::command::{Command, Criteria};
-use crate::pattern::Pattern;
+use crate::pattern::IntegerPattern;
 use crate::senders::Senders;
 use std::alloc::Global;
 use tp_event::event::{Env, TriggerAnswer};
@@ -36,7 +36,7 @@ pub struct Engine<'t> {
 fn answer_receive(
     queue: &mut Queue<i64>,
     senders: &Senders<'_>,
-    value: Pattern,
+    value: IntegerPattern,
     from: Option<u32>,
     out: &mut String,
 ) -> Result<(), Memory>
@@ -55,7 +55,7 @@ fn answer_receive(
 fn answer_check(
     queue: &Queue<i64>,
     senders: &Senders<'_>,
-    value: Pattern,
+    value: IntegerPattern,
     from: Option<u32>,
     out: &mut String,
 ) -> Result<(), Memory>
@@ -74,7 +74,7 @@ fn answer_check(
 fn answer_trigger(
     queue: &mut Queue<i64>,
     senders: &Senders<'_>,
-    value: Pattern,
+    value: IntegerPattern,
     from: Option<u32>,
     out: &mut String,
 ) -> Result<(), Memory>

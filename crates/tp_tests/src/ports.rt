@@ -6,7 +6,7 @@ use std::io;
 use std::io::{ErrorKind, Read};
 use std::process::Abort;
 use tp_event::event::{Env, Event};
-use tp_port::pattern::Pattern;
+use tp_port::pattern::IntegerPattern;
 use tp_port::port_queue::PortQueue;
 use tp_port::replay::{QueueFault, replay, replay_text};
 use tp_refusal::limit::TEXT_LIMIT;
@@ -33,9 +33,9 @@ fn two<R: AllocGlobal + Abort>(rt: &R) -> PortQueue<i64> {
 enum QueueCall {
     /// A message of sender 0, by its number and itself.
     Arrive(u64, i64),
-    Receive(Pattern, Option<u32>),
-    Check(Pattern, Option<u32>),
-    Trigger(Pattern, Option<u32>),
+    Receive(IntegerPattern, Option<u32>),
+    Check(IntegerPattern, Option<u32>),
+    Trigger(IntegerPattern, Option<u32>),
     Clear,
     Start,
     Stop,
@@ -86,27 +86,27 @@ fn answered<R: AllocGlobal + Abort>(rt: &R, calls: &[(QueueCall, &str, &str)]) -
 fn receives_in_order_and_only_what_matches(rt: HostRuntime) {
     const CALLS: &[(QueueCall, &str, &str)] = &[
         (
-            QueueCall::Receive(Pattern::Number(2), None),
+            QueueCall::Receive(IntegerPattern::Number(2), None),
             "Ok(None)",
             "(Started, (2, 2), true)",
         ),
         (
-            QueueCall::Receive(Pattern::Any, Some(1)),
+            QueueCall::Receive(IntegerPattern::Any, Some(1)),
             "Ok(None)",
             "(Started, (2, 2), true)",
         ),
         (
-            QueueCall::Receive(Pattern::Any, Some(0)),
+            QueueCall::Receive(IntegerPattern::Any, Some(0)),
             "Ok(Some(Env { sender: 0, number: 0, msg: 1 }))",
             "(Started, (1, 1), true)",
         ),
         (
-            QueueCall::Receive(Pattern::Number(2), None),
+            QueueCall::Receive(IntegerPattern::Number(2), None),
             "Ok(Some(Env { sender: 1, number: 1, msg: 2 }))",
             "(Started, (0, 0), true)",
         ),
         (
-            QueueCall::Receive(Pattern::Any, None),
+            QueueCall::Receive(IntegerPattern::Any, None),
             "Ok(None)",
             "(Started, (0, 0), true)",
         ),
@@ -131,12 +131,12 @@ const QUEUED: &str = "(Some(Env { sender: 0, number: 0, msg: 1 }), \
 fn checks_without_taking(rt: HostRuntime) {
     const CALLS: &[(QueueCall, &str, &str)] = &[
         (
-            QueueCall::Check(Pattern::Number(2), None),
+            QueueCall::Check(IntegerPattern::Number(2), None),
             "Ok(None)",
             "(Started, (2, 2), true)",
         ),
         (
-            QueueCall::Check(Pattern::Number(1), Some(0)),
+            QueueCall::Check(IntegerPattern::Number(1), Some(0)),
             "Ok(Some(Env { sender: 0, number: 0, msg: 1 }))",
             "(Started, (2, 2), true)",
         ),
@@ -161,26 +161,26 @@ fn looks_at_the_top(rt: HostRuntime) {
 #[test]
 fn satisfies_by_message_and_sender(rt: HostRuntime) {
     let first = env(0, 0, 1);
-    assert!(rt; first.satisfies(&Pattern::Number(1), Some(0)));
-    assert!(rt; !first.satisfies(&Pattern::Number(2), None));
-    assert!(rt; !first.satisfies(&Pattern::Any, Some(1)));
+    assert!(rt; first.satisfies(&IntegerPattern::Number(1), Some(0)));
+    assert!(rt; !first.satisfies(&IntegerPattern::Number(2), None));
+    assert!(rt; !first.satisfies(&IntegerPattern::Any, Some(1)));
 }
 
 #[test]
 fn triggers_take_or_discard(rt: HostRuntime) {
     const CALLS: &[(QueueCall, &str, &str)] = &[
         (
-            QueueCall::Trigger(Pattern::Any, Some(1)),
+            QueueCall::Trigger(IntegerPattern::Any, Some(1)),
             "Ok(Dropped(Env { sender: 0, number: 0, msg: 1 }))",
             "(Started, (1, 1), true)",
         ),
         (
-            QueueCall::Trigger(Pattern::Number(2), Some(1)),
+            QueueCall::Trigger(IntegerPattern::Number(2), Some(1)),
             "Ok(Took(Env { sender: 1, number: 1, msg: 2 }))",
             "(Started, (0, 0), true)",
         ),
         (
-            QueueCall::Trigger(Pattern::Any, None),
+            QueueCall::Trigger(IntegerPattern::Any, None),
             "Ok(Nothing)",
             "(Started, (0, 0), true)",
         ),
@@ -196,22 +196,22 @@ fn halts_behind_what_is_queued(rt: HostRuntime) {
         (QueueCall::Halt, "Ok(Some(2))", "(Halted, (2, 2), false)"),
         (QueueCall::Arrive(2, 3), "Ok(())", "(Halted, (2, 3), false)"),
         (
-            QueueCall::Receive(Pattern::Any, None),
+            QueueCall::Receive(IntegerPattern::Any, None),
             "Ok(Some(Env { sender: 0, number: 0, msg: 1 }))",
             "(Halted, (1, 2), false)",
         ),
         (
-            QueueCall::Receive(Pattern::Any, None),
+            QueueCall::Receive(IntegerPattern::Any, None),
             "Ok(Some(Env { sender: 1, number: 1, msg: 2 }))",
             "(Halted, (0, 1), false)",
         ),
         (
-            QueueCall::Receive(Pattern::Any, None),
+            QueueCall::Receive(IntegerPattern::Any, None),
             "Ok(None)",
             "(Halted, (0, 1), false)",
         ),
         (
-            QueueCall::Trigger(Pattern::Any, None),
+            QueueCall::Trigger(IntegerPattern::Any, None),
             "Ok(Nothing)",
             "(Halted, (0, 1), false)",
         ),
@@ -231,7 +231,7 @@ fn clears_both_sides_and_stays_halted(rt: HostRuntime) {
         (QueueCall::Clear, "Ok(3)", "(Halted, (0, 0), false)"),
         (QueueCall::Arrive(3, 4), "Ok(())", "(Halted, (0, 1), false)"),
         (
-            QueueCall::Receive(Pattern::Any, None),
+            QueueCall::Receive(IntegerPattern::Any, None),
             "Ok(None)",
             "(Halted, (0, 1), false)",
         ),
