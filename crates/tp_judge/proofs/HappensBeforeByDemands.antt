@@ -12,7 +12,7 @@ use Rattle.tp_judge.specs.declared.trace.IndexedTrace.{IndexedTrace}
 use Rattle.tp_judge.specs.Lines.{is_number, key_of}
 use Rattle.tp_judge.specs.Lawful.{AreWithin}
 use Rattle.tp_judge.specs.Delivered.{Delivered}
-use Rattle.tp_judge.specs.Before.{HappensBefore, NoCircle, earlier, sent, between, section_of, sent_on, came_on}
+use Rattle.tp_judge.specs.Before.{LineHappensBefore, NoCircle, earlier, sent, between, section_of, sent_on, came_on}
 use Rattle.tp_judge.specs.Demands.{demands_of, from_each, pairs, route_demands, section_demands, where_joined}
 use Rattle.tp_judge.proofs.RouteLinesNameParcels.{names_sent}
 use Rattle.tp_judge.proofs.DemandsOfLinePairs.{each_below, each_has, in_each, in_pairs, pairs_below, pairs_have}
@@ -55,11 +55,11 @@ where_has (Some true) demands d has = (refl, has)
 where_has (Some false) demands d has = absurd (let low = has.1 in omega arith)
 where_has None demands d has = absurd (let low = has.1 in omega arith)
 
-before_by : (trace : IndexedTrace) (d e : Demand) → d ≡ e → HappensBefore trace e.before e.after → HappensBefore trace d.before d.after
-before_by trace d e is = subst (λ (f : Demand). HappensBefore trace f.before f.after) (sym is)
+before_by : (trace : IndexedTrace) (d e : Demand) → d ≡ e → LineHappensBefore trace e.before e.after → LineHappensBefore trace d.before d.after
+before_by trace d e is = subst (λ (f : Demand). LineHappensBefore trace f.before f.after) (sym is)
 
 by_section : (trace : IndexedTrace) (d : Demand) → Contains (from_each (section_demands trace) trace.components) d
-    → HappensBefore trace d.before d.after
+    → LineHappensBefore trace d.before d.after
 by_section trace d has =
     let each = in_each (section_demands trace) trace.components d has in
     let row = section_of trace each.0 in
@@ -68,7 +68,7 @@ by_section trace d has =
     (earlier each.0 pair.0 (suc pair.0) pair.1 pair.2 each.1 (omega arith) pair.3 (from_drop row pair.0 pair.2 pair.4))
 
 by_route : (trace : IndexedTrace) → Delivered trace → (d : Demand) → Contains (from_each (route_demands trace) (length trace.joined.items)) d
-    → HappensBefore trace d.before d.after
+    → LineHappensBefore trace d.before d.after
 by_route trace delivered d has =
     let each = in_each (route_demands trace) (length trace.joined.items) d has in
     let route = each.0 in
@@ -81,7 +81,7 @@ by_route trace delivered d has =
     (sent route pair.0 pair.0 pair.1 pair.2 parcel.0 parcel.0 there.0 pair.3 pair.4 parcel.1
     (ap (λ l. slice_get l pair.0) (sym lawful.same) ∙ parcel.1) refl)
 
-wanted_before : (trace : IndexedTrace) → Delivered trace → (x y : ℕ) → IsDemandedBefore (demands_of trace) x y → HappensBefore trace x y
+wanted_before : (trace : IndexedTrace) → Delivered trace → (x y : ℕ) → IsDemandedBefore (demands_of trace) x y → LineHappensBefore trace x y
 wanted_before trace delivered x y has = ⊎_elim
     (λ (h : Contains (from_each (section_demands trace) trace.components) (record { before = x; after = y })).
     by_section trace (record { before = x; after = y }) h)
@@ -92,7 +92,7 @@ wanted_before trace delivered x y has = ⊎_elim
 
 -- what the demands lead to happens behind
 pub leads_before : (trace : IndexedTrace) → Delivered trace → (further x y : ℕ) → LeadsThrough (demands_of trace) further x y
-    → HappensBefore trace x y
+    → LineHappensBefore trace x y
 leads_before trace delivered zero x y wanted = wanted_before trace delivered x y wanted
 leads_before trace delivered (suc further) x y leads =
     between x leads.0 y (wanted_before trace delivered x leads.0 leads.1) (leads_before trace delivered further leads.0 y leads.2)
@@ -133,7 +133,7 @@ leads_on demands (suc f) g x y z leads then' =
     let rest = leads_on demands f g leads.0 y z leads.2 then' in (suc rest.0, (leads.0, leads.1, rest.1))
 
 -- to what happens behind the demands lead
-pub before_leads : (trace : IndexedTrace) → Delivered trace → (x y : ℕ) → HappensBefore trace x y
+pub before_leads : (trace : IndexedTrace) → Delivered trace → (x y : ℕ) → LineHappensBefore trace x y
     → (further : ℕ) × LeadsThrough (demands_of trace) further x y
 before_leads trace delivered x y (earlier component j k a b below order at end) =
     let row = section_of trace component in

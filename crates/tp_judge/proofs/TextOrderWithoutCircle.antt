@@ -9,7 +9,7 @@ use Rattle.tp_judge.specs.declared.line.IndexedLine.{IndexedLine}
 use Rattle.tp_judge.specs.declared.line.By.TheVariants as by
 use Rattle.tp_judge.specs.declared.trace.IndexedTrace.{IndexedTrace}
 use Rattle.tp_judge.specs.Lines.{is_number, key_of}
-use Rattle.tp_judge.specs.Before.{HappensBefore, NoCircle, between, came_on, earlier, section_of, sent}
+use Rattle.tp_judge.specs.Before.{LineHappensBefore, NoCircle, between, came_on, earlier, section_of, sent}
 use Rattle.tp_judge.specs.Delivered.{Delivered}
 use Rattle.tp_judge.specs.LinesByNumber.{lines_at}
 use Rattle.tp_judge.specs.TextOrder.{AreAscending, AreSentFirst, StandBefore}
@@ -74,7 +74,7 @@ stand_all xs ys i all was k a b at end =
 
 -- what happens before another line stands before it
 happens_ahead : (trace : IndexedTrace) → Delivered trace → AreAscending trace.lines.items
-    → ((route : ℕ) → route < length trace.joined.items → AreSentFirst trace route) → (x y : ℕ) → HappensBefore trace x y → x < y
+    → ((route : ℕ) → route < length trace.joined.items → AreSentFirst trace route) → (x y : ℕ) → LineHappensBefore trace x y → x < y
 happens_ahead trace delivered ascending first x y (earlier component j k a b below order at end) =
     let row = section_of trace component in
     let pairs = AllPairs-filter (λ (a b : IndexedLine). a.number < b.number) (λ line. is_number component (key_of by.Component line))

@@ -18,19 +18,19 @@ abbrev pub came_on : IndexedTrace → ℕ → List IndexedLine
 came_on trace route = lines_with by.Came route trace.lines.items
 
 -- the one line happens before the other
-pub data HappensBefore (trace : IndexedTrace) : ℕ → ℕ → Type 0 where
+pub data LineHappensBefore (trace : IndexedTrace) : ℕ → ℕ → Type 0 where
   -- it stands before it in its section
   earlier : (component j k : ℕ) (a b : IndexedLine) → component < trace.components → j < k
       → slice_get (section_of trace component) j ≡ Some a → slice_get (section_of trace component) k ≡ Some b
-      → HappensBefore trace a.number b.number
+      → LineHappensBefore trace a.number b.number
   -- or it is a sending, of which the other is the arrival: on its route, with its number
   sent : (route j k : ℕ) (a b : IndexedLine) (p q : Parcel) → IsJoined trace route
       → slice_get (sent_on trace route) j ≡ Some a → slice_get (came_on trace route) k ≡ Some b
       → ParcelAt (sent_on trace route) j p → ParcelAt (came_on trace route) k q → p.number ≡ q.number
-      → HappensBefore trace a.number b.number
+      → LineHappensBefore trace a.number b.number
   -- or there is one between them
-  between : (x y z : ℕ) → HappensBefore trace x y → HappensBefore trace y z → HappensBefore trace x z
+  between : (x y z : ℕ) → LineHappensBefore trace x y → LineHappensBefore trace y z → LineHappensBefore trace x z
 
 -- **no circle**: no line happens before itself
 abbrev pub NoCircle : IndexedTrace → Type 0
-NoCircle trace = (n : ℕ) → HappensBefore trace n n → ⊥
+NoCircle trace = (n : ℕ) → LineHappensBefore trace n n → ⊥

@@ -4,7 +4,7 @@ use Rattle.tp_order.specs.Circle.{IsCircle}
 use Rattle.tp_judge.specs.declared.place.Rule.TheVariants as rule
 use Rattle.tp_judge.specs.declared.place.UnlawfulPlace.{UnlawfulPlace}
 use Rattle.tp_judge.specs.declared.trace.IndexedTrace.{IndexedTrace}
-use Rattle.tp_judge.specs.Before.{HappensBefore}
+use Rattle.tp_judge.specs.Before.{LineHappensBefore}
 use Rattle.tp_judge.specs.Demands.{demands_of}
 use Rattle.tp_judge.specs.OneRun.{IsLeastOf}
 
@@ -12,7 +12,7 @@ use Rattle.tp_judge.specs.OneRun.{IsLeastOf}
 -- next: as the one before it in its section, or as the sending of what came there
 pub record IsCirclePlace (trace : IndexedTrace) (place : UnlawfulPlace) : Type 0 where
   pub rule_is : place.rule ≡ rule.Circle
-  pub happens : HappensBefore trace place.line place.line
+  pub happens : LineHappensBefore trace place.line place.line
   pub circle : List ℕ
   pub is_circle : IsCircle (demands_of trace) circle
   pub first : IsLeastOf circle place.line

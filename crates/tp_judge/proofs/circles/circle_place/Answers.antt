@@ -5,7 +5,7 @@ use Rattle.std.proofs.lemmas.List.{get_or_default}
 use Rattle.tp_order.specs.declared.demand.Demand.{Demand}
 use Rattle.tp_order.specs.Circle.{IsCircle}
 use Rattle.tp_order.specs.Order.{IsBelow, IsOrder}
-use Rattle.tp_judge.specs.Before.{HappensBefore}
+use Rattle.tp_judge.specs.Before.{LineHappensBefore}
 use Rattle.tp_judge.specs.Demands.{demands_of}
 use Rattle.tp_judge.specs.OneRun.{IsLeastOf}
 use Rattle.tp_judge.proofs.HappensBeforeByDemands.{demands_below, leads_before, ordered_no_circle}
@@ -38,7 +38,7 @@ returns c =
     let same : get_or circle k 0 ≡ c.least.result = get_or_default circle k 0 c.least.result least.0.1 ∙ least.0.2 in
     record {
       rule_is = refl;
-      happens = subst (λ (n : ℕ). HappensBefore trace n n) same
+      happens = subst (λ (n : ℕ). LineHappensBefore trace n n) same
           (leads_before trace c.requires.delivered lies.0 (get_or circle k 0) (get_or circle k 0) lies.1);
       circle = circle;
       is_circle = is;
