@@ -11,7 +11,7 @@ ghost use Rattle.tp_inbox.specs.Ledgers.{AreSenders, IsDeskOf, put_by};
 use crate::channel::Channel;
 use crate::envelope::Envelope;
 use crate::owner::{Owner, take_out};
-use crate::rule::{Pass, Route, Take};
+use crate::rule::{Pass, Route, TakeOut};
 use crate::sender::Sender;
 use std::alloc::Global;
 use std::marker::Model;
@@ -108,7 +108,7 @@ pub fn gather<R: Wait>(rt: &R, owner: Owner, senders: Vec<Sender>) -> Gathered
         channel.queue.absorb::<Route>(&mut pass, other);
         sources.push_reserved(source);
     }
-    channel.queue.len_as::<Take, R>(rt, &mut pass);
+    channel.queue.len_as::<TakeOut, R>(rt, &mut pass);
     let rest = with_hand(&channel, rest, hand);
     Gathered {
         channel,

@@ -12,7 +12,7 @@ ghost use Rattle.tp_inbox.specs.Ledgers.{IsDeskOf, drained_on};
 
 use crate::channel::Channel;
 use crate::envelope::Envelope;
-use crate::rule::{InboxQueue, Pass, Take};
+use crate::rule::{InboxQueue, Pass, TakeOut};
 use indexmap::IndexMap;
 use std::alloc::Global;
 use std::marker::Model;
@@ -71,7 +71,7 @@ pub(crate) fn take_out<R: Wait>(rt: &R, queue: &InboxQueue, pass: &mut Pass) -> 
     ensures same { KeepsRoutes pass.old.me.view.client pass.new.me.view.client }
     ensures found { Fetches pass.old.me.view.client result pass.new.me.view.client }
 {
-    queue.pop_as::<Take, R>(rt, pass)
+    queue.pop_as::<TakeOut, R>(rt, pass)
 }
 
 /// The envelope in hand, or else the next of the queue, which is counted as taken out. Nothing

@@ -82,15 +82,15 @@ impl Outcome<Envelope, View> for Put {
 }
 
 /// An envelope that the owner takes out, and what it learns where it looks into the queue.
-pub(crate) struct Take;
+pub(crate) struct TakeOut;
 
-impl Outcome<Envelope, View> for Take {
+impl Outcome<Envelope, View> for TakeOut {
     ghost use Rattle.tp_inbox.specs.Rule.{Takes};
 
     ghost then = { Takes };
 }
 
-impl Lesson<Envelope, View> for Take {
+impl Lesson<Envelope, View> for TakeOut {
     ghost use Rattle.tp_inbox.specs.Rule.{Knows};
 
     ghost fact = { Knows };
