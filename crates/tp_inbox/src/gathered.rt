@@ -11,7 +11,7 @@ ghost use Rattle.tp_inbox.specs.Ledgers.{AreSenders, IsDeskOf, put_by};
 use crate::channel::Channel;
 use crate::envelope::Envelope;
 use crate::owner::{Owner, take_out};
-use crate::rule::{Pass, Route, TakeOut};
+use crate::rule::{InboxPass, Route, TakeOut};
 use crate::sender::Sender;
 use std::alloc::Global;
 use std::marker::Model;
@@ -31,7 +31,7 @@ pub type Rest = Vec<(u32, Env<Message>, u64)>;
 #[derive(Drop)]
 pub struct Gathered {
     channel: Arc<Channel, Global>,
-    pass: Pass,
+    pass: InboxPass,
     /// The components whose senders came back, in their order. What each has put the pass knows.
     sources: Vec<CompId>,
     /// What was taken out and not drained, with the ports where it arrives, and the stamps.

@@ -12,7 +12,7 @@ ghost use Rattle.tp_inbox.specs.Ledgers.{IsDeskOf, drained_on};
 
 use crate::channel::Channel;
 use crate::envelope::Envelope;
-use crate::rule::{InboxQueue, Pass, TakeOut};
+use crate::rule::{InboxQueue, InboxPass, TakeOut};
 use indexmap::IndexMap;
 use std::alloc::Global;
 use std::marker::Model;
@@ -30,7 +30,7 @@ use tp_value::message::Message;
 #[derive(Drop)]
 pub struct Owner {
     pub(crate) channel: Arc<Channel, Global>,
-    pub(crate) pass: Pass,
+    pub(crate) pass: InboxPass,
     /// An envelope that was taken out of the queue and could not be moved.
     pub(crate) hand: Option<Envelope>,
     /// How many envelopes were taken out of the queue.
@@ -63,7 +63,7 @@ impl Model for Owner {
 }
 
 /// The next envelope of the queue. Nothing where the queue was found empty.
-pub(crate) fn take_out<R: Wait>(rt: &R, queue: &InboxQueue, pass: &mut Pass) -> Option<Envelope>
+pub(crate) fn take_out<R: Wait>(rt: &R, queue: &InboxQueue, pass: &mut InboxPass) -> Option<Envelope>
     requires queue { IsSegPassOf queue.now pass.old }
     requires sound { Sound pass.old.me.view.client }
     ensures queue { IsSegPassOf queue.now pass.new }
@@ -79,7 +79,7 @@ pub(crate) fn take_out<R: Wait>(rt: &R, queue: &InboxQueue, pass: &mut Pass) -> 
 fn next_envelope<R: Wait>(
     rt: &R,
     queue: &InboxQueue,
-    pass: &mut Pass,
+    pass: &mut InboxPass,
     hand: &mut Option<Envelope>,
     taken: &mut u64,
 ) -> Option<Envelope>

@@ -100,4 +100,4 @@ impl Lesson<Envelope, View> for TakeOut {
 pub(crate) type InboxQueue = RuledSegQueue<Envelope, View, DeliveryRule>;
 
 /// What a sender or the owner reaches the queue with.
-pub(crate) type Pass = SegPass<Envelope, View>;
+pub(crate) type InboxPass = SegPass<Envelope, View>;

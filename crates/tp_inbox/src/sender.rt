@@ -12,7 +12,7 @@ ghost use Rattle.tp_inbox.specs.Routed.{route_at};
 
 use crate::channel::Channel;
 use crate::envelope::Envelope;
-use crate::rule::{Pass, Put, Takeover};
+use crate::rule::{InboxPass, Put, Takeover};
 use std::alloc::Global;
 use std::marker::Model;
 use std::sync::{Arc, Wait};
@@ -46,7 +46,7 @@ pub enum PutFault {
 #[derive(Drop)]
 pub struct Sender {
     pub(crate) channel: Arc<Channel, Global>,
-    pub(crate) pass: Pass,
+    pub(crate) pass: InboxPass,
     /// The component that sends by it.
     pub(crate) source: CompId,
     /// The places of its routes among the routes into the inbox's component, in order.
@@ -84,7 +84,7 @@ impl Sender {
     pub(crate) fn begin(
         alloc: Global,
         channel: Arc<Channel, Global>,
-        pass: Pass,
+        pass: InboxPass,
         place: usize,
     ) -> Result<Sender, Memory>
         requires queue { IsSegPassOf (arc_value channel).queue pass }
@@ -109,7 +109,7 @@ impl Sender {
 
     /// Takes over a route that it has not, from a pass that has put nothing on it. It has put
     /// nothing itself.
-    pub(crate) fn extend(&mut self, other: Pass, place: usize) -> Result<(), Memory>
+    pub(crate) fn extend(&mut self, other: InboxPass, place: usize) -> Result<(), Memory>
         requires queue { IsSegPassOf self.old.inbox.queue other }
         requires view { other.me.view.client ≡ sender_pass (place ∷ []) [] }
         requires place { place < length self.old.inbox.routes }
