@@ -3,7 +3,7 @@ ghost use Rattle.std.specs.Prelude.{◌≡◌, ◌≢◌, ◌+◌, ◌<◌, ◌�
 ghost use Rattle.tp_trace.specs.Tree.{names_of};
 ghost use Rattle.tp_referee.specs.Kept.{Keeps};
 
-use crate::words::Words;
+use crate::words::NumberedWords;
 use std::alloc::Global;
 use std::marker::Model;
 use tp_refusal::memory::Memory;
@@ -15,7 +15,7 @@ use tp_trace::tree::Trace;
 pub struct Components<'t> {
     trace: &'t Trace<'t>,
     /// The names of those that have no section.
-    others: Words<'t>,
+    others: NumberedWords<'t>,
 }
 
 impl Drop for Components<'_> {
@@ -45,7 +45,7 @@ impl<'t> Components<'t> {
     {
         Components {
             trace,
-            others: Words::new(alloc),
+            others: NumberedWords::new(alloc),
         }
     }
 

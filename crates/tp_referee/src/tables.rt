@@ -6,7 +6,7 @@ ghost use Rattle.tp_referee.specs.Turns.{KeepsNumbers, HasRoom, IsWhole, size};
 
 use crate::components::Components;
 use crate::numbers::number_of;
-use crate::words::Words;
+use crate::words::NumberedWords;
 use indexmap::IndexSet;
 use std::alloc::Global;
 use tp_event::operation::PortOperation;
@@ -38,11 +38,11 @@ pub struct Tables<'t> {
     /// The components, by their names.
     pub components: Components<'t>,
     /// The names of ports.
-    pub names: Words<'t>,
+    pub names: NumberedWords<'t>,
     pub ports: IndexSet<PortKey>,
     pub routes: IndexSet<RouteKey>,
     /// The messages, by their bytes.
-    pub messages: Words<'t>,
+    pub messages: NumberedWords<'t>,
 }
 
 impl Drop for Tables<'_> {
@@ -117,10 +117,10 @@ impl<'t> Tables<'t> {
         let routes = IndexSet::with_capacity(alloc, count)?;
         Ok(Tables {
             components: Components::new(alloc, trace),
-            names: Words::new(alloc),
+            names: NumberedWords::new(alloc),
             ports,
             routes,
-            messages: Words::new(alloc),
+            messages: NumberedWords::new(alloc),
         })
     }
 

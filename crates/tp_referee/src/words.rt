@@ -9,19 +9,19 @@ use std::marker::Model;
 use tp_refusal::memory::Memory;
 
 /// Words, no two of them equal, numbered from 0 by first occurrence. Each lies in the text.
-pub struct Words<'t> {
+pub struct NumberedWords<'t> {
     words: IndexSet<&'t [u8]>,
 }
 
-impl Drop for Words<'_> {
+impl Drop for NumberedWords<'_> {
     // Written out, so that what owns one calls this, and proves no drop of what is inside.
     fn drop(self) {
-        let Words { words } = self;
+        let NumberedWords { words } = self;
         drop(words);
     }
 }
 
-impl<'t> Model for Words<'t> {
+impl<'t> Model for NumberedWords<'t> {
     ghost use Rattle.std.specs.Prelude.{ℕ, List, map};
 
     ghost Value = { List (List ℕ) };
@@ -29,12 +29,12 @@ impl<'t> Model for Words<'t> {
     ghost view = { λ s. map (λ word. word.now) s.words.keys };
 }
 
-impl<'t> Words<'t> {
+impl<'t> NumberedWords<'t> {
     /// No words.
-    pub fn new(alloc: Global) -> Words<'t>
+    pub fn new(alloc: Global) -> NumberedWords<'t>
         ensures { result ≡ [] }
     {
-        Words {
+        NumberedWords {
             words: IndexSet::new(alloc),
         }
     }

@@ -6,7 +6,7 @@ use Rattle.std.proofs.lemmas.Result.{IfOk-weaker, on_ok_weaker}
 use Rattle.std.proofs.lemmas.Slice.Eq.{bytes_eq-Decides}
 use Rattle.tp_referee.specs.Kept.{AddsOnly, Keeps}
 use Rattle.tp_referee.proofs.KeySetGrowth.{adds_views, at_view, few_key, kept_key, kept_views}
-use Rattle.tp_referee.proofs.words.Words.number.Goals as goal
+use Rattle.tp_referee.proofs.words.NumberedWords.number.Goals as goal
 
 pub returns-clause-there : goal.returns-clause-there
 returns-clause-there c =
