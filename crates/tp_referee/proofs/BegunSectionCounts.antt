@@ -1,7 +1,7 @@
 -- How many sections have begun.
 use Rattle.std.proofs.Common.{◌≡◌, ℕ, zero, suc, ◌+◌, Bool, cond, true, false, Some, List, [], ◌∷◌, length, take, slice_get, refl, ap, ◌∙◌, arith}
 use Rattle.std.proofs.lemmas.Option.{same_Some}
-use Rattle.tp_trace.specs.Line.{Told, begins, passed, operated, otherwise, noted, ended, resulted}
+use Rattle.tp_trace.specs.Line.{Told, begins, passed, operated, otherwise, remarked, ended, resulted}
 use Rattle.tp_trace.specs.Tree.{names_of}
 use Rattle.tp_referee.specs.declared.tables.Tables.{Tables}
 use Rattle.tp_referee.specs.Kept.{Keeps}
@@ -23,14 +23,14 @@ one_more (begins name ∷ tolds) zero told at = let is = ap is_beginning (same_S
 one_more (passed fate letter ∷ tolds) zero told at = let is = ap is_beginning (same_Some (passed fate letter) told at) in rw (← is) refl
 one_more (operated o port ∷ tolds) zero told at = let is = ap is_beginning (same_Some (operated o port) told at) in rw (← is) refl
 one_more (otherwise ∷ tolds) zero told at = let is = ap is_beginning (same_Some otherwise told at) in rw (← is) refl
-one_more (noted n word ∷ tolds) zero told at = let is = ap is_beginning (same_Some (noted n word) told at) in rw (← is) refl
+one_more (remarked n word ∷ tolds) zero told at = let is = ap is_beginning (same_Some (remarked n word) told at) in rw (← is) refl
 one_more (ended words ∷ tolds) zero told at = let is = ap is_beginning (same_Some (ended words) told at) in rw (← is) refl
 one_more (resulted word ∷ tolds) zero told at = let is = ap is_beginning (same_Some (resulted word) told at) in rw (← is) refl
 one_more (begins name ∷ tolds) (suc place) told at = let rest = one_more tolds place told at in omega arith
 one_more (passed fate letter ∷ tolds) (suc place) told at = one_more tolds place told at
 one_more (operated o port ∷ tolds) (suc place) told at = one_more tolds place told at
 one_more (otherwise ∷ tolds) (suc place) told at = one_more tolds place told at
-one_more (noted n word ∷ tolds) (suc place) told at = one_more tolds place told at
+one_more (remarked n word ∷ tolds) (suc place) told at = one_more tolds place told at
 one_more (ended words ∷ tolds) (suc place) told at = one_more tolds place told at
 one_more (resulted word ∷ tolds) (suc place) told at = one_more tolds place told at
 
@@ -46,14 +46,14 @@ there (begins other ∷ tolds) zero name at = let is : begins other ≡ begins n
 there (passed fate letter ∷ tolds) zero name at = let is : passed fate letter ≡ begins name = same_Some (passed fate letter) (begins name) at in absurd (cc)
 there (operated o port ∷ tolds) zero name at = let is : operated o port ≡ begins name = same_Some (operated o port) (begins name) at in absurd (cc)
 there (otherwise ∷ tolds) zero name at = let is : otherwise ≡ begins name = same_Some otherwise (begins name) at in absurd (cc)
-there (noted n word ∷ tolds) zero name at = let is : noted n word ≡ begins name = same_Some (noted n word) (begins name) at in absurd (cc)
+there (remarked n word ∷ tolds) zero name at = let is : remarked n word ≡ begins name = same_Some (remarked n word) (begins name) at in absurd (cc)
 there (ended words ∷ tolds) zero name at = let is : ended words ≡ begins name = same_Some (ended words) (begins name) at in absurd (cc)
 there (resulted word ∷ tolds) zero name at = let is : resulted word ≡ begins name = same_Some (resulted word) (begins name) at in absurd (cc)
 there (begins other ∷ tolds) (suc place) name at = there tolds place name at
 there (passed fate letter ∷ tolds) (suc place) name at = there tolds place name at
 there (operated o port ∷ tolds) (suc place) name at = there tolds place name at
 there (otherwise ∷ tolds) (suc place) name at = there tolds place name at
-there (noted n word ∷ tolds) (suc place) name at = there tolds place name at
+there (remarked n word ∷ tolds) (suc place) name at = there tolds place name at
 there (ended words ∷ tolds) (suc place) name at = there tolds place name at
 there (resulted word ∷ tolds) (suc place) name at = there tolds place name at
 
@@ -64,7 +64,7 @@ begun_there t tolds place begun (begins name) at is kept =
 begun_there t tolds place begun (passed fate letter) at is kept = tt
 begun_there t tolds place begun (operated o port) at is kept = tt
 begun_there t tolds place begun otherwise at is kept = tt
-begun_there t tolds place begun (noted n word) at is kept = tt
+begun_there t tolds place begun (remarked n word) at is kept = tt
 begun_there t tolds place begun (ended words) at is kept = tt
 begun_there t tolds place begun (resulted word) at is kept = tt
 

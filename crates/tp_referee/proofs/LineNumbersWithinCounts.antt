@@ -9,7 +9,7 @@ use Rattle.tp_event.specs.declared.operation.PortOperation.{PortOperation}
 use Rattle.tp_event.specs.declared.operation.PortOperation.TheVariants as operation
 use Rattle.tp_trace.specs.declared.line.MessageVerb.{MessageVerb}
 use Rattle.tp_trace.specs.declared.line.MessageVerb.TheVariants as fate
-use Rattle.tp_trace.specs.Line.{Told, begins, passed, operated, otherwise, noted, ended, resulted}
+use Rattle.tp_trace.specs.Line.{Told, begins, passed, operated, otherwise, remarked, ended, resulted}
 use Rattle.tp_judge.specs.declared.line.Mention.{Mention}
 use Rattle.tp_judge.specs.declared.line.Act.{Act}
 use Rattle.tp_judge.specs.declared.line.Act.TheVariants as act
@@ -40,7 +40,7 @@ module _ (key : Act → Option ℕ) (n : ℕ) (t : Tables) (here : ℕ)
       (slice_get_within t.routes.keys h.mention.route _ h.mentioned.route))
   act_below (operated o name) a h = subst (Below key n) (sym h.is) (operating o h.port (slice_get_within t.ports.keys h.port _ h.there.there))
   act_below otherwise a h = subst (Below key n) (sym h) otherwise_not
-  act_below (noted note word) a h = subst (Below key n) (sym h) other_not
+  act_below (remarked remark word) a h = subst (Below key n) (sym h) other_not
   act_below (ended words) a h = subst (Below key n) (sym h) end_not
   act_below (resulted word) a h = subst (Below key n) (sym h) other_not
 
@@ -117,7 +117,7 @@ numbers_below name n m (operated o port ∷ tolds) h =
     All-cons (λ (s : Stand). s.number < m) _ _ (omega arith) (numbers_below name (n + 1) m tolds (omega arith))
 numbers_below name n m (otherwise ∷ tolds) h =
     All-cons (λ (s : Stand). s.number < m) _ _ (omega arith) (numbers_below name (n + 1) m tolds (omega arith))
-numbers_below name n m (noted note word ∷ tolds) h =
+numbers_below name n m (remarked remark word ∷ tolds) h =
     All-cons (λ (s : Stand). s.number < m) _ _ (omega arith) (numbers_below name (n + 1) m tolds (omega arith))
 numbers_below name n m (ended words ∷ tolds) h =
     All-cons (λ (s : Stand). s.number < m) _ _ (omega arith) (numbers_below name (n + 1) m tolds (omega arith))

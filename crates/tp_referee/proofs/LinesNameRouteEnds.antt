@@ -6,7 +6,7 @@ use Rattle.tp_event.specs.declared.operation.PortOperation.{PortOperation}
 use Rattle.tp_event.specs.declared.operation.PortOperation.TheVariants as operation
 use Rattle.tp_trace.specs.declared.line.MessageVerb.{MessageVerb}
 use Rattle.tp_trace.specs.declared.line.MessageVerb.TheVariants as fate
-use Rattle.tp_trace.specs.Line.{Letter, Told, begins, passed, operated, otherwise, noted, ended, resulted}
+use Rattle.tp_trace.specs.Line.{Letter, Told, begins, passed, operated, otherwise, remarked, ended, resulted}
 use Rattle.tp_judge.specs.declared.line.Mention.{Mention}
 use Rattle.tp_judge.specs.declared.line.Act.{Act}
 use Rattle.tp_judge.specs.declared.trace.IndexedTrace.{IndexedTrace}
@@ -55,7 +55,7 @@ module _ (tolds : List Told) (trace : IndexedTrace) (h : IsNumberingOf tolds tra
   act_routed c (passed f letter) a is = subst (Routed c) (sym is.is) (passing c is.other f letter is.mention is.mentioned)
   act_routed c (operated o name) a is = subst (Routed c) (sym is.is) (operating c o is.port)
   act_routed c otherwise a is = subst (Routed c) (sym is) tt
-  act_routed c (noted note word) a is = subst (Routed c) (sym is) tt
+  act_routed c (remarked remark word) a is = subst (Routed c) (sym is) tt
   act_routed c (ended words) a is = subst (Routed c) (sym is) tt
   act_routed c (resulted word) a is = subst (Routed c) (sym is) tt
 

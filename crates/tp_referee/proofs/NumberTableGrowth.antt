@@ -5,7 +5,7 @@ use Rattle.std.proofs.lemmas.Option.{slice_get_within, slice_get-get_or}
 use Rattle.indexmap.specs.IndexSet.{insert_key}
 use Rattle.tp_trace.specs.declared.line.MessageVerb.{MessageVerb}
 use Rattle.tp_trace.specs.declared.line.MessageVerb.TheVariants as fate
-use Rattle.tp_trace.specs.Line.{Letter, Told, begins, passed, operated, otherwise, noted, ended, resulted}
+use Rattle.tp_trace.specs.Line.{Letter, Told, begins, passed, operated, otherwise, remarked, ended, resulted}
 use Rattle.tp_judge.specs.declared.line.Mention.{Mention}
 use Rattle.tp_judge.specs.declared.line.Act.{Act}
 use Rattle.tp_judge.specs.declared.line.IndexedLine.{IndexedLine}
@@ -89,7 +89,7 @@ module _ (n : ℕ) (old new : Tables) (g : KeepsNumbers n old new) where
   act_grows here (passed fate letter) a h = passed_grows here fate letter a h
   act_grows here (operated operation name) a h = record { port = h.port; is = h.is; there = port_grows _ _ _ h.there }
   act_grows here otherwise a h = h
-  act_grows here (noted note word) a h = h
+  act_grows here (remarked remark word) a h = h
   act_grows here (ended words) a h = h
   act_grows here (resulted word) a h = h
 

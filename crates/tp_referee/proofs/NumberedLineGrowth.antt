@@ -4,7 +4,7 @@ use Rattle.std.specs.List.{AllZip}
 use Rattle.std.proofs.lemmas.List.Sums.{fold_push}
 use Rattle.std.proofs.lemmas.Option.{slice_get_within}
 use Rattle.tp_trace.specs.declared.form.TracePosition.TheVariants as stand
-use Rattle.tp_trace.specs.Line.{Told, begins, passed, operated, otherwise, noted, ended, resulted}
+use Rattle.tp_trace.specs.Line.{Told, begins, passed, operated, otherwise, remarked, ended, resulted}
 use Rattle.tp_trace.specs.Tree.{IsTrace, may_stand, names_of, place_behind, place_after}
 use Rattle.tp_judge.specs.declared.line.IndexedLine.{IndexedLine}
 use Rattle.tp_referee.specs.declared.tables.Tables.{Tables}
@@ -29,7 +29,7 @@ not_in_front (begins name) m h = h
 not_in_front (passed fate letter) m h = absurd (cc)
 not_in_front (operated o port) m h = absurd (cc)
 not_in_front otherwise m h = absurd (cc)
-not_in_front (noted n word) m h = absurd (cc)
+not_in_front (remarked n word) m h = absurd (cc)
 not_in_front (ended words) m h = absurd (cc)
 not_in_front (resulted word) m h = h
 
@@ -39,7 +39,7 @@ names_few (begins name ∷ tolds) = let few = names_few tolds in omega arith
 names_few (passed fate letter ∷ tolds) = let few = names_few tolds in omega arith
 names_few (operated o port ∷ tolds) = let few = names_few tolds in omega arith
 names_few (otherwise ∷ tolds) = let few = names_few tolds in omega arith
-names_few (noted n word ∷ tolds) = let few = names_few tolds in omega arith
+names_few (remarked n word ∷ tolds) = let few = names_few tolds in omega arith
 names_few (ended words ∷ tolds) = let few = names_few tolds in omega arith
 names_few (resulted word ∷ tolds) = let few = names_few tolds in omega arith
 
@@ -122,7 +122,7 @@ module _ (tolds : List Told) (place : ℕ) (old new : Tables) (here after : ℕ)
   Numbered-more (passed fate letter) at turn = stood (passed fate letter) at tt refl turn
   Numbered-more (operated o port) at turn = stood (operated o port) at tt refl turn
   Numbered-more otherwise at turn = stood otherwise at tt refl turn
-  Numbered-more (noted n word) at turn = stood (noted n word) at tt refl turn
+  Numbered-more (remarked n word) at turn = stood (remarked n word) at tt refl turn
   Numbered-more (ended words) at turn = stood (ended words) at tt refl turn
 
 drop_past : {X : Type 0} (xs : List X) (k : ℕ) → length xs ≤ k → drop k xs ≡ []

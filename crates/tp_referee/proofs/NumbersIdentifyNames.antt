@@ -7,7 +7,7 @@ use Rattle.tp_event.specs.declared.operation.PortOperation.{PortOperation}
 use Rattle.tp_event.specs.declared.operation.PortOperation.TheVariants as operation
 use Rattle.tp_trace.specs.declared.line.MessageVerb.{MessageVerb}
 use Rattle.tp_trace.specs.declared.line.MessageVerb.TheVariants as fate
-use Rattle.tp_trace.specs.Line.{Letter, Told, begins, passed, operated, otherwise, noted, ended, resulted}
+use Rattle.tp_trace.specs.Line.{Letter, Told, begins, passed, operated, otherwise, remarked, ended, resulted}
 use Rattle.tp_judge.specs.declared.line.Act.{Act}
 use Rattle.tp_judge.specs.declared.line.Mention.{Mention}
 use Rattle.tp_judge.specs.declared.line.IndexedLine.{IndexedLine}
@@ -162,7 +162,7 @@ module _ (t : Tables) (d : AreTablesDistinct t) where
       subst (Says here (passed f letter)) (sym is.is) (says_message c is.other here f letter is.mention h is.partner is.mentioned)
   says_act c here (operated o name) a h is = subst (Says here (operated o name)) (sym is.is) (says_operation c is.port here name o h is.there)
   says_act c here otherwise a h is = subst (Says here otherwise) (sym is) (record { ports = tt; routes = tt; texts = tt })
-  says_act c here (noted n word) a h is = subst (Says here (noted n word)) (sym is) (record { ports = tt; routes = tt; texts = tt })
+  says_act c here (remarked n word) a h is = subst (Says here (remarked n word)) (sym is) (record { ports = tt; routes = tt; texts = tt })
   says_act c here (ended words) a h is = subst (Says here (ended words)) (sym is) (record { ports = tt; routes = tt; texts = tt })
   says_act c here (resulted word) a h is = subst (Says here (resulted word)) (sym is) (record { ports = tt; routes = tt; texts = tt })
 

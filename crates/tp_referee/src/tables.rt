@@ -287,7 +287,7 @@ impl<'t> Tables<'t> {
             Line::Operation(operation, name) => self.operated(here, *operation, name),
             Line::Else => Ok(Act::Else),
             Line::End(_) => Ok(Act::End),
-            Line::Component(_) | Line::Note(_, _) | Line::Result(_) => Ok(Act::Other),
+            Line::Component(_) | Line::Remark(_, _) | Line::Result(_) => Ok(Act::Other),
         }
     }
 }

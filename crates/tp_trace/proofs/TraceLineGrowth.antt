@@ -9,7 +9,7 @@ use Rattle.std.proofs.Math.Seq.{take-append_seam}
 use Rattle.tp_trace.specs.declared.form.TracePosition.{TracePosition}
 use Rattle.tp_trace.specs.declared.form.TracePosition.TheVariants as stand
 use Rattle.tp_text.specs.Cutting.{lines_of}
-use Rattle.tp_trace.specs.Line.{Told, begins, passed, operated, otherwise, noted, ended, resulted, Spells, Says}
+use Rattle.tp_trace.specs.Line.{Told, begins, passed, operated, otherwise, remarked, ended, resulted, Spells, Says}
 use Rattle.tp_trace.specs.Tree.{HoldsTrace, IsFirstBad, IsTrace, IsTraceOf, MayStand, MayStandAt, TellsSomething, names_of, place_behind, place_after, told_in}
 use Rattle.tp_trace.specs.Faults.{TakesPlace}
 use Rattle.tp_trace.proofs.UniqueLineMeanings.{told_read}
@@ -40,7 +40,7 @@ names_of-append (begins name ∷ a) b = ap (λ l. name ∷ l) (names_of-append a
 names_of-append (passed f letter ∷ a) b = names_of-append a b
 names_of-append (operated o port ∷ a) b = names_of-append a b
 names_of-append (otherwise ∷ a) b = names_of-append a b
-names_of-append (noted n word ∷ a) b = names_of-append a b
+names_of-append (remarked n word ∷ a) b = names_of-append a b
 names_of-append (ended words ∷ a) b = names_of-append a b
 names_of-append (resulted word ∷ a) b = names_of-append a b
 

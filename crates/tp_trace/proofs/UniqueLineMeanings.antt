@@ -9,11 +9,11 @@ use Rattle.std.proofs.lemmas.Bool.Decides.{nat_tests}
 use Rattle.tp_event.specs.declared.operation.PortOperation.TheVariants as operation
 use Rattle.tp_trace.specs.declared.line.MessageVerb.{MessageVerb}
 use Rattle.tp_trace.specs.declared.line.MessageVerb.TheVariants as fate
-use Rattle.tp_trace.specs.declared.line.Note.TheVariants as note
+use Rattle.tp_trace.specs.declared.line.Remark.TheVariants as remark
 use Rattle.tp_trace.specs.declared.line.Verb.{Verb}
 use Rattle.tp_trace.specs.declared.line.Verb.TheVariants as verb
 use Rattle.tp_text.specs.Cutting.{after_space, is_space, lacks}
-use Rattle.tp_trace.specs.Line.{Letter, Told, begins, passed, operated, otherwise, noted, ended, resulted, IsLetter, IsTold, Spells, contents, letter_text, operands, verb_of, verb_text}
+use Rattle.tp_trace.specs.Line.{Letter, Told, begins, passed, operated, otherwise, remarked, ended, resulted, IsLetter, IsTold, Spells, contents, letter_text, operands, verb_of, verb_text}
 use Rattle.tp_trace.specs.Tree.{before_dot, after_dot, verbs, first_spelled, letter_in, told_by, told_in}
 use Rattle.tp_text.proofs.FirstWordOfLine.{before_first-cons}
 use Rattle.tp_trace.proofs.UniqueByteCuts.{after_first-cons, both_true, lacks_none, lacks-decimal, lacks-graphic, lacks-port, undotted}
@@ -33,9 +33,9 @@ lacks-verb (verb.Operation operation.Stop) = refl
 lacks-verb (verb.Operation operation.Halt) = refl
 lacks-verb (verb.Operation operation.Clear) = refl
 lacks-verb verb.Else = refl
-lacks-verb (verb.Note note.Set) = refl
-lacks-verb (verb.Note note.Failed) = refl
-lacks-verb (verb.Note note.Verdict) = refl
+lacks-verb (verb.Remark remark.Set) = refl
+lacks-verb (verb.Remark remark.Failed) = refl
+lacks-verb (verb.Remark remark.Verdict) = refl
 lacks-verb verb.End = refl
 lacks-verb verb.Result = refl
 
@@ -52,9 +52,9 @@ found (verb.Operation operation.Stop) = refl
 found (verb.Operation operation.Halt) = refl
 found (verb.Operation operation.Clear) = refl
 found verb.Else = refl
-found (verb.Note note.Set) = refl
-found (verb.Note note.Failed) = refl
-found (verb.Note note.Verdict) = refl
+found (verb.Remark remark.Set) = refl
+found (verb.Remark remark.Failed) = refl
+found (verb.Remark remark.Verdict) = refl
 found verb.End = refl
 found verb.Result = refl
 
@@ -161,7 +161,7 @@ by_verb (begins name) is = refl
 by_verb (passed f letter) is = ap (passed f) (letter_read f letter is)
 by_verb (operated o port) is = refl
 by_verb otherwise is = refl
-by_verb (noted n word) is = refl
+by_verb (remarked n word) is = refl
 by_verb (ended words) is = refl
 by_verb (resulted word) is = refl
 

@@ -10,8 +10,8 @@ use Rattle.tp_event.specs.declared.operation.PortOperation.{PortOperation}
 use Rattle.tp_event.specs.declared.operation.PortOperation.TheVariants as operation
 use Rattle.tp_trace.specs.declared.line.MessageVerb.{MessageVerb}
 use Rattle.tp_trace.specs.declared.line.MessageVerb.TheVariants as fate
-use Rattle.tp_trace.specs.declared.line.Note.{Note}
-use Rattle.tp_trace.specs.declared.line.Note.TheVariants as note
+use Rattle.tp_trace.specs.declared.line.Remark.{Remark}
+use Rattle.tp_trace.specs.declared.line.Remark.TheVariants as remark
 use Rattle.tp_trace.specs.declared.line.Verb.{Verb}
 use Rattle.tp_trace.specs.declared.line.Verb.TheVariants as verb
 
@@ -28,7 +28,7 @@ pub data Told : Type 0 where
   passed : MessageVerb → Letter → Told
   operated : PortOperation → List ℕ → Told
   otherwise : Told
-  noted : Note → List ℕ → Told
+  remarked : Remark → List ℕ → Told
   ended : List ℕ → Told
   resulted : List ℕ → Told
 
@@ -63,10 +63,10 @@ pub record IsLetter (letter : Letter) : Type 0 where
   pub number : letter.number < 2 ^ 63
   pub text : 0 < length letter.text
 
-abbrev pub IsNote : Note → List ℕ → Type 0
-IsNote note.Set word = IsVerdictWord word
-IsNote note.Failed word = IsTraceNumber word
-IsNote note.Verdict word = IsVerdictWord word
+abbrev pub IsRemark : Remark → List ℕ → Type 0
+IsRemark remark.Set word = IsVerdictWord word
+IsRemark remark.Failed word = IsTraceNumber word
+IsRemark remark.Verdict word = IsVerdictWord word
 
 -- what is told can be told: each name, number and verdict is one
 abbrev pub IsTold : Told → Type 0
@@ -74,7 +74,7 @@ IsTold (begins name) = IsComponentName name
 IsTold (passed fate letter) = IsLetter letter
 IsTold (operated operation port) = IsPortName port
 IsTold otherwise = Unit {0}
-IsTold (noted note word) = IsNote note word
+IsTold (remarked remark word) = IsRemark remark word
 IsTold (ended words) = 0 < length words
 IsTold (resulted word) = IsVerdictWord word
 
@@ -92,10 +92,10 @@ operation_text operation.Stop = codes "stopped"
 operation_text operation.Halt = codes "halted"
 operation_text operation.Clear = codes "cleared"
 
-abbrev pub note_text : Note → List ℕ
-note_text note.Set = codes "set"
-note_text note.Failed = codes "failed"
-note_text note.Verdict = codes "verdict"
+abbrev pub remark_text : Remark → List ℕ
+remark_text remark.Set = codes "set"
+remark_text remark.Failed = codes "failed"
+remark_text remark.Verdict = codes "verdict"
 
 -- the first word of a line
 abbrev pub verb_text : Verb → List ℕ
@@ -103,7 +103,7 @@ verb_text verb.Component = codes "component"
 verb_text (verb.Message fate) = fate_text fate
 verb_text (verb.Operation operation) = operation_text operation
 verb_text verb.Else = codes "else"
-verb_text (verb.Note note) = note_text note
+verb_text (verb.Remark remark) = remark_text remark
 verb_text verb.End = codes "end"
 verb_text verb.Result = codes "result"
 
@@ -112,7 +112,7 @@ verb_of (begins name) = verb.Component
 verb_of (passed fate letter) = verb.Message fate
 verb_of (operated operation port) = verb.Operation operation
 verb_of otherwise = verb.Else
-verb_of (noted note word) = verb.Note note
+verb_of (remarked remark word) = verb.Remark remark
 verb_of (ended words) = verb.End
 verb_of (resulted word) = verb.Result
 
@@ -132,7 +132,7 @@ operands (begins name) = Some name
 operands (passed fate letter) = Some (letter_text fate letter)
 operands (operated operation port) = Some port
 operands otherwise = None
-operands (noted note word) = Some word
+operands (remarked remark word) = Some word
 operands (ended words) = Some words
 operands (resulted word) = Some word
 

@@ -7,7 +7,7 @@ use Rattle.tp_text.specs.Cutting.{is_space, lacks, lines_of}
 use Rattle.tp_event.specs.declared.operation.PortOperation.TheVariants as operation
 use Rattle.tp_trace.specs.declared.line.MessageVerb.{MessageVerb}
 use Rattle.tp_trace.specs.declared.line.MessageVerb.TheVariants as fate
-use Rattle.tp_trace.specs.declared.line.Note.TheVariants as note
+use Rattle.tp_trace.specs.declared.line.Remark.TheVariants as remark
 use Rattle.tp_trace.specs.declared.line.Verb.{Verb}
 use Rattle.tp_trace.specs.declared.line.Verb.TheVariants as verb
 use Rattle.tp_trace.specs.declared.form.TracePosition.{TracePosition}
@@ -15,7 +15,7 @@ use Rattle.tp_trace.specs.declared.form.TracePosition.TheVariants as place
 use Rattle.tp_trace.specs.declared.line.MessageWords.{MessageWords}
 use Rattle.tp_trace.specs.declared.line.Line.{Line}
 use Rattle.tp_trace.specs.declared.line.Line.TheVariants as line
-use Rattle.tp_trace.specs.Line.{Letter, Told, begins, passed, operated, otherwise, noted, ended, resulted, Spells, Says, verb_text}
+use Rattle.tp_trace.specs.Line.{Letter, Told, begins, passed, operated, otherwise, remarked, ended, resulted, Spells, Says, verb_text}
 
 abbrev pub letter_of : MessageWords → Letter
 letter_of m = record { component = m.component.now; port = m.port.now; number = m.number; text = m.text.now }
@@ -26,7 +26,7 @@ told_of (line.Component name) = begins name.now
 told_of (line.Message fate m) = passed fate (letter_of m)
 told_of (line.Operation operation port) = operated operation port.now
 told_of line.Else = otherwise
-told_of (line.Note note word) = noted note word.now
+told_of (line.Remark remark word) = remarked remark word.now
 told_of (line.End words) = ended words.now
 told_of (line.Result word) = resulted word.now
 
@@ -49,7 +49,7 @@ verbs =
     ∷ verb.Operation operation.Start ∷ verb.Operation operation.Stop
     ∷ verb.Operation operation.Halt ∷ verb.Operation operation.Clear
     ∷ verb.Else
-    ∷ verb.Note note.Set ∷ verb.Note note.Failed ∷ verb.Note note.Verdict
+    ∷ verb.Remark remark.Set ∷ verb.Remark remark.Failed ∷ verb.Remark remark.Verdict
     ∷ verb.End ∷ verb.Result ∷ []
 
 abbrev pub first_spelled : List ℕ → List Verb → Option Verb
@@ -82,7 +82,7 @@ abbrev pub told_by : Option Verb → List ℕ → Told
 told_by (Some verb.Component) rest = begins rest
 told_by (Some (verb.Message fate)) rest = passed fate (letter_in fate rest)
 told_by (Some (verb.Operation operation)) rest = operated operation rest
-told_by (Some (verb.Note note)) rest = noted note rest
+told_by (Some (verb.Remark remark)) rest = remarked remark rest
 told_by (Some verb.End) rest = ended rest
 told_by (Some verb.Result) rest = resulted rest
 told_by _ rest = otherwise

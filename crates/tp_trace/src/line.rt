@@ -21,7 +21,7 @@ pub enum MessageVerb {
 
 /// The first word of a line of a report on which no rule of ports bears.
 #[derive(Clone, Copy)]
-pub enum Note {
+pub enum Remark {
     /// `set VERDICT`
     Set,
     /// `failed CODE`
@@ -56,7 +56,7 @@ pub enum Line<'t> {
     /// `else`: a look at the ports that found nothing.
     Else,
     /// `set VERDICT`, `failed CODE`, `verdict VERDICT`.
-    Note(Note, &'t [u8]),
+    Remark(Remark, &'t [u8]),
     /// `end ..`: how the component ended, in whatever words.
     End(&'t [u8]),
     /// `result VERDICT`, the last line of all: it belongs to no section.
@@ -75,7 +75,7 @@ pub enum Verb {
     /// `else`
     Else,
     /// `set`, `failed`, `verdict`
-    Note(Note),
+    Remark(Remark),
     /// `end`
     End,
     /// `result`

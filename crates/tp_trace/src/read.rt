@@ -6,11 +6,11 @@ ghost use Rattle.std.specs.Fmt.{decimal};
 ghost use Rattle.std.specs.Option.{option_copied};
 ghost use Rattle.tp_text.specs.Cutting.{lacks};
 ghost use Rattle.tp_trace.specs.declared.line.MessageVerb.TheVariants as fate;
-ghost use Rattle.tp_trace.specs.Line.{IsLetter, IsNote, IsTraceNumber, IsPortName, IsTold, IsVerdictWord, IsComponentName, Spells, Told, fate_text, is_port_byte, letter_text, note_text, operands, operation_text, verb_of, verb_text};
+ghost use Rattle.tp_trace.specs.Line.{IsLetter, IsRemark, IsTraceNumber, IsPortName, IsTold, IsVerdictWord, IsComponentName, Spells, Told, fate_text, is_port_byte, letter_text, remark_text, operands, operation_text, verb_of, verb_text};
 ghost use Rattle.tp_trace.specs.Read.{IsContents, IsRead, contents_text};
 ghost use Rattle.tp_trace.specs.Tree.{letter_of, told_of};
 
-use crate::line::{Line, MessageVerb, MessageWords, Note, Verb};
+use crate::line::{Line, MessageVerb, MessageWords, Remark, Verb};
 use itoa::Buffer;
 use tp_event::operation::PortOperation;
 use tp_text::cut::{first_word, utf8_text};
@@ -50,16 +50,16 @@ fn operation_of(word: &[u8]) -> Option<PortOperation>
     }
 }
 
-/// The note that a word begins.
-fn note_of(word: &[u8]) -> Option<Note>
+/// The remark that a word begins.
+fn remark_of(word: &[u8]) -> Option<Remark>
     ensures { MatchOption result
-        ((note : _) → word.now ≡ note_text note → ⊥)
-        (λ note. word.now ≡ note_text note) }
+        ((remark : _) → word.now ≡ remark_text remark → ⊥)
+        (λ remark. word.now ≡ remark_text remark) }
 {
     match word {
-        b"set" => Some(Note::Set),
-        b"failed" => Some(Note::Failed),
-        b"verdict" => Some(Note::Verdict),
+        b"set" => Some(Remark::Set),
+        b"failed" => Some(Remark::Failed),
+        b"verdict" => Some(Remark::Verdict),
         _ => None,
     }
 }
@@ -76,8 +76,8 @@ fn verb_of(word: &[u8]) -> Option<Verb>
     if let Some(operation) = operation_of(word) {
         return Some(Verb::Operation(operation));
     }
-    if let Some(note) = note_of(word) {
-        return Some(Verb::Note(note));
+    if let Some(remark) = remark_of(word) {
+        return Some(Verb::Remark(remark));
     }
     match word {
         b"component" => Some(Verb::Component),
@@ -154,13 +154,13 @@ fn number_of(word: &[u8]) -> Option<u64>
     }
 }
 
-/// Whether the bytes are what stands behind this note.
-fn is_note(note: Note, word: &[u8]) -> bool
-    ensures { MatchBool result (IsNote note word.now) (¬ IsNote note word.now) }
+/// Whether the bytes are what stands behind this remark.
+fn is_remark(remark: Remark, word: &[u8]) -> bool
+    ensures { MatchBool result (IsRemark remark word.now) (¬ IsRemark remark word.now) }
 {
-    match note {
-        Note::Set | Note::Verdict => is_verdict(word),
-        Note::Failed => number_of(word).is_some(),
+    match remark {
+        Remark::Set | Remark::Verdict => is_verdict(word),
+        Remark::Failed => number_of(word).is_some(),
     }
 }
 
@@ -271,7 +271,7 @@ fn line_behind(verb: Verb, rest: &[u8]) -> Option<Line<'_>>
         }
         Verb::Component => line_where(is_word(rest), Line::Component(rest)),
         Verb::Operation(operation) => line_where(is_port(rest), Line::Operation(operation, rest)),
-        Verb::Note(note) => line_where(is_note(note, rest), Line::Note(note, rest)),
+        Verb::Remark(remark) => line_where(is_remark(remark, rest), Line::Remark(remark, rest)),
         Verb::End => line_where(!rest.is_empty(), Line::End(rest)),
         Verb::Result => line_where(is_verdict(rest), Line::Result(rest)),
         Verb::Else => None,
