@@ -54,7 +54,7 @@ impl Counts {
     }
 
     /// One behaviour rests from now on. False where no other is awake: then it does not rest.
-    fn rest(&mut self) -> bool
+    fn begin_rest(&mut self) -> bool
         ensures living { self.new.living ≡ self.old.living }
         ensures rests { result ≡ true ↔ self.old.resting + 1 < self.old.living }
         ensures resting { self.new.resting
@@ -210,14 +210,14 @@ impl FloorPlace {
     }
 
     /// The behaviour rests from now on. False where no other living one is awake: then it does not.
-    pub(crate) fn rest<R: Wait, S: RaceHook>(&mut self, rt: &R, hook: &mut S) -> bool
+    pub(crate) fn begin_rest<R: Wait, S: RaceHook>(&mut self, rt: &R, hook: &mut S) -> bool
         requires { cell_view self.old.pass ≡ 0 }
         ensures { cell_view self.new.pass ≡ (if result then 1 else 0) }
     {
         for _ in rt.forever() {
             let seen = self.floor.look(rt, &mut self.pass);
             let mut rested = seen;
-            if !rested.rest() {
+            if !rested.begin_rest() {
                 return false;
             }
             hook.between();

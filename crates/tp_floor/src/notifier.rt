@@ -132,14 +132,14 @@ impl Notifier {
     /// The owner, which has taken so many out, rests from now on, unless no other living behaviour
     /// is awake: then it is told so. Where it rests already, it is not counted a second time. There
     /// is nothing for it: no more were announced than it has taken out, and the inbox is open.
-    pub fn rest<R: Wait, S: RaceHook>(&mut self, rt: &R, hook: &mut S, taken: u64) -> Option<Woken>
+    pub fn begin_rest<R: Wait, S: RaceHook>(&mut self, rt: &R, hook: &mut S, taken: u64) -> Option<Woken>
         requires { (self.old.announced ≤ taken) × (self.old.closed ≡ false) }
         ensures announced { self.new.announced ≡ self.old.announced }
         ensures closed { self.new.closed ≡ self.old.closed }
         ensures told { result ≡ (if is_some self.new.awaits then None else Some Woken.Last) }
         ensures awaits { IfSome self.new.awaits (λ most. most ≡ taken) }
     {
-        if self.awaits.is_none() && !self.place.rest(rt, hook) {
+        if self.awaits.is_none() && !self.place.begin_rest(rt, hook) {
             return Some(Woken::Last);
         }
         self.awaits = Some(taken);

@@ -92,7 +92,7 @@ impl Channel {
         if let Some(found) = notifier.look(taken) {
             return found;
         }
-        if let Some(last) = notifier.rest(rt, &mut NoHook, taken) {
+        if let Some(last) = notifier.begin_rest(rt, &mut NoHook, taken) {
             return last;
         }
         let notifier = self
