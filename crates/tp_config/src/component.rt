@@ -147,7 +147,7 @@ fn put_beside(components: &mut Vec<Component>, p: PortRef, beside: Items<PortRef
         ≡ with_links (map links_of components.old.items) p beside }
 {
     let component = &mut components[p.comp.0 as usize];
-    component.links.put(p.port, beside);
+    component.links.set_partners(p.port, beside);
 }
 
 /// A list with one more port at its end.

@@ -48,7 +48,7 @@ impl Links {
     }
 
     /// Puts another list beside the port of this number.
-    pub(crate) fn put(&mut self, port: u32, beside: Items<PortRef>)
+    pub(crate) fn set_partners(&mut self, port: u32, beside: Items<PortRef>)
         requires { port < length self.old }
         ensures { self.new ≡ slice_set self.old port beside }
     {

@@ -11,4 +11,4 @@ returns-clause-members c =
 
 pub returns-clause-links : goal.returns-clause-links
 returns-clause-links c =
-    links_put c.args.components.now.items c.args.p c.args.beside c.index_mut-component.result.now _ c.requires c.index_mut-component.ensures.value c.put.ensures
+    links_put c.args.components.now.items c.args.p c.args.beside c.index_mut-component.result.now _ c.requires c.index_mut-component.ensures.value c.set_partners.ensures
