@@ -337,7 +337,7 @@ impl Desk {
     }
 
     /// How many entries the history has.
-    pub fn entries(&self) -> u64
+    pub fn entry_count(&self) -> u64
         ensures { result ≡ length self.now.log }
     {
         self.log.len() as u64

@@ -171,7 +171,7 @@ impl Owner {
         let (place, number) = (envelope.place, envelope.number);
         deliver(&self.channel, &mut self.hand, desk, envelope)?;
         // The history holds this arrival, so that its number is below its length.
-        let _held = desk.entries();
+        let _held = desk.entry_count();
         self.counts[place] = number + 1;
         Ok(true)
     }
@@ -192,10 +192,10 @@ impl Owner {
         ensures arrivals { arrivals desk.new.log ≡ self.new.drained }
         ensures drained { AreArrivals self.new.inbox.routes self.new.drained }
     {
-        let had = desk.entries();
+        let had = desk.entry_count();
         for _ in rt.forever() {
             if !self.move_next(rt, desk)? {
-                return Ok(desk.entries() - had);
+                return Ok(desk.entry_count() - had);
             }
         }
         // The loop ends by a return alone.

@@ -30,8 +30,8 @@ overflow_add-number g c =
     let few = drained_within c.self.inside c.args.self.now c.args.desk.now c.in-Some.envelope.place c.self.view_is c.requires.arrivals in
     let grown : length c.deliver.new.desk.log ≡ length c.args.desk.now.log + 1 = ap (λ (d : Journal). length d.log) c.in_ok-deliver.ensures.ok.1
     ∙ length-append c.args.desk.now.log _ in
-    let held = c.entries-held.ensures in
-    omega (arith, c.entries-held.type_inv)
+    let held = c.entry_count-held.ensures in
+    omega (arith, c.entry_count-held.type_inv)
 
 pub index_mut-requires : goal.index_mut-requires
 index_mut-requires g c =
