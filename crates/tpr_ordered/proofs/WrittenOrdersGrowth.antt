@@ -5,18 +5,18 @@ use Rattle.tp_text.specs.declared.watched.Watched.{Watched}
 use Rattle.tp_text.specs.Watching.{Writes}
 use Rattle.tp_text.proofs.WatchedWriterGrowth.{nothing_yet, writes_both}
 use Rattle.tp_play.specs.TestCases.{Made}
-use Rattle.tpr_ordered.specs.declared.orders.Order.{Order}
+use Rattle.tpr_ordered.specs.declared.orders.StepOrder.{StepOrder}
 use Rattle.tpr_ordered.specs.Ordered.{AreOrderTexts, AreWritten, IsOrderText, none, one_more}
 
 -- the first orders are written
-abbrev pub AreFirst : {W : Type 0} → (W → Option (List ℕ)) → Made → List Order → Watched W → Watched W → ℕ → Type 0
+abbrev pub AreFirst : {W : Type 0} → (W → Option (List ℕ)) → Made → List StepOrder → Watched W → Watched W → ℕ → Type 0
 AreFirst contents made orders old new i = (text : List ℕ) × AreOrderTexts made (take i orders) text × Writes contents old new text
 
 module _ {W : Type 0} (contents : W → Option (List ℕ)) (made : Made) where
-  pub none_yet : (orders : List Order) (a : Watched W) → AreFirst contents made orders a a 0
+  pub none_yet : (orders : List StepOrder) (a : Watched W) → AreFirst contents made orders a a 0
   none_yet orders a = ([], none, nothing_yet contents a)
 
-  pub written_more : (old mid new : Watched W) (orders : List Order) (i : ℕ) (order : Order) → i < length orders → order ≡ get_or orders i order
+  pub written_more : (old mid new : Watched W) (orders : List StepOrder) (i : ℕ) (order : StepOrder) → i < length orders → order ≡ get_or orders i order
       → AreFirst contents made orders old mid i → ((text : List ℕ) × IsOrderText made order text × Writes contents mid new text)
       → AreFirst contents made orders old new (i + 1)
   written_more old mid new orders i order lt is before here = (
@@ -26,7 +26,7 @@ module _ {W : Type 0} (contents : W → Option (List ℕ)) (made : Made) where
     writes_both contents old mid new before.0 here.0 before.2 here.2,
   )
 
-  pub first_of_them : (orders : List Order) (old new : Watched W) (i : ℕ) → (new.failed ≡ false → length orders ≤ i) → AreFirst contents made orders old new i
+  pub first_of_them : (orders : List StepOrder) (old new : Watched W) (i : ℕ) → (new.failed ≡ false → length orders ≤ i) → AreFirst contents made orders old new i
       → AreWritten contents made orders old new
   first_of_them orders old new i all h =
       record {

@@ -11,7 +11,7 @@ use Rattle.tp_exec.specs.Faults.{run_fault_text}
 use Rattle.tp_exec.specs.OneOrder.{IsInOneOrder}
 use Rattle.tp_exec.specs.CausalOrder.{NoCircle}
 use Rattle.tp_exec.specs.Reporting.{IsRunFault}
-use Rattle.tpr_ordered.specs.declared.orders.Order.{Order}
+use Rattle.tpr_ordered.specs.declared.orders.StepOrder.{StepOrder}
 
 -- the text of a report of the test case, for which **delivery** holds and which one order of all that was done gives
 pub record IsReportText (made : Made) (text : List ℕ) : Type 0 where
@@ -30,22 +30,22 @@ abbrev pub IsRunText : Made → List ℕ → Type 0
 IsRunText made text = IsReportText made text ⊎ IsFaultLine made text
 
 -- what is written of an order: its line, what came of its run, and an empty line
-pub record IsOrderText (made : Made) (order : Order) (text : List ℕ) : Type 0 where
+pub record IsOrderText (made : Made) (order : StepOrder) (text : List ℕ) : Type 0 where
   pub run : List ℕ
   pub is_run : IsRunText made run
   pub is : text ≡ codes "order " ++ string_bytes order.line ++ codes "\n" ++ run ++ codes "\n"
 
 -- what is written of these orders, of one after the other
-pub data AreOrderTexts (made : Made) : List Order → List ℕ → Type 0 where
+pub data AreOrderTexts (made : Made) : List StepOrder → List ℕ → Type 0 where
   none : AreOrderTexts made [] []
-  one_more : (orders : List Order) (order : Order) (before here : List ℕ) → AreOrderTexts made orders before
+  one_more : (orders : List StepOrder) (order : StepOrder) (before here : List ℕ) → AreOrderTexts made orders before
       → IsOrderText made order here → AreOrderTexts made (orders ++ order ∷ []) (before ++ here)
 
 -- it is written of these orders; or a front of it of the first of them, and the writer has failed
-pub record AreWritten {W : Type 0} (contents : W → Option (List ℕ)) (made : Made) (orders : List Order) (old new : Watched W)
+pub record AreWritten {W : Type 0} (contents : W → Option (List ℕ)) (made : Made) (orders : List StepOrder) (old new : Watched W)
     : Type 0 where
-  pub first : List Order
-  pub others : List Order
+  pub first : List StepOrder
+  pub others : List StepOrder
   pub are : orders ≡ first ++ others
   pub text : List ℕ
   pub is : AreOrderTexts made first text

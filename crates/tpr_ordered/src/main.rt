@@ -12,7 +12,7 @@ mod orders;
 use fault::FileFault;
 use order_gate::PATIENCE;
 use ordering::{Trial, write_orders};
-use orders::{Order, read_orders};
+use orders::{StepOrder, read_orders};
 use std::env::Env;
 use std::fs::File;
 use std::io::{BufWriter, ErrorKind};
@@ -74,7 +74,7 @@ fn read_order_file<T: AllocGlobal + Files>(
     rt: &T,
     test_case: &TestCase,
     path: &str,
-) -> Result<Vec<Order>, FileFault> {
+) -> Result<Vec<StepOrder>, FileFault> {
     let text = read_file(rt, path)?;
     let orders = read_orders(rt.alloc(), test_case.config(), text.as_slice())?;
     Ok(orders)
@@ -95,7 +95,7 @@ fn tell_orders<R: Eprint>(rt: &R, fault: FileFault) -> u8 {
 }
 
 /// Runs the test case in each of the orders, and prints what came of it.
-fn answer_orders<T>(rt: &T, test_case: &TestCase, orders: &[Order]) -> u8
+fn answer_orders<T>(rt: &T, test_case: &TestCase, orders: &[StepOrder]) -> u8
 where
     T: AllocGlobal + Print + Threads + Wait + Sync,
 {

@@ -4,7 +4,7 @@ ghost use Rattle.tp_text.specs.Watching.{Writes};
 ghost use Rattle.tpr_ordered.specs.Ordered.{AreWritten, IsOrderText, IsRunText};
 
 use crate::order_gate::OrderGate;
-use crate::orders::{Order, Step};
+use crate::orders::{StepOrder, Step};
 use std::alloc::Global;
 use std::io::Write;
 use std::sync::Wait;
@@ -56,7 +56,7 @@ fn write_run<R: Threads + Wait + Sync, W: Write>(
 /// Writes the line of an order, what came of its run, and an empty line.
 fn write_order<R: Threads + Wait + Sync, W: Write>(
     trial: &Trial<'_, R>,
-    order: &Order,
+    order: &StepOrder,
     writer: &mut Watched<W>,
 )
     ensures { (text : List ℕ) × IsOrderText trial.now.test_case.now order.now text
@@ -79,7 +79,7 @@ fn write_order<R: Threads + Wait + Sync, W: Write>(
 /// that were is written. It may wait for good.
 pub fn write_orders<R: Threads + Wait + Sync, W: Write>(
     trial: &Trial<'_, R>,
-    orders: &[Order],
+    orders: &[StepOrder],
     writer: &mut Watched<W>,
 )
     ensures { AreWritten W.contents trial.now.test_case.now orders.now writer.old writer.new }

@@ -25,7 +25,7 @@ pub struct Step {
 
 /// An order of steps.
 #[derive(Drop)]
-pub struct Order {
+pub struct StepOrder {
     /// The line that says it, without its end.
     pub line: String,
     /// Its steps.
@@ -68,10 +68,10 @@ fn steps_of(
 /// The order that the line of this number says.
 ///
 /// 11 `Unknown` as `steps_of`.
-fn order_of(alloc: Global, config: &Config, line: &str, number: u32) -> Result<Order, FileFault> {
+fn order_of(alloc: Global, config: &Config, line: &str, number: u32) -> Result<StepOrder, FileFault> {
     let steps = steps_of(alloc, config, line, number)?;
     let line = String::from_str(alloc, line)?;
-    Ok(Order { line, steps })
+    Ok(StepOrder { line, steps })
 }
 
 /// The orders that a text says, one a line: the names of components of the configuration, one for
@@ -81,7 +81,7 @@ fn order_of(alloc: Global, config: &Config, line: &str, number: u32) -> Result<O
 ///
 /// 2 `Read` where the text isn't UTF-8; else 11 `Unknown`, at the first line in which a name is
 /// that of no component.
-pub fn read_orders(alloc: Global, config: &Config, text: &[u8]) -> Result<Vec<Order>, FileFault> {
+pub fn read_orders(alloc: Global, config: &Config, text: &[u8]) -> Result<Vec<StepOrder>, FileFault> {
     let Ok(text) = str::from_utf8(text) else {
         return Err(FileFault::Read);
     };
