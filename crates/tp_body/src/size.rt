@@ -5,13 +5,13 @@ ghost use Rattle.tp_play.specs.Sizes.{capped, size_in, size_in_all, size_of, siz
 use tp_play::body::{Body, Branch, Statement};
 
 /// Where counting stops: one more than the statements that all bodies of a test case may come to.
-pub const COUNTED: u64 = 100_001;
+pub const SIZE_CEILING: u64 = 100_001;
 
 /// The smaller of a number and the one where counting stops.
 pub fn cap(number: u64) -> u64
     ensures { result ≡ capped number }
 {
-    if number < COUNTED { number } else { COUNTED }
+    if number < SIZE_CEILING { number } else { SIZE_CEILING }
 }
 
 /// The turns of a `for` from this first value to this bound.
@@ -24,7 +24,7 @@ fn turn_count(first: &i64, bound: &i64) -> u64
     0
 }
 
-/// The size of a statement, up to [`COUNTED`].
+/// The size of a statement, up to [`SIZE_CEILING`].
 #[cycle(size)]
 #[tactic(auto, using(crate::proofs::CappedStatementSizes::laws))]
 fn count_statement(statement: &Statement) -> u64
@@ -49,7 +49,7 @@ fn count_statement(statement: &Statement) -> u64
     }
 }
 
-/// The size of a block, up to [`COUNTED`].
+/// The size of a block, up to [`SIZE_CEILING`].
 #[cycle(size)]
 #[tactic(auto, using(crate::proofs::CappedStatementSizes::laws))]
 fn count_block(block: &[Statement]) -> u64
@@ -62,7 +62,7 @@ fn count_block(block: &[Statement]) -> u64
     sum
 }
 
-/// The size of a branch, up to [`COUNTED`].
+/// The size of a branch, up to [`SIZE_CEILING`].
 #[cycle(size)]
 #[tactic(auto, using(crate::proofs::CappedStatementSizes::laws))]
 fn count_branch(branch: &Branch) -> u64
@@ -71,7 +71,7 @@ fn count_branch(branch: &Branch) -> u64
     count_block(branch.block.as_slice())
 }
 
-/// The size of the branches of an `alt`, up to [`COUNTED`].
+/// The size of the branches of an `alt`, up to [`SIZE_CEILING`].
 #[cycle(size)]
 #[tactic(auto, using(crate::proofs::CappedStatementSizes::laws))]
 fn count_branches(branches: &[Branch]) -> u64

@@ -8,13 +8,13 @@ ghost use Rattle.tp_play.specs.Instances.{behaviour_of};
 ghost use Rattle.tp_script.specs.Instances.{size_of_instance};
 
 use std::alloc::Global;
-use tp_body::size::{COUNTED, cap, count_body};
+use tp_body::size::{SIZE_CEILING, cap, count_body};
 use tp_name::fault::{ModuleFault, ModuleRule, refused};
 use tp_play::bodies::Bodies;
 use tp_play::body::Body;
 use tp_play::instance::{Instance, WhichBody};
 
-/// How many statements each body has, up to [`COUNTED`].
+/// How many statements each body has, up to [`SIZE_CEILING`].
 fn count_bodies(alloc: Global, bodies: &[Body]) -> Result<Vec<u64>, ModuleFault>
     ensures sizes { IfOk result (λ sizes.
         sizes.items ≡ map (λ b. capped (size_of_body b)) bodies.now) }
@@ -50,7 +50,7 @@ fn instance_size(main: u64, functions: &[u64], instance: &Option<Instance>) -> u
     }
 }
 
-/// The sum of the sizes of what the components do, up to [`COUNTED`].
+/// The sum of the sizes of what the components do, up to [`SIZE_CEILING`].
 fn count_instances(main: u64, functions: &[u64], instances: &[Option<Instance>]) -> u64
     ensures { result ≡ capped (sum (map (size_of_instance main functions.now) instances.now)) }
 {
@@ -79,7 +79,7 @@ pub fn check_size(
 {
     let main = count_body(&bodies.main);
     let functions = count_bodies(alloc, &bodies.functions)?;
-    if count_instances(main, &functions, instances) >= COUNTED {
+    if count_instances(main, &functions, instances) >= SIZE_CEILING {
         return Err(refused(ModuleRule::Limit, line));
     }
     Ok(())

@@ -15,22 +15,22 @@ returns-clause-few c =
     let is : c.count_instances.result ≡ capped total =
     c.count_instances.ensures ∙ sums bodies c.count_body-main.result c.deref-2.result.now c.count_body-main.ensures
     (c.deref-2.ensures.value ∙ c.in_ok-functions.ensures.sizes ∙ ap (map (λ b. capped (size_of_body b))) c.deref.ensures.value) c.args.instances.now in
-    few total (omega (arith, is, c.if-count_instances-ge-COUNTED.false))
+    few total (omega (arith, is, c.if-count_instances-ge-SIZE_CEILING.false))
 
-pub returns-then-count_instances-ge-COUNTED-clause-refused : goal.returns-then-count_instances-ge-COUNTED-clause-refused
-returns-then-count_instances-ge-COUNTED-clause-refused c =
+pub returns-then-count_instances-ge-SIZE_CEILING-clause-refused : goal.returns-then-count_instances-ge-SIZE_CEILING-clause-refused
+returns-then-count_instances-ge-SIZE_CEILING-clause-refused c =
     let bodies = c.args.bodies.now in
     let total = sum (map size_of_behaviour (map (behaviour_of bodies) c.args.instances.now)) in
     let is : c.count_instances.result ≡ capped total =
     c.count_instances.ensures ∙ sums bodies c.count_body-main.result c.deref-2.result.now c.count_body-main.ensures
     (c.deref-2.ensures.value ∙ c.in_ok-functions.ensures.sizes ∙ ap (map (λ b. capped (size_of_body b))) c.deref.ensures.value) c.args.instances.now in
-    inr (many total (omega (arith, is, c.if-count_instances-ge-COUNTED.true)))
+    inr (many total (omega (arith, is, c.if-count_instances-ge-SIZE_CEILING.true)))
 
-pub returns-then-count_instances-ge-COUNTED-clause-told : goal.returns-then-count_instances-ge-COUNTED-clause-told
-returns-then-count_instances-ge-COUNTED-clause-told c =
+pub returns-then-count_instances-ge-SIZE_CEILING-clause-told : goal.returns-then-count_instances-ge-SIZE_CEILING-clause-told
+returns-then-count_instances-ge-SIZE_CEILING-clause-told c =
     let bodies = c.args.bodies.now in
     let total = sum (map size_of_behaviour (map (behaviour_of bodies) c.args.instances.now)) in
     let is : c.count_instances.result ≡ capped total =
     c.count_instances.ensures ∙ sums bodies c.count_body-main.result c.deref-2.result.now c.count_body-main.ensures
     (c.deref-2.ensures.value ∙ c.in_ok-functions.ensures.sizes ∙ ap (map (λ b. capped (size_of_body b))) c.deref.ensures.value) c.args.instances.now in
-    rw c.refused.ensures (refl, (refl, above total (many total (omega (arith, is, c.if-count_instances-ge-COUNTED.true)))))
+    rw c.refused.ensures (refl, (refl, above total (many total (omega (arith, is, c.if-count_instances-ge-SIZE_CEILING.true)))))
