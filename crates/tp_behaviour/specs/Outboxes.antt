@@ -58,7 +58,7 @@ IsLevel es s = All (IsLevelOn es s) s.routes
 abbrev pub AreFiledAt : {S : Type 0} → ℕ → List RouteId → ℕ → IndexMap RouteId RoutePlace S → Type 0
 AreFiledAt n routes place places =
     (w : ℕ) (r : RouteId) → w < n → slice_get routes w ≡ Some r
-    → get route_eq places r ≡ Some record { sender = place; way = w }
+    → get route_eq places r ≡ Some record { sender = place; route_index = w }
 
 -- each route of each sender is found at its place; the routes of a sender lead to its inbox's component, and no two
 -- senders to the same; those that lead back are listed, and no others

@@ -25,7 +25,7 @@ pub(crate) struct RoutePlace {
     /// The place of the sender.
     sender: usize,
     /// The place of the route among the sender's.
-    way: usize,
+    route_index: usize,
 }
 
 /// The senders of a component, at most one into each inbox, seen by contracts as their list.
@@ -91,7 +91,7 @@ fn file(
     ensures aimed { IsAimed sender.now }
 {
     for way in 0..sender.ways() {
-        let here = RoutePlace { sender: place, way };
+        let here = RoutePlace { sender: place, route_index: way };
         places.insert(sender.route(way), here)?;
     }
     Ok(())
@@ -157,7 +157,7 @@ impl Outbox {
     fn route_place(&self, route: RouteId) -> RoutePlace
         requires { Contains (routes_of self.now) route }
         ensures { (s : SenderLedger) × (slice_get self.now result.sender ≡ Some s)
-            × (slice_get s.routes result.way ≡ Some route) }
+            × (slice_get s.routes result.route_index ≡ Some route) }
     {
         match self.places.get(&route) {
             Some(place) => *place,
@@ -185,6 +185,6 @@ impl Outbox {
             back.0 ≡ PutFault.Limit → IsRouteFull route self.old) }
     {
         let place = self.route_place(route);
-        self.senders[place.sender].send(rt, desk, place.way, message)
+        self.senders[place.sender].send(rt, desk, place.route_index, message)
     }
 }

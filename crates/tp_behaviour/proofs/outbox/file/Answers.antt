@@ -10,7 +10,7 @@ pub loop-way-preserved : goal.loop-way-preserved
 loop-way-preserved c =
     let routes = c.args.sender.now.routes in
     let low : c.loop-way.way < length routes = omega (arith, c.loop-way-test.true, c.ways-way-end.ensures.count) in
-    let updates = subst (λ (r : RouteId). Updates route_eq c.loop-way.places c.insert.new.self r (Some record { sender = c.args.place; way = c.loop-way.way }))
+    let updates = subst (λ (r : RouteId). Updates route_eq c.loop-way.places c.insert.new.self r (Some record { sender = c.args.place; route_index = c.loop-way.way }))
     c.route.ensures c.in_ok-insert.ensures.updates in
     record {
       filed = file_next routes c.args.place c.loop-way.way c.loop-way.places c.insert.new.self c.ways-way-end.ensures.apart low c.loop-way.invariant.filed

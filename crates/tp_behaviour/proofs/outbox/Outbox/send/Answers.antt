@@ -26,7 +26,7 @@ invariant_of-self g c =
     let this = c.index_mut.ensures.value ∙ get_or_from_slice_get ss place.sender p.0 c.index_mut.result.now found in
     filed_put ss c.self.inside.places c.self.inside.loops.items place.sender c.index_mut.result.now c.send.new.self
     (found ∙ ap (λ (s : SenderLedger). Some s) (sym this))
-    (same_way (c.send.new.desk ≡ c.args.desk.now) c.index_mut.result.now c.send.new.self place.way m c.send.result c.send.ensures.sender c.send.ensures.err)
+    (same_way (c.send.new.desk ≡ c.args.desk.now) c.index_mut.result.now c.send.new.self place.route_index m c.send.result c.send.ensures.sender c.send.ensures.err)
     c.self.invariant
 
 pub returns-clause-ok : goal.returns-clause-ok
@@ -39,12 +39,12 @@ returns-clause-ok g c =
     let m = next_of d.log c.args.message in
     let found = subst (λ l. slice_get l place.sender ≡ Some p.0) (sym c.self.view_is) p.1 in
     let this = c.index_mut.ensures.value ∙ get_or_from_slice_get ss place.sender p.0 c.index_mut.result.now found in
-    let way = ap (λ (s : SenderLedger). route_at s.routes place.way) this ∙ get_or_from_slice_get p.0.routes place.way q absent_route p.2 in
-    let leads = leads_there ss c.self.inside.places c.self.inside.loops.items place.sender place.way p.0 q c.self.invariant found p.2
+    let way = ap (λ (s : SenderLedger). route_at s.routes place.route_index) this ∙ get_or_from_slice_get p.0.routes place.route_index q absent_route p.2 in
+    let leads = leads_there ss c.self.inside.places c.self.inside.loops.items place.sender place.route_index p.0 q c.self.invariant found p.2
     ∙ ap (λ (s : SenderLedger). s.inbox.comp) (sym this) in
     subst (λ l. OnOk c.send.result ((n : ℕ) × HasPut q m n l (slice_set ss place.sender c.send.new.self) × (c.send.new.desk ≡ adding d (entry.Sent q n m))))
     c.self.view_is
-    (has_put ss c.self.inside.places c.self.inside.loops.items place.sender place.way c.index_mut.result.now c.send.new.self q m d c.send.new.desk
+    (has_put ss c.self.inside.places c.self.inside.loops.items place.sender place.route_index c.index_mut.result.now c.send.new.self q m d c.send.new.desk
     c.send.result
     (found ∙ ap (λ (s : SenderLedger). Some s) (sym this))
     way leads c.self.invariant c.send.ensures.desk c.send.ensures.sender)
@@ -57,8 +57,8 @@ returns-clause-limit g c =
     let q = c.args.route in
     let found = subst (λ l. slice_get l place.sender ≡ Some p.0) (sym c.self.view_is) p.1 in
     let this = c.index_mut.ensures.value ∙ get_or_from_slice_get ss place.sender p.0 c.index_mut.result.now found in
-    let way = get_or_from_slice_get p.0.routes place.way q absent_route p.2 in
+    let way = get_or_from_slice_get p.0.routes place.route_index q absent_route p.2 in
     full_on (λ (f : PutFault × Message). f.0 ≡ put_fault.Limit) _ q p.0 c.send.result (contained _ place.sender p.0 p.1)
-    (contained p.0.routes place.way q p.2)
+    (contained p.0.routes place.route_index q p.2)
     (subst (λ (r : RouteId). IfErr c.send.result (λ f. f.0 ≡ put_fault.Limit → 100000 ≤ length (posted_on r p.0.ledger))) way
-    (subst (λ (s : SenderLedger). IfErr c.send.result (λ f. f.0 ≡ put_fault.Limit → 100000 ≤ length (put_on_way s place.way))) this c.send.ensures.limit))
+    (subst (λ (s : SenderLedger). IfErr c.send.result (λ f. f.0 ≡ put_fault.Limit → 100000 ≤ length (put_on_way s place.route_index))) this c.send.ensures.limit))
