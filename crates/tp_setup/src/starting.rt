@@ -125,9 +125,9 @@ fn check_start(
     requires { AreFunctionsNamed sorted.now }
     ensures start { IfOk result (IsStartOf (functions_in sorted.now) variables.now
         (map (λ t. t.now) types.now) start.now) }
-    ensures refused { IsNumbered variables.now → IfErr result (IsRefusedBy ((made : StartedComponent)
-        × IsStartOf (functions_in sorted.now) variables.now (map (λ t. t.now) types.now)
-        start.now made)) }
+    ensures refused { IsNumbered variables.now → IfErr result (IsRefusedBy (
+        (made : StartedComponent) × IsStartOf (functions_in sorted.now) variables.now
+        (map (λ t. t.now) types.now) start.now made)) }
     ensures told { (started : List (List ℕ)) → IsNumbered variables.now
         → (Contains started (string_bytes start.now.component) → ⊥)
         → IfErr result (TellsAt start.now.line (StartBreaks (functions_in sorted.now)
@@ -256,9 +256,10 @@ fn check_each<'m>(
         starts.now r.1.items) }
     ensures names { IfOk result (λ r. r.0 ≡ started_names starts.now) }
     ensures numbered { IfOk result (λ r. IsNumbered r.0) }
-    ensures refused { IsNumbered variables.now → IfErr result (IsRefusedBy ((made : List StartedComponent)
-        × AllZip (IsStartOf (functions_in sorted.now) variables.now (map (λ t. t.now) types.now))
-        starts.now made × IsNumbered (started_names starts.now))) }
+    ensures refused { IsNumbered variables.now → IfErr result (IsRefusedBy (
+        (made : List StartedComponent) × AllZip (IsStartOf (functions_in sorted.now)
+        variables.now (map (λ t. t.now) types.now)) starts.now made
+        × IsNumbered (started_names starts.now))) }
     ensures told { IsNumbered variables.now → IfErr result (Tells (
         StartBreaksAmong (functions_in sorted.now) variables.now (map (λ t. t.now) types.now)
         starts.now)) }
@@ -286,9 +287,10 @@ fn start_all<'m>(
         case.now.starts.items r.1.items) }
     ensures names { IfOk result (λ r. r.0 ≡ started_names case.now.starts.items) }
     ensures numbered { IfOk result (λ r. IsNumbered r.0) }
-    ensures refused { IsNumbered names.now → IfErr result (IsRefusedBy ((made : List StartedComponent)
-        × AllZip (IsStartOf (functions_in sorted.now) names.now (type_names_of case.now))
-        case.now.starts.items made × IsNumbered (started_names case.now.starts.items))) }
+    ensures refused { IsNumbered names.now → IfErr result (IsRefusedBy (
+        (made : List StartedComponent) × AllZip (IsStartOf (functions_in sorted.now) names.now
+        (type_names_of case.now)) case.now.starts.items made
+        × IsNumbered (started_names case.now.starts.items))) }
     ensures told { IsNumbered names.now → IfErr result (Tells (StartBreaksAmong
         (functions_in sorted.now) names.now (type_names_of case.now) case.now.starts.items)) }
 {
