@@ -3,9 +3,9 @@ use Rattle.std.proofs.Common.{Vec, Global, ◌≡◌, ◌∙◌, ℕ, ℤ, Bool,
 use Rattle.std.specs.Option.{is_some}
 use Rattle.std.proofs.lemmas.List.{append_assoc}
 use Rattle.std.proofs.lemmas.Option.{same_Some}
-use Rattle.tp_play.specs.declared.body.Statement.{Statement}
-use Rattle.tp_play.specs.declared.body.Statement.TheVariants as b
-use Rattle.tp_play.specs.declared.body.Branch.{Branch}
+use Rattle.tp_play.specs.declared.body.ResolvedStatement.{ResolvedStatement}
+use Rattle.tp_play.specs.declared.body.ResolvedStatement.TheVariants as b
+use Rattle.tp_play.specs.declared.body.ResolvedBranch.{ResolvedBranch}
 use Rattle.tp_play.specs.Sizes.{turns_between}
 use Rattle.tp_history.specs.declared.ending.End.{End}
 use Rattle.tp_history.specs.declared.ending.End.TheVariants as ending
@@ -31,14 +31,14 @@ use Rattle.tp_behaviour.proofs.StatementOutcomes.{grew_on}
 behind : (drops ts more : List Moment) (t : Moment) → ts ≡ drops ++ t ∷ [] → drops ++ t ∷ more ≡ ts ++ more
 behind drops ts more t is = sym (ap (λ xs. xs ++ more) is ∙ append_assoc drops (t ∷ []) more)
 
-module _ (r : Actor) (turns : List ℤ) (vs us ws : List (Option Held)) (xs : List Branch) (otherwise : Option (List Statement)) where
-  set_by : (i : ℕ) (x : Branch) (ts : List Moment) (h : Enters xs (guards_of r (record { turns = turns; variables = vs }) xs) i vs us ts)
+module _ (r : Actor) (turns : List ℤ) (vs us ws : List (Option Held)) (xs : List ResolvedBranch) (otherwise : Option (List ResolvedStatement)) where
+  set_by : (i : ℕ) (x : ResolvedBranch) (ts : List Moment) (h : Enters xs (guards_of r (record { turns = turns; variables = vs }) xs) i vs us ts)
       → slice_get xs i ≡ Some x
       → us ≡ redirected x.receiving h.env vs
-  set_by i x ts h at = h.entered.set ∙ ap (λ (y : Branch). redirected y.receiving h.env vs) (same_Some h.entered.branch x (sym h.entered.there ∙ at))
+  set_by i x ts h at = h.entered.set ∙ ap (λ (y : ResolvedBranch). redirected y.receiving h.env vs) (same_Some h.entered.branch x (sym h.entered.there ∙ at))
 
   -- the block of the branch that was chosen stops
-  stops_in_branch : (rests : List Guard → Type 0) (end : End) (i : ℕ) (x : Branch) (ts more : List Moment)
+  stops_in_branch : (rests : List Guard → Type 0) (end : End) (i : ℕ) (x : ResolvedBranch) (ts more : List Moment)
       → Enters xs (guards_of r (record { turns = turns; variables = vs }) xs) i vs us ts → slice_get xs i ≡ Some x
       → Stops r rests end turns us x.block more → StopsWithin r rests end turns vs (b.Alt xs otherwise) (ts ++ more)
   stops_in_branch rests end i x ts more h at block =
@@ -48,7 +48,7 @@ module _ (r : Actor) (turns : List ℤ) (vs us ws : List (Option Held)) (xs : Li
       (subst (λ us'. Stops r rests end turns us' x.block more) set block))
 
   -- or ends in any way
-  of_branch : (o : Outcome) (i : ℕ) (x : Branch) (ts more : List Moment) → Enters xs (guards_of r (record { turns = turns; variables = vs }) xs) i vs us ts
+  of_branch : (o : Outcome) (i : ℕ) (x : ResolvedBranch) (ts more : List Moment) → Enters xs (guards_of r (record { turns = turns; variables = vs }) xs) i vs us ts
       → slice_get xs i ≡ Some x → Ends r o turns us x.block more ws → EndsStep r o turns vs (b.Alt xs otherwise) (ts ++ more) ws
   of_branch outcome.Done i x ts more h at block =
       let set = set_by i x ts h at in
@@ -59,7 +59,7 @@ module _ (r : Actor) (turns : List ℤ) (vs us ws : List (Option Held)) (xs : Li
   of_branch (outcome.Waiting waiting) i x ts more h at block = stops_in_branch (λ gs. gs ≡ waiting.items) ending.Waiting i x ts more h at block
 
 -- the block of `[else]`
-module _ (r : Actor) (turns : List ℤ) (vs us ws : List (Option Held)) (xs : List Branch) (has_else : Bool) (items : List Statement) where
+module _ (r : Actor) (turns : List ℤ) (vs us ws : List (Option Held)) (xs : List ResolvedBranch) (has_else : Bool) (items : List ResolvedStatement) where
   stops_in_else : (rests : List Guard → Type 0) (end : End) (ts more : List Moment)
       → EntersElse (guards_of r (record { turns = turns; variables = vs }) xs) has_else vs us ts
       → Stops r rests end turns us items more → StopsWithin r rests end turns vs (b.Alt xs (Some items)) (ts ++ more)
@@ -77,7 +77,7 @@ module _ (r : Actor) (turns : List ℤ) (vs us ws : List (Option Held)) (xs : Li
   of_else (outcome.Waiting waiting) ts more h block = stops_in_else (λ gs. gs ≡ waiting.items) ending.Waiting ts more h block
 
 -- an `alt` of which a branch was chosen
-pub step_branch : (p : Task) (x : Statement) (xs ys : List Branch) (otherwise : Option (List Statement)) (has_else : Bool) (i : ℕ) (o : Outcome)
+pub step_branch : (p : Task) (x : ResolvedStatement) (xs ys : List ResolvedBranch) (otherwise : Option (List ResolvedStatement)) (has_else : Bool) (i : ℕ) (o : Outcome)
     (here : Worker) (before : Frame) (mid : Worker) (now : Frame) (there : Worker) (after : Frame) → x ≡ b.Alt xs otherwise → ys ≡ xs
     → now.turns.items ≡ before.turns.items
     → Decided p ys has_else (decision.Branch i) here before mid now → ExecutedAt p ys i o mid now there after → Stepped p x o here before there after
@@ -89,13 +89,13 @@ step_branch p x xs ys otherwise has_else i o here before mid now there after is 
     let ws = after.variables.items in
     let block : TraceGrew (λ ts. Ends r o turns us done.0.block ts ws) mid.desk.log there.desk.log =
     subst (λ (l : List ℤ). TraceGrew (λ ts. Ends r o l us done.0.block ts ws) mid.desk.log there.desk.log) same done.2 in
-    subst (λ (y : Statement). Stepped p y o here before there after) (ap (λ (l : List Branch). b.Alt l otherwise) are ∙ sym is)
+    subst (λ (y : ResolvedStatement). Stepped p y o here before there after) (ap (λ (l : List ResolvedBranch). b.Alt l otherwise) are ∙ sym is)
     (grew_on (Enters ys (guards_of r (record { turns = turns; variables = vs }) ys) i vs us) (λ ts. Ends r o turns us done.0.block ts ws)
     (λ ts. EndsStep r o turns vs (b.Alt ys otherwise) ts ws) here.desk.log mid.desk.log there.desk.log
     (λ ts more h e. of_branch r turns vs us ws ys otherwise o i done.0 ts more h done.1 e) decided block)
 
 -- an `alt` of which `[else]` was chosen
-pub step_else : (p : Task) (x : Statement) (xs ys : List Branch) (otherwise : Option (List Statement)) (items list : List Statement) (has_else : Bool)
+pub step_else : (p : Task) (x : ResolvedStatement) (xs ys : List ResolvedBranch) (otherwise : Option (List ResolvedStatement)) (items list : List ResolvedStatement) (has_else : Bool)
     (o : Outcome)
     (here : Worker) (before : Frame) (mid : Worker) (now : Frame) (there : Worker) (after : Frame) → x ≡ b.Alt xs otherwise → otherwise ≡ Some items
     → ys ≡ xs → list ≡ items
@@ -110,20 +110,20 @@ step_else p x xs ys otherwise items list has_else o here before mid now there af
     let block : TraceGrew (λ ts. Ends r o turns us list ts ws) mid.desk.log there.desk.log =
     subst (λ (l : List ℤ). TraceGrew (λ ts. Ends r o l us list ts ws) mid.desk.log there.desk.log) same done in
     let whole : b.Alt ys (Some list) ≡ x =
-    ap (λ (l : List Branch). b.Alt l (Some list)) are ∙ ap (λ (l : List Statement). b.Alt xs (Some l)) these ∙ ap (λ (l : Option (List Statement)). b.Alt xs l)
+    ap (λ (l : List ResolvedBranch). b.Alt l (Some list)) are ∙ ap (λ (l : List ResolvedStatement). b.Alt xs (Some l)) these ∙ ap (λ (l : Option (List ResolvedStatement)). b.Alt xs l)
     (sym some) ∙ sym is in
-    subst (λ (y : Statement). Stepped p y o here before there after) whole
+    subst (λ (y : ResolvedStatement). Stepped p y o here before there after) whole
     (grew_on (EntersElse (guards_of r (record { turns = turns; variables = vs }) ys) has_else vs us) (λ ts. Ends r o turns us list ts ws)
     (λ ts. EndsStep r o turns vs (b.Alt ys (Some list)) ts ws) here.desk.log mid.desk.log there.desk.log
     (λ ts more h e. of_else r turns vs us ws ys has_else list o ts more h e) decided block)
 
 -- where none waits, there is none
-no_else : (otherwise : Option (List Statement)) → is_some otherwise ≡ false → None ≡ otherwise
+no_else : (otherwise : Option (List ResolvedStatement)) → is_some otherwise ≡ false → None ≡ otherwise
 no_else None is = refl
 no_else (Some block) is = absurd (cc)
 
 -- an `alt` that waits
-pub step_waits : (p : Task) (x : Statement) (xs ys : List Branch) (otherwise : Option (List Statement)) (has_else : Bool) (waiting : Vec Guard Global)
+pub step_waits : (p : Task) (x : ResolvedStatement) (xs ys : List ResolvedBranch) (otherwise : Option (List ResolvedStatement)) (has_else : Bool) (waiting : Vec Guard Global)
     (here : Worker) (before : Frame) (there : Worker) (after : Frame) → x ≡ b.Alt xs otherwise → ys ≡ xs → has_else ≡ is_some otherwise
     → Decided p ys has_else (decision.Waits waiting) here before there after → Stepped p x (outcome.Waiting waiting) here before there after
 step_waits p x xs ys otherwise has_else waiting here before there after is are there_is decided =
@@ -132,12 +132,12 @@ step_waits p x xs ys otherwise has_else waiting here before there after is are t
     let vs = before.variables.items in
     let h = decided.2 in
     let none : None ≡ otherwise = no_else otherwise (sym there_is ∙ h.none) in
-    let whole : b.Alt ys None ≡ x = ap (λ (l : List Branch). b.Alt l None) are ∙ ap (λ (l : Option (List Statement)). b.Alt xs l) none ∙ sym is in
-    subst (λ (y : Statement). Stepped p y (outcome.Waiting waiting) here before there after) whole
+    let whole : b.Alt ys None ≡ x = ap (λ (l : List ResolvedBranch). b.Alt l None) are ∙ ap (λ (l : Option (List ResolvedStatement)). b.Alt xs l) none ∙ sym is in
+    subst (λ (y : ResolvedStatement). Stepped p y (outcome.Waiting waiting) here before there after) whole
     (decided.0, decided.1, StopsWithin.waits_at_alt turns vs ys decided.0 h.drops (sym h.same))
 
 -- a `for`
-module _ (r : Actor) (turns : List ℤ) (vs ws : List (Option Held)) (first bound : ℤ) (block : List Statement) where
+module _ (r : Actor) (turns : List ℤ) (vs ws : List (Option Held)) (first bound : ℤ) (block : List ResolvedStatement) where
   of_turn : (rests : List Guard → Type 0) (end : End) (ts : List Moment)
       → StopsTurn r turns vs first block (turns_between first bound) (λ inner us more. Stops r rests end inner us block more) ts
       → StopsWithin r rests end turns vs (b.For first bound block) ts
@@ -151,13 +151,13 @@ module _ (r : Actor) (turns : List ℤ) (vs ws : List (Option Held)) (first boun
   of_turns (outcome.Error fault) ts h = of_turn (λ _. ⊥) (ending.Error fault) ts h
   of_turns (outcome.Waiting waiting) ts h = of_turn (λ gs. gs ≡ waiting.items) ending.Waiting ts h
 
-pub step_for : (p : Task) (x : Statement) (first bound low high : ℤ) (items list : List Statement) (o : Outcome) (here : Worker) (before : Frame)
+pub step_for : (p : Task) (x : ResolvedStatement) (first bound low high : ℤ) (items list : List ResolvedStatement) (o : Outcome) (here : Worker) (before : Frame)
     (there : Worker) (after : Frame)
     → x ≡ b.For first bound items → low ≡ first → high ≡ bound → list ≡ items → Turned p low list (turns_between low high) o here before there after
     → Stepped p x o here before there after
 step_for p x first bound low high items list o here before there after is low_is high_is are h =
     let r = role_of p in
     let whole : b.For low high list ≡ x =
-    ap (λ (n : ℤ). b.For n high list) low_is ∙ ap (λ (n : ℤ). b.For first n list) high_is ∙ ap (λ (l : List Statement). b.For first bound l) are ∙ sym is in
-    subst (λ (y : Statement). Stepped p y o here before there after) whole
+    ap (λ (n : ℤ). b.For n high list) low_is ∙ ap (λ (n : ℤ). b.For first n list) high_is ∙ ap (λ (l : List ResolvedStatement). b.For first bound l) are ∙ sym is in
+    subst (λ (y : ResolvedStatement). Stepped p y o here before there after) whole
     (h.0, h.1, of_turns r before.turns.items before.variables.items after.variables.items low high list o h.0 h.2)

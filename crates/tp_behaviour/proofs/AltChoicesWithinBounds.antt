@@ -5,7 +5,7 @@ use Rattle.std.proofs.lemmas.List.{length-map}
 use Rattle.std.proofs.lemmas.List.Elements.{All-nil, All-cons}
 use Rattle.tp_event.specs.declared.event.Env.{Env}
 use Rattle.tp_value.specs.declared.message.Message.{Message}
-use Rattle.tp_play.specs.declared.body.Branch.{Branch}
+use Rattle.tp_play.specs.declared.body.ResolvedBranch.{ResolvedBranch}
 use Rattle.tp_play.specs.Playable.{CanEnterAll, Stage}
 use Rattle.tp_play.proofs.PlayableStatementRules.{enters_receive}
 use Rattle.tp_history.specs.declared.entry.Entry.{Entry}
@@ -23,28 +23,28 @@ use Rattle.tp_behaviour.specs.Workers.{IsConsistent, role_of}
 use Rattle.tp_behaviour.proofs.AltChoiceOutcomes.{chosen_below}
 use Rattle.tp_behaviour.proofs.UnchangedWorkerPorts.{ports_there}
 
-below_each : (s : Stage) (n : ℕ) (r : Actor) (vs : Values) (xs : List Branch) → CanEnterAll s n xs → All (λ (g : Guard). g.port < s.ports) (guards_of r vs xs)
+below_each : (s : Stage) (n : ℕ) (r : Actor) (vs : Values) (xs : List ResolvedBranch) → CanEnterAll s n xs → All (λ (g : Guard). g.port < s.ports) (guards_of r vs xs)
 below_each s n r vs [] can = All-nil (λ (g : Guard). g.port < s.ports)
 below_each s n r vs (x ∷ xs) can =
     All-cons (λ (g : Guard). g.port < s.ports) (guard_of r vs x.receiving) (guards_of r vs xs) (enters_receive s n x can.0).port (below_each s n r vs xs can.1)
 
 -- what an `alt` looks at is within the desk's ports
-pub guards_within : (p : Task) (s : Worker) (n : ℕ) (vs : Values) (xs : List Branch) (gs : List Guard) → IsConsistent (role_of p) s → CanEnterAll (stage_at p) n xs
+pub guards_within : (p : Task) (s : Worker) (n : ℕ) (vs : Values) (xs : List ResolvedBranch) (gs : List Guard) → IsConsistent (role_of p) s → CanEnterAll (stage_at p) n xs
     → gs ≡ guards_of (role_of p) vs xs → All (λ (g : Guard). g.port < s.desk.ports) gs
 guards_within p s n vs xs gs consistent can is =
     subst (λ (m : ℕ). All (λ (g : Guard). g.port < m) gs) (sym (ports_there p s consistent))
     (subst (All (λ (g : Guard). g.port < (stage_at p).ports)) (sym is) (below_each (stage_at p) n (role_of p) vs xs can))
 
 -- the branch that is chosen is there
-pub chose_within : (r : Actor) (vs : Values) (xs : List Branch) (gs : List Guard) (has_else : Bool) (i : ℕ) (e : Env Message) (k n : List Entry)
+pub chose_within : (r : Actor) (vs : Values) (xs : List ResolvedBranch) (gs : List Guard) (has_else : Bool) (i : ℕ) (e : Env Message) (k n : List Entry)
     → gs ≡ guards_of r vs xs → TraceGrew (Chose gs has_else (choice.Branch i e)) k n → i < length xs
 chose_within r vs xs gs has_else i e k n is grew =
     let t = grew.2 in
     let below : i < length gs = chosen_below gs true t.1 (Some (i, e)) (t.4 true) in
-    omega (arith, ap length is, length-map xs (λ (x : Branch). guard_of r vs x.receiving))
+    omega (arith, ap length is, length-map xs (λ (x : ResolvedBranch). guard_of r vs x.receiving))
 
 -- a branch was chosen, and its variables set
-pub entered : (r : Actor) (vs : Values) (xs : List Branch) (gs : List Guard) (has_else : Bool) (i : ℕ) (e : Env Message) (ws : List (Option Held))
+pub entered : (r : Actor) (vs : Values) (xs : List ResolvedBranch) (gs : List Guard) (has_else : Bool) (i : ℕ) (e : Env Message) (ws : List (Option Held))
     (k n : List Entry)
     → gs ≡ guards_of r vs xs → TraceGrew (Chose gs has_else (choice.Branch i e)) k n → IsEntered xs i e vs.variables ws
     → TraceGrew (Enters xs (guards_of r vs xs) i vs.variables ws) k n

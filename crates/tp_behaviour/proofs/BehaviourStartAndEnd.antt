@@ -3,7 +3,7 @@ use Rattle.std.proofs.Common.{◌≡◌, ◌∙◌, ℕ, ◌+◌, ◌<◌, ℤ, 
 use Rattle.std.proofs.lemmas.List.{map-append, take_more}
 use Rattle.std.specs.List.{AllZip}
 use Rattle.tp_play.specs.declared.body.Body.{Body}
-use Rattle.tp_play.specs.declared.body.Statement.{Statement}
+use Rattle.tp_play.specs.declared.body.ResolvedStatement.{ResolvedStatement}
 use Rattle.tp_play.specs.declared.body.VariableType.{VariableType}
 use Rattle.tp_play.specs.declared.body.VariableType.TheVariants as kind
 use Rattle.tp_history.specs.declared.entry.Entry.{Entry}
@@ -35,7 +35,7 @@ none_more types i before after below none more =
     more ∙ ap (λ (vs : List (Option Held)). vs ++ None ∷ []) none ∙ sym one
 
 -- a body that was carried out from the beginning
-pub has_ended : (r : Actor) (body : Body) (o : Outcome) (turns : List ℤ) (vs : List (Option Held)) (block : List Statement) (ws : List (Option Held))
+pub has_ended : (r : Actor) (body : Body) (o : Outcome) (turns : List ℤ) (vs : List (Option Held)) (block : List ResolvedStatement) (ws : List (Option Held))
     (k n : List Entry)
     → turns ≡ [] → vs ≡ unset body → block ≡ body.statements → moments k ≡ [] → TraceGrew (λ ts. Ends r o turns vs block ts ws) k n → HasEnded r body o n
 has_ended r body o turns vs block ws k n no_turn not_set whole begun h =
@@ -44,5 +44,5 @@ has_ended r body o turns vs block ws k n no_turn not_set whole begun h =
       subst (λ ts. Ends r o [] (unset body) body.statements ts ws) (sym trace)
           (subst (λ (l : List ℤ). Ends r o l (unset body) body.statements h.0 ws) no_turn
           (subst (λ (us : List (Option Held)). Ends r o turns us body.statements h.0 ws) not_set
-          (subst (λ (xs : List Statement). Ends r o turns vs xs h.0 ws) whole h.2))),
+          (subst (λ (xs : List ResolvedStatement). Ends r o turns vs xs h.0 ws) whole h.2))),
     )

@@ -4,7 +4,7 @@ use Rattle.std.specs.Prelude.{◌==◌}
 use Rattle.std.proofs.lemmas.Bool.Decides.{nat_tests}
 use Rattle.std.proofs.lemmas.Int.{by_lt_z, ints}
 use Rattle.std.proofs.lemmas.List.{append-nil}
-use Rattle.tp_play.specs.declared.body.Statement.{Statement}
+use Rattle.tp_play.specs.declared.body.ResolvedStatement.{ResolvedStatement}
 use Rattle.tp_play.specs.Sizes.{turns_between}
 use Rattle.tp_behaviour.specs.declared.held.Held.{Held}
 use Rattle.tp_behaviour.specs.declared.outcome.Outcome.{Outcome}
@@ -38,24 +38,24 @@ pub none_there : {X : Type 0} (xs : List X) → true ≡ (length xs == 0) → xs
 none_there [] is = refl
 none_there (x ∷ xs) is = absurd (grind (arith, nat_tests))
 
-pub turned_empty : (p : Task) (first : ℤ) (block : List Statement) (n : ℕ) (here : Worker) (before : Frame) → block ≡ []
+pub turned_empty : (p : Task) (first : ℤ) (block : List ResolvedStatement) (n : ℕ) (here : Worker) (before : Frame) → block ≡ []
     → Turned p first block n outcome.Done here before here before
 turned_empty p first block n here before none = (
   [],
   sym (append-nil (moments here.desk.log)),
-  subst (λ (xs : List Statement). AreTurns (role_of p) before.turns.items before.variables.items first xs n [] before.variables.items) (sym none)
+  subst (λ (xs : List ResolvedStatement). AreTurns (role_of p) before.turns.items before.variables.items first xs n [] before.variables.items) (sym none)
       (empty_turns (role_of p) before.turns.items before.variables.items first n),
 )
 
 -- the turns up to this value of the loop variable were made
-pub record TurnsMade (p : Task) (first value bound : ℤ) (block : List Statement) (here : Worker) (before : Frame) (there : Worker)
+pub record TurnsMade (p : Task) (first value bound : ℤ) (block : List ResolvedStatement) (here : Worker) (before : Frame) (there : Worker)
     (after : Frame) : Type 0 where
   pub count : ℕ
   pub at : value ≡ first +ℤ pos count
   pub within : count ≤ turns_between first bound
   pub grew : TraceGrew (λ ts. AreTurns (role_of p) before.turns.items before.variables.items first block count ts after.variables.items) here.desk.log there.desk.log
 
-pub made_start : (p : Task) (first bound : ℤ) (block : List Statement) (here : Worker) (before : Frame)
+pub made_start : (p : Task) (first bound : ℤ) (block : List ResolvedStatement) (here : Worker) (before : Frame)
     → TurnsMade p first first bound block here before here before
 made_start p first bound block here before = record {
   count = 0;
@@ -71,7 +71,7 @@ fewer first value bound n at below =
     omega (arith, ints)
 
 -- what a turn came to, as the definitions write it
-as_counted : (p : Task) (o : Outcome) (turns us : List ℤ) (first value : ℤ) (n : ℕ) (block : List Statement) (mid : Worker) (now : Frame) (there : Worker)
+as_counted : (p : Task) (o : Outcome) (turns us : List ℤ) (first value : ℤ) (n : ℕ) (block : List ResolvedStatement) (mid : Worker) (now : Frame) (there : Worker)
     (after : Frame)
     → us ≡ turns → value ≡ first +ℤ pos n → ExecutedIn p (us ++ value ∷ []) block o mid now there after
     → ExecutedIn p (turns ++ (first +ℤ pos n) ∷ []) block o mid now there after
@@ -80,7 +80,7 @@ as_counted p o turns us first value n block mid now there after same at h =
     (subst (λ (v : ℤ). ExecutedIn p (us ++ v ∷ []) block o mid now there after) at h)
 
 -- one turn more
-pub made_more : (p : Task) (first value bound next : ℤ) (block : List Statement) (here : Worker) (before : Frame) (mid : Worker) (now : Frame)
+pub made_more : (p : Task) (first value bound next : ℤ) (block : List ResolvedStatement) (here : Worker) (before : Frame) (mid : Worker) (now : Frame)
     (there : Worker) (after : Frame)
     → now.turns.items ≡ before.turns.items → value <ℤ bound → next ≡ value +ℤ pos 1 → TurnsMade p first value bound block here before mid now
     → ExecutedIn p (now.turns.items ++ value ∷ []) block outcome.Done mid now there after → TurnsMade p first next bound block here before there after
@@ -103,7 +103,7 @@ made_more p first value bound next block here before mid now there after same be
     }
 
 -- all of them
-pub made_all : (p : Task) (first value bound : ℤ) (block : List Statement) (here : Worker) (before : Frame) (there : Worker) (after : Frame)
+pub made_all : (p : Task) (first value bound : ℤ) (block : List ResolvedStatement) (here : Worker) (before : Frame) (there : Worker) (after : Frame)
     → bound ≤ℤ value → TurnsMade p first value bound block here before there after
     → Turned p first block (turns_between first bound) outcome.Done here before there after
 made_all p first value bound block here before there after above made =
@@ -114,7 +114,7 @@ made_all p first value bound block here before there after above made =
     all_made first value bound (suc n) above at within = by_lt_z first bound (λ low. let whole = some_between first bound low in omega (arith, ints))
         (λ high. let none = none_between first bound high in omega (arith, ints))
 
-module _ (r : Actor) (turns : List ℤ) (vs ws us : List (Option Held)) (first : ℤ) (block : List Statement) (count n : ℕ) (less : n < count) where
+module _ (r : Actor) (turns : List ℤ) (vs ws us : List (Option Held)) (first : ℤ) (block : List ResolvedStatement) (count n : ℕ) (less : n < count) where
   ends_in : (o : Outcome) → (o ≡ outcome.Done → ⊥) → (ts more : List Moment) → AreTurns r turns vs first block n ts ws
       → Ends r o (turns ++ (first +ℤ pos n) ∷ []) ws block more us → EndsTurns r o turns vs first block count (ts ++ more) us
   ends_in outcome.Done other ts more so one = absurd (other refl)
@@ -122,7 +122,7 @@ module _ (r : Actor) (turns : List ℤ) (vs ws us : List (Option Held)) (first :
   ends_in (outcome.Waiting guards) other ts more so one = (n, ws, ts, more, refl, less, so, one)
 
 -- the next one ends otherwise: the `for` does
-pub made_stop : (p : Task) (first value bound : ℤ) (block : List Statement) (o : Outcome) (here : Worker) (before : Frame) (mid : Worker) (now : Frame)
+pub made_stop : (p : Task) (first value bound : ℤ) (block : List ResolvedStatement) (o : Outcome) (here : Worker) (before : Frame) (mid : Worker) (now : Frame)
     (there : Worker) (after : Frame)
     → (o ≡ outcome.Done → ⊥) → now.turns.items ≡ before.turns.items → value <ℤ bound → TurnsMade p first value bound block here before mid now
     → ExecutedIn p (now.turns.items ++ value ∷ []) block o mid now there after → Turned p first block (turns_between first bound) o here before there after
@@ -138,7 +138,7 @@ made_stop p first value bound block o here before mid now there after other same
     made.grew (as_counted p o turns now.turns.items first value n block mid now there after same made.at turn)
 
 -- the same numbers, as a clause writes them
-pub turned_as : (p : Task) (o : Outcome) (block : List Statement) (low first high bound : ℤ) (here : Worker) (before : Frame) (there : Worker) (after : Frame)
+pub turned_as : (p : Task) (o : Outcome) (block : List ResolvedStatement) (low first high bound : ℤ) (here : Worker) (before : Frame) (there : Worker) (after : Frame)
     → low ≡ first → high ≡ bound → Turned p low block (turns_between low high) o here before there after
     → Turned p first block (turns_between first bound) o here before there after
 turned_as p o block low first high bound here before there after low_is high_is h =

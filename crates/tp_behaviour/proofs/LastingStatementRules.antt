@@ -7,12 +7,12 @@ use Rattle.tp_value.specs.declared.verdict.Verdict.{Verdict}
 use Rattle.tp_event.specs.declared.operation.PortOperation.{PortOperation}
 use Rattle.tp_play.specs.declared.body.SendOperation.{SendOperation}
 use Rattle.tp_play.specs.declared.body.Receiving.{Receiving}
-use Rattle.tp_play.specs.declared.body.Statement.{Statement}
-use Rattle.tp_play.specs.declared.body.Statement.TheVariants as b
-use Rattle.tp_play.specs.declared.body.Statement.TheOpen as o
-use Rattle.tp_play.specs.declared.body.Statement.TheViews.{roll-Statement, roll-Branch, out-Branch, roll-out-Branch}
-use Rattle.tp_play.specs.declared.body.Statement.TheFolds.{map-Statement, map-Branch, rec-roll-Statement, rec-roll-Branch}
-use Rattle.tp_play.specs.declared.body.Branch.{Branch}
+use Rattle.tp_play.specs.declared.body.ResolvedStatement.{ResolvedStatement}
+use Rattle.tp_play.specs.declared.body.ResolvedStatement.TheVariants as b
+use Rattle.tp_play.specs.declared.body.ResolvedStatement.TheOpen as o
+use Rattle.tp_play.specs.declared.body.ResolvedStatement.TheViews.{roll-ResolvedStatement, roll-ResolvedBranch, out-ResolvedBranch, roll-out-ResolvedBranch}
+use Rattle.tp_play.specs.declared.body.ResolvedStatement.TheFolds.{map-ResolvedStatement, map-ResolvedBranch, rec-roll-ResolvedStatement, rec-roll-ResolvedBranch}
+use Rattle.tp_play.specs.declared.body.ResolvedBranch.{ResolvedBranch}
 use Rattle.tp_value.specs.declared.message.MsgTemplate.{MsgTemplate}
 use Rattle.tp_behaviour.specs.declared.lasting.Lasting.{Lasting, out-Lasting}
 use Rattle.tp_behaviour.specs.declared.lasting.Lasting.TheViews.{out-roll-Lasting, roll-Lasting}
@@ -25,9 +25,9 @@ module _ {X Y : Type 0} (g : X → Y) (k : Y → Lasting → Type 0) where
   zipped-map (x ∷ xs) [] = refl
   zipped-map (x ∷ xs) (l ∷ ls) = λ i. k (g x) l × zipped-map xs ls i
 
-natural : (X Y : Type 0) (g : X → Statement) (h : Y → Branch) (k : Statement → Lasting → Type 0) (l : Branch → Lasting → Type 0) (x : o.Statement-F X Y)
-    → statement_lasts X Y g h (λ p. k (g p)) (λ p. l (h p)) x ≡ statement_lasts Statement Branch (λ y. y) (λ y. y) k l
-    (map-Statement X Y Statement Branch g h x)
+natural : (X Y : Type 0) (g : X → ResolvedStatement) (h : Y → ResolvedBranch) (k : ResolvedStatement → Lasting → Type 0) (l : ResolvedBranch → Lasting → Type 0) (x : o.ResolvedStatement-F X Y)
+    → statement_lasts X Y g h (λ p. k (g p)) (λ p. l (h p)) x ≡ statement_lasts ResolvedStatement ResolvedBranch (λ y. y) (λ y. y) k l
+    (map-ResolvedStatement X Y ResolvedStatement ResolvedBranch g h x)
 natural X Y g h k l (o.Send x) = refl
 natural X Y g h k l (o.Receive x) = refl
 natural X Y g h k l (o.Control p x) = refl
@@ -38,23 +38,23 @@ natural X Y g h k l (o.Alt branches (Some block)) = λ i kept. zipped-map h l br
     × zipped-map g k block (out-Lasting kept).block i
 natural X Y g h k l (o.For first bound block) = λ i kept. zipped-map g k block (out-Lasting kept).block i
 
-natural_branch : (X Y : Type 0) (g : X → Statement) (h : Y → Branch) (k : Statement → Lasting → Type 0) (l : Branch → Lasting → Type 0) (x : o.Branch-F X Y)
-    → branch_lasts X Y g h (λ p. k (g p)) (λ p. l (h p)) x ≡ branch_lasts Statement Branch (λ y. y) (λ y. y) k l (map-Branch X Y Statement Branch g h x)
+natural_branch : (X Y : Type 0) (g : X → ResolvedStatement) (h : Y → ResolvedBranch) (k : ResolvedStatement → Lasting → Type 0) (l : ResolvedBranch → Lasting → Type 0) (x : o.ResolvedBranch-F X Y)
+    → branch_lasts X Y g h (λ p. k (g p)) (λ p. l (h p)) x ≡ branch_lasts ResolvedStatement ResolvedBranch (λ y. y) (λ y. y) k l (map-ResolvedBranch X Y ResolvedStatement ResolvedBranch g h x)
 natural_branch X Y g h k l x = λ i kept. IsWantedAlways x.receiving.wanted (out-Lasting kept).wanted × zipped-map g k x.block (out-Lasting kept).block i
 
 module _ (kept : Lasting) where
   -- one layer
-  lasting_roll : (x : o.Statement-F Statement Branch) → IsLasting (roll-Statement x) kept ≡ statement_lasts Statement Branch (λ y. y)
+  lasting_roll : (x : o.ResolvedStatement-F ResolvedStatement ResolvedBranch) → IsLasting (roll-ResolvedStatement x) kept ≡ statement_lasts ResolvedStatement ResolvedBranch (λ y. y)
       (λ y. y) IsLasting IsLastingBranch x kept
   unfolding IsLasting IsLastingBranch
-  lasting_roll x = λ i. rec-roll-Statement (Lasting → Type 0) (Lasting → Type 0) statement_lasts branch_lasts natural x i kept
+  lasting_roll x = λ i. rec-roll-ResolvedStatement (Lasting → Type 0) (Lasting → Type 0) statement_lasts branch_lasts natural x i kept
 
-  branch_roll : (x : o.Branch-F Statement Branch) → IsLastingBranch (roll-Branch x) kept ≡ branch_lasts Statement Branch (λ y. y)
+  branch_roll : (x : o.ResolvedBranch-F ResolvedStatement ResolvedBranch) → IsLastingBranch (roll-ResolvedBranch x) kept ≡ branch_lasts ResolvedStatement ResolvedBranch (λ y. y)
       (λ y. y) IsLasting IsLastingBranch x kept
   unfolding IsLasting IsLastingBranch
-  branch_roll x = λ i. rec-roll-Branch (Lasting → Type 0) (Lasting → Type 0) statement_lasts branch_lasts natural_branch x i kept
+  branch_roll x = λ i. rec-roll-ResolvedBranch (Lasting → Type 0) (Lasting → Type 0) statement_lasts branch_lasts natural_branch x i kept
 
-  at : (x : Statement) (y : o.Statement-F Statement Branch) → roll-Statement y ≡ x → IsLasting x kept ≡ statement_lasts Statement Branch (λ z. z)
+  at : (x : ResolvedStatement) (y : o.ResolvedStatement-F ResolvedStatement ResolvedBranch) → roll-ResolvedStatement y ≡ x → IsLasting x kept ≡ statement_lasts ResolvedStatement ResolvedBranch (λ z. z)
       (λ z. z) IsLasting IsLastingBranch y kept
   at x y e = ap (λ z. IsLasting z kept) (sym e) ∙ lasting_roll y
 
@@ -73,16 +73,16 @@ module _ (kept : Lasting) where
   pub lasting_set_verdict : (x : Verdict) → IsLasting (b.SetVerdict x) kept ≡ Unit {0}
   lasting_set_verdict x = at (b.SetVerdict x) (o.SetVerdict x) (b.rolls-SetVerdict x)
 
-  pub lasting_alt : (xs : List Branch) (otherwise : Option (List Statement))
+  pub lasting_alt : (xs : List ResolvedBranch) (otherwise : Option (List ResolvedStatement))
       → IsLasting (b.Alt xs otherwise) kept ≡ (AreLastingBranches xs (out-Lasting kept).branches × IsLastingElse otherwise (out-Lasting kept).block)
   lasting_alt xs otherwise = at (b.Alt xs otherwise) (o.Alt xs otherwise) (b.rolls-Alt xs otherwise)
 
-  pub lasting_for : (first bound : ℤ) (block : List Statement) → IsLasting (b.For first bound block) kept ≡ AreLasting block (out-Lasting kept).block
+  pub lasting_for : (first bound : ℤ) (block : List ResolvedStatement) → IsLasting (b.For first bound block) kept ≡ AreLasting block (out-Lasting kept).block
   lasting_for first bound block = at (b.For first bound block) (o.For first bound block) (b.rolls-For first bound block)
 
-  pub lasting_branch : (x : Branch)
+  pub lasting_branch : (x : ResolvedBranch)
       → IsLastingBranch x kept ≡ (IsWantedAlways x.receiving.wanted (out-Lasting kept).wanted × AreLasting x.block (out-Lasting kept).block)
-  lasting_branch x = ap (λ y. IsLastingBranch y kept) (sym (roll-out-Branch x)) ∙ branch_roll (out-Branch x)
+  lasting_branch x = ap (λ y. IsLastingBranch y kept) (sym (roll-out-ResolvedBranch x)) ∙ branch_roll (out-ResolvedBranch x)
 
 -- one more
 module _ {X : Type 0} (p : X → Lasting → Type 0) (xs : List X) where
@@ -114,21 +114,21 @@ module _ (w : Option MsgTemplate) (bs ls : List Lasting) where
   inside : out-Lasting (made_lasting w bs ls) ≡ record { wanted = w; branches = bs; block = ls }
   inside = out-roll-Lasting (record { wanted = w; branches = bs; block = ls })
 
-  pub make_branch : (x : Branch) → IsWantedAlways x.receiving.wanted w → AreLasting x.block ls → IsLastingBranch x (made_lasting w bs ls)
+  pub make_branch : (x : ResolvedBranch) → IsWantedAlways x.receiving.wanted w → AreLasting x.block ls → IsLastingBranch x (made_lasting w bs ls)
   make_branch x first block =
       subst (λ (P : Type 0). P)
       (sym (lasting_branch (made_lasting w bs ls) x ∙ (λ i. IsWantedAlways x.receiving.wanted (inside i).wanted × AreLasting x.block (inside i).block)))
       (first, block)
 
 -- of a statement, by what it is
-module _ (x : Statement) (w : Option MsgTemplate) (bs ls : List Lasting) where
-  kind_of : (P : Type 0) (y : Statement) → x ≡ y → IsLasting y (made_lasting w bs ls) ≡ P → P → IsLasting x (made_lasting w bs ls)
+module _ (x : ResolvedStatement) (w : Option MsgTemplate) (bs ls : List Lasting) where
+  kind_of : (P : Type 0) (y : ResolvedStatement) → x ≡ y → IsLasting y (made_lasting w bs ls) ≡ P → P → IsLasting x (made_lasting w bs ls)
   kind_of P y e is h = subst (λ z. IsLasting z (made_lasting w bs ls)) (sym e) (subst (λ (Q : Type 0). Q) (sym is) h)
 
   pub make_receive : (y : Receiving) → x ≡ b.Receive y → IsWantedAlways y.wanted w → IsLasting x (made_lasting w bs ls)
   make_receive y e h = kind_of (IsWantedAlways y.wanted w) (b.Receive y) e (lasting_receive (made_lasting w bs ls) y ∙ (λ i. IsWantedAlways y.wanted (inside w bs ls i).wanted)) h
 
-  pub make_alt : (branches : List Branch) (otherwise : Option (List Statement)) → x ≡ b.Alt branches otherwise → AreLastingBranches branches bs
+  pub make_alt : (branches : List ResolvedBranch) (otherwise : Option (List ResolvedStatement)) → x ≡ b.Alt branches otherwise → AreLastingBranches branches bs
       → IsLastingElse otherwise ls
       → IsLasting x (made_lasting w bs ls)
   make_alt branches otherwise e each block =
@@ -136,13 +136,13 @@ module _ (x : Statement) (w : Option MsgTemplate) (bs ls : List Lasting) where
       (lasting_alt (made_lasting w bs ls) branches otherwise
       ∙ (λ i. AreLastingBranches branches (inside w bs ls i).branches × IsLastingElse otherwise (inside w bs ls i).block)) (each, block)
 
-  pub make_for : (first bound : ℤ) (block : List Statement) → x ≡ b.For first bound block → AreLasting block ls → IsLasting x (made_lasting w bs ls)
+  pub make_for : (first bound : ℤ) (block : List ResolvedStatement) → x ≡ b.For first bound block → AreLasting block ls → IsLasting x (made_lasting w bs ls)
   make_for first bound block e h =
       kind_of (AreLasting block ls) (b.For first bound block) e
       (lasting_for (made_lasting w bs ls) first bound block ∙ (λ i. AreLasting block (inside w bs ls i).block)) h
 
 -- whatever lasts of a statement in which none is received
-module _ (x : Statement) (kept : Lasting) where
+module _ (x : ResolvedStatement) (kept : Lasting) where
   pub make_send : (y : SendOperation) → x ≡ b.Send y → IsLasting x kept
   make_send y e = subst (λ z. IsLasting z kept) (sym e) (subst (λ (P : Type 0). P) (sym (lasting_send kept y)) tt)
 
@@ -156,24 +156,24 @@ module _ (x : Statement) (kept : Lasting) where
   make_set_verdict y e = subst (λ z. IsLasting z kept) (sym e) (subst (λ (P : Type 0). P) (sym (lasting_set_verdict kept y)) tt)
 
 -- of a branch
-pub lasts_operation : (x : Branch) (kept : Lasting) → IsLastingBranch x kept → IsWantedAlways x.receiving.wanted (out-Lasting kept).wanted
+pub lasts_operation : (x : ResolvedBranch) (kept : Lasting) → IsLastingBranch x kept → IsWantedAlways x.receiving.wanted (out-Lasting kept).wanted
 lasts_operation x kept h = (rw lasting_branch at h).0
 
-pub lasts_block : (x : Branch) (kept : Lasting) → IsLastingBranch x kept → AreLasting x.block (out-Lasting kept).block
+pub lasts_block : (x : ResolvedBranch) (kept : Lasting) → IsLastingBranch x kept → AreLasting x.block (out-Lasting kept).block
 lasts_block x kept h = (rw lasting_branch at h).1
 
 -- of a statement that is known by an equation
-module _ (x : Statement) (kept : Lasting) where
+module _ (x : ResolvedStatement) (kept : Lasting) where
   pub lasts_receive : (y : Receiving) → x ≡ b.Receive y → IsLasting x kept → IsWantedAlways y.wanted (out-Lasting kept).wanted
   lasts_receive y e h = rw (e, lasting_receive) at h
 
-  pub lasts_alt : (branches : List Branch) (otherwise : Option (List Statement)) → x ≡ b.Alt branches otherwise → IsLasting x kept
+  pub lasts_alt : (branches : List ResolvedBranch) (otherwise : Option (List ResolvedStatement)) → x ≡ b.Alt branches otherwise → IsLasting x kept
       → AreLastingBranches branches (out-Lasting kept).branches
   lasts_alt branches otherwise e h = (rw (e, lasting_alt) at h).0
 
-  pub lasts_else : (branches : List Branch) (block : List Statement) → x ≡ b.Alt branches (Some block) → IsLasting x kept
+  pub lasts_else : (branches : List ResolvedBranch) (block : List ResolvedStatement) → x ≡ b.Alt branches (Some block) → IsLasting x kept
       → AreLasting block (out-Lasting kept).block
   lasts_else branches block e h = (rw (e, lasting_alt) at h).1
 
-  pub lasts_for : (first bound : ℤ) (block : List Statement) → x ≡ b.For first bound block → IsLasting x kept → AreLasting block (out-Lasting kept).block
+  pub lasts_for : (first bound : ℤ) (block : List ResolvedStatement) → x ≡ b.For first bound block → IsLasting x kept → AreLasting block (out-Lasting kept).block
   lasts_for first bound block e h = rw (e, lasting_for) at h

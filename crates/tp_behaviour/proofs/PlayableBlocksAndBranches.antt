@@ -1,8 +1,8 @@
 -- What can be played at a place of a block, or entered at a place of an `alt`.
 use Rattle.std.proofs.Common.{◌≡◌, ◌∙◌, ℕ, zero, suc, ◌<◌, Some, List, [], ◌∷◌, get_or, length, slice_get, unwrap_or, ap, sym, subst}
 use Rattle.std.proofs.lemmas.Option.{slice_get-get_or}
-use Rattle.tp_play.specs.declared.body.Branch.{Branch}
-use Rattle.tp_play.specs.declared.body.Statement.{Statement}
+use Rattle.tp_play.specs.declared.body.ResolvedBranch.{ResolvedBranch}
+use Rattle.tp_play.specs.declared.body.ResolvedStatement.{ResolvedStatement}
 use Rattle.tp_play.specs.Playable.{CanEnter, CanEnterAll, CanPlay, CanPlayAll, CanReceive, Each, Stage}
 use Rattle.tp_play.proofs.PlayableStatementRules.{enters_block, enters_receive}
 
@@ -13,18 +13,18 @@ each_at can n (y ∷ ys) zero x is h = subst (λ z. can z n) (ap (λ o. unwrap_o
 each_at can n (y ∷ ys) (suc i) x is h = each_at can n ys i x is h.1
 
 -- a statement, also where the depth is written otherwise
-pub plays_at : (s : Stage) (m n : ℕ) (xs : List Statement) (i : ℕ) (x : Statement) → m ≡ n → i < length xs → x ≡ get_or xs i x → CanPlayAll s n xs
+pub plays_at : (s : Stage) (m n : ℕ) (xs : List ResolvedStatement) (i : ℕ) (x : ResolvedStatement) → m ≡ n → i < length xs → x ≡ get_or xs i x → CanPlayAll s n xs
     → CanPlay s m x
 plays_at s m n xs i x depth below is can =
     subst (λ k. CanPlay s k x) (sym depth) (each_at (λ y k. CanPlay s k y) n xs i x (slice_get-get_or xs i x below ∙ ap Some (sym is)) can)
 
-enters_at : (s : Stage) (n : ℕ) (xs : List Branch) (i : ℕ) (d : Branch) → CanEnterAll s n xs → i < length xs → CanEnter s n (get_or xs i d)
+enters_at : (s : Stage) (n : ℕ) (xs : List ResolvedBranch) (i : ℕ) (d : ResolvedBranch) → CanEnterAll s n xs → i < length xs → CanEnter s n (get_or xs i d)
 enters_at s n xs i d can below = each_at (λ y m. CanEnter s m y) n xs i (get_or xs i d) (slice_get-get_or xs i d below) can
 
 -- the operation of a branch
-pub receives_at : (s : Stage) (n : ℕ) (xs : List Branch) (i : ℕ) (d : Branch) → CanEnterAll s n xs → i < length xs → CanReceive s n (get_or xs i d).receiving
+pub receives_at : (s : Stage) (n : ℕ) (xs : List ResolvedBranch) (i : ℕ) (d : ResolvedBranch) → CanEnterAll s n xs → i < length xs → CanReceive s n (get_or xs i d).receiving
 receives_at s n xs i d can below = enters_receive s n (get_or xs i d) (enters_at s n xs i d can below)
 
 -- its block
-pub plays_block : (s : Stage) (n : ℕ) (xs : List Branch) (i : ℕ) (d : Branch) → CanEnterAll s n xs → i < length xs → CanPlayAll s n (get_or xs i d).block
+pub plays_block : (s : Stage) (n : ℕ) (xs : List ResolvedBranch) (i : ℕ) (d : ResolvedBranch) → CanEnterAll s n xs → i < length xs → CanPlayAll s n (get_or xs i d).block
 plays_block s n xs i d can below = enters_block s n (get_or xs i d) (enters_at s n xs i d can below)

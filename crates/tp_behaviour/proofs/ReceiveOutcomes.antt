@@ -6,7 +6,7 @@ use Rattle.tp_event.specs.declared.event.Env.{Env}
 use Rattle.tp_value.specs.declared.message.Message.{Message}
 use Rattle.tp_play.specs.declared.body.Receiving.{Receiving}
 use Rattle.tp_play.specs.declared.body.RecvMsg.{RecvMsg}
-use Rattle.tp_play.specs.declared.body.Statement.TheVariants as b
+use Rattle.tp_play.specs.declared.body.ResolvedStatement.TheVariants as b
 use Rattle.tp_play.specs.declared.body.VariableType.{VariableType}
 use Rattle.tp_play.specs.declared.body.VariableType.TheVariants as kind
 use Rattle.tp_play.specs.Playable.{CanKeepSender, CanKeepValue, Stage}

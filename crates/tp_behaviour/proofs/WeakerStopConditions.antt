@@ -1,6 +1,6 @@
 -- A behaviour that stops where this holds of the branches at which it waits stops where anything weaker does.
 use Rattle.std.proofs.Common.{ℤ, Option, List}
-use Rattle.tp_play.specs.declared.body.Statement.{Statement}
+use Rattle.tp_play.specs.declared.body.ResolvedStatement.{ResolvedStatement}
 use Rattle.tp_history.specs.declared.ending.End.{End}
 use Rattle.tp_behaviour.specs.declared.choice.Guard.{Guard}
 use Rattle.tp_behaviour.specs.declared.held.Held.{Held}
@@ -10,7 +10,7 @@ use Rattle.tp_behaviour.specs.Moments.{Moment}
 
 module _ (r : Actor) (P Q : List Guard → Type 0) (weaker : (gs : List Guard) → P gs → Q gs) where
   mutual
-    still_stops_within : {end : End} {turns : List ℤ} {vs : List (Option Held)} {x : Statement} {ts : List Moment} → StopsWithin r P end turns vs x ts
+    still_stops_within : {end : End} {turns : List ℤ} {vs : List (Option Held)} {x : ResolvedStatement} {ts : List Moment} → StopsWithin r P end turns vs x ts
         → StopsWithin r Q end turns vs x ts
     still_stops_within (StopsWithin.fails turns vs x k fault h) = StopsWithin.fails turns vs x k fault h
     still_stops_within (StopsWithin.waits turns vs x drops all h) = StopsWithin.waits turns vs x drops all (weaker _ h)
@@ -22,6 +22,6 @@ module _ (r : Actor) (P Q : List Guard → Type 0) (weaker : (gs : List Guard) �
     still_stops_within (StopsWithin.within_for end turns vs ws first bound block n ts more so less h) =
         StopsWithin.within_for end turns vs ws first bound block n ts more so less (still_stops h)
 
-    pub still_stops : {end : End} {turns : List ℤ} {vs : List (Option Held)} {xs : List Statement} {ts : List Moment} → Stops r P end turns vs xs ts
+    pub still_stops : {end : End} {turns : List ℤ} {vs : List (Option Held)} {xs : List ResolvedStatement} {ts : List Moment} → Stops r P end turns vs xs ts
         → Stops r Q end turns vs xs ts
     still_stops (Stops.stops end turns vs ws xs x rest ts more path h) = Stops.stops end turns vs ws xs x rest ts more path (still_stops_within h)

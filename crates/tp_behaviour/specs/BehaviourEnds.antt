@@ -8,9 +8,9 @@ use Rattle.tp_config.specs.Routes.{RouteCause, routes_from}
 use Rattle.tp_play.specs.declared.body.SendOperation.{SendOperation}
 use Rattle.tp_play.specs.declared.body.Receiver.TheVariants as receiver
 use Rattle.tp_play.specs.declared.body.Receiving.{Receiving}
-use Rattle.tp_play.specs.declared.body.Statement.{Statement}
-use Rattle.tp_play.specs.declared.body.Statement.TheVariants as statement
-use Rattle.tp_play.specs.declared.body.Branch.{Branch}
+use Rattle.tp_play.specs.declared.body.ResolvedStatement.{ResolvedStatement}
+use Rattle.tp_play.specs.declared.body.ResolvedStatement.TheVariants as statement
+use Rattle.tp_play.specs.declared.body.ResolvedBranch.{ResolvedBranch}
 use Rattle.tp_play.specs.declared.body.Body.{Body}
 use Rattle.tp_play.specs.Sizes.{turns_between}
 use Rattle.tp_history.specs.declared.entry.Entry.{Entry}
@@ -43,7 +43,7 @@ pub data IsFailure (r : Actor) (vs : Values) (x : SendOperation) (k : List Entry
 mutual
   -- the moments lead to a statement within this one, or to itself, and the behaviour stops there with this end; where
   -- it waits, `rests` holds of the branches
-  pub data StopsWithin (r : Actor) (rests : List Guard → Type 0) : End → List ℤ → List (Option Held) → Statement
+  pub data StopsWithin (r : Actor) (rests : List Guard → Type 0) : End → List ℤ → List (Option Held) → ResolvedStatement
       → List Moment → Type 0 where
     -- at a send that fails
     fails : (turns : List ℤ) (vs : List (Option Held)) (x : SendOperation) (k : List Entry) (fault : SendFault)
@@ -56,37 +56,37 @@ mutual
         → rests (guard_of r (record { turns = turns; variables = vs }) x ∷ [])
         → StopsWithin r rests ending.Waiting turns vs (statement.Receive x) drops
     -- at an `alt` without `[else]`
-    waits_at_alt : (turns : List ℤ) (vs : List (Option Held)) (branches : List Branch) (drops : List Moment)
+    waits_at_alt : (turns : List ℤ) (vs : List (Option Held)) (branches : List ResolvedBranch) (drops : List Moment)
         → All (IsDrop (guards_of r (record { turns = turns; variables = vs }) branches)) drops
         → rests (guards_of r (record { turns = turns; variables = vs }) branches)
         → StopsWithin r rests ending.Waiting turns vs (statement.Alt branches None) drops
     -- within the block of the branch that was chosen
-    within_branch : (end : End) (turns : List ℤ) (vs : List (Option Held)) (branches : List Branch)
-        (otherwise : Option (List Statement)) (has_else : Bool)
-        (drops : List Moment) (t : Moment) (i : ℕ) (e : Env Message) (x : Branch) (ts : List Moment)
+    within_branch : (end : End) (turns : List ℤ) (vs : List (Option Held)) (branches : List ResolvedBranch)
+        (otherwise : Option (List ResolvedStatement)) (has_else : Bool)
+        (drops : List Moment) (t : Moment) (i : ℕ) (e : Env Message) (x : ResolvedBranch) (ts : List Moment)
         → All (IsDrop (guards_of r (record { turns = turns; variables = vs }) branches)) drops
         → IsChoice (guards_of r (record { turns = turns; variables = vs }) branches) has_else t (Some (i, e))
         → slice_get branches i ≡ Some x → Stops r rests end turns (redirected x.receiving e vs) x.block ts
         → StopsWithin r rests end turns vs (statement.Alt branches otherwise) (drops ++ t ∷ ts)
-    within_else : (end : End) (turns : List ℤ) (vs : List (Option Held)) (branches : List Branch)
-        (block : List Statement)
+    within_else : (end : End) (turns : List ℤ) (vs : List (Option Held)) (branches : List ResolvedBranch)
+        (block : List ResolvedStatement)
         (drops : List Moment) (t : Moment) (ts : List Moment)
         → All (IsDrop (guards_of r (record { turns = turns; variables = vs }) branches)) drops
         → IsChoice (guards_of r (record { turns = turns; variables = vs }) branches) true t None
         → Stops r rests end turns vs block ts
         → StopsWithin r rests end turns vs (statement.Alt branches (Some block)) (drops ++ t ∷ ts)
     -- within a turn of a `for`, after n whole ones
-    within_for : (end : End) (turns : List ℤ) (vs ws : List (Option Held)) (first bound : ℤ) (block : List Statement)
+    within_for : (end : End) (turns : List ℤ) (vs ws : List (Option Held)) (first bound : ℤ) (block : List ResolvedStatement)
         (n : ℕ) (ts more : List Moment)
         → AreTurns r turns vs first block n ts ws → n < turns_between first bound
         → Stops r rests end (turns ++ (first +ℤ pos n) ∷ []) ws block more
         → StopsWithin r rests end turns vs (statement.For first bound block) (ts ++ more)
 
   -- the moments are a path of the first of these statements, and then lead to a stop within the one behind them
-  pub data Stops (r : Actor) (rests : List Guard → Type 0) : End → List ℤ → List (Option Held) → List Statement
+  pub data Stops (r : Actor) (rests : List Guard → Type 0) : End → List ℤ → List (Option Held) → List ResolvedStatement
       → List Moment → Type 0 where
-    stops : (end : End) (turns : List ℤ) (vs ws : List (Option Held)) (xs : List Statement) (x : Statement)
-        (rest : List Statement) (ts more : List Moment)
+    stops : (end : End) (turns : List ℤ) (vs ws : List (Option Held)) (xs : List ResolvedStatement) (x : ResolvedStatement)
+        (rest : List ResolvedStatement) (ts more : List Moment)
         → IsPath r turns vs xs ts ws → StopsWithin r rests end turns ws x more
         → Stops r rests end turns vs (xs ++ x ∷ rest) (ts ++ more)
 

@@ -3,10 +3,10 @@ use Rattle.std.specs.Prelude.{◌≡◌, ℤ, Option, Some, None, List}
 use Rattle.std.specs.List.{AllZip}
 use Rattle.tp_value.specs.declared.message.MsgTemplate.{MsgTemplate}
 use Rattle.tp_play.specs.declared.body.RecvMsg.{RecvMsg}
-use Rattle.tp_play.specs.declared.body.Statement.{Statement}
-use Rattle.tp_play.specs.declared.body.Statement.TheOpen as o
-use Rattle.tp_play.specs.declared.body.Statement.TheFolds.{rec-Statement, rec-Branch}
-use Rattle.tp_play.specs.declared.body.Branch.{Branch}
+use Rattle.tp_play.specs.declared.body.ResolvedStatement.{ResolvedStatement}
+use Rattle.tp_play.specs.declared.body.ResolvedStatement.TheOpen as o
+use Rattle.tp_play.specs.declared.body.ResolvedStatement.TheFolds.{rec-ResolvedStatement, rec-ResolvedBranch}
+use Rattle.tp_play.specs.declared.body.ResolvedBranch.{ResolvedBranch}
 use Rattle.tp_play.specs.Fills.{filled_wanted}
 use Rattle.tp_behaviour.specs.declared.lasting.Lasting.{Lasting, out-Lasting}
 
@@ -21,9 +21,9 @@ ElseLasts lasts None kept = Unit {0}
 ElseLasts lasts (Some xs) kept = AllZip lasts xs kept
 
 -- one layer of a statement
-abbrev pub statement_lasts : (X Y : Type 0) → (X → Statement) → (Y → Branch) → (X → Lasting → Type 0)
+abbrev pub statement_lasts : (X Y : Type 0) → (X → ResolvedStatement) → (Y → ResolvedBranch) → (X → Lasting → Type 0)
     → (Y → Lasting → Type 0)
-    → o.Statement-F X Y → Lasting → Type 0
+    → o.ResolvedStatement-F X Y → Lasting → Type 0
 statement_lasts X Y statement branch lasts enters (o.Send x) kept = Unit {0}
 statement_lasts X Y statement branch lasts enters (o.Receive x) kept = IsWantedAlways x.wanted (out-Lasting kept).wanted
 statement_lasts X Y statement branch lasts enters (o.Control k x) kept = Unit {0}
@@ -35,28 +35,28 @@ statement_lasts X Y statement branch lasts enters (o.For first bound block) kept
     AllZip lasts block (out-Lasting kept).block
 
 -- one layer of a branch
-abbrev pub branch_lasts : (X Y : Type 0) → (X → Statement) → (Y → Branch) → (X → Lasting → Type 0)
+abbrev pub branch_lasts : (X Y : Type 0) → (X → ResolvedStatement) → (Y → ResolvedBranch) → (X → Lasting → Type 0)
     → (Y → Lasting → Type 0)
-    → o.Branch-F X Y → Lasting → Type 0
+    → o.ResolvedBranch-F X Y → Lasting → Type 0
 branch_lasts X Y statement branch lasts enters x kept = IsWantedAlways x.receiving.wanted (out-Lasting kept).wanted
     × AllZip lasts x.block (out-Lasting kept).block
 
 -- this is what lasts of the statement
-unfoldable pub IsLasting : Statement → Lasting → Type 0
-IsLasting x kept = rec-Statement (Lasting → Type 0) (Lasting → Type 0) statement_lasts branch_lasts x kept
+unfoldable pub IsLasting : ResolvedStatement → Lasting → Type 0
+IsLasting x kept = rec-ResolvedStatement (Lasting → Type 0) (Lasting → Type 0) statement_lasts branch_lasts x kept
 
 -- of the branch
-unfoldable pub IsLastingBranch : Branch → Lasting → Type 0
-IsLastingBranch x kept = rec-Branch (Lasting → Type 0) (Lasting → Type 0) statement_lasts branch_lasts x kept
+unfoldable pub IsLastingBranch : ResolvedBranch → Lasting → Type 0
+IsLastingBranch x kept = rec-ResolvedBranch (Lasting → Type 0) (Lasting → Type 0) statement_lasts branch_lasts x kept
 
 -- of the statements of a block, one for each
-abbrev pub AreLasting : List Statement → List Lasting → Type 0
+abbrev pub AreLasting : List ResolvedStatement → List Lasting → Type 0
 AreLasting xs kept = AllZip IsLasting xs kept
 
 -- of the branches of an `alt`
-abbrev pub AreLastingBranches : List Branch → List Lasting → Type 0
+abbrev pub AreLastingBranches : List ResolvedBranch → List Lasting → Type 0
 AreLastingBranches xs kept = AllZip IsLastingBranch xs kept
 
 -- of a block that may be missing
-abbrev pub IsLastingElse : Option (List Statement) → List Lasting → Type 0
+abbrev pub IsLastingElse : Option (List ResolvedStatement) → List Lasting → Type 0
 IsLastingElse xs kept = ElseLasts IsLasting xs kept

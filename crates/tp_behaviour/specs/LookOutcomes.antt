@@ -1,7 +1,7 @@
 -- What one look at the branches of an `alt` comes to, and what the `alt` does.
 use Rattle.std.specs.Prelude.{◌≡◌, ℤ, Bool, true, false, Option, Some, None, List, [], ◌∷◌, ◌++◌, All}
 use Rattle.tp_config.specs.declared.port_type.CompId.{CompId}
-use Rattle.tp_play.specs.declared.body.Statement.{Statement}
+use Rattle.tp_play.specs.declared.body.ResolvedStatement.{ResolvedStatement}
 use Rattle.tp_history.specs.declared.entry.Entry.{Entry}
 use Rattle.tp_history.specs.Desks.{Journal}
 use Rattle.tp_behaviour.specs.declared.choice.Guard.{Guard}
@@ -30,7 +30,7 @@ abbrev pub AddsEntry : Journal → Entry → Journal → Type 0
 AddsEntry before e after = moments after.log ≡ moments before.log ++ moment before e ∷ []
 
 -- a path of the statement, whatever loop variables and variables hold, and they stay as they are
-abbrev pub Carries : Actor → Statement → Journal → Journal → Type 0
+abbrev pub Carries : Actor → ResolvedStatement → Journal → Journal → Type 0
 Carries r x before after = (turns : List ℤ) (vs : List (Option Held))
     → TraceGrew (λ ts. IsStep r turns vs x ts vs) before.log after.log
 

@@ -1,7 +1,7 @@
 -- How carrying out statements ends.
 use Rattle.std.specs.Prelude.{◌≡◌, ◌<◌, ◌+ℤ◌, ℕ, ℤ, pos, All, Option, List, [], ◌∷◌, ◌++◌, length}
 use Rattle.tp_config.specs.Setup.{ports_at}
-use Rattle.tp_play.specs.declared.body.Statement.{Statement}
+use Rattle.tp_play.specs.declared.body.ResolvedStatement.{ResolvedStatement}
 use Rattle.tp_play.specs.declared.body.Body.{Body}
 use Rattle.tp_play.specs.Playable.{IsPlayable, Stage, stage_of}
 use Rattle.tp_history.specs.declared.entry.Entry.{Entry}
@@ -22,14 +22,14 @@ use Rattle.tp_behaviour.specs.Workers.{AreHeld, role_of}
 
 -- statements that end so: they are carried out, and the variables then hold these values; or they stop at a send that
 -- fails by this fault, or at a wait of which these are the branches
-abbrev pub Ends : Actor → Outcome → List ℤ → List (Option Held) → List Statement → List Moment → List (Option Held)
+abbrev pub Ends : Actor → Outcome → List ℤ → List (Option Held) → List ResolvedStatement → List Moment → List (Option Held)
     → Type 0
 Ends r outcome.Done turns vs xs ts ws = IsPath r turns vs xs ts ws
 Ends r (outcome.Error fault) turns vs xs ts ws = Stops r (λ _. ⊥) (end.Error fault) turns vs xs ts
 Ends r (outcome.Waiting guards) turns vs xs ts ws = Stops r (λ gs. gs ≡ guards.items) end.Waiting turns vs xs ts
 
 -- a statement that ends so
-abbrev pub EndsStep : Actor → Outcome → List ℤ → List (Option Held) → Statement → List Moment → List (Option Held)
+abbrev pub EndsStep : Actor → Outcome → List ℤ → List (Option Held) → ResolvedStatement → List Moment → List (Option Held)
     → Type 0
 EndsStep r outcome.Done turns vs x ts ws = IsStep r turns vs x ts ws
 EndsStep r (outcome.Error fault) turns vs x ts ws = StopsWithin r (λ _. ⊥) (end.Error fault) turns vs x ts
@@ -37,7 +37,7 @@ EndsStep r (outcome.Waiting guards) turns vs x ts ws =
     StopsWithin r (λ gs. gs ≡ guards.items) end.Waiting turns vs x ts
 
 -- after n whole turns of a block the next stops
-abbrev pub StopsTurn : Actor → List ℤ → List (Option Held) → ℤ → List Statement → ℕ
+abbrev pub StopsTurn : Actor → List ℤ → List (Option Held) → ℤ → List ResolvedStatement → ℕ
     → (List ℤ → List (Option Held) → List Moment → Type 0) → List Moment → Type 0
 StopsTurn r turns vs first block count stops ts =
     (n : ℕ) × (us : List (Option Held)) × (before : List Moment) × (more : List Moment) × (ts ≡ before ++ more)
@@ -45,7 +45,7 @@ StopsTurn r turns vs first block count stops ts =
     × AreTurns r turns vs first block n before us × stops (turns ++ (first +ℤ pos n) ∷ []) us more
 
 -- so many turns of a block that end so
-abbrev pub EndsTurns : Actor → Outcome → List ℤ → List (Option Held) → ℤ → List Statement → ℕ → List Moment
+abbrev pub EndsTurns : Actor → Outcome → List ℤ → List (Option Held) → ℤ → List ResolvedStatement → ℕ → List Moment
     → List (Option Held) → Type 0
 EndsTurns r outcome.Done turns vs first block count ts ws = AreTurns r turns vs first block count ts ws
 EndsTurns r (outcome.Error fault) turns vs first block count ts ws =
@@ -86,13 +86,13 @@ abbrev pub depth_of : Frame → ℕ
 depth_of s = length s.turns.items
 
 -- a block that was carried out, from here to there, and ended so
-abbrev pub Executed : Task → List Statement → Outcome → Worker → Frame → Worker → Frame → Type 0
+abbrev pub Executed : Task → List ResolvedStatement → Outcome → Worker → Frame → Worker → Frame → Type 0
 Executed p block o here before there after =
     TraceGrew (λ ts. Ends (role_of p) o before.turns.items before.variables.items block ts after.variables.items)
     here.desk.log there.desk.log
 
 -- a statement
-abbrev pub Stepped : Task → Statement → Outcome → Worker → Frame → Worker → Frame → Type 0
+abbrev pub Stepped : Task → ResolvedStatement → Outcome → Worker → Frame → Worker → Frame → Type 0
 Stepped p x o here before there after =
     TraceGrew (λ ts. EndsStep (role_of p) o before.turns.items before.variables.items x ts after.variables.items)
     here.desk.log there.desk.log

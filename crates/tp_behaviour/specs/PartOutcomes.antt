@@ -2,8 +2,8 @@
 use Rattle.std.specs.Prelude.{◌≡◌, ◌<◌, ℕ, ℤ, Bool, true, false, Option, Some, None, List, All, slice_get}
 use Rattle.tp_event.specs.declared.event.Env.{Env}
 use Rattle.tp_value.specs.declared.message.Message.{Message}
-use Rattle.tp_play.specs.declared.body.Statement.{Statement}
-use Rattle.tp_play.specs.declared.body.Branch.{Branch}
+use Rattle.tp_play.specs.declared.body.ResolvedStatement.{ResolvedStatement}
+use Rattle.tp_play.specs.declared.body.ResolvedBranch.{ResolvedBranch}
 use Rattle.tp_behaviour.specs.declared.choice.Guard.{Guard}
 use Rattle.tp_behaviour.specs.declared.deciding.Decision.{Decision}
 use Rattle.tp_behaviour.specs.declared.deciding.Decision.TheVariants as decision
@@ -21,18 +21,18 @@ use Rattle.tp_behaviour.specs.LookOutcomes.{Ending, TraceGrew}
 use Rattle.tp_behaviour.specs.Workers.{role_of, values_of}
 
 -- the branches of an `alt`, by what loop variables and references stand for
-abbrev pub guards_at : Task → Frame → List Branch → List Guard
+abbrev pub guards_at : Task → Frame → List ResolvedBranch → List Guard
 guards_at p s branches = guards_of (role_of p) (values_of s) branches
 
 -- what was taken or found by the branch at this place stands in the variables that it names
-pub record IsEntered (branches : List Branch) (place : ℕ) (env : Env Message)
+pub record IsEntered (branches : List ResolvedBranch) (place : ℕ) (env : Env Message)
     (vs ws : List (Option Held)) : Type 0 where
-  pub branch : Branch
+  pub branch : ResolvedBranch
   pub there : slice_get branches place ≡ Some branch
   pub set : ws ≡ redirected branch.receiving env vs
 
 -- after messages that `trigger` branches discard, the branch at this place was chosen, and its variables set
-pub record Enters (branches : List Branch) (guards : List Guard) (place : ℕ) (vs ws : List (Option Held))
+pub record Enters (branches : List ResolvedBranch) (guards : List Guard) (place : ℕ) (vs ws : List (Option Held))
     (ts : List Moment) : Type 0 where
   pub env : Env Message
   pub chosen : Ending guards (λ t. (any : Bool) → IsChoice guards any t (Some (place, env))) ts
@@ -52,7 +52,7 @@ pub record Rests (guards : List Guard) (has_else : Bool) (waiting : List Guard) 
   pub same : waiting ≡ guards
 
 -- what an `alt` came to, up to the block that it goes on with
-abbrev pub Decided : Task → List Branch → Bool → Decision → Worker → Frame → Worker → Frame → Type 0
+abbrev pub Decided : Task → List ResolvedBranch → Bool → Decision → Worker → Frame → Worker → Frame → Type 0
 Decided p branches has_else (decision.Branch place) here before there after =
     TraceGrew (Enters branches (guards_at p before branches) place before.variables.items after.variables.items)
     here.desk.log there.desk.log
@@ -63,25 +63,25 @@ Decided p branches has_else (decision.Waits waiting) here before there after =
     TraceGrew (Rests (guards_at p before branches) has_else waiting.items) here.desk.log there.desk.log
 
 -- the block of the branch at this place was carried out, and ended so
-abbrev pub ExecutedAt : Task → List Branch → ℕ → Outcome → Worker → Frame → Worker → Frame → Type 0
+abbrev pub ExecutedAt : Task → List ResolvedBranch → ℕ → Outcome → Worker → Frame → Worker → Frame → Type 0
 ExecutedAt p branches place o here before there after =
-    (x : Branch) × (slice_get branches place ≡ Some x) × Executed p x.block o here before there after
+    (x : ResolvedBranch) × (slice_get branches place ≡ Some x) × Executed p x.block o here before there after
 
 -- a block was carried out where the loop variables around it hold these values, and ended so
-abbrev pub ExecutedIn : Task → List ℤ → List Statement → Outcome → Worker → Frame → Worker → Frame → Type 0
+abbrev pub ExecutedIn : Task → List ℤ → List ResolvedStatement → Outcome → Worker → Frame → Worker → Frame → Type 0
 ExecutedIn p turns block o here before there after =
     TraceGrew (λ ts. Ends (role_of p) o turns before.variables.items block ts after.variables.items) here.desk.log
     there.desk.log
 
 -- so many turns of a block, the loop variable holding this value at first, and they ended so
-abbrev pub Turned : Task → ℤ → List Statement → ℕ → Outcome → Worker → Frame → Worker → Frame → Type 0
+abbrev pub Turned : Task → ℤ → List ResolvedStatement → ℕ → Outcome → Worker → Frame → Worker → Frame → Type 0
 Turned p first block count o here before there after =
     TraceGrew (λ ts. EndsTurns (role_of p) o before.turns.items before.variables.items first block count ts
     after.variables.items) here.desk.log there.desk.log
 
 -- the branch, if that is what the `alt` goes on with, is one of its branches
-abbrev pub IsDecisionOf : List Branch → Decision → Type 0
-IsDecisionOf branches (decision.Branch place) = (x : Branch) × (slice_get branches place ≡ Some x)
+abbrev pub IsDecisionOf : List ResolvedBranch → Decision → Type 0
+IsDecisionOf branches (decision.Branch place) = (x : ResolvedBranch) × (slice_get branches place ≡ Some x)
 IsDecisionOf branches _ = Unit {0}
 
 -- what it waits for, if it waits, are operations on the first n ports

@@ -17,9 +17,9 @@ use Rattle.tp_event.specs.declared.operation.PortOperation.TheVariants as port_o
 use Rattle.tp_play.specs.declared.body.SendOperation.{SendOperation}
 use Rattle.tp_play.specs.declared.body.Receiver.TheVariants as receiver
 use Rattle.tp_play.specs.declared.body.Receiving.{Receiving}
-use Rattle.tp_play.specs.declared.body.Statement.{Statement}
-use Rattle.tp_play.specs.declared.body.Statement.TheVariants as statement
-use Rattle.tp_play.specs.declared.body.Branch.{Branch}
+use Rattle.tp_play.specs.declared.body.ResolvedStatement.{ResolvedStatement}
+use Rattle.tp_play.specs.declared.body.ResolvedStatement.TheVariants as statement
+use Rattle.tp_play.specs.declared.body.ResolvedBranch.{ResolvedBranch}
 use Rattle.tp_play.specs.Sizes.{turns_between}
 use Rattle.tp_history.specs.declared.stamped.Stamped.{Stamped}
 use Rattle.tp_history.specs.declared.entry.Entry.{Entry}
@@ -66,12 +66,12 @@ pub data AreOperated (o : PortOperation) : ℕ → List Moment → Type 0 where
       } ∷ [])
 
 -- the branches of an `alt`, once loop variables and references have their values
-abbrev pub guards_of : Actor → Values → List Branch → List Guard
-guards_of r vs branches = map (λ (x : Branch). guard_of r vs x.receiving) branches
+abbrev pub guards_of : Actor → Values → List ResolvedBranch → List Guard
+guards_of r vs branches = map (λ (x : ResolvedBranch). guard_of r vs x.receiving) branches
 
 mutual
   -- this is a path of the statement, by which the body's variables come to hold these values
-  pub data IsStep (r : Actor) : List ℤ → List (Option Held) → Statement → List Moment → List (Option Held)
+  pub data IsStep (r : Actor) : List ℤ → List (Option Held) → ResolvedStatement → List Moment → List (Option Held)
       → Type 0 where
     -- 22.2.1: one entry, on the route that the port has, or the one to the component that is named
     send : (turns : List ℤ) (vs : List (Option Held)) (x : SendOperation) (m : Message) (named : Option CompId)
@@ -103,41 +103,41 @@ mutual
     set_verdict : (turns : List ℤ) (vs : List (Option Held)) (v : Verdict) (k : List Entry)
         → IsStep r turns vs (statement.SetVerdict v) (record { before = k; entry = entry.Verdict v } ∷ []) vs
     -- 20.2: any number of messages that `trigger` branches discard, then the choice of a branch, and its block
-    branch : (turns : List ℤ) (vs : List (Option Held)) (branches : List Branch) (otherwise : Option (List Statement))
+    branch : (turns : List ℤ) (vs : List (Option Held)) (branches : List ResolvedBranch) (otherwise : Option (List ResolvedStatement))
         (has_else : Bool)
-        (drops : List Moment) (t : Moment) (i : ℕ) (e : Env Message) (x : Branch) (ts : List Moment)
+        (drops : List Moment) (t : Moment) (i : ℕ) (e : Env Message) (x : ResolvedBranch) (ts : List Moment)
         (ws : List (Option Held))
         → All (IsDrop (guards_of r (record { turns = turns; variables = vs }) branches)) drops
         → IsChoice (guards_of r (record { turns = turns; variables = vs }) branches) has_else t (Some (i, e))
         → slice_get branches i ≡ Some x → IsPath r turns (redirected x.receiving e vs) x.block ts ws
         → IsStep r turns vs (statement.Alt branches otherwise) (drops ++ t ∷ ts) ws
     -- or the choice of `[else]`, and its block
-    otherwise : (turns : List ℤ) (vs : List (Option Held)) (branches : List Branch) (block : List Statement)
+    otherwise : (turns : List ℤ) (vs : List (Option Held)) (branches : List ResolvedBranch) (block : List ResolvedStatement)
         (drops : List Moment) (t : Moment) (ts : List Moment) (ws : List (Option Held))
         → All (IsDrop (guards_of r (record { turns = turns; variables = vs }) branches)) drops
         → IsChoice (guards_of r (record { turns = turns; variables = vs }) branches) true t None
         → IsPath r turns vs block ts ws
         → IsStep r turns vs (statement.Alt branches (Some block)) (drops ++ t ∷ ts) ws
     -- 19.4: the block once for each value of the variable, from the first on, below the bound
-    counted : (turns : List ℤ) (vs : List (Option Held)) (first bound : ℤ) (block : List Statement) (ts : List Moment)
+    counted : (turns : List ℤ) (vs : List (Option Held)) (first bound : ℤ) (block : List ResolvedStatement) (ts : List Moment)
         (ws : List (Option Held))
         → AreTurns r turns vs first block (turns_between first bound) ts ws
         → IsStep r turns vs (statement.For first bound block) ts ws
 
   -- this is a path of the statements, one after the other
-  pub data IsPath (r : Actor) : List ℤ → List (Option Held) → List Statement → List Moment → List (Option Held)
+  pub data IsPath (r : Actor) : List ℤ → List (Option Held) → List ResolvedStatement → List Moment → List (Option Held)
       → Type 0 where
     no_statement : (turns : List ℤ) (vs : List (Option Held)) → IsPath r turns vs [] [] vs
-    one_statement_more : (turns : List ℤ) (vs ws us : List (Option Held)) (xs : List Statement) (x : Statement)
+    one_statement_more : (turns : List ℤ) (vs ws us : List (Option Held)) (xs : List ResolvedStatement) (x : ResolvedStatement)
         (ts more : List Moment)
         → IsPath r turns vs xs ts ws → IsStep r turns ws x more us → IsPath r turns vs (xs ++ x ∷ []) (ts ++ more) us
 
   -- this is a path of so many turns of a block, where the loop variable begins with this value
-  pub data AreTurns (r : Actor) : List ℤ → List (Option Held) → ℤ → List Statement → ℕ → List Moment
+  pub data AreTurns (r : Actor) : List ℤ → List (Option Held) → ℤ → List ResolvedStatement → ℕ → List Moment
       → List (Option Held) → Type 0 where
-    no_turn : (turns : List ℤ) (vs : List (Option Held)) (first : ℤ) (block : List Statement)
+    no_turn : (turns : List ℤ) (vs : List (Option Held)) (first : ℤ) (block : List ResolvedStatement)
         → AreTurns r turns vs first block 0 [] vs
-    one_turn_more : (turns : List ℤ) (vs ws us : List (Option Held)) (first : ℤ) (block : List Statement) (n : ℕ)
+    one_turn_more : (turns : List ℤ) (vs ws us : List (Option Held)) (first : ℤ) (block : List ResolvedStatement) (n : ℕ)
         (ts more : List Moment)
         → AreTurns r turns vs first block n ts ws → IsPath r (turns ++ (first +ℤ pos n) ∷ []) ws block more us
         → AreTurns r turns vs first block (suc n) (ts ++ more) us

@@ -7,7 +7,7 @@ use Rattle.tp_play.specs.declared.body.Sent.TheVariants as sent
 use Rattle.tp_play.specs.declared.body.Receiver.{Receiver}
 use Rattle.tp_play.specs.declared.body.Receiver.TheVariants as receiver
 use Rattle.tp_play.specs.declared.body.SendOperation.{SendOperation}
-use Rattle.tp_play.specs.declared.body.Statement.TheVariants as statement
+use Rattle.tp_play.specs.declared.body.ResolvedStatement.TheVariants as statement
 use Rattle.tp_play.specs.Fills.{needed}
 use Rattle.tp_history.specs.declared.entry.Entry.{Entry}
 use Rattle.tp_history.specs.declared.entry.Entry.TheVariants as entry

@@ -1,6 +1,6 @@
 //! What a behaviour does to its ports and its verdict.
 ghost use Rattle.std.specs.Prelude.{◌≡◌, ◌<◌, OnOk};
-ghost use Rattle.tp_play.specs.declared.body.Statement.TheVariants as statement;
+ghost use Rattle.tp_play.specs.declared.body.ResolvedStatement.TheVariants as statement;
 ghost use Rattle.tp_history.specs.Desks.{adding};
 ghost use Rattle.tp_behaviour.specs.Fresh.{HasOwn};
 ghost use Rattle.tp_behaviour.specs.Paths.{operated};

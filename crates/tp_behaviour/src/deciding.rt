@@ -16,7 +16,7 @@ use crate::task::Task;
 use crate::worker::{Frame, Worker};
 use std::sync::Wait;
 use tp_event::event::Env;
-use tp_play::body::Branch;
+use tp_play::body::ResolvedBranch;
 use tp_refusal::memory::Memory;
 use tp_value::message::Message;
 
@@ -33,7 +33,7 @@ pub enum Decision {
 
 /// Puts what was taken or found by the branch at this place into the variables that it names
 /// (22.2.2).
-fn enter(task: &Task<'_>, frame: &mut Frame, branches: &[Branch], place: usize, env: Env<Message>)
+fn enter(task: &Task<'_>, frame: &mut Frame, branches: &[ResolvedBranch], place: usize, env: Env<Message>)
     requires there { place < length branches.now }
     requires held { HoldsAsDeclared task.now frame.old }
     requires can { CanEnterAll (stage_at task.now) (depth_of frame.old) branches.now }

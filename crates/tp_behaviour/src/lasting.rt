@@ -4,7 +4,7 @@ ghost use Rattle.tp_behaviour.specs.Lasting.{AreLasting, AreLastingBranches, IsL
 
 use crate::fixed::is_fixed;
 use std::alloc::Global;
-use tp_play::body::{Branch, RecvMsg, Statement};
+use tp_play::body::{ResolvedBranch, RecvMsg, ResolvedStatement};
 use tp_play::fill::fill_template;
 use tp_refusal::memory::Memory;
 use tp_value::items::Items;
@@ -26,7 +26,7 @@ pub struct Lasting {
 #[derive(Clone, Copy)]
 pub(crate) struct Block<'t> {
     /// The statements.
-    pub statements: &'t [Statement],
+    pub statements: &'t [ResolvedStatement],
     /// What lasts of them.
     pub lasting: &'t [Lasting],
 }
@@ -35,7 +35,7 @@ pub(crate) struct Block<'t> {
 #[derive(Clone, Copy)]
 pub(crate) struct Alt<'t> {
     /// The branches.
-    pub branches: &'t [Branch],
+    pub branches: &'t [ResolvedBranch],
     /// Whether `[else]` stands behind them.
     pub has_else: bool,
     /// What lasts of the branches.
@@ -69,7 +69,7 @@ fn nothing(alloc: Global) -> Lasting {
 
 /// What lasts of the statements of a block.
 #[cycle(lasting)]
-pub(crate) fn lasting_block(alloc: Global, block: &[Statement]) -> Result<Items<Lasting>, Memory>
+pub(crate) fn lasting_block(alloc: Global, block: &[ResolvedStatement]) -> Result<Items<Lasting>, Memory>
     ensures { IfOk result (AreLasting block.now) }
 {
     let mut made = Items::new(alloc);
@@ -82,11 +82,11 @@ pub(crate) fn lasting_block(alloc: Global, block: &[Statement]) -> Result<Items<
 
 /// What lasts of a statement.
 #[cycle(lasting)]
-fn lasting_statement(alloc: Global, statement: &Statement) -> Result<Lasting, Memory>
+fn lasting_statement(alloc: Global, statement: &ResolvedStatement) -> Result<Lasting, Memory>
     ensures { IfOk result (IsLasting statement.now) }
 {
     match statement {
-        Statement::Receive(receiving) => {
+        ResolvedStatement::Receive(receiving) => {
             let wanted = lasting_template(alloc, &receiving.wanted)?;
             Ok(Lasting {
                 wanted,
@@ -94,7 +94,7 @@ fn lasting_statement(alloc: Global, statement: &Statement) -> Result<Lasting, Me
                 block: Items::new(alloc),
             })
         }
-        Statement::Alt(branches, otherwise) => {
+        ResolvedStatement::Alt(branches, otherwise) => {
             let branches = lasting_branches(alloc, branches.as_slice())?;
             match otherwise {
                 Some(block) => {
@@ -112,7 +112,7 @@ fn lasting_statement(alloc: Global, statement: &Statement) -> Result<Lasting, Me
                 }),
             }
         }
-        Statement::For(_, _, block) => {
+        ResolvedStatement::For(_, _, block) => {
             let block = lasting_block(alloc, block.as_slice())?;
             Ok(Lasting {
                 wanted: None,
@@ -120,16 +120,16 @@ fn lasting_statement(alloc: Global, statement: &Statement) -> Result<Lasting, Me
                 block,
             })
         }
-        Statement::Send(_) => Ok(nothing(alloc)),
-        Statement::Control(_, _) => Ok(nothing(alloc)),
-        Statement::AllPorts(_) => Ok(nothing(alloc)),
-        Statement::SetVerdict(_) => Ok(nothing(alloc)),
+        ResolvedStatement::Send(_) => Ok(nothing(alloc)),
+        ResolvedStatement::Control(_, _) => Ok(nothing(alloc)),
+        ResolvedStatement::AllPorts(_) => Ok(nothing(alloc)),
+        ResolvedStatement::SetVerdict(_) => Ok(nothing(alloc)),
     }
 }
 
 /// What lasts of the branches of an `alt`.
 #[cycle(lasting)]
-fn lasting_branches(alloc: Global, branches: &[Branch]) -> Result<Items<Lasting>, Memory>
+fn lasting_branches(alloc: Global, branches: &[ResolvedBranch]) -> Result<Items<Lasting>, Memory>
     ensures { IfOk result (AreLastingBranches branches.now) }
 {
     let mut made = Items::new(alloc);
@@ -142,7 +142,7 @@ fn lasting_branches(alloc: Global, branches: &[Branch]) -> Result<Items<Lasting>
 
 /// What lasts of a branch of an `alt`.
 #[cycle(lasting)]
-fn lasting_branch(alloc: Global, branch: &Branch) -> Result<Lasting, Memory>
+fn lasting_branch(alloc: Global, branch: &ResolvedBranch) -> Result<Lasting, Memory>
     ensures { IfOk result (IsLastingBranch branch.now) }
 {
     let wanted = lasting_template(alloc, &branch.receiving.wanted)?;

@@ -1,6 +1,6 @@
 //! The statements within which no other stands, each up to its end.
 ghost use Rattle.std.specs.Prelude.{◌<◌, IfOk, OnOk};
-ghost use Rattle.tp_play.specs.declared.body.Statement.TheVariants as statement;
+ghost use Rattle.tp_play.specs.declared.body.ResolvedStatement.TheVariants as statement;
 ghost use Rattle.tp_play.specs.Playable.{CanSend};
 ghost use Rattle.tp_behaviour.specs.Outcomes.{HoldsAsDeclared, Stepped, WaitsWithin, depth_of, stage_at};
 ghost use Rattle.tp_behaviour.specs.Workers.{IsConsistent, KeepsInboxes, role_of};

@@ -2,7 +2,7 @@
 ghost use Rattle.std.specs.Prelude.{◌≡◌, ◌<◌, ◌≤◌, IfOk, IfSome, OnOk, length};
 ghost use Rattle.std.specs.Option.{option_map};
 ghost use Rattle.std.specs.List.{slice_index_or};
-ghost use Rattle.tp_play.specs.declared.body.Statement.TheVariants as statement;
+ghost use Rattle.tp_play.specs.declared.body.ResolvedStatement.TheVariants as statement;
 ghost use Rattle.tp_play.specs.Playable.{CanEnterAll, CanExpect, CanReceive};
 ghost use Rattle.tp_behaviour.specs.Held.{guard_of, redirected, set_to};
 ghost use Rattle.tp_behaviour.specs.Lasting.{AreLastingBranches, IsWantedAlways};
@@ -25,7 +25,7 @@ use std::alloc::Global;
 use std::sync::Wait;
 use tp_config::port_type::CompId;
 use tp_event::event::Env;
-use tp_play::body::{Branch, Receiving, RecvMsg};
+use tp_play::body::{ResolvedBranch, Receiving, RecvMsg};
 use tp_play::fill::fill_template;
 use tp_refusal::memory::Memory;
 use tp_value::message::{Message, MsgTemplate};
@@ -88,7 +88,7 @@ fn view_guard<'t>(
 pub(crate) fn view_guards<'t>(
     task: &Task<'_>,
     frame: &Frame,
-    branches: &[Branch],
+    branches: &[ResolvedBranch],
     lasting: &'t [Lasting],
 ) -> Result<Vec<GuardView<'t>>, Memory>
     requires can { CanEnterAll (stage_at task.now) (depth_of frame.now) branches.now }
@@ -125,7 +125,7 @@ fn fill_guard(task: &Task<'_>, frame: &Frame, receiving: &Receiving) -> Result<G
 pub(crate) fn fill_guards(
     task: &Task<'_>,
     frame: &Frame,
-    branches: &[Branch],
+    branches: &[ResolvedBranch],
 ) -> Result<Vec<Guard>, Memory>
     requires { CanEnterAll (stage_at task.now) (depth_of frame.now) branches.now }
     ensures { IfOk result (λ guards.

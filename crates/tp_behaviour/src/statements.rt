@@ -17,7 +17,7 @@ use crate::receiving::receive;
 use crate::worker::{Frame, Worker};
 use std::ops::Range;
 use std::sync::Wait;
-use tp_play::body::Statement;
+use tp_play::body::ResolvedStatement;
 use tp_refusal::memory::Memory;
 
 /// Carries out the statements of a block, one after the other (ES 201 873-1, 19 to 24).
@@ -61,7 +61,7 @@ fn step<R: Wait, G: Gate>(
     execution: &Execution<'_, R, G>,
     worker: &mut Worker,
     frame: &mut Frame,
-    statement: &Statement,
+    statement: &ResolvedStatement,
     lasting: &Lasting,
 ) -> Result<Outcome, Memory>
     requires consistent { IsConsistent (role_of execution.now.task.now) worker.old }
@@ -77,16 +77,16 @@ fn step<R: Wait, G: Gate>(
     ensures within { IfOk result (WaitsWithin worker.old.desk.ports) }
 {
     match statement {
-        Statement::Send(sending) => play_send(execution, worker, frame, sending),
-        Statement::Receive(receiving) => {
+        ResolvedStatement::Send(sending) => play_send(execution, worker, frame, sending),
+        ResolvedStatement::Receive(receiving) => {
             receive(execution, worker, frame, receiving, &lasting.wanted)
         }
-        Statement::Control(port, operation) => {
+        ResolvedStatement::Control(port, operation) => {
             play_control(execution, worker, frame, *port, *operation)
         }
-        Statement::AllPorts(operation) => play_all_ports(execution, worker, frame, *operation),
-        Statement::SetVerdict(verdict) => play_set_verdict(execution.task, worker, frame, *verdict),
-        Statement::Alt(branches, otherwise) => {
+        ResolvedStatement::AllPorts(operation) => play_all_ports(execution, worker, frame, *operation),
+        ResolvedStatement::SetVerdict(verdict) => play_set_verdict(execution.task, worker, frame, *verdict),
+        ResolvedStatement::Alt(branches, otherwise) => {
             let alt = Alt {
                 branches: branches.as_slice(),
                 has_else: otherwise.is_some(),
@@ -108,7 +108,7 @@ fn step<R: Wait, G: Gate>(
                 Decision::Waits(guards) => Ok(Outcome::Waiting(guards)),
             }
         }
-        Statement::For(first, bound, block) => {
+        ResolvedStatement::For(first, bound, block) => {
             let block = Block {
                 statements: block.as_slice(),
                 lasting: lasting.block.as_slice(),

@@ -24,8 +24,8 @@ use Rattle.tp_play.specs.declared.body.Sent.{Sent}
 use Rattle.tp_play.specs.declared.body.Receiver.{Receiver}
 use Rattle.tp_play.specs.declared.body.SendOperation.{SendOperation}
 use Rattle.tp_play.specs.declared.body.Receiving.{Receiving}
-use Rattle.tp_play.specs.declared.body.Statement.{Statement}
-use Rattle.tp_play.specs.declared.body.Branch.{Branch}
+use Rattle.tp_play.specs.declared.body.ResolvedStatement.{ResolvedStatement}
+use Rattle.tp_play.specs.declared.body.ResolvedBranch.{ResolvedBranch}
 use Rattle.tp_play.specs.declared.body.Body.{Body}
 use Rattle.tp_body.specs.declared.scope.Scope.{Scope}
 use Rattle.tp_body.specs.declared.scope.Variables.{Variables}
@@ -118,7 +118,7 @@ module _ (scope : Scope) (variables : Variables) where
     }
 
   mutual
-    statement_played : {turns : List (List ℕ)} {x : Action} {y : Statement} → IsStatement scope variables turns x y → CanPlay stage (length turns) y
+    statement_played : {turns : List (List ℕ)} {x : Action} {y : ResolvedStatement} → IsStatement scope variables turns x y → CanPlay stage (length turns) y
     statement_played (b.send turns x y h) = rw play_send (send_played turns x y h)
     statement_played (b.receive turns x y h) = rw play_receive (receive_played turns x y h)
     statement_played (b.control turns x k port other h) = rw play_control (port_there (string_bytes x.port) k port h)
@@ -129,19 +129,19 @@ module _ (scope : Scope) (variables : Variables) where
     statement_played (b.counted turns x block new h) =
         rw play_for (subst (λ n. CanPlayAll stage n block) (length_push turns (string_bytes (out-Counted x).turns.name)) (block_played h))
 
-    pub block_played : {turns : List (List ℕ)} {xs : List StatementText} {ys : List Statement} → IsBlock scope variables turns xs ys
+    pub block_played : {turns : List (List ℕ)} {xs : List StatementText} {ys : List ResolvedStatement} → IsBlock scope variables turns xs ys
         → CanPlayAll stage (length turns) ys
     block_played (b.no_statement turns) = tt
     block_played (b.one_statement_more turns xs ys x y h one) = Each-push (λ x n. CanPlay stage n x) (length turns) ys y (block_played h) (statement_played one)
 
-    branch_played : {turns : List (List ℕ)} {x : BranchText} {y : Branch} → IsBranch scope variables turns x y → CanEnter stage (length turns) y
+    branch_played : {turns : List (List ℕ)} {x : BranchText} {y : ResolvedBranch} → IsBranch scope variables turns x y → CanEnter stage (length turns) y
     branch_played (b.branch turns x y h inner) = rw enter_branch (receive_played turns x.receive y.receiving h, after_played inner)
 
-    after_played : {turns : List (List ℕ)} {x : BranchBody} {ys : List Statement} → IsAfter scope variables turns x ys → CanPlayAll stage (length turns) ys
+    after_played : {turns : List (List ℕ)} {x : BranchBody} {ys : List ResolvedStatement} → IsAfter scope variables turns x ys → CanPlayAll stage (length turns) ys
     after_played (b.nothing turns) = tt
     after_played (b.block turns xs ys h) = block_played h
 
-    branches_played : {turns : List (List ℕ)} {xs : List BranchText} {ys : List Branch} → AreBranches scope variables turns xs ys
+    branches_played : {turns : List (List ℕ)} {xs : List BranchText} {ys : List ResolvedBranch} → AreBranches scope variables turns xs ys
         → CanEnterAll stage (length turns) ys
     branches_played (b.no_branch turns) = tt
     branches_played (b.one_branch_more turns xs ys x y h one) =

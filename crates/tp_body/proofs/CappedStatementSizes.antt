@@ -6,11 +6,11 @@ use Rattle.tp_event.specs.declared.operation.PortOperation.{PortOperation}
 use Rattle.tp_play.specs.Sizes.{size_limit, capped, turns_between, statement_step, branch_step, size_of, size_in, size_of_all, size_in_all}
 use Rattle.tp_play.specs.declared.body.SendOperation.{SendOperation}
 use Rattle.tp_play.specs.declared.body.Receiving.{Receiving}
-use Rattle.tp_play.specs.declared.body.Statement.{Statement}
-use Rattle.tp_play.specs.declared.body.Statement.TheVariants as s
-use Rattle.tp_play.specs.declared.body.Statement.TheOpen as o
-use Rattle.tp_play.specs.declared.body.Statement.TheFolds.{fold-roll-Statement, fold_out-Branch}
-use Rattle.tp_play.specs.declared.body.Branch.{Branch}
+use Rattle.tp_play.specs.declared.body.ResolvedStatement.{ResolvedStatement}
+use Rattle.tp_play.specs.declared.body.ResolvedStatement.TheVariants as s
+use Rattle.tp_play.specs.declared.body.ResolvedStatement.TheOpen as o
+use Rattle.tp_play.specs.declared.body.ResolvedStatement.TheFolds.{fold-roll-ResolvedStatement, fold_out-ResolvedBranch}
+use Rattle.tp_play.specs.declared.body.ResolvedBranch.{ResolvedBranch}
 
 pub cap_below : (n : ℕ) → n < size_limit → capped n ≡ n
 cap_below n lt = grind (arith, lt)
@@ -29,39 +29,39 @@ cap_one_and_two a b = grind arith
 
 pub size_send : (x : SendOperation) → size_of (s.Send x) ≡ 1
 unfolding size_of
-size_send x = ap size_of (sym (s.rolls-Send x)) ∙ fold-roll-Statement ℕ ℕ statement_step branch_step (o.Send x)
+size_send x = ap size_of (sym (s.rolls-Send x)) ∙ fold-roll-ResolvedStatement ℕ ℕ statement_step branch_step (o.Send x)
 
 pub size_receive : (x : Receiving) → size_of (s.Receive x) ≡ 1
 unfolding size_of
-size_receive x = ap size_of (sym (s.rolls-Receive x)) ∙ fold-roll-Statement ℕ ℕ statement_step branch_step (o.Receive x)
+size_receive x = ap size_of (sym (s.rolls-Receive x)) ∙ fold-roll-ResolvedStatement ℕ ℕ statement_step branch_step (o.Receive x)
 
 pub size_control : (k : ℕ) (x : PortOperation) → size_of (s.Control k x) ≡ 1
 unfolding size_of
-size_control k x = ap size_of (sym (s.rolls-Control k x)) ∙ fold-roll-Statement ℕ ℕ statement_step branch_step (o.Control k x)
+size_control k x = ap size_of (sym (s.rolls-Control k x)) ∙ fold-roll-ResolvedStatement ℕ ℕ statement_step branch_step (o.Control k x)
 
 pub size_all_ports : (x : PortOperation) → size_of (s.AllPorts x) ≡ 1
 unfolding size_of
-size_all_ports x = ap size_of (sym (s.rolls-AllPorts x)) ∙ fold-roll-Statement ℕ ℕ statement_step branch_step (o.AllPorts x)
+size_all_ports x = ap size_of (sym (s.rolls-AllPorts x)) ∙ fold-roll-ResolvedStatement ℕ ℕ statement_step branch_step (o.AllPorts x)
 
 pub size_set_verdict : (x : Verdict) → size_of (s.SetVerdict x) ≡ 1
 unfolding size_of
-size_set_verdict x = ap size_of (sym (s.rolls-SetVerdict x)) ∙ fold-roll-Statement ℕ ℕ statement_step branch_step (o.SetVerdict x)
+size_set_verdict x = ap size_of (sym (s.rolls-SetVerdict x)) ∙ fold-roll-ResolvedStatement ℕ ℕ statement_step branch_step (o.SetVerdict x)
 
-pub size_alt : (bs : List Branch) → size_of (s.Alt bs None) ≡ 1 + (size_in_all bs + 0)
+pub size_alt : (bs : List ResolvedBranch) → size_of (s.Alt bs None) ≡ 1 + (size_in_all bs + 0)
 unfolding size_of size_in
-size_alt bs = ap size_of (sym (s.rolls-Alt bs None)) ∙ fold-roll-Statement ℕ ℕ statement_step branch_step (o.Alt bs None)
+size_alt bs = ap size_of (sym (s.rolls-Alt bs None)) ∙ fold-roll-ResolvedStatement ℕ ℕ statement_step branch_step (o.Alt bs None)
 
-pub size_alt_else : (bs : List Branch) (e : List Statement) → size_of (s.Alt bs (Some e)) ≡ 1 + (size_in_all bs + size_of_all e)
+pub size_alt_else : (bs : List ResolvedBranch) (e : List ResolvedStatement) → size_of (s.Alt bs (Some e)) ≡ 1 + (size_in_all bs + size_of_all e)
 unfolding size_of size_in
-size_alt_else bs e = ap size_of (sym (s.rolls-Alt bs (Some e))) ∙ fold-roll-Statement ℕ ℕ statement_step branch_step (o.Alt bs (Some e))
+size_alt_else bs e = ap size_of (sym (s.rolls-Alt bs (Some e))) ∙ fold-roll-ResolvedStatement ℕ ℕ statement_step branch_step (o.Alt bs (Some e))
 
-pub size_for : (first bound : ℤ) (block : List Statement) → size_of (s.For first bound block) ≡ 1 + turns_between first bound * size_of_all block
+pub size_for : (first bound : ℤ) (block : List ResolvedStatement) → size_of (s.For first bound block) ≡ 1 + turns_between first bound * size_of_all block
 unfolding size_of size_in
-size_for first bound block = ap size_of (sym (s.rolls-For first bound block)) ∙ fold-roll-Statement ℕ ℕ statement_step branch_step (o.For first bound block)
+size_for first bound block = ap size_of (sym (s.rolls-For first bound block)) ∙ fold-roll-ResolvedStatement ℕ ℕ statement_step branch_step (o.For first bound block)
 
-pub size_branch : (x : Branch) → size_in x ≡ size_of_all x.block
+pub size_branch : (x : ResolvedBranch) → size_in x ≡ size_of_all x.block
 unfolding size_of size_in
-size_branch x = fold_out-Branch ℕ ℕ statement_step branch_step x
+size_branch x = fold_out-ResolvedBranch ℕ ℕ statement_step branch_step x
 
 pub ruleset laws =
     (size_send, size_receive, size_control, size_all_ports, size_set_verdict, size_alt, size_alt_else, size_branch, cap_add, cap_one, cap_one_and_two)

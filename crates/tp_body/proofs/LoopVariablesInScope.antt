@@ -32,11 +32,11 @@ use Rattle.tp_play.specs.declared.body.RecvMsg.{RecvMsg}
 use Rattle.tp_play.specs.declared.body.Sent.{Sent}
 use Rattle.tp_play.specs.declared.body.SendOperation.{SendOperation}
 use Rattle.tp_play.specs.declared.body.Receiving.{Receiving}
-use Rattle.tp_play.specs.declared.body.Statement.{Statement}
-use Rattle.tp_play.specs.declared.body.Statement.TheVariants as s
-use Rattle.tp_play.specs.declared.body.Statement.TheOpen as o
-use Rattle.tp_play.specs.declared.body.Statement.TheFolds.{fold-roll-Statement, fold_out-Branch}
-use Rattle.tp_play.specs.declared.body.Branch.{Branch}
+use Rattle.tp_play.specs.declared.body.ResolvedStatement.{ResolvedStatement}
+use Rattle.tp_play.specs.declared.body.ResolvedStatement.TheVariants as s
+use Rattle.tp_play.specs.declared.body.ResolvedStatement.TheOpen as o
+use Rattle.tp_play.specs.declared.body.ResolvedStatement.TheFolds.{fold-roll-ResolvedStatement, fold_out-ResolvedBranch}
+use Rattle.tp_play.specs.declared.body.ResolvedBranch.{ResolvedBranch}
 use Rattle.tp_play.specs.declared.body.Body.{Body}
 use Rattle.tp_body.specs.declared.scope.Scope.{Scope}
 use Rattle.tp_body.specs.declared.scope.Variables.{Variables}
@@ -83,41 +83,41 @@ needed_by_pattern ps = ap needed_by_template (sym (r.rolls-Pattern ps)) ∙ fold
 
 around_send : (x : SendOperation) → needed_around (s.Send x) ≡ needed_by_sent x.sent
 unfolding needed_around
-around_send x = ap needed_around (sym (s.rolls-Send x)) ∙ fold-roll-Statement ℕ ℕ needed_statement_step needed_branch_step (o.Send x)
+around_send x = ap needed_around (sym (s.rolls-Send x)) ∙ fold-roll-ResolvedStatement ℕ ℕ needed_statement_step needed_branch_step (o.Send x)
 
 around_receive : (x : Receiving) → needed_around (s.Receive x) ≡ needed_by_wanted x.wanted
 unfolding needed_around
-around_receive x = ap needed_around (sym (s.rolls-Receive x)) ∙ fold-roll-Statement ℕ ℕ needed_statement_step needed_branch_step (o.Receive x)
+around_receive x = ap needed_around (sym (s.rolls-Receive x)) ∙ fold-roll-ResolvedStatement ℕ ℕ needed_statement_step needed_branch_step (o.Receive x)
 
 around_control : (k : ℕ) (x : PortOperation) → needed_around (s.Control k x) ≡ 0
 unfolding needed_around
-around_control k x = ap needed_around (sym (s.rolls-Control k x)) ∙ fold-roll-Statement ℕ ℕ needed_statement_step needed_branch_step (o.Control k x)
+around_control k x = ap needed_around (sym (s.rolls-Control k x)) ∙ fold-roll-ResolvedStatement ℕ ℕ needed_statement_step needed_branch_step (o.Control k x)
 
 around_all_ports : (x : PortOperation) → needed_around (s.AllPorts x) ≡ 0
 unfolding needed_around
-around_all_ports x = ap needed_around (sym (s.rolls-AllPorts x)) ∙ fold-roll-Statement ℕ ℕ needed_statement_step needed_branch_step (o.AllPorts x)
+around_all_ports x = ap needed_around (sym (s.rolls-AllPorts x)) ∙ fold-roll-ResolvedStatement ℕ ℕ needed_statement_step needed_branch_step (o.AllPorts x)
 
 around_set_verdict : (x : Verdict) → needed_around (s.SetVerdict x) ≡ 0
 unfolding needed_around
-around_set_verdict x = ap needed_around (sym (s.rolls-SetVerdict x)) ∙ fold-roll-Statement ℕ ℕ needed_statement_step needed_branch_step (o.SetVerdict x)
+around_set_verdict x = ap needed_around (sym (s.rolls-SetVerdict x)) ∙ fold-roll-ResolvedStatement ℕ ℕ needed_statement_step needed_branch_step (o.SetVerdict x)
 
-around_alt : (bs : List Branch) → needed_around (s.Alt bs None) ≡ max (greatest (map needed_around_branch bs)) 0
+around_alt : (bs : List ResolvedBranch) → needed_around (s.Alt bs None) ≡ max (greatest (map needed_around_branch bs)) 0
 unfolding needed_around needed_around_branch
-around_alt bs = ap needed_around (sym (s.rolls-Alt bs None)) ∙ fold-roll-Statement ℕ ℕ needed_statement_step needed_branch_step (o.Alt bs None)
+around_alt bs = ap needed_around (sym (s.rolls-Alt bs None)) ∙ fold-roll-ResolvedStatement ℕ ℕ needed_statement_step needed_branch_step (o.Alt bs None)
 
-around_alt_else : (bs : List Branch) (e : List Statement)
+around_alt_else : (bs : List ResolvedBranch) (e : List ResolvedStatement)
     → needed_around (s.Alt bs (Some e)) ≡ max (greatest (map needed_around_branch bs)) (needed_around_all e)
 unfolding needed_around needed_around_branch
-around_alt_else bs e = ap needed_around (sym (s.rolls-Alt bs (Some e))) ∙ fold-roll-Statement ℕ ℕ needed_statement_step needed_branch_step (o.Alt bs (Some e))
+around_alt_else bs e = ap needed_around (sym (s.rolls-Alt bs (Some e))) ∙ fold-roll-ResolvedStatement ℕ ℕ needed_statement_step needed_branch_step (o.Alt bs (Some e))
 
-pub around_for : (first bound : ℤ) (block : List Statement) → needed_around (s.For first bound block) ≡ needed_around_all block - 1
+pub around_for : (first bound : ℤ) (block : List ResolvedStatement) → needed_around (s.For first bound block) ≡ needed_around_all block - 1
 unfolding needed_around needed_around_branch
 around_for first bound block =
-    ap needed_around (sym (s.rolls-For first bound block)) ∙ fold-roll-Statement ℕ ℕ needed_statement_step needed_branch_step (o.For first bound block)
+    ap needed_around (sym (s.rolls-For first bound block)) ∙ fold-roll-ResolvedStatement ℕ ℕ needed_statement_step needed_branch_step (o.For first bound block)
 
-pub around_branch : (x : Branch) → needed_around_branch x ≡ max (needed_by_wanted x.receiving.wanted) (needed_around_all x.block)
+pub around_branch : (x : ResolvedBranch) → needed_around_branch x ≡ max (needed_by_wanted x.receiving.wanted) (needed_around_all x.block)
 unfolding needed_around needed_around_branch
-around_branch x = fold_out-Branch ℕ ℕ needed_statement_step needed_branch_step x
+around_branch x = fold_out-ResolvedBranch ℕ ℕ needed_statement_step needed_branch_step x
 
 module _ (types : Types) (turns : List (List ℕ)) where
   mutual
@@ -197,7 +197,7 @@ module _ (scope : Scope) (variables : Variables) where
   wanted_closed turns receivable (b.matching x u r f l h) = template_closed scope.types.now turns h
 
   mutual
-    statement_closed : {turns : List (List ℕ)} {x : Action} {y : Statement} → IsStatement scope variables turns x y → needed_around y ≤ length turns
+    statement_closed : {turns : List (List ℕ)} {x : Action} {y : ResolvedStatement} → IsStatement scope variables turns x y → needed_around y ≤ length turns
     statement_closed (b.send turns x y h) = omega (arith, around_send y, sent_closed turns _ h.sent)
     statement_closed (b.receive turns x y h) = omega (arith, around_receive y, wanted_closed turns _ h.wants)
     statement_closed (b.control turns x k port other h) = omega (arith, around_control k x.operation)
@@ -213,19 +213,19 @@ module _ (scope : Scope) (variables : Variables) where
           length_push turns (string_bytes (out-Counted x).turns.name),
         )
 
-    pub block_closed : {turns : List (List ℕ)} {xs : List StatementText} {ys : List Statement} → IsBlock scope variables turns xs ys
+    pub block_closed : {turns : List (List ℕ)} {xs : List StatementText} {ys : List ResolvedStatement} → IsBlock scope variables turns xs ys
         → needed_around_all ys ≤ length turns
     block_closed (b.no_statement turns) = omega arith
     block_closed (b.one_statement_more turns xs ys x y h one) = greatest_push needed_around ys y (length turns) (block_closed h) (statement_closed one)
 
-    branch_closed : {turns : List (List ℕ)} {x : BranchText} {y : Branch} → IsBranch scope variables turns x y → needed_around_branch y ≤ length turns
+    branch_closed : {turns : List (List ℕ)} {x : BranchText} {y : ResolvedBranch} → IsBranch scope variables turns x y → needed_around_branch y ≤ length turns
     branch_closed (b.branch turns x y h inner) = omega (arith, around_branch y, wanted_closed turns _ h.wants, after_closed inner)
 
-    after_closed : {turns : List (List ℕ)} {x : BranchBody} {ys : List Statement} → IsAfter scope variables turns x ys → needed_around_all ys ≤ length turns
+    after_closed : {turns : List (List ℕ)} {x : BranchBody} {ys : List ResolvedStatement} → IsAfter scope variables turns x ys → needed_around_all ys ≤ length turns
     after_closed (b.nothing turns) = omega arith
     after_closed (b.block turns xs ys h) = block_closed h
 
-    branches_closed : {turns : List (List ℕ)} {xs : List BranchText} {ys : List Branch} → AreBranches scope variables turns xs ys
+    branches_closed : {turns : List (List ℕ)} {xs : List BranchText} {ys : List ResolvedBranch} → AreBranches scope variables turns xs ys
         → greatest (map needed_around_branch ys) ≤ length turns
     branches_closed (b.no_branch turns) = omega arith
     branches_closed (b.one_branch_more turns xs ys x y h one) = greatest_push needed_around_branch ys y (length turns) (branches_closed h) (branch_closed one)

@@ -12,8 +12,8 @@ use Rattle.tp_tree.specs.declared.tree.Action.TheOpen as o
 use Rattle.tp_tree.specs.declared.tree.Branch.{Branch as BranchText}
 use Rattle.tp_tree.specs.declared.tree.BranchBody.{BranchBody}
 use Rattle.tp_tree.specs.declared.tree.ElseBranch.{ElseBranch}
-use Rattle.tp_play.specs.declared.body.Statement.{Statement}
-use Rattle.tp_play.specs.declared.body.Branch.{Branch}
+use Rattle.tp_play.specs.declared.body.ResolvedStatement.{ResolvedStatement}
+use Rattle.tp_play.specs.declared.body.ResolvedBranch.{ResolvedBranch}
 use Rattle.tp_play.specs.declared.body.Body.{Body}
 use Rattle.tp_name.specs.declared.fault.ModuleRule.{ModuleRule}
 use Rattle.tp_body.specs.declared.scope.Scope.{Scope}
@@ -31,7 +31,7 @@ use Rattle.tp_body.proofs.StatementInversions.{AfterMeans, Ruled, after_means, b
 module _ (scope : Scope) (variables : Variables) (sound : IsSoundScope scope) where
   -- the branches of an `alt` stand for something, with or without an `[else]`
   ruled_branches : (turns : List (List ℕ)) (xs : Vec BranchText Global) (e : Option ElseBranch) → Ruled scope variables turns (o.Alt xs e)
-      → (ys : List Branch) × AreBranches scope variables turns xs.items ys
+      → (ys : List ResolvedBranch) × AreBranches scope variables turns xs.items ys
   ruled_branches turns xs None h = h
   ruled_branches turns xs (Some e) h = h.0
 
@@ -59,12 +59,12 @@ module _ (scope : Scope) (variables : Variables) (sound : IsSoundScope scope) wh
         let p = subst (Ruled scope variables turns) (out_for x) h in block_excludes broken p.1
 
     block_excludes : {turns : List (List ℕ)} {xs : List StatementText} {r : ModuleRule} {at : ℕ} → BlockBreaks scope variables turns xs r at
-        → (ys : List Statement) × IsBlock scope variables turns xs ys → ⊥
+        → (ys : List ResolvedStatement) × IsBlock scope variables turns xs ys → ⊥
     block_excludes (b.in_statement turns xs ys i x r at before there broken) h =
         statement_ruled broken (ruled scope variables (block_member scope variables h.1 i x there).1)
 
     branch_excludes : {turns : List (List ℕ)} {x : BranchText} {r : ModuleRule} {at : ℕ} → BranchBreaks scope variables turns x r at
-        → (y : Branch) × IsBranch scope variables turns x y → ⊥
+        → (y : ResolvedBranch) × IsBranch scope variables turns x y → ⊥
     branch_excludes (b.operation turns x r broken) h =
         receive_excludes scope variables turns sound broken h.0.receiving (made_parts scope variables h.1).0
     branch_excludes (b.behind turns x z r at stands broken) h = after_excludes broken (after_means scope variables (made_parts scope variables h.1).1)
@@ -74,7 +74,7 @@ module _ (scope : Scope) (variables : Variables) (sound : IsSoundScope scope) wh
     after_excludes (b.in_block turns xs r at broken) h = block_excludes broken (subst (AfterMeans scope variables turns) (out_block xs) h)
 
     branches_exclude : {turns : List (List ℕ)} {xs : List BranchText} {r : ModuleRule} {at : ℕ} → BranchesBreak scope variables turns xs r at
-        → (ys : List Branch) × AreBranches scope variables turns xs ys → ⊥
+        → (ys : List ResolvedBranch) × AreBranches scope variables turns xs ys → ⊥
     branches_exclude (b.in_branch turns xs ys i x r at before there broken) h = branch_excludes broken (branch_member scope variables h.1 i x there)
 
 module _ (scope : Scope) where

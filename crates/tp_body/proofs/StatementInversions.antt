@@ -21,8 +21,8 @@ use Rattle.tp_tree.specs.declared.tree.ElseBranch.{ElseBranch, out-ElseBranch}
 use Rattle.tp_tree.specs.declared.tree.Counted.{Counted, out-Counted}
 use Rattle.tp_play.specs.declared.body.SendOperation.{SendOperation}
 use Rattle.tp_play.specs.declared.body.Receiving.{Receiving}
-use Rattle.tp_play.specs.declared.body.Statement.{Statement}
-use Rattle.tp_play.specs.declared.body.Branch.{Branch}
+use Rattle.tp_play.specs.declared.body.ResolvedStatement.{ResolvedStatement}
+use Rattle.tp_play.specs.declared.body.ResolvedBranch.{ResolvedBranch}
 use Rattle.tp_body.specs.declared.scope.BehaviourKind.TheVariants as behaviour_kind
 use Rattle.tp_body.specs.declared.scope.Scope.{Scope}
 use Rattle.tp_body.specs.declared.scope.Variables.{Variables}
@@ -67,15 +67,15 @@ module _ (scope : Scope) (variables : Variables) where
       (scope.behaviour ≢ behaviour_kind.SystemUnderTest) × ((k : ℕ) × (port : PortType) × IsPortNamed scope.ports.now (string_bytes x.port) k port)
   Ruled turns (o.AllPorts x) = scope.behaviour ≢ behaviour_kind.SystemUnderTest
   Ruled turns (o.SetVerdict x) = (scope.behaviour ≢ behaviour_kind.SystemUnderTest) × ((y : Verdict) × IsVerdict x y)
-  Ruled turns (o.Alt xs None) = (ys : List Branch) × AreBranches scope variables turns xs.items ys
+  Ruled turns (o.Alt xs None) = (ys : List ResolvedBranch) × AreBranches scope variables turns xs.items ys
   Ruled turns (o.Alt xs (Some e)) =
-      ((ys : List Branch) × AreBranches scope variables turns xs.items ys)
-      × ((block : List Statement) × IsBlock scope variables turns (out-ElseBranch e).block.items block)
+      ((ys : List ResolvedBranch) × AreBranches scope variables turns xs.items ys)
+      × ((block : List ResolvedStatement) × IsBlock scope variables turns (out-ElseBranch e).block.items block)
   Ruled turns (o.For x) =
       IsNew scope variables turns (string_bytes (out-Counted x).turns.name)
-      × ((block : List Statement) × IsBlock scope variables (turns ++ string_bytes (out-Counted x).turns.name ∷ []) (out-Counted x).block.items block)
+      × ((block : List ResolvedStatement) × IsBlock scope variables (turns ++ string_bytes (out-Counted x).turns.name ∷ []) (out-Counted x).block.items block)
 
-  pub ruled : {turns : List (List ℕ)} {x : Action} {y : Statement} → IsStatement scope variables turns x y → Ruled turns (out-Action x)
+  pub ruled : {turns : List (List ℕ)} {x : Action} {y : ResolvedStatement} → IsStatement scope variables turns x y → Ruled turns (out-Action x)
   ruled (d.send turns x y h) = subst (Ruled turns) (sym (out_send x)) (y, h)
   ruled (d.receive turns x y h) = subst (Ruled turns) (sym (out_receive x)) (y, h)
   ruled (d.control turns x k port other h) = subst (Ruled turns) (sym (out_control x)) (other, (k, port, h))
@@ -88,34 +88,34 @@ module _ (scope : Scope) (variables : Variables) where
   -- what the rule says of what stands behind an operation, by its layer
   abbrev pub AfterMeans : List (List ℕ) → o.BranchBody-F Action BranchBody BranchText Counted ElseBranch StatementText → Type 0
   AfterMeans turns o.Nothing = Unit {0}
-  AfterMeans turns (o.Block xs) = (ys : List Statement) × IsBlock scope variables turns xs.items ys
+  AfterMeans turns (o.Block xs) = (ys : List ResolvedStatement) × IsBlock scope variables turns xs.items ys
 
-  pub after_means : {turns : List (List ℕ)} {x : BranchBody} {ys : List Statement} → IsAfter scope variables turns x ys → AfterMeans turns (out-BranchBody x)
+  pub after_means : {turns : List (List ℕ)} {x : BranchBody} {ys : List ResolvedStatement} → IsAfter scope variables turns x ys → AfterMeans turns (out-BranchBody x)
   after_means (d.nothing turns) = subst (AfterMeans turns) (sym out_nothing) tt
   after_means (d.block turns xs ys h) = subst (AfterMeans turns) (sym (out_block xs)) (ys, h)
 
-  pub made_parts : {turns : List (List ℕ)} {x : BranchText} {y : Branch} → IsBranch scope variables turns x y
+  pub made_parts : {turns : List (List ℕ)} {x : BranchText} {y : ResolvedBranch} → IsBranch scope variables turns x y
       → IsReceive scope variables turns x.receive y.receiving × IsAfter scope variables turns x.body y.block
   made_parts (d.branch turns x y h after) = (h, after)
 
-  pub block_member : {turns : List (List ℕ)} {xs : List StatementText} {ys : List Statement} → IsBlock scope variables turns xs ys → (k : ℕ) (x : StatementText)
-      → slice_get xs k ≡ Some x → (y : Statement) × IsStatement scope variables turns x.action y
+  pub block_member : {turns : List (List ℕ)} {xs : List StatementText} {ys : List ResolvedStatement} → IsBlock scope variables turns xs ys → (k : ℕ) (x : StatementText)
+      → slice_get xs k ≡ Some x → (y : ResolvedStatement) × IsStatement scope variables turns x.action y
   block_member (d.no_statement turns) k x there = let below = slice_get_within [] k x there in absurd (omega arith)
   block_member (d.one_statement_more turns xs ys z y before one) k x there =
       by (λ (earlier : slice_get xs k ≡ Some x). block_member before k x earlier) (push_cases xs z k x there)
     where
-      by : (slice_get xs k ≡ Some x → (w : Statement) × IsStatement scope variables turns x.action w)
-          → (slice_get xs k ≡ Some x) ⊎ ((k ≡ length xs) × (x ≡ z)) → (w : Statement) × IsStatement scope variables turns x.action w
+      by : (slice_get xs k ≡ Some x → (w : ResolvedStatement) × IsStatement scope variables turns x.action w)
+          → (slice_get xs k ≡ Some x) ⊎ ((k ≡ length xs) × (x ≡ z)) → (w : ResolvedStatement) × IsStatement scope variables turns x.action w
       by again (inl earlier) = again earlier
-      by again (inr (at, is)) = subst (λ (t : StatementText). (w : Statement) × IsStatement scope variables turns t.action w) (sym is) (y, one)
+      by again (inr (at, is)) = subst (λ (t : StatementText). (w : ResolvedStatement) × IsStatement scope variables turns t.action w) (sym is) (y, one)
 
-  pub branch_member : {turns : List (List ℕ)} {xs : List BranchText} {ys : List Branch} → AreBranches scope variables turns xs ys → (k : ℕ) (x : BranchText)
-      → slice_get xs k ≡ Some x → (y : Branch) × IsBranch scope variables turns x y
+  pub branch_member : {turns : List (List ℕ)} {xs : List BranchText} {ys : List ResolvedBranch} → AreBranches scope variables turns xs ys → (k : ℕ) (x : BranchText)
+      → slice_get xs k ≡ Some x → (y : ResolvedBranch) × IsBranch scope variables turns x y
   branch_member (d.no_branch turns) k x there = let below = slice_get_within [] k x there in absurd (omega arith)
   branch_member (d.one_branch_more turns xs ys z y before one) k x there =
       by (λ (earlier : slice_get xs k ≡ Some x). branch_member before k x earlier) (push_cases xs z k x there)
     where
-      by : (slice_get xs k ≡ Some x → (w : Branch) × IsBranch scope variables turns x w)
-          → (slice_get xs k ≡ Some x) ⊎ ((k ≡ length xs) × (x ≡ z)) → (w : Branch) × IsBranch scope variables turns x w
+      by : (slice_get xs k ≡ Some x → (w : ResolvedBranch) × IsBranch scope variables turns x w)
+          → (slice_get xs k ≡ Some x) ⊎ ((k ≡ length xs) × (x ≡ z)) → (w : ResolvedBranch) × IsBranch scope variables turns x w
       by again (inl earlier) = again earlier
-      by again (inr (at, is)) = subst (λ (t : BranchText). (w : Branch) × IsBranch scope variables turns t w) (sym is) (y, one)
+      by again (inr (at, is)) = subst (λ (t : BranchText). (w : ResolvedBranch) × IsBranch scope variables turns t w) (sym is) (y, one)

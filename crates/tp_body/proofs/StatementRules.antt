@@ -18,9 +18,9 @@ use Rattle.tp_tree.specs.declared.tree.ElseBranch.{ElseBranch, out-ElseBranch}
 use Rattle.tp_tree.specs.declared.tree.Counted.{Counted, out-Counted}
 use Rattle.tp_play.specs.declared.body.SendOperation.{SendOperation}
 use Rattle.tp_play.specs.declared.body.Receiving.{Receiving}
-use Rattle.tp_play.specs.declared.body.Statement.{Statement}
-use Rattle.tp_play.specs.declared.body.Statement.TheVariants as b
-use Rattle.tp_play.specs.declared.body.Branch.{Branch}
+use Rattle.tp_play.specs.declared.body.ResolvedStatement.{ResolvedStatement}
+use Rattle.tp_play.specs.declared.body.ResolvedStatement.TheVariants as b
+use Rattle.tp_play.specs.declared.body.ResolvedBranch.{ResolvedBranch}
 use Rattle.tp_body.specs.declared.scope.BehaviourKind.TheVariants as behaviour_kind
 use Rattle.tp_body.specs.declared.scope.Scope.{Scope}
 use Rattle.tp_body.specs.declared.scope.Variables.{Variables}
@@ -51,19 +51,19 @@ module _ (scope : Scope) (variables : Variables) (turns : List (List ℕ)) where
       → IsStatement scope variables turns (a.SetVerdict x) (b.SetVerdict y)
   statement_set_verdict x y n h = d.set_verdict turns x y n h
 
-  pub statement_as : (x y : Action) (z : Statement) → x ≡ y → IsStatement scope variables turns y z → IsStatement scope variables turns x z
+  pub statement_as : (x y : Action) (z : ResolvedStatement) → x ≡ y → IsStatement scope variables turns y z → IsStatement scope variables turns x z
   statement_as x y z e h = rw e h
 
-  pub statement_alt : (x : Action) (xs : Vec BranchText Global) (ys : List Branch) → x ≡ a.Alt xs None → AreBranches scope variables turns xs.items ys
+  pub statement_alt : (x : Action) (xs : Vec BranchText Global) (ys : List ResolvedBranch) → x ≡ a.Alt xs None → AreBranches scope variables turns xs.items ys
       → IsStatement scope variables turns x (b.Alt ys None)
   statement_alt x xs ys e h = rw e (d.alt turns xs ys h)
 
-  pub statement_alt_else : (x : Action) (xs : Vec BranchText Global) (ys : List Branch) (o : ElseBranch) (block : List Statement) → x ≡ a.Alt xs (Some o)
+  pub statement_alt_else : (x : Action) (xs : Vec BranchText Global) (ys : List ResolvedBranch) (o : ElseBranch) (block : List ResolvedStatement) → x ≡ a.Alt xs (Some o)
       → AreBranches scope variables turns xs.items ys
       → IsBlock scope variables turns (out-ElseBranch o).block.items block → IsStatement scope variables turns x (b.Alt ys (Some block))
   statement_alt_else x xs ys o block e h i = rw e (d.alt_else turns xs ys o block h i)
 
-  pub statement_for : (x : Action) (l : Counted) (block : List Statement) → x ≡ a.For l → IsNew scope variables turns (string_bytes (out-Counted l).turns.name)
+  pub statement_for : (x : Action) (l : Counted) (block : List ResolvedStatement) → x ≡ a.For l → IsNew scope variables turns (string_bytes (out-Counted l).turns.name)
       → IsBlock scope variables (turns ++ string_bytes (out-Counted l).turns.name ∷ []) (out-Counted l).block.items block
       → IsStatement scope variables turns x (b.For (out-Counted l).turns.first (out-Counted l).turns.bound block)
   statement_for x l block e n h = rw e (d.counted turns l block n h)
@@ -71,17 +71,17 @@ module _ (scope : Scope) (variables : Variables) (turns : List (List ℕ)) where
   pub after_nothing : (x : BranchBody) → x ≡ after.Nothing → IsAfter scope variables turns x []
   after_nothing x e = rw e (d.nothing turns)
 
-  pub after_block : (x : BranchBody) (xs : Vec StatementText Global) (ys : List Statement) → x ≡ after.Block xs → IsBlock scope variables turns xs.items ys
+  pub after_block : (x : BranchBody) (xs : Vec StatementText Global) (ys : List ResolvedStatement) → x ≡ after.Block xs → IsBlock scope variables turns xs.items ys
       → IsAfter scope variables turns x ys
   after_block x xs ys e h = rw e (d.block turns xs ys h)
 
-  pub block_more : (xs : List StatementText) (i : ℕ) (x : StatementText) (ys : List Statement) (y : Statement) → i < length xs → x ≡ get_or xs i x
+  pub block_more : (xs : List StatementText) (i : ℕ) (x : StatementText) (ys : List ResolvedStatement) (y : ResolvedStatement) → i < length xs → x ≡ get_or xs i x
       → IsBlock scope variables turns (take i xs) ys
       → IsStatement scope variables turns x.action y → IsBlock scope variables turns (take (i + 1) xs) (ys ++ y ∷ [])
   block_more xs i x ys y lt is h one =
       subst (λ l. IsBlock scope variables turns l (ys ++ y ∷ [])) (pushed xs i x lt is) (d.one_statement_more turns (take i xs) ys x y h one)
 
-  pub branches_more : (xs : List BranchText) (i : ℕ) (x : BranchText) (ys : List Branch) (y : Branch) → i < length xs → x ≡ get_or xs i x
+  pub branches_more : (xs : List BranchText) (i : ℕ) (x : BranchText) (ys : List ResolvedBranch) (y : ResolvedBranch) → i < length xs → x ≡ get_or xs i x
       → AreBranches scope variables turns (take i xs) ys
       → IsBranch scope variables turns x y → AreBranches scope variables turns (take (i + 1) xs) (ys ++ y ∷ [])
   branches_more xs i x ys y lt is h one =

@@ -46,9 +46,9 @@ use Rattle.tp_play.specs.declared.body.Receiver.{Receiver}
 use Rattle.tp_play.specs.declared.body.Receiver.TheVariants as to
 use Rattle.tp_play.specs.declared.body.SendOperation.{SendOperation}
 use Rattle.tp_play.specs.declared.body.Receiving.{Receiving}
-use Rattle.tp_play.specs.declared.body.Statement.{Statement}
-use Rattle.tp_play.specs.declared.body.Statement.TheVariants as statement
-use Rattle.tp_play.specs.declared.body.Branch.{Branch}
+use Rattle.tp_play.specs.declared.body.ResolvedStatement.{ResolvedStatement}
+use Rattle.tp_play.specs.declared.body.ResolvedStatement.TheVariants as statement
+use Rattle.tp_play.specs.declared.body.ResolvedBranch.{ResolvedBranch}
 use Rattle.tp_play.specs.declared.body.VariableType.{VariableType}
 use Rattle.tp_play.specs.declared.body.VariableType.TheVariants as variable_type
 use Rattle.tp_play.specs.declared.body.Body.{Body}
@@ -143,7 +143,7 @@ pub data IsVerdict : VerdictName → Verdict → Type 0 where
 
 mutual
   -- what a statement does
-  pub data IsStatement (scope : Scope) (variables : Variables) : List (List ℕ) → Action → Statement → Type 0 where
+  pub data IsStatement (scope : Scope) (variables : Variables) : List (List ℕ) → Action → ResolvedStatement → Type 0 where
     send : (turns : List (List ℕ)) (x : Send) (y : SendOperation) → IsSend scope variables turns x y
         → IsStatement scope variables turns (action.Send x) (statement.Send y)
     receive : (turns : List (List ℕ)) (x : Receive) (y : Receiving) → IsReceive scope variables turns x y
@@ -158,15 +158,15 @@ mutual
         → scope.behaviour ≢ behaviour_kind.SystemUnderTest
         → IsVerdict x y
         → IsStatement scope variables turns (action.SetVerdict x) (statement.SetVerdict y)
-    alt : (turns : List (List ℕ)) (xs : Vec BranchText Global) (ys : List Branch)
+    alt : (turns : List (List ℕ)) (xs : Vec BranchText Global) (ys : List ResolvedBranch)
         → AreBranches scope variables turns xs.items ys
         → IsStatement scope variables turns (action.Alt xs None) (statement.Alt ys None)
-    alt_else : (turns : List (List ℕ)) (xs : Vec BranchText Global) (ys : List Branch) (e : ElseBranch)
-        (otherwise : List Statement) → AreBranches scope variables turns xs.items ys
+    alt_else : (turns : List (List ℕ)) (xs : Vec BranchText Global) (ys : List ResolvedBranch) (e : ElseBranch)
+        (otherwise : List ResolvedStatement) → AreBranches scope variables turns xs.items ys
         → IsBlock scope variables turns (out-ElseBranch e).block.items otherwise
         → IsStatement scope variables turns (action.Alt xs (Some e)) (statement.Alt ys (Some otherwise))
     -- inside of it there is one loop variable more
-    counted : (turns : List (List ℕ)) (x : Counted) (block : List Statement)
+    counted : (turns : List (List ℕ)) (x : Counted) (block : List ResolvedStatement)
         → IsNew scope variables turns (string_bytes (out-Counted x).turns.name)
         → IsBlock scope variables (turns ++ string_bytes (out-Counted x).turns.name ∷ [])
         (out-Counted x).block.items block
@@ -174,29 +174,29 @@ mutual
         (statement.For (out-Counted x).turns.first (out-Counted x).turns.bound block)
 
   pub data IsBlock (scope : Scope) (variables : Variables)
-      : List (List ℕ) → List StatementText → List Statement → Type 0 where
+      : List (List ℕ) → List StatementText → List ResolvedStatement → Type 0 where
     no_statement : (turns : List (List ℕ)) → IsBlock scope variables turns [] []
     one_statement_more :
-        (turns : List (List ℕ)) (xs : List StatementText) (ys : List Statement) (x : StatementText) (y : Statement)
+        (turns : List (List ℕ)) (xs : List StatementText) (ys : List ResolvedStatement) (x : StatementText) (y : ResolvedStatement)
         → IsBlock scope variables turns xs ys → IsStatement scope variables turns x.action y
         → IsBlock scope variables turns (xs ++ x ∷ []) (ys ++ y ∷ [])
 
-  pub data IsBranch (scope : Scope) (variables : Variables) : List (List ℕ) → BranchText → Branch → Type 0 where
-    branch : (turns : List (List ℕ)) (x : BranchText) (y : Branch)
+  pub data IsBranch (scope : Scope) (variables : Variables) : List (List ℕ) → BranchText → ResolvedBranch → Type 0 where
+    branch : (turns : List (List ℕ)) (x : BranchText) (y : ResolvedBranch)
         → IsReceive scope variables turns x.receive y.receiving → IsAfter scope variables turns x.body y.block
         → IsBranch scope variables turns x y
 
   -- what stands behind the operation of a branch: nothing, or a block
-  pub data IsAfter (scope : Scope) (variables : Variables) : List (List ℕ) → BranchBody → List Statement → Type 0 where
+  pub data IsAfter (scope : Scope) (variables : Variables) : List (List ℕ) → BranchBody → List ResolvedStatement → Type 0 where
     nothing : (turns : List (List ℕ)) → IsAfter scope variables turns branch_body.Nothing []
-    block : (turns : List (List ℕ)) (xs : Vec StatementText Global) (ys : List Statement)
+    block : (turns : List (List ℕ)) (xs : Vec StatementText Global) (ys : List ResolvedStatement)
         → IsBlock scope variables turns xs.items ys
         → IsAfter scope variables turns (branch_body.Block xs) ys
 
   pub data AreBranches (scope : Scope) (variables : Variables)
-      : List (List ℕ) → List BranchText → List Branch → Type 0 where
+      : List (List ℕ) → List BranchText → List ResolvedBranch → Type 0 where
     no_branch : (turns : List (List ℕ)) → AreBranches scope variables turns [] []
-    one_branch_more : (turns : List (List ℕ)) (xs : List BranchText) (ys : List Branch) (x : BranchText) (y : Branch)
+    one_branch_more : (turns : List (List ℕ)) (xs : List BranchText) (ys : List ResolvedBranch) (x : BranchText) (y : ResolvedBranch)
         → AreBranches scope variables turns xs ys → IsBranch scope variables turns x y
         → AreBranches scope variables turns (xs ++ x ∷ []) (ys ++ y ∷ [])
 

@@ -19,8 +19,8 @@ use Rattle.tp_tree.specs.declared.tree.BranchBody.TheVariants as branch_body
 use Rattle.tp_tree.specs.declared.tree.ElseBranch.{ElseBranch, out-ElseBranch}
 use Rattle.tp_tree.specs.declared.tree.Counted.{Counted, out-Counted}
 use Rattle.tp_play.specs.declared.body.Receiving.{Receiving}
-use Rattle.tp_play.specs.declared.body.Statement.{Statement}
-use Rattle.tp_play.specs.declared.body.Branch.{Branch}
+use Rattle.tp_play.specs.declared.body.ResolvedStatement.{ResolvedStatement}
+use Rattle.tp_play.specs.declared.body.ResolvedBranch.{ResolvedBranch}
 use Rattle.tp_play.specs.declared.body.VariableType.{VariableType}
 use Rattle.tp_name.specs.declared.fault.ModuleRule.{ModuleRule}
 use Rattle.tp_name.specs.declared.fault.ModuleRule.TheVariants as rule
@@ -61,7 +61,7 @@ mutual
     branches : (turns : List (List ℕ)) (line : ℕ) (xs : Vec BranchText Global) (e : Option ElseBranch)
         (r : ModuleRule) (at : ℕ) → BranchesBreak scope variables turns xs.items r at
         → StatementBreaks scope variables turns line (action.Alt xs e) r at
-    otherwise : (turns : List (List ℕ)) (line : ℕ) (xs : Vec BranchText Global) (ys : List Branch) (e : ElseBranch)
+    otherwise : (turns : List (List ℕ)) (line : ℕ) (xs : Vec BranchText Global) (ys : List ResolvedBranch) (e : ElseBranch)
         (r : ModuleRule) (at : ℕ) → AreBranches scope variables turns xs.items ys
         → BlockBreaks scope variables turns (out-ElseBranch e).block.items r at
         → StatementBreaks scope variables turns line (action.Alt xs (Some e)) r at
@@ -78,7 +78,7 @@ mutual
   -- the statements of a block: those before one stand for something
   pub data BlockBreaks (scope : Scope) (variables : Variables)
       : List (List ℕ) → List StatementText → ModuleRule → ℕ → Type 0 where
-    in_statement : (turns : List (List ℕ)) (xs : List StatementText) (ys : List Statement) (i : ℕ) (x : StatementText)
+    in_statement : (turns : List (List ℕ)) (xs : List StatementText) (ys : List ResolvedStatement) (i : ℕ) (x : StatementText)
         (r : ModuleRule) (at : ℕ) → IsBlock scope variables turns (take i xs) ys → slice_get xs i ≡ Some x
         → StatementBreaks scope variables turns x.line x.action r at
         → BlockBreaks scope variables turns xs r at
@@ -102,7 +102,7 @@ mutual
   -- the branches of an `alt`: those before one stand for something
   pub data BranchesBreak (scope : Scope) (variables : Variables)
       : List (List ℕ) → List BranchText → ModuleRule → ℕ → Type 0 where
-    in_branch : (turns : List (List ℕ)) (xs : List BranchText) (ys : List Branch) (i : ℕ) (x : BranchText)
+    in_branch : (turns : List (List ℕ)) (xs : List BranchText) (ys : List ResolvedBranch) (i : ℕ) (x : BranchText)
         (r : ModuleRule) (at : ℕ) → AreBranches scope variables turns (take i xs) ys → slice_get xs i ≡ Some x
         → BranchBreaks scope variables turns x r at → BranchesBreak scope variables turns xs r at
 

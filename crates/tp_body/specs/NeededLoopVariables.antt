@@ -2,10 +2,10 @@
 use Rattle.std.specs.Prelude.{ℕ, ◌-◌, List, Option, None, Some, map, max}
 use Rattle.tp_play.specs.declared.body.Sent.{Sent}
 use Rattle.tp_play.specs.declared.body.Sent.TheVariants as sent
-use Rattle.tp_play.specs.declared.body.Statement.{Statement}
-use Rattle.tp_play.specs.declared.body.Statement.TheOpen as o
-use Rattle.tp_play.specs.declared.body.Statement.TheFolds.{fold-Branch, fold-Statement}
-use Rattle.tp_play.specs.declared.body.Branch.{Branch}
+use Rattle.tp_play.specs.declared.body.ResolvedStatement.{ResolvedStatement}
+use Rattle.tp_play.specs.declared.body.ResolvedStatement.TheOpen as o
+use Rattle.tp_play.specs.declared.body.ResolvedStatement.TheFolds.{fold-ResolvedBranch, fold-ResolvedStatement}
+use Rattle.tp_play.specs.declared.body.ResolvedBranch.{ResolvedBranch}
 use Rattle.tp_play.specs.Fills.{greatest, needed, needed_by_wanted}
 
 -- how many loop variables have to have values for what is sent
@@ -19,7 +19,7 @@ needed_by_else None = 0
 needed_by_else (Some ns) = greatest ns
 
 -- one layer of a statement: a `for` is itself around its block
-abbrev pub needed_statement_step : o.Statement-F ℕ ℕ → ℕ
+abbrev pub needed_statement_step : o.ResolvedStatement-F ℕ ℕ → ℕ
 needed_statement_step (o.Send x) = needed_by_sent x.sent
 needed_statement_step (o.Receive x) = needed_by_wanted x.wanted
 needed_statement_step (o.Control k x) = 0
@@ -29,17 +29,17 @@ needed_statement_step (o.Alt branches otherwise) = max (greatest branches) (need
 needed_statement_step (o.For first bound block) = greatest block - 1
 
 -- one layer of a branch
-abbrev pub needed_branch_step : o.Branch-F ℕ ℕ → ℕ
+abbrev pub needed_branch_step : o.ResolvedBranch-F ℕ ℕ → ℕ
 needed_branch_step branch = max (needed_by_wanted branch.receiving.wanted) (greatest branch.block)
 
 -- how many loop variables have to be around a statement
-unfoldable pub needed_around : Statement → ℕ
-needed_around = fold-Statement ℕ ℕ needed_statement_step needed_branch_step
+unfoldable pub needed_around : ResolvedStatement → ℕ
+needed_around = fold-ResolvedStatement ℕ ℕ needed_statement_step needed_branch_step
 
 -- how many have to be around a branch
-unfoldable pub needed_around_branch : Branch → ℕ
-needed_around_branch = fold-Branch ℕ ℕ needed_statement_step needed_branch_step
+unfoldable pub needed_around_branch : ResolvedBranch → ℕ
+needed_around_branch = fold-ResolvedBranch ℕ ℕ needed_statement_step needed_branch_step
 
 -- how many have to be around a block
-abbrev pub needed_around_all : List Statement → ℕ
+abbrev pub needed_around_all : List ResolvedStatement → ℕ
 needed_around_all statements = greatest (map needed_around statements)

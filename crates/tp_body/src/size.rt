@@ -2,7 +2,7 @@
 ghost use Rattle.std.specs.Prelude.{◌≡◌};
 ghost use Rattle.tp_play.specs.Sizes.{capped, size_in, size_in_all, size_of, size_of_all, size_of_body, turns_between};
 
-use tp_play::body::{Body, Branch, Statement};
+use tp_play::body::{Body, ResolvedBranch, ResolvedStatement};
 
 /// Where counting stops: one more than the statements that all bodies of a test case may come to.
 pub const SIZE_CEILING: u64 = 100_001;
@@ -27,23 +27,23 @@ fn turn_count(first: &i64, bound: &i64) -> u64
 /// The size of a statement, up to [`SIZE_CEILING`].
 #[cycle(size)]
 #[tactic(auto, using(crate::proofs::CappedStatementSizes::laws))]
-fn count_statement(statement: &Statement) -> u64
+fn count_statement(statement: &ResolvedStatement) -> u64
     ensures { result ≡ capped (size_of statement.now) }
 {
     match statement {
-        Statement::Send(_) => 1,
-        Statement::Receive(_) => 1,
-        Statement::Control(_, _) => 1,
-        Statement::AllPorts(_) => 1,
-        Statement::SetVerdict(_) => 1,
-        Statement::Alt(branches, otherwise) => {
+        ResolvedStatement::Send(_) => 1,
+        ResolvedStatement::Receive(_) => 1,
+        ResolvedStatement::Control(_, _) => 1,
+        ResolvedStatement::AllPorts(_) => 1,
+        ResolvedStatement::SetVerdict(_) => 1,
+        ResolvedStatement::Alt(branches, otherwise) => {
             let inner = count_branches(branches.as_slice());
             let Some(block) = otherwise else {
                 return cap(1 + inner);
             };
             cap(1 + inner + count_block(block.as_slice()))
         }
-        Statement::For(first, bound, block) => {
+        ResolvedStatement::For(first, bound, block) => {
             cap(1 + cap(turn_count(first, bound)) * count_block(block.as_slice()))
         }
     }
@@ -52,7 +52,7 @@ fn count_statement(statement: &Statement) -> u64
 /// The size of a block, up to [`SIZE_CEILING`].
 #[cycle(size)]
 #[tactic(auto, using(crate::proofs::CappedStatementSizes::laws))]
-fn count_block(block: &[Statement]) -> u64
+fn count_block(block: &[ResolvedStatement]) -> u64
     ensures { result ≡ capped (size_of_all block.now) }
 {
     let mut sum = 0;
@@ -65,7 +65,7 @@ fn count_block(block: &[Statement]) -> u64
 /// The size of a branch, up to [`SIZE_CEILING`].
 #[cycle(size)]
 #[tactic(auto, using(crate::proofs::CappedStatementSizes::laws))]
-fn count_branch(branch: &Branch) -> u64
+fn count_branch(branch: &ResolvedBranch) -> u64
     ensures { result ≡ capped (size_in branch.now) }
 {
     count_block(branch.block.as_slice())
@@ -74,7 +74,7 @@ fn count_branch(branch: &Branch) -> u64
 /// The size of the branches of an `alt`, up to [`SIZE_CEILING`].
 #[cycle(size)]
 #[tactic(auto, using(crate::proofs::CappedStatementSizes::laws))]
-fn count_branches(branches: &[Branch]) -> u64
+fn count_branches(branches: &[ResolvedBranch]) -> u64
     ensures { result ≡ capped (size_in_all branches.now) }
 {
     let mut sum = 0;

@@ -17,7 +17,7 @@ use std::alloc::Global;
 use tp_event::operation::PortOperation;
 use tp_name::fault::{ModuleFault, ModuleRule, refused};
 use tp_name::name::Name;
-use tp_play::body::{Body, Branch, Statement};
+use tp_play::body::{Body, ResolvedBranch, ResolvedStatement};
 use tp_tree::tree;
 use tp_tree::tree::{Action, BranchBody, Control, Counted, Turns, Variable, VerdictName};
 use tp_value::items::Items;
@@ -38,16 +38,16 @@ fn turns_inside<'m>(
 }
 
 /// A counted `for`.
-fn counted_for(turns: &Turns, block: Items<Statement>) -> Statement
-    ensures { result ≡ Statement.For turns.now.first turns.now.bound block }
+fn counted_for(turns: &Turns, block: Items<ResolvedStatement>) -> ResolvedStatement
+    ensures { result ≡ ResolvedStatement.For turns.now.first turns.now.bound block }
 {
-    Statement::For(turns.first, turns.bound, block)
+    ResolvedStatement::For(turns.first, turns.bound, block)
 }
 
 /// What an operation on one port stands for: 16 `NotInSut` in the system under test, then
 /// 11 `Unknown` for the port.
 #[tactic(auto, using(crate::proofs::StatementRules::cases))]
-fn resolve_control(context: &Context, control: &Control) -> Result<Statement, ModuleFault>
+fn resolve_control(context: &Context, control: &Control) -> Result<ResolvedStatement, ModuleFault>
     ensures stands { IfOk result (IsStatement
         context.now.scope.now context.now.variables.now (texts context.now.turns.now)
         (Action.Control control.now)) }
@@ -60,12 +60,12 @@ fn resolve_control(context: &Context, control: &Control) -> Result<Statement, Mo
     let Some((place, _)) = find_port(context.scope.ports, control.port.as_str()) else {
         return Err(context.unknown());
     };
-    Ok(Statement::Control(place, control.operation))
+    Ok(ResolvedStatement::Control(place, control.operation))
 }
 
 /// What an operation on all ports stands for: 16 `NotInSut` in the system under test.
 #[tactic(auto, using(crate::proofs::StatementRules::cases))]
-fn resolve_all_ports(context: &Context, operation: PortOperation) -> Result<Statement, ModuleFault>
+fn resolve_all_ports(context: &Context, operation: PortOperation) -> Result<ResolvedStatement, ModuleFault>
     ensures stands { IfOk result (IsStatement
         context.now.scope.now context.now.variables.now (texts context.now.turns.now)
         (Action.AllPorts operation)) }
@@ -74,13 +74,13 @@ fn resolve_all_ports(context: &Context, operation: PortOperation) -> Result<Stat
         context.now.line (Action.AllPorts operation))) }
 {
     context.check_not_in_sut()?;
-    Ok(Statement::AllPorts(operation))
+    Ok(ResolvedStatement::AllPorts(operation))
 }
 
 /// What `setverdict` stands for: 16 `NotInSut` in the system under test, then 13 `WrongType` for
 /// `error`.
 #[tactic(auto, using(crate::proofs::StatementRules::cases))]
-fn resolve_set_verdict(context: &Context, name: VerdictName) -> Result<Statement, ModuleFault>
+fn resolve_set_verdict(context: &Context, name: VerdictName) -> Result<ResolvedStatement, ModuleFault>
     ensures stands { IfOk result (IsStatement
         context.now.scope.now context.now.variables.now (texts context.now.turns.now)
         (Action.SetVerdict name)) }
@@ -90,7 +90,7 @@ fn resolve_set_verdict(context: &Context, name: VerdictName) -> Result<Statement
 {
     context.check_not_in_sut()?;
     let verdict = resolve_verdict(context, name)?;
-    Ok(Statement::SetVerdict(verdict))
+    Ok(ResolvedStatement::SetVerdict(verdict))
 }
 
 /// What a statement stands for.
@@ -105,7 +105,7 @@ fn resolve_statement<'m>(
     alloc: Global,
     context: &Context<'_, '_, 'm>,
     action: &'m Action,
-) -> Result<Statement, ModuleFault>
+) -> Result<ResolvedStatement, ModuleFault>
     ensures stands { IfOk result (IsStatement
         context.now.scope.now context.now.variables.now (texts context.now.turns.now) action.now) }
     ensures told { IsSoundScope context.now.scope.now → AreTyped context.now.variables.now
@@ -116,11 +116,11 @@ fn resolve_statement<'m>(
     match action {
         Action::Send(send) => {
             let sending = resolve_send(alloc, context, send)?;
-            Ok(Statement::Send(sending))
+            Ok(ResolvedStatement::Send(sending))
         }
         Action::Receive(receive) => {
             let receiving = resolve_receive(alloc, context, receive)?;
-            Ok(Statement::Receive(receiving))
+            Ok(ResolvedStatement::Receive(receiving))
         }
         Action::Control(control) => resolve_control(context, control),
         Action::AllPorts(operation) => resolve_all_ports(context, *operation),
@@ -128,10 +128,10 @@ fn resolve_statement<'m>(
         Action::Alt(branches, otherwise) => {
             let made = resolve_branches(alloc, context, branches)?;
             let Some(otherwise) = otherwise else {
-                return Ok(Statement::Alt(made, None));
+                return Ok(ResolvedStatement::Alt(made, None));
             };
             let block = resolve_block(alloc, context, &otherwise.block)?;
-            Ok(Statement::Alt(made, Some(block)))
+            Ok(ResolvedStatement::Alt(made, Some(block)))
         }
         Action::For(looped) => resolve_for(alloc, context, looped),
     }
@@ -145,7 +145,7 @@ fn resolve_for<'m>(
     alloc: Global,
     context: &Context<'_, '_, 'm>,
     looped: &'m Counted,
-) -> Result<Statement, ModuleFault>
+) -> Result<ResolvedStatement, ModuleFault>
     ensures stands { IfOk result (IsStatement
         context.now.scope.now context.now.variables.now (texts context.now.turns.now)
         (Action.For looped.now)) }
@@ -174,7 +174,7 @@ fn resolve_block<'m>(
     alloc: Global,
     context: &Context<'_, '_, 'm>,
     block: &'m [tree::Statement],
-) -> Result<Items<Statement>, ModuleFault>
+) -> Result<Items<ResolvedStatement>, ModuleFault>
     ensures stands { IfOk result (IsBlock
         context.now.scope.now context.now.variables.now (texts context.now.turns.now) block.now) }
     ensures told { IsSoundScope context.now.scope.now → AreTyped context.now.variables.now
@@ -201,7 +201,7 @@ fn resolve_after<'m>(
     alloc: Global,
     context: &Context<'_, '_, 'm>,
     body: &'m BranchBody,
-) -> Result<Items<Statement>, ModuleFault>
+) -> Result<Items<ResolvedStatement>, ModuleFault>
     ensures stands { IfOk result (IsAfter
         context.now.scope.now context.now.variables.now (texts context.now.turns.now) body.now) }
     ensures told { IsSoundScope context.now.scope.now → AreTyped context.now.variables.now
@@ -222,7 +222,7 @@ fn resolve_branch<'m>(
     alloc: Global,
     context: &Context<'_, '_, 'm>,
     branch: &'m tree::Branch,
-) -> Result<Branch, ModuleFault>
+) -> Result<ResolvedBranch, ModuleFault>
     ensures stands { IfOk result (IsBranch
         context.now.scope.now context.now.variables.now (texts context.now.turns.now) branch.now) }
     ensures told { IsSoundScope context.now.scope.now → AreTyped context.now.variables.now
@@ -236,7 +236,7 @@ fn resolve_branch<'m>(
     };
     let receiving = resolve_receive(alloc, &here, &branch.receive)?;
     let block = resolve_after(alloc, context, &branch.body)?;
-    Ok(Branch { receiving, block })
+    Ok(ResolvedBranch { receiving, block })
 }
 
 /// What the branches of an `alt` stand for.
@@ -246,7 +246,7 @@ fn resolve_branches<'m>(
     alloc: Global,
     context: &Context<'_, '_, 'm>,
     branches: &'m [tree::Branch],
-) -> Result<Items<Branch>, ModuleFault>
+) -> Result<Items<ResolvedBranch>, ModuleFault>
     ensures stands { IfOk result (AreBranches
         context.now.scope.now context.now.variables.now (texts context.now.turns.now)
         branches.now) }

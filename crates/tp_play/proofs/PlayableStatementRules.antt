@@ -13,45 +13,45 @@ use Rattle.tp_play.specs.declared.body.Receiver.{Receiver}
 use Rattle.tp_play.specs.declared.body.Receiver.TheVariants as to
 use Rattle.tp_play.specs.declared.body.SendOperation.{SendOperation}
 use Rattle.tp_play.specs.declared.body.Receiving.{Receiving}
-use Rattle.tp_play.specs.declared.body.Statement.{Statement}
-use Rattle.tp_play.specs.declared.body.Statement.TheVariants as b
-use Rattle.tp_play.specs.declared.body.Branch.{Branch}
+use Rattle.tp_play.specs.declared.body.ResolvedStatement.{ResolvedStatement}
+use Rattle.tp_play.specs.declared.body.ResolvedStatement.TheVariants as b
+use Rattle.tp_play.specs.declared.body.ResolvedBranch.{ResolvedBranch}
 use Rattle.tp_play.specs.declared.body.VariableType.TheVariants as kind
 use Rattle.tp_play.specs.Playable.{Stage, HoldsValues, HoldsComponents, CanWrite, CanSay, CanAddress, CanSend, CanExpect, CanKeepValue, CanKeepSender, CanReceive, CanPlay, CanEnter, CanPlayAll, CanEnterAll}
 use Rattle.tp_play.proofs.PlayableStatementEquations.{play_send, play_receive, play_control, play_alt, play_alt_else, play_for, enter_branch, Each-all}
 
 module _ (s : Stage) (n : ℕ) where
-  pub plays_send : (x : Statement) (y : SendOperation) → x ≡ b.Send y → CanPlay s n x → CanSend s n y
+  pub plays_send : (x : ResolvedStatement) (y : SendOperation) → x ≡ b.Send y → CanPlay s n x → CanSend s n y
   plays_send x y e h = rw (e, play_send) at h
 
-  pub plays_receive : (x : Statement) (y : Receiving) → x ≡ b.Receive y → CanPlay s n x → CanReceive s n y
+  pub plays_receive : (x : ResolvedStatement) (y : Receiving) → x ≡ b.Receive y → CanPlay s n x → CanReceive s n y
   plays_receive x y e h = rw (e, play_receive) at h
 
-  pub plays_control : (x : Statement) (k : ℕ) (o : PortOperation) → x ≡ b.Control k o → CanPlay s n x → k < s.ports
+  pub plays_control : (x : ResolvedStatement) (k : ℕ) (o : PortOperation) → x ≡ b.Control k o → CanPlay s n x → k < s.ports
   plays_control x k o e h = rw (e, play_control) at h
 
-  pub plays_alt : (x : Statement) (branches : List Branch) (otherwise : Option (List Statement)) → x ≡ b.Alt branches otherwise → CanPlay s n x
+  pub plays_alt : (x : ResolvedStatement) (branches : List ResolvedBranch) (otherwise : Option (List ResolvedStatement)) → x ≡ b.Alt branches otherwise → CanPlay s n x
       → CanEnterAll s n branches
   plays_alt x branches None e h = (rw (e, play_alt) at h).0
   plays_alt x branches (Some block) e h = (rw (e, play_alt_else) at h).0
 
-  pub plays_else : (x : Statement) (branches : List Branch) (block : List Statement) → x ≡ b.Alt branches (Some block) → CanPlay s n x → CanPlayAll s n block
+  pub plays_else : (x : ResolvedStatement) (branches : List ResolvedBranch) (block : List ResolvedStatement) → x ≡ b.Alt branches (Some block) → CanPlay s n x → CanPlayAll s n block
   plays_else x branches block e h = (rw (e, play_alt_else) at h).1
 
-  pub plays_for : (x : Statement) (first bound : ℤ) (block : List Statement) → x ≡ b.For first bound block → CanPlay s n x → CanPlayAll s (n + 1) block
+  pub plays_for : (x : ResolvedStatement) (first bound : ℤ) (block : List ResolvedStatement) → x ≡ b.For first bound block → CanPlay s n x → CanPlayAll s (n + 1) block
   plays_for x first bound block e h = rw (e, play_for) at h
 
-  pub enters_receive : (x : Branch) → CanEnter s n x → CanReceive s n x.receiving
+  pub enters_receive : (x : ResolvedBranch) → CanEnter s n x → CanReceive s n x.receiving
   enters_receive x h = (rw enter_branch at h).0
 
-  pub enters_block : (x : Branch) → CanEnter s n x → CanPlayAll s n x.block
+  pub enters_block : (x : ResolvedBranch) → CanEnter s n x → CanPlayAll s n x.block
   enters_block x h = (rw enter_branch at h).1
 
   -- each statement of a block, and each branch of an `alt`, as words on lists say it
-  pub plays_each : (xs : List Statement) → CanPlayAll s n xs → All (CanPlay s n) xs
+  pub plays_each : (xs : List ResolvedStatement) → CanPlayAll s n xs → All (CanPlay s n) xs
   plays_each xs h = Each-all (λ x m. CanPlay s m x) n xs h
 
-  pub enters_each : (xs : List Branch) → CanEnterAll s n xs → All (CanEnter s n) xs
+  pub enters_each : (xs : List ResolvedBranch) → CanEnterAll s n xs → All (CanEnter s n) xs
   enters_each xs h = Each-all (λ x m. CanEnter s m x) n xs h
 
   pub says_written : (x : Sent) (m : SendMsg) → x ≡ sent.Written m → CanSay s n x → CanWrite s n m

@@ -16,8 +16,8 @@ use Rattle.tp_config.specs.contracts.config.Config as config
 use Rattle.tp_config.specs.contracts.config.Config.TheInside as config_inside
 use Rattle.tp_play.proofs.body.SendValue.TheLaws.TheKnot.{crosses as value_knot}
 use Rattle.tp_play.proofs.body.RecvTemplate.TheLaws.TheKnot.{crosses as template_knot}
-use Rattle.tp_play.proofs.body.Statement.TheLaws.TheKnot.{crosses as statement_knot}
-use Rattle.tp_play.specs.contracts.body.Statement as statement
+use Rattle.tp_play.proofs.body.ResolvedStatement.TheLaws.TheKnot.{crosses as statement_knot}
+use Rattle.tp_play.specs.contracts.body.ResolvedStatement as statement
 use Rattle.tp_play.specs.contracts.body.Body as body
 use Rattle.tp_play.specs.contracts.bodies.Bodies as bodies
 use Rattle.tp_play.specs.contracts.instance.Instance as instance

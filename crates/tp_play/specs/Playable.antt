@@ -18,10 +18,10 @@ use Rattle.tp_play.specs.declared.body.Receiver.{Receiver}
 use Rattle.tp_play.specs.declared.body.Receiver.TheVariants as receiver
 use Rattle.tp_play.specs.declared.body.SendOperation.{SendOperation}
 use Rattle.tp_play.specs.declared.body.Receiving.{Receiving}
-use Rattle.tp_play.specs.declared.body.Statement.{Statement}
-use Rattle.tp_play.specs.declared.body.Statement.TheOpen as o
-use Rattle.tp_play.specs.declared.body.Statement.TheFolds.{rec-Statement, rec-Branch}
-use Rattle.tp_play.specs.declared.body.Branch.{Branch}
+use Rattle.tp_play.specs.declared.body.ResolvedStatement.{ResolvedStatement}
+use Rattle.tp_play.specs.declared.body.ResolvedStatement.TheOpen as o
+use Rattle.tp_play.specs.declared.body.ResolvedStatement.TheFolds.{rec-ResolvedStatement, rec-ResolvedBranch}
+use Rattle.tp_play.specs.declared.body.ResolvedBranch.{ResolvedBranch}
 use Rattle.tp_play.specs.declared.body.VariableType.{VariableType}
 use Rattle.tp_play.specs.declared.body.VariableType.TheVariants as variable_type
 use Rattle.tp_play.specs.declared.body.Body.{Body}
@@ -120,8 +120,8 @@ EachElse can n (Some xs) = Each can n xs
 
 -- one layer of a statement: inside of a `for` there is one loop variable more
 abbrev pub statement_plays :
-    Stage → (X Y : Type 0) → (X → Statement) → (Y → Branch) → (X → ℕ → Type 0) → (Y → ℕ → Type 0)
-    → o.Statement-F X Y → ℕ → Type 0
+    Stage → (X Y : Type 0) → (X → ResolvedStatement) → (Y → ResolvedBranch) → (X → ℕ → Type 0) → (Y → ℕ → Type 0)
+    → o.ResolvedStatement-F X Y → ℕ → Type 0
 statement_plays s X Y statement branch plays enters (o.Send x) n = CanSend s n x
 statement_plays s X Y statement branch plays enters (o.Receive x) n = CanReceive s n x
 statement_plays s X Y statement branch plays enters (o.Control k x) n = k < s.ports
@@ -133,24 +133,24 @@ statement_plays s X Y statement branch plays enters (o.For first bound block) n 
 
 -- one layer of a branch: its operation, and its block
 abbrev pub branch_plays :
-    Stage → (X Y : Type 0) → (X → Statement) → (Y → Branch) → (X → ℕ → Type 0) → (Y → ℕ → Type 0)
-    → o.Branch-F X Y → ℕ → Type 0
+    Stage → (X Y : Type 0) → (X → ResolvedStatement) → (Y → ResolvedBranch) → (X → ℕ → Type 0) → (Y → ℕ → Type 0)
+    → o.ResolvedBranch-F X Y → ℕ → Type 0
 branch_plays s X Y statement branch plays enters x n = CanReceive s n x.receiving × Each plays n x.block
 
 -- the statement can be played where n loop variables are around it
-unfoldable pub CanPlay : Stage → ℕ → Statement → Type 0
-CanPlay s n x = rec-Statement (ℕ → Type 0) (ℕ → Type 0) (statement_plays s) (branch_plays s) x n
+unfoldable pub CanPlay : Stage → ℕ → ResolvedStatement → Type 0
+CanPlay s n x = rec-ResolvedStatement (ℕ → Type 0) (ℕ → Type 0) (statement_plays s) (branch_plays s) x n
 
 -- the branch can be played
-unfoldable pub CanEnter : Stage → ℕ → Branch → Type 0
-CanEnter s n x = rec-Branch (ℕ → Type 0) (ℕ → Type 0) (statement_plays s) (branch_plays s) x n
+unfoldable pub CanEnter : Stage → ℕ → ResolvedBranch → Type 0
+CanEnter s n x = rec-ResolvedBranch (ℕ → Type 0) (ℕ → Type 0) (statement_plays s) (branch_plays s) x n
 
 -- each statement of the block can be played
-abbrev pub CanPlayAll : Stage → ℕ → List Statement → Type 0
+abbrev pub CanPlayAll : Stage → ℕ → List ResolvedStatement → Type 0
 CanPlayAll s n block = Each (λ x m. CanPlay s m x) n block
 
 -- each branch of the `alt` can be played
-abbrev pub CanEnterAll : Stage → ℕ → List Branch → Type 0
+abbrev pub CanEnterAll : Stage → ℕ → List ResolvedBranch → Type 0
 CanEnterAll s n branches = Each (λ x m. CanEnter s m x) n branches
 
 -- where a body is played that a component with so many ports and references has

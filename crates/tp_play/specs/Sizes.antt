@@ -1,9 +1,9 @@
 -- How many statements a body has, once each `for` stands for its copies.
 use Rattle.std.specs.Prelude.{ℕ, ◌+◌, ◌*◌, ℤ, ◌-ℤ◌, List, Option, Some, None, map, sum, length, nat_lt, int_lt, unsigned_abs, if◌then◌else◌}
-use Rattle.tp_play.specs.declared.body.Statement.{Statement}
-use Rattle.tp_play.specs.declared.body.Statement.TheOpen as o
-use Rattle.tp_play.specs.declared.body.Statement.TheFolds.{fold-Branch, fold-Statement}
-use Rattle.tp_play.specs.declared.body.Branch.{Branch}
+use Rattle.tp_play.specs.declared.body.ResolvedStatement.{ResolvedStatement}
+use Rattle.tp_play.specs.declared.body.ResolvedStatement.TheOpen as o
+use Rattle.tp_play.specs.declared.body.ResolvedStatement.TheFolds.{fold-ResolvedBranch, fold-ResolvedStatement}
+use Rattle.tp_play.specs.declared.body.ResolvedBranch.{ResolvedBranch}
 use Rattle.tp_play.specs.declared.body.Body.{Body}
 
 -- one more than the most that is allowed
@@ -25,7 +25,7 @@ else_size (Some sizes) = sum sizes
 
 -- a statement is 1; an `alt` is 1 and the statements of its blocks; a `for` is 1 and those of its block once for each
 -- turn
-abbrev pub statement_step : o.Statement-F ℕ ℕ → ℕ
+abbrev pub statement_step : o.ResolvedStatement-F ℕ ℕ → ℕ
 statement_step (o.Send x) = 1
 statement_step (o.Receive x) = 1
 statement_step (o.Control k x) = 1
@@ -35,23 +35,23 @@ statement_step (o.Alt branches otherwise) = 1 + (sum branches + else_size otherw
 statement_step (o.For first bound block) = 1 + turns_between first bound * sum block
 
 -- a branch is the statements of its block
-abbrev pub branch_step : o.Branch-F ℕ ℕ → ℕ
+abbrev pub branch_step : o.ResolvedBranch-F ℕ ℕ → ℕ
 branch_step branch = sum branch.block
 
 -- the size of a statement
-unfoldable pub size_of : Statement → ℕ
-size_of = fold-Statement ℕ ℕ statement_step branch_step
+unfoldable pub size_of : ResolvedStatement → ℕ
+size_of = fold-ResolvedStatement ℕ ℕ statement_step branch_step
 
 -- the size of a branch
-unfoldable pub size_in : Branch → ℕ
-size_in = fold-Branch ℕ ℕ statement_step branch_step
+unfoldable pub size_in : ResolvedBranch → ℕ
+size_in = fold-ResolvedBranch ℕ ℕ statement_step branch_step
 
 -- the size of a block
-abbrev pub size_of_all : List Statement → ℕ
+abbrev pub size_of_all : List ResolvedStatement → ℕ
 size_of_all statements = sum (map size_of statements)
 
 -- the size of the branches of an `alt`
-abbrev pub size_in_all : List Branch → ℕ
+abbrev pub size_in_all : List ResolvedBranch → ℕ
 size_in_all branches = sum (map size_in branches)
 
 -- the size of a body: each of its variables is 1

@@ -117,7 +117,7 @@ pub struct Receiving {
 /// A statement (ES 201 873-1, 19 to 24).
 #[derive(Drop)]
 #[cycle(body)]
-pub enum Statement {
+pub enum ResolvedStatement {
     /// A send.
     Send(SendOperation),
     /// A receiving operation that stands alone.
@@ -129,19 +129,19 @@ pub enum Statement {
     /// `setverdict`
     SetVerdict(Verdict),
     /// `alt`: its branches, and the block of `[else]`.
-    Alt(Items<Branch>, Option<Items<Statement>>),
+    Alt(Items<ResolvedBranch>, Option<Items<ResolvedStatement>>),
     /// A counted `for`: the first value of its variable, what it stays below, and its block.
-    For(i64, i64, Items<Statement>),
+    For(i64, i64, Items<ResolvedStatement>),
 }
 
 /// A branch of an `alt` behind a receiving operation (ES 201 873-1, 20.2).
 #[derive(Drop)]
 #[cycle(body)]
-pub struct Branch {
+pub struct ResolvedBranch {
     /// The operation.
     pub receiving: Receiving,
     /// What is done then.
-    pub block: Items<Statement>,
+    pub block: Items<ResolvedStatement>,
 }
 
 /// What a variable of a body holds (ES 201 873-1, 11.1).
@@ -158,7 +158,7 @@ pub struct Body {
     /// The variables, each without a value at first.
     pub variables: Items<VariableType>,
     /// The statements.
-    pub statements: Items<Statement>,
+    pub statements: Items<ResolvedStatement>,
 }
 
 impl Drop for Body {

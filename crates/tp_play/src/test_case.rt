@@ -99,7 +99,7 @@ impl Model for TestCase {
     ghost use Rattle.std.specs.Prelude.{map};
     ghost use Rattle.tp_play.specs.TestCases.{Made};
     ghost use Rattle.tp_play.specs.Instances.{behaviour_of};
-    ghost use Rattle.tp_play.specs.contracts.body.Statement as statement_contract;
+    ghost use Rattle.tp_play.specs.contracts.body.ResolvedStatement as statement_contract;
     ghost use Rattle.std.specs.Coded.{codes};
 
     ghost Value = { Made };

@@ -26,8 +26,8 @@ use Rattle.tp_play.specs.declared.body.Receiver.{Receiver}
 use Rattle.tp_play.specs.declared.body.RecvMsg.{RecvMsg}
 use Rattle.tp_play.specs.declared.body.SendOperation.{SendOperation}
 use Rattle.tp_play.specs.declared.body.Receiving.{Receiving}
-use Rattle.tp_play.specs.declared.body.Statement.{Statement}
-use Rattle.tp_play.specs.declared.body.Branch.{Branch}
+use Rattle.tp_play.specs.declared.body.ResolvedStatement.{ResolvedStatement}
+use Rattle.tp_play.specs.declared.body.ResolvedBranch.{ResolvedBranch}
 use Rattle.tp_play.specs.declared.body.VariableType.{VariableType}
 use Rattle.tp_play.specs.declared.body.Body.{Body}
 use Rattle.tp_name.specs.Named.{IsAbsent, IsPlace}
@@ -119,7 +119,7 @@ module _ (s t : Scope) (same : LookSame s t) where
     }
 
     mutual
-      statement_seen : {turns : List (List ℕ)} {x : Action} {y : Statement} → IsStatement s variables turns x y → IsStatement t variables turns x y
+      statement_seen : {turns : List (List ℕ)} {x : Action} {y : ResolvedStatement} → IsStatement s variables turns x y → IsStatement t variables turns x y
       statement_seen (b.send turns x y h) = b.send turns x y (send_seen h)
       statement_seen (b.receive turns x y h) = b.receive turns x y (receive_seen h)
       statement_seen (b.control turns x k port other h) = b.control turns x k port (λ e. other (same.behaviour ∙ e)) (port_seen h)
@@ -129,19 +129,19 @@ module _ (s t : Scope) (same : LookSame s t) where
       statement_seen (b.alt_else turns xs ys e block h inner) = b.alt_else turns xs ys e block (branches_seen h) (block_seen inner)
       statement_seen (b.counted turns x block new h) = b.counted turns x block (new_seen new) (block_seen h)
 
-      block_seen : {turns : List (List ℕ)} {xs : List StatementText} {ys : List Statement} → IsBlock s variables turns xs ys
+      block_seen : {turns : List (List ℕ)} {xs : List StatementText} {ys : List ResolvedStatement} → IsBlock s variables turns xs ys
           → IsBlock t variables turns xs ys
       block_seen (b.no_statement turns) = b.no_statement turns
       block_seen (b.one_statement_more turns xs ys x y h one) = b.one_statement_more turns xs ys x y (block_seen h) (statement_seen one)
 
-      branch_seen : {turns : List (List ℕ)} {x : BranchText} {y : Branch} → IsBranch s variables turns x y → IsBranch t variables turns x y
+      branch_seen : {turns : List (List ℕ)} {x : BranchText} {y : ResolvedBranch} → IsBranch s variables turns x y → IsBranch t variables turns x y
       branch_seen (b.branch turns x y h inner) = b.branch turns x y (receive_seen h) (after_seen inner)
 
-      after_seen : {turns : List (List ℕ)} {x : BranchBody} {ys : List Statement} → IsAfter s variables turns x ys → IsAfter t variables turns x ys
+      after_seen : {turns : List (List ℕ)} {x : BranchBody} {ys : List ResolvedStatement} → IsAfter s variables turns x ys → IsAfter t variables turns x ys
       after_seen (b.nothing turns) = b.nothing turns
       after_seen (b.block turns xs ys h) = b.block turns xs ys (block_seen h)
 
-      branches_seen : {turns : List (List ℕ)} {xs : List BranchText} {ys : List Branch} → AreBranches s variables turns xs ys
+      branches_seen : {turns : List (List ℕ)} {xs : List BranchText} {ys : List ResolvedBranch} → AreBranches s variables turns xs ys
           → AreBranches t variables turns xs ys
       branches_seen (b.no_branch turns) = b.no_branch turns
       branches_seen (b.one_branch_more turns xs ys x y h one) = b.one_branch_more turns xs ys x y (branches_seen h) (branch_seen one)

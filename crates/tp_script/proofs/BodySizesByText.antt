@@ -19,8 +19,8 @@ use Rattle.tp_tree.specs.declared.tree.BranchBody.{BranchBody}
 use Rattle.tp_tree.specs.declared.tree.BranchBody.TheVariants as bb
 use Rattle.tp_tree.specs.declared.tree.Counted.{Counted, out-Counted}
 use Rattle.tp_tree.specs.declared.tree.ElseBranch.{ElseBranch, out-ElseBranch}
-use Rattle.tp_play.specs.declared.body.Statement.{Statement}
-use Rattle.tp_play.specs.declared.body.Branch.{Branch}
+use Rattle.tp_play.specs.declared.body.ResolvedStatement.{ResolvedStatement}
+use Rattle.tp_play.specs.declared.body.ResolvedBranch.{ResolvedBranch}
 use Rattle.tp_play.specs.declared.body.Body.{Body}
 use Rattle.tp_play.specs.Sizes.{turns_between, size_of, size_in, size_of_all, size_in_all, size_of_body}
 use Rattle.tp_body.specs.declared.scope.Scope.{Scope}
@@ -165,7 +165,7 @@ more f g xs ys x y before here = omega (arith, sum_push f xs x, sum_push g ys y,
 
 module _ (scope : Scope) (variables : Variables) where
   mutual
-    statement_same : {turns : List (List ℕ)} {x : Action} {y : Statement} → IsStatement scope variables turns x y → size_of y ≡ action_size x
+    statement_same : {turns : List (List ℕ)} {x : Action} {y : ResolvedStatement} → IsStatement scope variables turns x y → size_of y ≡ action_size x
     statement_same (b.send turns x y h) = size_send y ∙ sym (text_send x)
     statement_same (b.receive turns x y h) = size_receive y ∙ sym (text_receive x)
     statement_same (b.control turns x k port other h) = size_control k x.operation ∙ sym (text_control x)
@@ -180,20 +180,20 @@ module _ (scope : Scope) (variables : Variables) where
         ∙ ap (λ n. 1 + turns_between (out-Counted x).turns.first (out-Counted x).turns.bound * n) (block_same h)
         ∙ ap (λ n. 1 + n) (sym (text_counted x)) ∙ sym (text_for x)
 
-    block_same : {turns : List (List ℕ)} {xs : List StatementText} {ys : List Statement} → IsBlock scope variables turns xs ys
+    block_same : {turns : List (List ℕ)} {xs : List StatementText} {ys : List ResolvedStatement} → IsBlock scope variables turns xs ys
         → size_of_all ys ≡ block_size xs
     block_same (b.no_statement turns) = refl
     block_same (b.one_statement_more turns xs ys x y h one) =
         more statement_size size_of xs ys x y (block_same h) (statement_same one ∙ sym (text_statement x))
 
-    branch_same : {turns : List (List ℕ)} {x : BranchText} {y : Branch} → IsBranch scope variables turns x y → size_in y ≡ branch_size x
+    branch_same : {turns : List (List ℕ)} {x : BranchText} {y : ResolvedBranch} → IsBranch scope variables turns x y → size_in y ≡ branch_size x
     branch_same (b.branch turns x y h inner) = size_branch y ∙ after_same inner ∙ sym (text_branch x)
 
-    after_same : {turns : List (List ℕ)} {x : BranchBody} {ys : List Statement} → IsAfter scope variables turns x ys → size_of_all ys ≡ after_size x
+    after_same : {turns : List (List ℕ)} {x : BranchBody} {ys : List ResolvedStatement} → IsAfter scope variables turns x ys → size_of_all ys ≡ after_size x
     after_same (b.nothing turns) = sym text_nothing
     after_same (b.block turns xs ys h) = block_same h ∙ sym (text_block xs)
 
-    branches_same : {turns : List (List ℕ)} {xs : List BranchText} {ys : List Branch} → AreBranches scope variables turns xs ys
+    branches_same : {turns : List (List ℕ)} {xs : List BranchText} {ys : List ResolvedBranch} → AreBranches scope variables turns xs ys
         → size_in_all ys ≡ branches_size xs
     branches_same (b.no_branch turns) = refl
     branches_same (b.one_branch_more turns xs ys x y h one) = more branch_size size_in xs ys x y (branches_same h) (branch_same one)

@@ -39,9 +39,9 @@ use Rattle.tp_play.specs.declared.body.Sent.{Sent}
 use Rattle.tp_play.specs.declared.body.Receiver.{Receiver}
 use Rattle.tp_play.specs.declared.body.SendOperation.{SendOperation}
 use Rattle.tp_play.specs.declared.body.Receiving.{Receiving}
-use Rattle.tp_play.specs.declared.body.Statement.{Statement}
-use Rattle.tp_play.specs.declared.body.Statement.TheVariants as statement
-use Rattle.tp_play.specs.declared.body.Branch.{Branch}
+use Rattle.tp_play.specs.declared.body.ResolvedStatement.{ResolvedStatement}
+use Rattle.tp_play.specs.declared.body.ResolvedStatement.TheVariants as statement
+use Rattle.tp_play.specs.declared.body.ResolvedBranch.{ResolvedBranch}
 use Rattle.tp_play.specs.declared.body.VariableType.{VariableType}
 use Rattle.tp_play.specs.declared.body.VariableType.TheVariants as variable_type
 use Rattle.tp_play.specs.declared.body.Body.{Body}
@@ -253,7 +253,7 @@ branch_parts x y e = let here = sym (branch_content_out x) ∙ e ∙ branch_cont
 
 module _ (scope : Scope) (variables : Variables) where
   mutual
-    statement_moves : (turns : List (List ℕ)) (x : Action) (w : Statement) → IsStatement scope variables turns x w → (y : Action) → action_content x ≡ action_content y
+    statement_moves : (turns : List (List ℕ)) (x : Action) (w : ResolvedStatement) → IsStatement scope variables turns x w → (y : Action) → action_content x ≡ action_content y
         → IsStatement scope variables turns y w
     statement_moves _ _ _ (bodies.send turns x w h) y e =
         let i = send_layer x (out-Action y) (opened (o.Send x) (a.Send x) y (a.outs-Send x) e) in
@@ -293,7 +293,7 @@ module _ (scope : Scope) (variables : Variables) where
         (bodies.counted turns i.0 block (subst (λ (t : List ℕ). IsNew scope variables turns t) same.name is_new)
         (subst (λ (t : List ℕ). IsBlock scope variables (turns ++ t ∷ []) (out-Counted i.0).block.items block) same.name inner))))
 
-    block_moves : (turns : List (List ℕ)) (xs : List StatementText) (ws : List Statement) → IsBlock scope variables turns xs ws → (ys : List StatementText) → AllZip SameStatement xs ys
+    block_moves : (turns : List (List ℕ)) (xs : List StatementText) (ws : List ResolvedStatement) → IsBlock scope variables turns xs ws → (ys : List StatementText) → AllZip SameStatement xs ys
         → IsBlock scope variables turns ys ws
     block_moves _ _ _ (bodies.no_statement turns) ys z = subst (λ t. IsBlock scope variables turns t []) (sym (zip_nil SameStatement ys z)) (bodies.no_statement turns)
     block_moves _ _ _ (bodies.one_statement_more turns xs ws x w all one) ys z =
@@ -301,12 +301,12 @@ module _ (scope : Scope) (variables : Variables) where
         subst (λ t. IsBlock scope variables turns t (ws ++ w ∷ [])) (sym i.2)
         (bodies.one_statement_more turns i.0 ws i.1 w (block_moves turns xs ws all i.0 i.3) (statement_moves turns x.action w one i.1.action (statement_parts x i.1 i.4)))
 
-    branch_moves : (turns : List (List ℕ)) (x : BranchText) (w : Branch) → IsBranch scope variables turns x w → (y : BranchText) → SameBranch x y → IsBranch scope variables turns y w
+    branch_moves : (turns : List (List ℕ)) (x : BranchText) (w : ResolvedBranch) → IsBranch scope variables turns x w → (y : BranchText) → SameBranch x y → IsBranch scope variables turns y w
     branch_moves _ _ _ (bodies.branch turns x w receive after) y e =
         let same = branch_parts x y e in
         bodies.branch turns y w (receive_moves scope variables turns x.receive w.receiving receive y.receive same.0) (after_moves turns x.body w.block after y.body same.1)
 
-    after_moves : (turns : List (List ℕ)) (x : BranchBody) (ws : List Statement) → IsAfter scope variables turns x ws → (y : BranchBody) → body_content x ≡ body_content y
+    after_moves : (turns : List (List ℕ)) (x : BranchBody) (ws : List ResolvedStatement) → IsAfter scope variables turns x ws → (y : BranchBody) → body_content x ≡ body_content y
         → IsAfter scope variables turns y ws
     after_moves _ _ _ (bodies.nothing turns) y e =
         let i = nothing_layer (out-BranchBody y) (body_opened o.Nothing b.Nothing y b.outs-Nothing e) in
@@ -316,7 +316,7 @@ module _ (scope : Scope) (variables : Variables) where
         subst (λ t. IsAfter scope variables turns t ws) (sym i.1 ∙ roll-out-BranchBody y)
         (bodies.block turns i.0 ws (block_moves turns xs.items ws all i.0.items (sequence_zip statement_content xs.items i.0.items i.2)))
 
-    branches_move : (turns : List (List ℕ)) (xs : List BranchText) (ws : List Branch) → AreBranches scope variables turns xs ws → (ys : List BranchText) → AllZip SameBranch xs ys
+    branches_move : (turns : List (List ℕ)) (xs : List BranchText) (ws : List ResolvedBranch) → AreBranches scope variables turns xs ws → (ys : List BranchText) → AllZip SameBranch xs ys
         → AreBranches scope variables turns ys ws
     branches_move _ _ _ (bodies.no_branch turns) ys z = subst (λ t. AreBranches scope variables turns t []) (sym (zip_nil SameBranch ys z)) (bodies.no_branch turns)
     branches_move _ _ _ (bodies.one_branch_more turns xs ws x w all one) ys z =

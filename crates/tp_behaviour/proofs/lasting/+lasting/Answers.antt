@@ -1,6 +1,6 @@
 -- Each statement has what lasts of it, and each branch.
 use Rattle.std.proofs.Common.{◌∙◌, None, Some, ap, subst, sym}
-use Rattle.tp_play.specs.declared.body.Statement.TheVariants as b
+use Rattle.tp_play.specs.declared.body.ResolvedStatement.TheVariants as b
 use Rattle.tp_behaviour.specs.Lasting.{AreLasting, AreLastingBranches, IsLasting, IsLastingBranch}
 use Rattle.tp_behaviour.proofs.LastingStatementRules.{make_all_ports, make_alt, make_branch, make_control, make_for, make_receive, make_send, make_set_verdict, zipped_all, zipped_more}
 use Rattle.tp_behaviour.proofs.lasting.+lasting.Goals as goal

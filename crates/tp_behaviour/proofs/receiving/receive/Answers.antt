@@ -1,7 +1,7 @@
 -- What was chosen is the one operation, or it waits for it.
 use Rattle.std.proofs.Common.{◌≡◌, ◌∙◌, ◌∷◌, ◌++◌, [], false, List, ap, sym, subst}
 use Rattle.std.specs.Prelude.{Option}
-use Rattle.tp_play.specs.declared.body.Statement.TheVariants as b
+use Rattle.tp_play.specs.declared.body.ResolvedStatement.TheVariants as b
 use Rattle.tp_behaviour.specs.declared.choice.Guard.{Guard}
 use Rattle.tp_behaviour.specs.declared.choosing.Choice.TheVariants as choice
 use Rattle.tp_behaviour.specs.declared.held.Held.{Held}

@@ -1,6 +1,6 @@
 -- Each branch can be entered, and what lasts of it stands at its place.
 use Rattle.std.proofs.Common.{arith, get_or, subst, sym}
-use Rattle.tp_play.specs.declared.body.Branch.{Branch}
+use Rattle.tp_play.specs.declared.body.ResolvedBranch.{ResolvedBranch}
 use Rattle.tp_play.specs.Playable.{CanEnter}
 use Rattle.tp_play.proofs.PlayableStatementRules.{enters_each, enters_receive}
 use Rattle.tp_behaviour.specs.Lasting.{IsLastingBranch}
@@ -26,5 +26,5 @@ view_guard-requires-clause-lasting c =
     let l = get_or ls i c.index-lasting-place.result in
     let x = c.index-branches-place.result in
     lasts_operation x l
-    (subst (λ (y : Branch). IsLastingBranch y l) (sym c.index-branches-place.is)
+    (subst (λ (y : ResolvedBranch). IsLastingBranch y l) (sym c.index-branches-place.is)
     (zipped_get IsLastingBranch c.args.branches.now ls i x c.index-lasting-place.result c.requires.lasting c.loop-place-test.true))

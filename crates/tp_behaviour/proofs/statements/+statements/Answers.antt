@@ -4,8 +4,8 @@ use Rattle.std.proofs.lemmas.Int.{ints, to_z-of_z}
 use Rattle.std.proofs.lemmas.Option.{slice_get-get_or, slice_get_within}
 use Rattle.std.proofs.lemmas.Result.{IfOk-weaker}
 use Rattle.std.specs.Prelude.{List}
-use Rattle.tp_play.specs.declared.body.Statement.{Statement}
-use Rattle.tp_play.specs.declared.body.Statement.TheVariants as b
+use Rattle.tp_play.specs.declared.body.ResolvedStatement.{ResolvedStatement}
+use Rattle.tp_play.specs.declared.body.ResolvedStatement.TheVariants as b
 use Rattle.tp_play.specs.Playable.{CanEnterAll, CanPlayAll}
 use Rattle.tp_play.specs.Sizes.{turns_between}
 use Rattle.tp_play.proofs.PlayableStatementRules.{plays_alt, plays_control, plays_else, plays_for, plays_receive, plays_send}
@@ -89,7 +89,7 @@ branch-returns-clause-ended g t c =
     (λ o h. (
       x,
       slice_get-get_or c.args.alt.branches.now c.args.place c.index-alt-place.result c.requires.within,
-      subst (λ (l : List Statement). Executed c.args.execution.now.task.now l o c.args.worker.now c.args.frame.now c.execute.new.worker c.execute.new.frame)
+      subst (λ (l : List ResolvedStatement). Executed c.args.execution.now.task.now l o c.args.worker.now c.args.frame.now c.execute.new.worker c.execute.new.frame)
           c.as_slice.ensures h,
     ))
     c.execute.ensures.ended
@@ -150,7 +150,7 @@ execute-step-requires-clause-lasting g t c κs within =
     let i = c.loop-place.place in
     let x = c.statement-item.result in
     let l = c.index-block-place.result in
-    subst (λ (y : Statement). IsLasting y (get_or ls i l)) (sym c.statement-item.is)
+    subst (λ (y : ResolvedStatement). IsLasting y (get_or ls i l)) (sym c.statement-item.is)
     (zipped_get IsLasting c.args.block.statements.now ls i x l c.requires.lasting c.loop-place-test.true)
 
 pub branch-bounds-alt-place-2 : goal.branch-bounds-alt-place-2

@@ -1,8 +1,8 @@
 -- How far a block, and the turns of a `for`, have come, and how much of a body is left.
 use Rattle.std.proofs.Common.{◌≡◌, ◌+◌, ◌*◌, of_z, to_z, w64}
 use denote.Param.Weighed.{most}
-use Rattle.tp_play.proofs.body.Branch.TheLaws.{the_size as branch_size}
-use Rattle.tp_play.proofs.body.Statement.TheLaws.{the_size}
+use Rattle.tp_play.proofs.body.ResolvedBranch.TheLaws.{the_size as branch_size}
+use Rattle.tp_play.proofs.body.ResolvedStatement.TheLaws.{the_size}
 use Rattle.tp_behaviour.specs.Outcomes.{HoldsAsDeclared}
 use Rattle.tp_behaviour.specs.Workers.{IsConsistent, KeepsInboxes, role_of}
 use Rattle.tp_behaviour.proofs.BlockPathGrowth.{Passed}
