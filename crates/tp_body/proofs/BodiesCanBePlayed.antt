@@ -44,14 +44,14 @@ use Rattle.tp_play.proofs.PlayableStatementEquations.{play_send, play_receive, p
 module _ (scope : Scope) (variables : Variables) where
   -- where a body is played whose names are those of the scope
   abbrev stage : Stage
-  stage = record { types = scope.types.now; ports = length scope.ports.now.ports.entries; references = reference_count scope; variables = variables.types }
+  stage = record { types = scope.types.now; ports = length scope.component_type.now.ports.entries; references = reference_count scope; variables = variables.types }
 
-  port_there : (name : List ℕ) (place : ℕ) (port : PortType) → IsPortNamed scope.ports.now name place port → place < length scope.ports.now.ports.entries
+  port_there : (name : List ℕ) (place : ℕ) (port : PortType) → IsPortNamed scope.component_type.now name place port → place < length scope.component_type.now.ports.entries
   port_there name place port h =
       omega (
         arith,
-        slice_get_within (declared_port_names scope.ports.now) place name h.named.there,
-        length-map scope.ports.now.ports.entries (λ e. string_bytes e.0),
+        slice_get_within (declared_port_names scope.component_type.now) place name h.named.there,
+        length-map scope.component_type.now.ports.entries (λ e. string_bytes e.0),
       )
 
   module _ (turns : List (List ℕ)) where
@@ -61,8 +61,8 @@ module _ (scope : Scope) (variables : Variables) where
     reference_there x k (n.component_named name j no_turn no_variable h) =
         omega (
           arith,
-          slice_get_within (scope.parameters.now ++ scope.components.now) j (string_bytes name) h.there,
-          length-append scope.parameters.now scope.components.now,
+          slice_get_within (scope.parameters.now ++ scope.component_variables.now) j (string_bytes name) h.there,
+          length-append scope.parameters.now scope.component_variables.now,
         )
 
     sent_played : (sendable : List Ty) (x : SentExpression) (y : Sent) → IsSent scope variables turns sendable x y → CanSay stage (length turns) y
@@ -149,12 +149,12 @@ module _ (scope : Scope) (variables : Variables) where
 
 -- a body can be played on the component type of its scope, with the references of the scope
 pub body_played : (scope : Scope) (xs : List Variable) (statements : List StatementText) (body : Body) → IsBody scope xs statements body
-    → IsPlayable scope.types.now (length scope.ports.now.ports.entries) (reference_count scope) body
+    → IsPlayable scope.types.now (length scope.component_type.now.ports.entries) (reference_count scope) body
 body_played scope xs statements body h = record {
   statements =
       subst (λ types. CanPlayAll (record {
         types = scope.types.now;
-        ports = length scope.ports.now.ports.entries;
+        ports = length scope.component_type.now.ports.entries;
         references = reference_count scope;
         variables = types;
       }) 0 body.statements)

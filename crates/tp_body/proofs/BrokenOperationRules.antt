@@ -29,8 +29,8 @@ only_named scope variables turns (c.Named n) none = (n, refl)
 
 module _ (scope : Scope) (variables : Variables) (turns : List (List ℕ)) (line : ℕ) (f : ModuleFault) where
   pub no_variable_told : (name : List ℕ) → IsAbsent turns name → IsAbsent variables.names name
-      → ((Contains scope.parameters.now name ⊎ Contains scope.components.now name) × (f ≡ module_fault.Refused rule.WrongType line))
-      ⊎ ((Contains scope.parameters.now name → ⊥) × (Contains scope.components.now name → ⊥) × (f ≡ module_fault.Refused rule.Unknown line))
+      → ((Contains scope.parameters.now name ⊎ Contains scope.component_variables.now name) × (f ≡ module_fault.Refused rule.WrongType line))
+      ⊎ ((Contains scope.parameters.now name → ⊥) × (Contains scope.component_variables.now name → ⊥) × (f ≡ module_fault.Refused rule.Unknown line))
       → TellsAt line (NamesNoVariable scope variables turns name) f
   no_variable_told name absent none (inl (inl there, is)) = told_rule _ _ _ f is (b.parameter absent none there)
   no_variable_told name absent none (inl (inr there, is)) = told_rule _ _ _ f is (b.component absent none there)

@@ -117,7 +117,7 @@ module _ (scope : Scope) (variables : Variables) (turns : List (List ℕ)) where
   Stands c.SelfComponent = Unit {0}
   Stands (c.Named n) =
       IsAbsent turns (string_bytes n) × IsAbsent variables.names (string_bytes n)
-      × ((k : ℕ) × IsPlace (scope.parameters.now ++ scope.components.now) (string_bytes n) k)
+      × ((k : ℕ) × IsPlace (scope.parameters.now ++ scope.component_variables.now) (string_bytes n) k)
 
   reference_stands : {x : ComponentName} {k : ℕ} → IsReference scope variables turns x k → Stands x
   unfolding Stands
@@ -127,6 +127,6 @@ module _ (scope : Scope) (variables : Variables) (turns : List (List ℕ)) where
 
   pub reference_named : (x : ComponentName) (n : String Global) (k : ℕ) → x ≡ c.Named n → IsReference scope variables turns x k
       → IsAbsent turns (string_bytes n) × IsAbsent variables.names (string_bytes n)
-      × ((j : ℕ) × IsPlace (scope.parameters.now ++ scope.components.now) (string_bytes n) j)
+      × ((j : ℕ) × IsPlace (scope.parameters.now ++ scope.component_variables.now) (string_bytes n) j)
   unfolding Stands
   reference_named x n k e h = subst Stands e (reference_stands h)

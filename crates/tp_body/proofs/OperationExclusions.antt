@@ -52,11 +52,11 @@ module _ (scope : Scope) (variables : Variables) (turns : List (List ℕ)) where
       let same = variable_fixed variables name j h.0 (kind.Message u) kind.Component v h.2 in absurd (cc)
 
   -- what is wanted at the port of this name
-  wants : (x : Receive) (y : Receiving) (k : ℕ) (port : PortType) → IsPortNamed scope.ports.now (string_bytes x.port) k port
+  wants : (x : Receive) (y : Receiving) (k : ℕ) (port : PortType) → IsPortNamed scope.component_type.now (string_bytes x.port) k port
       → IsReceive scope variables turns x y → IsWanted scope turns (receivable_types scope.behaviour port) x.template y.wanted
   wants x y k port known h =
       subst (λ p. IsWanted scope turns (receivable_types scope.behaviour p) x.template y.wanted)
-      (port_fixed scope.ports.now (string_bytes x.port) y.port k h.port port h.port_known known) h.wants
+      (port_fixed scope.component_type.now (string_bytes x.port) y.port k h.port port h.port_known known) h.wants
 
   module _ (sound : IsSoundScope scope) where
     message_excludes : {sendable : List Ty} {x : Message} {r : ModuleRule} → MessageBreaks scope variables turns sendable x r
@@ -92,9 +92,9 @@ module _ (scope : Scope) (variables : Variables) (turns : List (List ℕ)) where
         no_variable p.1 (contained_at variables.names (string_bytes n) p.0 p.2.named.there)
 
     pub send_excludes : {x : Send} {r : ModuleRule} → SendBreaks scope variables turns x r → (y : SendOperation) → IsSend scope variables turns x y → ⊥
-    send_excludes {x} (b.no_port none) y h = absent_place (declared_port_names scope.ports.now) (string_bytes x.port) y.port none h.port_known.named
+    send_excludes {x} (b.no_port none) y h = absent_place (declared_port_names scope.component_type.now) (string_bytes x.port) y.port none h.port_known.named
     send_excludes {x} (b.sent k port r known broken) y h =
-        let same = port_fixed scope.ports.now (string_bytes x.port) y.port k h.port port h.port_known known in
+        let same = port_fixed scope.component_type.now (string_bytes x.port) y.port k h.port port h.port_known known in
         sent_excludes broken (sent_means scope variables turns (sendable_types scope.behaviour port)
         (subst (λ p. IsSent scope variables turns (sendable_types scope.behaviour p) x.sent y.sent) same h.sent))
     send_excludes (b.receiver k port z r known stands broken) y h = receiver_excludes broken (receiver_means scope variables turns h.receiver)
@@ -126,7 +126,7 @@ module _ (scope : Scope) (variables : Variables) (turns : List (List ℕ)) where
 
     pub receive_excludes : {x : Receive} {r : ModuleRule} → ReceiveBreaks scope variables turns x r → (y : Receiving) → IsReceive scope variables turns x y
         → ⊥
-    receive_excludes {x} (b.at_no_port none) y h = absent_place (declared_port_names scope.ports.now) (string_bytes x.port) y.port none h.port_known.named
+    receive_excludes {x} (b.at_no_port none) y h = absent_place (declared_port_names scope.component_type.now) (string_bytes x.port) y.port none h.port_known.named
     receive_excludes {x} (b.wanted k port r known broken) y h =
         wanted_excludes broken (wanted_means scope variables turns (receivable_types scope.behaviour port) (wants x y k port known h))
     receive_excludes (b.from k port m r known stands broken) y h = from_excludes broken (from_means scope variables turns h.from_known)

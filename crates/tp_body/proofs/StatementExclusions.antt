@@ -45,7 +45,7 @@ module _ (scope : Scope) (variables : Variables) (sound : IsSoundScope scope) wh
     statement_ruled (b.control_in_sut turns line x is) h = let p = subst (Ruled scope variables turns) (out_control x) h in p.0 is
     statement_ruled (b.control_of_no_port turns line x other none) h =
         let p = subst (Ruled scope variables turns) (out_control x) h in
-        absent_place (declared_port_names scope.ports.now) (string_bytes x.port) p.1.0 none p.1.2.named
+        absent_place (declared_port_names scope.component_type.now) (string_bytes x.port) p.1.0 none p.1.2.named
     statement_ruled (b.all_ports_in_sut turns line x is) h = subst (Ruled scope variables turns) (out_all_ports x) h is
     statement_ruled (b.verdict_in_sut turns line x is) h = let p = subst (Ruled scope variables turns) (out_set_verdict x) h in p.0 is
     statement_ruled (b.error_verdict turns line other) h =
@@ -92,7 +92,7 @@ module _ (scope : Scope) where
       → BodyBreaks scope line xs statements r at → (body : Body) × IsBody scope xs statements body → ⊥
   body_excludes sound r at (b.parameter name (k, below, is) there) h =
       absent_contained scope.parameters.now name
-      (h.1.no_port k name (slice_get-get_or (declared_port_names scope.ports.now) k name below ∙ ap Some is)) there
+      (h.1.no_port k name (slice_get-get_or (declared_port_names scope.component_type.now) k name below ∙ ap Some is)) there
   body_excludes sound r at (b.variables s line apart broken) h = variables_exclude broken h.1.variables h.1.declared
   body_excludes sound {line} {xs} {statements} r at (b.statements vs s l apart made broken) h =
       let same = variables_fixed scope xs h.1.variables vs h.1.declared made in

@@ -64,7 +64,7 @@ module _ (scope : Scope) (variables : Variables) where
   Ruled turns (o.Send x) = (y : SendOperation) × IsSend scope variables turns x y
   Ruled turns (o.Receive x) = (y : Receiving) × IsReceive scope variables turns x y
   Ruled turns (o.Control x) =
-      (scope.behaviour ≢ behaviour_kind.SystemUnderTest) × ((k : ℕ) × (port : PortType) × IsPortNamed scope.ports.now (string_bytes x.port) k port)
+      (scope.behaviour ≢ behaviour_kind.SystemUnderTest) × ((k : ℕ) × (port : PortType) × IsPortNamed scope.component_type.now (string_bytes x.port) k port)
   Ruled turns (o.AllPorts x) = scope.behaviour ≢ behaviour_kind.SystemUnderTest
   Ruled turns (o.SetVerdict x) = (scope.behaviour ≢ behaviour_kind.SystemUnderTest) × ((y : Verdict) × IsVerdict x y)
   Ruled turns (o.Alt xs None) = (ys : List ResolvedBranch) × AreBranches scope variables turns xs.items ys

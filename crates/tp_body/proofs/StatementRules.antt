@@ -39,7 +39,7 @@ module _ (scope : Scope) (variables : Variables) (turns : List (List ℕ)) where
   statement_receive x t y e h = rw e (d.receive turns t y h)
 
   pub statement_control : (x : Control) (k : ℕ) (port : PortType) → scope.behaviour ≢ behaviour_kind.SystemUnderTest
-      → IsPortNamed scope.ports.now (string_bytes x.port) k port
+      → IsPortNamed scope.component_type.now (string_bytes x.port) k port
       → IsStatement scope variables turns (a.Control x) (b.Control k x.operation)
   statement_control x k port n h = d.control turns x k port n h
 

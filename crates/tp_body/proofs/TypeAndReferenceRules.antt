@@ -35,7 +35,7 @@ module _ (scope : Scope) (variables : Variables) (turns : List (List ℕ)) where
 
   pub reference_named : (x : ComponentName) (n : String Global) (k : ℕ) → x ≡ c.Named n → IsAbsent turns (string_bytes n)
       → IsAbsent variables.names (string_bytes n)
-      → IsPlace (scope.parameters.now ++ scope.components.now) (string_bytes n) k → IsReference scope variables turns x (2 + k)
+      → IsPlace (scope.parameters.now ++ scope.component_variables.now) (string_bytes n) k → IsReference scope variables turns x (2 + k)
   reference_named x n k e a b p = subst (λ x. IsReference scope variables turns x (2 + k)) (sym e) (d.component_named n k a b p)
 
 pub ruleset cases = (type_integer, type_boolean, type_charstring, type_named, reference_mtc, reference_self, reference_named)

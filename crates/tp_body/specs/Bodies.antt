@@ -88,7 +88,7 @@ pub data IsReceiver (scope : Scope) (variables : Variables) (turns : List (List 
 pub record IsSend (scope : Scope) (variables : Variables) (turns : List (List ℕ)) (x : Send) (y : SendOperation)
     : Type 0 where
   pub port : PortType
-  pub port_known : IsPortNamed scope.ports.now (string_bytes x.port) y.port port
+  pub port_known : IsPortNamed scope.component_type.now (string_bytes x.port) y.port port
   pub sent : IsSent scope variables turns (sendable_types scope.behaviour port) x.sent y.sent
   pub receiver : IsReceiver scope variables turns x.to y.to
 
@@ -127,7 +127,7 @@ pub data IsSenderTarget (variables : Variables) (turns : List (List ℕ))
 pub record IsReceive (scope : Scope) (variables : Variables) (turns : List (List ℕ)) (x : Receive) (y : Receiving)
     : Type 0 where
   pub port : PortType
-  pub port_known : IsPortNamed scope.ports.now (string_bytes x.port) y.port port
+  pub port_known : IsPortNamed scope.component_type.now (string_bytes x.port) y.port port
   pub same_kind : y.kind ≡ x.kind
   pub wants : IsWanted scope turns (receivable_types scope.behaviour port) x.template y.wanted
   pub from_known : IsFrom scope variables turns x.sender y.sender
@@ -150,7 +150,7 @@ mutual
         → IsStatement scope variables turns (action.Receive x) (statement.Receive y)
     -- not in the system under test
     control : (turns : List (List ℕ)) (x : Control) (k : ℕ) (port : PortType)
-        → scope.behaviour ≢ behaviour_kind.SystemUnderTest → IsPortNamed scope.ports.now (string_bytes x.port) k port
+        → scope.behaviour ≢ behaviour_kind.SystemUnderTest → IsPortNamed scope.component_type.now (string_bytes x.port) k port
         → IsStatement scope variables turns (action.Control x) (statement.Control k x.operation)
     all_ports : (turns : List (List ℕ)) (x : PortOperation) → scope.behaviour ≢ behaviour_kind.SystemUnderTest
         → IsStatement scope variables turns (action.AllPorts x) (statement.AllPorts x)
@@ -219,7 +219,7 @@ pub data AreVariables (scope : Scope) : List Variable → Variables → Type 0 w
 -- a body: no parameter has the name of a port, the variables come first, and the statements may speak of them
 pub record IsBody (scope : Scope) (xs : List Variable) (statements : List StatementText) (body : Body) : Type 0 where
   pub variables : Variables
-  pub no_port : (k : ℕ) (name : List ℕ) → slice_get (declared_port_names scope.ports.now) k ≡ Some name
+  pub no_port : (k : ℕ) (name : List ℕ) → slice_get (declared_port_names scope.component_type.now) k ≡ Some name
       → IsAbsent scope.parameters.now name
   pub declared : AreVariables scope xs variables
   pub same_types : body.variables ≡ variables.types

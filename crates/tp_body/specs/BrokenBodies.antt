@@ -47,7 +47,7 @@ mutual
         → StatementBreaks scope variables turns line (action.Control x) rule.NotInSut line
     control_of_no_port : (turns : List (List ℕ)) (line : ℕ) (x : Control)
         → scope.behaviour ≢ behaviour_kind.SystemUnderTest
-        → IsAbsent (declared_port_names scope.ports.now) (string_bytes x.port)
+        → IsAbsent (declared_port_names scope.component_type.now) (string_bytes x.port)
         → StatementBreaks scope variables turns line (action.Control x) rule.Unknown line
     all_ports_in_sut : (turns : List (List ℕ)) (line : ℕ) (x : PortOperation)
         → scope.behaviour ≡ behaviour_kind.SystemUnderTest
@@ -123,13 +123,13 @@ pub data VariablesBreak (scope : Scope) (xs : List Variable) : ModuleRule → �
 -- breaks a rule, or where they are right a statement
 pub data BodyBreaks (scope : Scope) (line : ℕ) (xs : List Variable) (statements : List StatementText)
     : ModuleRule → ℕ → Type 0 where
-  parameter : (name : List ℕ) → Contains (declared_port_names scope.ports.now) name
+  parameter : (name : List ℕ) → Contains (declared_port_names scope.component_type.now) name
       → Contains scope.parameters.now name → BodyBreaks scope line xs statements rule.Duplicate line
   variables : (r : ModuleRule) (at : ℕ)
-      → ((k : ℕ) (name : List ℕ) → slice_get (declared_port_names scope.ports.now) k ≡ Some name
+      → ((k : ℕ) (name : List ℕ) → slice_get (declared_port_names scope.component_type.now) k ≡ Some name
       → IsAbsent scope.parameters.now name)
       → VariablesBreak scope xs r at → BodyBreaks scope line xs statements r at
   statements : (vs : Variables) (r : ModuleRule) (at : ℕ)
-      → ((k : ℕ) (name : List ℕ) → slice_get (declared_port_names scope.ports.now) k ≡ Some name
+      → ((k : ℕ) (name : List ℕ) → slice_get (declared_port_names scope.component_type.now) k ≡ Some name
       → IsAbsent scope.parameters.now name)
       → AreVariables scope xs vs → BlockBreaks scope vs [] statements r at → BodyBreaks scope line xs statements r at

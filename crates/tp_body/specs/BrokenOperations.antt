@@ -37,10 +37,10 @@ pub data NamesNoVariable (scope : Scope) (variables : Variables) (turns : List (
   turn : (k : ℕ) → IsPlace turns name k → NamesNoVariable scope variables turns name rule.WrongType
   parameter : IsAbsent turns name → IsAbsent variables.names name → Contains scope.parameters.now name
       → NamesNoVariable scope variables turns name rule.WrongType
-  component : IsAbsent turns name → IsAbsent variables.names name → Contains scope.components.now name
+  component : IsAbsent turns name → IsAbsent variables.names name → Contains scope.component_variables.now name
       → NamesNoVariable scope variables turns name rule.WrongType
   unknown : IsAbsent turns name → IsAbsent variables.names name → (Contains scope.parameters.now name → ⊥)
-      → (Contains scope.components.now name → ⊥) → NamesNoVariable scope variables turns name rule.Unknown
+      → (Contains scope.component_variables.now name → ⊥) → NamesNoVariable scope variables turns name rule.Unknown
 
 -- a name where that of a variable of messages is wanted: no variable has it, or one that holds a component (13)
 pub data NamesNoMessage (scope : Scope) (variables : Variables) (turns : List (List ℕ)) (name : List ℕ)
@@ -98,12 +98,12 @@ pub data ReceiverBreaks (scope : Scope) (variables : Variables) (turns : List (L
 -- a send: the port is unknown (11), or what is sent breaks a rule, or where that is right the component behind `to`
 pub data SendBreaks (scope : Scope) (variables : Variables) (turns : List (List ℕ)) (x : Send)
     : ModuleRule → Type 0 where
-  no_port : IsAbsent (declared_port_names scope.ports.now) (string_bytes x.port)
+  no_port : IsAbsent (declared_port_names scope.component_type.now) (string_bytes x.port)
       → SendBreaks scope variables turns x rule.Unknown
-  sent : (k : ℕ) (port : PortType) (r : ModuleRule) → IsPortNamed scope.ports.now (string_bytes x.port) k port
+  sent : (k : ℕ) (port : PortType) (r : ModuleRule) → IsPortNamed scope.component_type.now (string_bytes x.port) k port
       → SentBreaks scope variables turns (sendable_types scope.behaviour port) x.sent r → SendBreaks scope variables turns x r
   receiver : (k : ℕ) (port : PortType) (y : Sent) (r : ModuleRule)
-      → IsPortNamed scope.ports.now (string_bytes x.port) k port
+      → IsPortNamed scope.component_type.now (string_bytes x.port) k port
       → IsSent scope variables turns (sendable_types scope.behaviour port) x.sent y
       → ReceiverBreaks scope variables turns x.to r → SendBreaks scope variables turns x r
 
@@ -149,22 +149,22 @@ pub data SenderTargetBreaks (scope : Scope) (variables : Variables) (turns : Lis
 -- a receiving operation: the port is unknown (11), or one of its parts breaks a rule where those before it are right
 pub data ReceiveBreaks (scope : Scope) (variables : Variables) (turns : List (List ℕ)) (x : Receive)
     : ModuleRule → Type 0 where
-  at_no_port : IsAbsent (declared_port_names scope.ports.now) (string_bytes x.port)
+  at_no_port : IsAbsent (declared_port_names scope.component_type.now) (string_bytes x.port)
       → ReceiveBreaks scope variables turns x rule.Unknown
-  wanted : (k : ℕ) (port : PortType) (r : ModuleRule) → IsPortNamed scope.ports.now (string_bytes x.port) k port
+  wanted : (k : ℕ) (port : PortType) (r : ModuleRule) → IsPortNamed scope.component_type.now (string_bytes x.port) k port
       → WantedBreaks scope variables turns (receivable_types scope.behaviour port) x.template r
       → ReceiveBreaks scope variables turns x r
   from : (k : ℕ) (port : PortType) (m : RecvMsg) (r : ModuleRule)
-      → IsPortNamed scope.ports.now (string_bytes x.port) k port
+      → IsPortNamed scope.component_type.now (string_bytes x.port) k port
       → IsWanted scope turns (receivable_types scope.behaviour port) x.template m
       → FromBreaks scope variables turns x.sender r → ReceiveBreaks scope variables turns x r
   value_target : (k : ℕ) (port : PortType) (m : RecvMsg) (c : Option ℕ) (r : ModuleRule)
-      → IsPortNamed scope.ports.now (string_bytes x.port) k port
+      → IsPortNamed scope.component_type.now (string_bytes x.port) k port
       → IsWanted scope turns (receivable_types scope.behaviour port) x.template m
       → IsFrom scope variables turns x.sender c
       → ValueTargetBreaks scope variables turns m x.redirect.value r → ReceiveBreaks scope variables turns x r
   sender_target : (k : ℕ) (port : PortType) (m : RecvMsg) (c v : Option ℕ) (r : ModuleRule)
-      → IsPortNamed scope.ports.now (string_bytes x.port) k port
+      → IsPortNamed scope.component_type.now (string_bytes x.port) k port
       → IsWanted scope turns (receivable_types scope.behaviour port) x.template m
       → IsFrom scope variables turns x.sender c → IsValueTarget variables turns m x.redirect.value v
       → SenderTargetBreaks scope variables turns x.redirect.sender r → ReceiveBreaks scope variables turns x r

@@ -69,27 +69,27 @@ pub data IsReference (scope : Scope) (variables : Variables) (turns : List (List
   itself : IsReference scope variables turns component_name.SelfComponent 1
   component_named : (n : String Global) (k : ℕ) → IsAbsent turns (string_bytes n)
       → IsAbsent variables.names (string_bytes n)
-      → IsPlace (scope.parameters.now ++ scope.components.now) (string_bytes n) k
+      → IsPlace (scope.parameters.now ++ scope.component_variables.now) (string_bytes n) k
       → IsReference scope variables turns (component_name.Named n) (2 + k)
 
 -- a new name for a variable or a loop variable: no port, parameter, variable or loop variable has it, and in the
 -- test case no component variable
 pub record IsNew (scope : Scope) (variables : Variables) (turns : List (List ℕ)) (name : List ℕ) : Type 0 where
-  pub no_port : IsAbsent (declared_port_names scope.ports.now) name
+  pub no_port : IsAbsent (declared_port_names scope.component_type.now) name
   pub no_parameter : IsAbsent scope.parameters.now name
   pub no_variable : IsAbsent variables.names name
   pub no_turn : IsAbsent turns name
-  pub no_component : scope.behaviour ≡ behaviour_kind.TestCase → IsAbsent scope.components.now name
+  pub no_component : scope.behaviour ≡ behaviour_kind.TestCase → IsAbsent scope.component_variables.now name
 
 -- how many components the references of a body name: `mtc`, the component itself, the parameters and the component
 -- variables
 abbrev pub reference_count : Scope → ℕ
-reference_count scope = length scope.parameters.now + length scope.components.now + 2
+reference_count scope = length scope.parameters.now + length scope.component_variables.now + 2
 
 -- what the checks of a body rely on in its scope: a component type has at most 64 ports, and no two fields of a
 -- record type have one name
 pub record IsSoundScope (scope : Scope) : Type 0 where
-  pub few_ports : length scope.ports.now.ports.entries ≤ 64
+  pub few_ports : length scope.component_type.now.ports.entries ≤ 64
   pub own_names : (u : Ty) (fields : List Field) → named scope.types.now u ≡ Some (type_def.Record fields)
       → AreDistinct (field_names fields)
 

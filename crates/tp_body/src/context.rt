@@ -101,13 +101,13 @@ impl<'a, 'v, 'm> Context<'a, 'v, 'm> {
     /// 11 `Unknown`.
     pub fn no_variable(&self, name: &str) -> ModuleFault
         ensures { ((Contains self.now.scope.now.parameters.now name.now
-            ⊎ Contains self.now.scope.now.components.now name.now)
+            ⊎ Contains self.now.scope.now.component_variables.now name.now)
             × (result ≡ ModuleFault.Refused ModuleRule.WrongType self.now.line))
             ⊎ ((Contains self.now.scope.now.parameters.now name.now → ⊥)
-            × (Contains self.now.scope.now.components.now name.now → ⊥)
+            × (Contains self.now.scope.now.component_variables.now name.now → ⊥)
             × (result ≡ ModuleFault.Refused ModuleRule.Unknown self.now.line)) }
     {
-        if self.scope.parameters.has(name) || self.scope.components.has(name) {
+        if self.scope.parameters.has(name) || self.scope.component_variables.has(name) {
             return self.wrong_type();
         }
         self.unknown()

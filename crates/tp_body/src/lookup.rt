@@ -99,15 +99,15 @@ pub fn find_variable(variables: &Variables, name: &str) -> Option<(usize, Variab
 /// The place of a name among the references, from the third on.
 fn find_component(scope: &Scope, name: &str) -> Option<usize>
     ensures there { IfSome result
-        (IsPlace (scope.now.parameters.now ++ scope.now.components.now) name.now) }
+        (IsPlace (scope.now.parameters.now ++ scope.now.component_variables.now) name.now) }
     ensures absent { IfNone result
-        (IsAbsent (scope.now.parameters.now ++ scope.now.components.now) name.now) }
+        (IsAbsent (scope.now.parameters.now ++ scope.now.component_variables.now) name.now) }
     ensures few { IfSome result (λ place. place < 2 ^ 33) }
 {
     if let Some(place) = scope.parameters.find(name) {
         return Some(place as usize);
     }
-    let place = scope.components.find(name)?;
+    let place = scope.component_variables.find(name)?;
     scope.parameters.len().checked_add(place as usize)
 }
 

@@ -237,7 +237,7 @@ pub fn resolve_send(
         context.now.scope.now context.now.variables.now (texts context.now.turns.now)
         send.now)) }
 {
-    let Some((place, port)) = find_port(context.scope.ports, send.port.as_str()) else {
+    let Some((place, port)) = find_port(context.scope.component_type, send.port.as_str()) else {
         return Err(context.unknown());
     };
     let sendable = sendable(context.scope.behaviour, port);
@@ -367,7 +367,7 @@ pub fn resolve_receive(
         context.now.scope.now context.now.variables.now (texts context.now.turns.now)
         receive.now)) }
 {
-    let Some((place, port)) = find_port(context.scope.ports, receive.port.as_str()) else {
+    let Some((place, port)) = find_port(context.scope.component_type, receive.port.as_str()) else {
         return Err(context.unknown());
     };
     let receivable = receivable(context.scope.behaviour, port);

@@ -24,14 +24,14 @@ pub struct Scope<'m> {
     pub types: &'m Types,
     /// The names of the component types of the module.
     pub component_types: &'m NameSet<'m>,
-    /// The component type behind `runs on`: its ports.
-    pub ports: &'m CompType,
+    /// The component type behind `runs on`.
+    pub component_type: &'m CompType,
     /// Whose body it is.
     pub behaviour: BehaviourKind,
     /// The parameters of the function.
     pub parameters: &'m NameSet<'m>,
     /// The component variables of the test case.
-    pub components: &'m NameSet<'m>,
+    pub component_variables: &'m NameSet<'m>,
 }
 
 /// The variables of a body: their names, and what each holds.

@@ -57,7 +57,7 @@ fn resolve_control(context: &Context, control: &Control) -> Result<ResolvedState
         context.now.line (Action.Control control.now))) }
 {
     context.check_not_in_sut()?;
-    let Some((place, _)) = find_port(context.scope.ports, control.port.as_str()) else {
+    let Some((place, _)) = find_port(context.scope.component_type, control.port.as_str()) else {
         return Err(context.unknown());
     };
     Ok(ResolvedStatement::Control(place, control.operation))
@@ -283,7 +283,7 @@ pub fn resolve_body(
     ensures refused { IsSoundScope scope.now → IfErr result
         (IsRefusedBy ((body : Body) × IsBody scope.now declared.now statements.now body)) }
     ensures closed { IfOk result (λ body. needed_around_all body.statements ≡ 0) }
-    ensures playable { let ports = length scope.now.ports.now.ports.entries in
+    ensures playable { let ports = length scope.now.component_type.now.ports.entries in
         IfOk result (IsPlayable scope.now.types.now ports (reference_count scope.now)) }
 {
     if !are_no_ports(scope) {

@@ -28,7 +28,7 @@ pub fn is_new(context: &Context, name: &str) -> bool
         name.now }
 {
     let scope = context.scope;
-    let None = place_of_port(scope.ports, name) else {
+    let None = place_of_port(scope.component_type, name) else {
         return false;
     };
     let None = scope.parameters.find(name) else {
@@ -43,7 +43,7 @@ pub fn is_new(context: &Context, name: &str) -> bool
     if scope.behaviour != BehaviourKind::TestCase {
         return true;
     }
-    let None = scope.components.find(name) else {
+    let None = scope.component_variables.find(name) else {
         return false;
     };
     true
@@ -130,14 +130,14 @@ pub fn resolve_variables<'m>(
 /// Whether no parameter has the name of a port.
 pub fn are_no_ports(scope: &Scope) -> bool
     ensures apart { IsTrue result ↔ ((k : ℕ) (name : List ℕ)
-        → slice_get (declared_port_names scope.now.ports.now) k ≡ Some name
+        → slice_get (declared_port_names scope.now.component_type.now) k ≡ Some name
         → IsAbsent scope.now.parameters.now name) }
     ensures twice { OnFalse result ((name : List ℕ)
-        × Contains (declared_port_names scope.now.ports.now) name
+        × Contains (declared_port_names scope.now.component_type.now) name
         × Contains scope.now.parameters.now name) }
 {
-    for place in 0..scope.ports.ports.len() {
-        let Some((name, _)) = scope.ports.ports.get_index(place) else {
+    for place in 0..scope.component_type.ports.len() {
+        let Some((name, _)) = scope.component_type.ports.get_index(place) else {
             return false;
         };
         let None = scope.parameters.find(name.as_str()) else {

@@ -45,14 +45,14 @@ use Rattle.tp_script.specs.Scopes.{IsScope, Known}
 record LookSame (s t : Scope) : Type 0 where
   types : s.types.now ≡ t.types.now
   component_types : s.component_types.now ≡ t.component_types.now
-  port_names : declared_port_names s.ports.now ≡ declared_port_names t.ports.now
-  port_types : declared_port_types s.ports.now ≡ declared_port_types t.ports.now
+  port_names : declared_port_names s.component_type.now ≡ declared_port_names t.component_type.now
+  port_types : declared_port_types s.component_type.now ≡ declared_port_types t.component_type.now
   behaviour : s.behaviour ≡ t.behaviour
   parameters : s.parameters.now ≡ t.parameters.now
-  components : s.components.now ≡ t.components.now
+  components : s.component_variables.now ≡ t.component_variables.now
 
 module _ (s t : Scope) (same : LookSame s t) where
-  port_seen : {name : List ℕ} {k : ℕ} {port : PortType} → IsPortNamed s.ports.now name k port → IsPortNamed t.ports.now name k port
+  port_seen : {name : List ℕ} {k : ℕ} {port : PortType} → IsPortNamed s.component_type.now name k port → IsPortNamed t.component_type.now name k port
   port_seen {name} {k} {port} h = record {
     named = subst (λ l. IsPlace l name k) same.port_names h.named;
     typed = subst (λ (l : List PortType). slice_get l k ≡ Some port) same.port_types h.typed;
@@ -65,7 +65,7 @@ module _ (s t : Scope) (same : LookSame s t) where
     reference_seen (p.component_named n k absent other h) =
         p.component_named n k absent other
         (subst (λ l. IsPlace (t.parameters.now ++ l) (string_bytes n) k) same.components
-        (subst (λ l. IsPlace (l ++ s.components.now) (string_bytes n) k) same.parameters h))
+        (subst (λ l. IsPlace (l ++ s.component_variables.now) (string_bytes n) k) same.parameters h))
 
     new_seen : {turns : List (List ℕ)} {name : List ℕ} → IsNew s variables turns name → IsNew t variables turns name
     new_seen {turns} {name} h = record {
@@ -189,17 +189,17 @@ types_by_ports c = seen_types c.ports.entries
 
 module _ (known : Known) (plays : BehaviourKind) (runs_on : List ℕ) (names : List (List ℕ)) (s t : Scope)
     (h : IsScope known plays runs_on names s) (k : IsScope known plays runs_on names t) where
-  same_ports : ports_of s.ports.now ≡ ports_of t.ports.now
+  same_ports : ports_of s.component_type.now ≡ ports_of t.component_type.now
   same_ports =
       let kind = same_Some h.kind k.kind (sym h.kind_known ∙ k.kind_known) in
-      same_Some (ports_of s.ports.now) (ports_of t.ports.now) (sym h.ports ∙ ap (slice_get known.ports) kind ∙ k.ports)
+      same_Some (ports_of s.component_type.now) (ports_of t.component_type.now) (sym h.ports ∙ ap (slice_get known.ports) kind ∙ k.ports)
 
   look_same : LookSame s t
   look_same = record {
     types = h.types ∙ sym k.types;
     component_types = h.component_types ∙ sym k.component_types;
-    port_names = names_by_ports s.ports.now ∙ ap (map (λ (d : PortDecl). d.name)) same_ports ∙ sym (names_by_ports t.ports.now);
-    port_types = types_by_ports s.ports.now ∙ ap (map (λ (d : PortDecl). port_type d.ins d.outs)) same_ports ∙ sym (types_by_ports t.ports.now);
+    port_names = names_by_ports s.component_type.now ∙ ap (map (λ (d : PortDecl). d.name)) same_ports ∙ sym (names_by_ports t.component_type.now);
+    port_types = types_by_ports s.component_type.now ∙ ap (map (λ (d : PortDecl). port_type d.ins d.outs)) same_ports ∙ sym (types_by_ports t.component_type.now);
     behaviour = h.behaviour ∙ sym k.behaviour;
     parameters = h.parameters ∙ sym k.parameters;
     components = h.components ∙ sym k.components;

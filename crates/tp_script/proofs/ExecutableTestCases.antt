@@ -186,7 +186,7 @@ module _ (m : Module) (made : Made) (rules : IsWellDeclared m) (of : IsTestCaseO
   can_play k x plays runs_on parameters vs statements body references here same s long =
       subst (λ t. IsPlayable t (port_count config k) (length references) body) s.is_scope.types
       (subst (λ n. IsPlayable s.scope.types.now n (length references) body) ports_are
-      (subst (λ n. IsPlayable s.scope.types.now (length s.scope.ports.now.ports.entries) n body) references_are
+      (subst (λ n. IsPlayable s.scope.types.now (length s.scope.component_type.now.ports.entries) n body) references_are
       (body_played s.scope vs statements body s.is_body)))
     where
       member : (y : Member) × (slice_get config.components k ≡ Some y) × IsMember (component_type_names m) x y
@@ -195,10 +195,10 @@ module _ (m : Module) (made : Made) (rules : IsWellDeclared m) (of : IsTestCaseO
       same_kind : member.0.kind ≡ s.is_scope.kind
       same_kind = same_Some member.0.kind s.is_scope.kind (sym member.2.kind ∙ ap (place_of_name (component_type_names m)) same ∙ s.is_scope.kind_known)
 
-      ports_are : length s.scope.ports.now.ports.entries ≡ port_count config k
+      ports_are : length s.scope.component_type.now.ports.entries ≡ port_count config k
       ports_are =
-          sym (ap length (ports_by_kind config k member.0 (ports_of s.scope.ports.now) member.1 (ap (slice_get config.types) same_kind ∙ s.is_scope.ports))
-          ∙ port_declarations s.scope.ports.now)
+          sym (ap length (ports_by_kind config k member.0 (ports_of s.scope.component_type.now) member.1 (ap (slice_get config.types) same_kind ∙ s.is_scope.ports))
+          ∙ port_declarations s.scope.component_type.now)
 
       references_are : reference_count s.scope ≡ length references
       references_are = omega (arith, ap length s.is_scope.parameters, ap length s.is_scope.components, variable_count, long)

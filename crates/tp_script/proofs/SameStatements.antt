@@ -86,7 +86,7 @@ module _ (scope : Scope) (variables : Variables) where
   reference_moves turns _ _ (scoping.component_named n k one other place) (component_name.Named y) e =
       let same : string_bytes n ≡ string_bytes y = cc in
       scoping.component_named y k (subst (λ (t : List ℕ). IsAbsent turns t) same one) (subst (λ (t : List ℕ). IsAbsent variables.names t) same other)
-      (subst (λ (t : List ℕ). IsPlace (scope.parameters.now ++ scope.components.now) t k) same place)
+      (subst (λ (t : List ℕ). IsPlace (scope.parameters.now ++ scope.component_variables.now) t k) same place)
   reference_moves turns x k h y e = absurd (cc)
 
   not_all : (x : ComponentName) → component_content x ≡ c.all_components → ⊥
@@ -113,7 +113,7 @@ module _ (scope : Scope) (variables : Variables) where
       let port : string_bytes x.port ≡ string_bytes y.port = cc in
       record {
         port = h.port;
-        port_known = subst (λ (t : List ℕ). IsPortNamed scope.ports.now t w.port h.port) port h.port_known;
+        port_known = subst (λ (t : List ℕ). IsPortNamed scope.component_type.now t w.port h.port) port h.port_known;
         sent = sent_moves turns _ x.sent w.sent h.sent y.sent cc;
         receiver = receiver_moves turns x.to w.to h.receiver y.to cc;
       }
@@ -155,7 +155,7 @@ module _ (scope : Scope) (variables : Variables) where
       let kind : x.kind ≡ y.kind = cc in
       record {
         port = h.port;
-        port_known = subst (λ (t : List ℕ). IsPortNamed scope.ports.now t w.port h.port) port h.port_known;
+        port_known = subst (λ (t : List ℕ). IsPortNamed scope.component_type.now t w.port h.port) port h.port_known;
         same_kind = h.same_kind ∙ kind;
         wants = wanted_moves turns _ x.template w.wanted h.wants y.template cc;
         from_known = from_moves turns x.sender w.sender h.from_known y.sender cc;
@@ -265,7 +265,7 @@ module _ (scope : Scope) (variables : Variables) where
         let i = control_layer x (out-Action y) (opened (o.Control x) (a.Control x) y (a.outs-Control x) e) in
         subst (λ t. IsStatement scope variables turns t (statement.Control k x.operation)) (sym i.1 ∙ roll-out-Action y)
         (subst (λ t. IsStatement scope variables turns (a.Control i.0) (statement.Control k t)) i.3
-        (bodies.control turns i.0 k port not_sut (subst (λ (t : List ℕ). IsPortNamed scope.ports.now t k port) i.2 named)))
+        (bodies.control turns i.0 k port not_sut (subst (λ (t : List ℕ). IsPortNamed scope.component_type.now t k port) i.2 named)))
     statement_moves _ _ _ (bodies.all_ports turns x not_sut) y e =
         let i = all_layer x (out-Action y) (opened (o.AllPorts x) (a.AllPorts x) y (a.outs-AllPorts x) e) in
         subst (λ t. IsStatement scope variables turns t (statement.AllPorts x)) (sym i ∙ roll-out-Action y) (bodies.all_ports turns x not_sut)

@@ -42,8 +42,8 @@ pub sound_scope : (known : Known) (plays : BehaviourKind) (runs_on : List ℕ) (
     → IsScope known plays runs_on names scope → IsSoundScope scope
 sound_scope known plays runs_on names scope sound is = record {
   few_ports =
-      subst (λ n. n ≤ 64) (port_declarations scope.ports.now)
-      (at_place (λ (ports : List PortDecl). length ports ≤ 64) known.ports is.kind (ports_of scope.ports.now) sound.few_ports is.ports);
+      subst (λ n. n ≤ 64) (port_declarations scope.component_type.now)
+      (at_place (λ (ports : List PortDecl). length ports ≤ 64) known.ports is.kind (ports_of scope.component_type.now) sound.few_ports is.ports);
   own_names = λ u fields e. sound.own_names u fields (ap (λ types. named types u) (sym is.types) ∙ e);
 }
 

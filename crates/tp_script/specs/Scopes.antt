@@ -40,10 +40,10 @@ pub record IsScope (known : Known) (plays : BehaviourKind) (runs_on : List ℕ) 
   -- the ports are those of the component type behind `runs on`
   pub kind : ℕ
   pub kind_known : place_of_name known.component_types runs_on ≡ Some kind
-  pub ports : slice_get known.ports kind ≡ Some (ports_of scope.ports.now)
+  pub ports : slice_get known.ports kind ≡ Some (ports_of scope.component_type.now)
   pub behaviour : scope.behaviour ≡ plays
   pub parameters : scope.parameters.now ≡ names
-  pub components : scope.components.now ≡ known.components
+  pub components : scope.component_variables.now ≡ known.components
 
 -- these variables and statements obey the rules on bodies in such a scope, and stand for this body
 pub record IsBodyInScope (known : Known) (plays : BehaviourKind) (runs_on : List ℕ) (parameters : List (List ℕ))

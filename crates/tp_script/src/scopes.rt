@@ -54,15 +54,15 @@ pub fn scope_of<'m>(
     let Some(place) = prepared.sorted.component_names.find(runs_on) else {
         return Err(refused(ModuleRule::Unknown, line));
     };
-    let Some(ports) = kind_at(prepared.config.types(), place) else {
+    let Some(component_type) = kind_at(prepared.config.types(), place) else {
         return Err(refused(ModuleRule::Unknown, line));
     };
     Ok(Scope {
         types: &prepared.types,
         component_types: &prepared.sorted.component_names,
-        ports,
+        component_type,
         behaviour,
         parameters,
-        components: &prepared.variables,
+        component_variables: &prepared.variables,
     })
 }

@@ -6,4 +6,4 @@ use Rattle.tp_body.proofs.variables.are_no_ports.Given as goal
 
 abbrev pub invariant-loop-place : goal.invariant-loop-place
 invariant-loop-place l =
-    (k : ℕ) (name : List ℕ) → k < l.place → slice_get (declared_port_names l.scope.ports.now) k ≡ Some name → IsAbsent l.scope.parameters.now name
+    (k : ℕ) (name : List ℕ) → k < l.place → slice_get (declared_port_names l.scope.component_type.now) k ≡ Some name → IsAbsent l.scope.parameters.now name
