@@ -44,15 +44,15 @@ case_known m names case line named b sound =
 
 -- the third pass over what was sorted out is that over the module
 pub third_told : (m : Module) (d : Definitions) (made : IsDefined m d) (case : TestCase) (begins : ℕ) (rule : ModuleRule) (line : ℕ)
-    → ThirdPassBreaks d.sorted.component_names (component_types_in d.sorted) (map ports_of d.components.items) (functions_in d.sorted) case begins rule line
+    → ThirdPassBreaks d.sorted.component_names (component_types_in d.sorted) (map ports_of d.component_types.items) (functions_in d.sorted) case begins rule line
     → ThirdPassOfBreaks m case begins rule line
 third_told m d made case begins rule line b = record {
-  types = d.components.items;
+  types = d.component_types.items;
   types_are = made.components;
-  breaks = subst (λ n. ThirdPassBreaks n (component_types m) (map ports_of d.components.items) (functions m) case begins rule line)
+  breaks = subst (λ n. ThirdPassBreaks n (component_types m) (map ports_of d.component_types.items) (functions m) case begins rule line)
       made.sorted.components.names_are
-      (subst (λ l. ThirdPassBreaks d.sorted.component_names l (map ports_of d.components.items) (functions m) case begins rule line)
+      (subst (λ l. ThirdPassBreaks d.sorted.component_names l (map ports_of d.component_types.items) (functions m) case begins rule line)
       made.sorted.components.items_are
-      (subst (λ l. ThirdPassBreaks d.sorted.component_names (component_types_in d.sorted) (map ports_of d.components.items) l case begins rule line)
+      (subst (λ l. ThirdPassBreaks d.sorted.component_names (component_types_in d.sorted) (map ports_of d.component_types.items) l case begins rule line)
       made.sorted.functions.items_are b));
 }

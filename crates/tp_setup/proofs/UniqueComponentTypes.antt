@@ -113,31 +113,31 @@ names_made types ports (c ∷ cs) (t ∷ ts) each =
 
 module _ (m : Module) (d : Definitions) (made : IsDefined m d) where
   -- the component types that were made have the ports that are declared
-  pub own_made : HasUniqueNames m → AreOwnPorts (component_types_in d.sorted) (map ports_of d.components.items)
+  pub own_made : HasUniqueNames m → AreOwnPorts (component_types_in d.sorted) (map ports_of d.component_types.items)
   own_made unique =
-      subst (λ l. AreOwnPorts l (map ports_of d.components.items)) (sym made.sorted.components.items_are)
+      subst (λ l. AreOwnPorts l (map ports_of d.component_types.items)) (sym made.sorted.components.items_are)
       (record {
-        same = names_made (type_names m) (port_types m) (component_types m) d.components.items made.components;
+        same = names_made (type_names m) (port_types m) (component_types m) d.component_types.items made.components;
         numbered = ports_numbered m unique;
       })
 
   -- what a module that obeys the rules says of what is sorted and made
   pub declared_part : test_cases m ≡ d.case.case.now ∷ [] → IsWellDeclared m
-      → CanSetUp d.sorted.component_names (component_types_in d.sorted) (map ports_of d.components.items) d.case.case.now
+      → CanSetUp d.sorted.component_names (component_types_in d.sorted) (map ports_of d.component_types.items) d.case.case.now
       × ((starts : Starts) × AreStarts (functions_in d.sorted) d.case.case.now starts)
   declared_part one r =
       let case : r.case ∷ [] ≡ d.case.case.now ∷ [] = sym r.one_test_case ∙ one in
       let same : r.case ≡ d.case.case.now = cc in
-      let ports : map ports_of r.connections.types ≡ map ports_of d.components.items =
+      let ports : map ports_of r.connections.types ≡ map ports_of d.component_types.items =
       zip_seen (IsComponentType (type_names m) (port_types m)) ports_of
-      (component_same (type_names m) (port_types m) (ports_apart m r.names)) (component_types m) r.connections.types d.components.items
+      (component_same (type_names m) (port_types m) (ports_apart m r.names)) (component_types m) r.connections.types d.component_types.items
       r.connections.types_are made.components in (
         record {
           variables = subst (λ n. AreSoundVariables n (component_types_in d.sorted) d.case.case.now) (sym made.sorted.components.names_are)
               (subst (λ l. AreSoundVariables (component_type_names m) l d.case.case.now) (sym made.sorted.components.items_are)
               (subst (AreSoundVariables (component_type_names m) (component_types m)) same r.variables));
           config = r.config;
-          is_set_up = subst (λ n. IsConfigBySetup n (map ports_of d.components.items) d.case.case.now r.config) (sym made.sorted.components.names_are)
+          is_set_up = subst (λ n. IsConfigBySetup n (map ports_of d.component_types.items) d.case.case.now r.config) (sym made.sorted.components.names_are)
               (subst (λ p. IsConfigBySetup (component_type_names m) p d.case.case.now r.config) ports
               (subst (λ c. IsConfigBySetup (component_type_names m) (map ports_of r.connections.types) c r.config) same r.connections.set_up));
         },

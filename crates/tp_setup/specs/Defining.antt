@@ -9,5 +9,5 @@ use Rattle.tp_setup.specs.Resolved.{AreTypes, AreComponentTypes}
 pub record IsDefined (m : Module) (d : Definitions) : Type 0 where
   pub sorted : AreSorted m d.sorted
   pub types : AreTypes m d.types
-  pub components : AreComponentTypes m d.components.items
-  pub few_ports : All (λ t. length t.ports.entries ≤ 64) d.components.items
+  pub components : AreComponentTypes m d.component_types.items
+  pub few_ports : All (λ t. length t.ports.entries ≤ 64) d.component_types.items

@@ -37,8 +37,8 @@ Functions = AreOfKind function_of (λ f. string_bytes f.name)
 -- each kind of definition of the module stands where it belongs
 pub record AreSorted (m : Module) (s : Sorted) : Type 0 where
   pub types : TypeDefinitions m.definitions.items s.type_names (map (λ x. x.now) s.types.items)
-  pub ports : PortTypes m.definitions.items s.port_names (map (λ x. x.now) s.ports.items)
-  pub components : ComponentTypes m.definitions.items s.component_names (map (λ x. x.now) s.components.items)
+  pub ports : PortTypes m.definitions.items s.port_names (map (λ x. x.now) s.port_types.items)
+  pub components : ComponentTypes m.definitions.items s.component_names (map (λ x. x.now) s.component_types.items)
   pub functions : Functions m.definitions.items s.function_names (map (λ x. x.now) s.functions.items)
 
 -- the definitions of each kind that were sorted out
@@ -46,10 +46,10 @@ abbrev pub types_in : Sorted → List Defined
 types_in s = map (λ x. x.now) s.types.items
 
 abbrev pub port_types_in : Sorted → List PortType
-port_types_in s = map (λ p. p.now) s.ports.items
+port_types_in s = map (λ p. p.now) s.port_types.items
 
 abbrev pub component_types_in : Sorted → List ComponentType
-component_types_in s = map (λ c. c.now) s.components.items
+component_types_in s = map (λ c. c.now) s.component_types.items
 
 abbrev pub functions_in : Sorted → List Function
 functions_in s = map (λ f. f.now) s.functions.items

@@ -276,7 +276,7 @@ pub(crate) fn ports_of_type<'m>(
     let Some(place) = sorted.component_names.find(name) else {
         return Err(refused(ModuleRule::Unknown, line));
     };
-    let Some(component) = definition_at(&sorted.components, place) else {
+    let Some(component) = definition_at(&sorted.component_types, place) else {
         return Err(refused(ModuleRule::Unknown, line));
     };
     let mut ports = NameSet::new(alloc);

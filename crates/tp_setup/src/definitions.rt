@@ -35,7 +35,7 @@ pub struct Definitions<'m> {
     /// The record and record-of types, under their own names.
     pub types: Types,
     /// The component types, in the order of the text.
-    pub components: Vec<CompType>,
+    pub component_types: Vec<CompType>,
 }
 
 /// Whether the type of each field is known.
@@ -261,7 +261,7 @@ struct MadeTypes {
     /// The record and record-of types, under their own names.
     types: Types,
     /// The component types, in the order of the text.
-    components: Vec<CompType>,
+    component_types: Vec<CompType>,
 }
 
 /// The component types, in the order of the text, where the port types have their own names.
@@ -271,7 +271,7 @@ fn make_component_types(alloc: Global, sorted: &Sorted) -> Result<Vec<CompType>,
     ensures few { IfOk result (λ r. All (λ t. length t.ports.entries ≤ 64) r.items) }
     ensures refused { IfErr result (IsRefusedBy (IsSortedSound sorted.now)) }
 {
-    let made = make_port_types(alloc, &sorted.type_names, &sorted.ports)?;
+    let made = make_port_types(alloc, &sorted.type_names, &sorted.port_types)?;
     make_components(alloc, sorted, &made)
 }
 
@@ -281,14 +281,17 @@ fn make(alloc: Global, sorted: &Sorted) -> Result<MadeTypes, ModuleFault>
     ensures types { IfOk result (λ made.
         AllZip (IsNamedType sorted.now.type_names) (types_in sorted.now) made.types) }
     ensures components { IfOk result (λ made.
-        AreComponentTypesIn sorted.now made.components.items) }
+        AreComponentTypesIn sorted.now made.component_types.items) }
     ensures few { IfOk result (λ made.
-        All (λ t. length t.ports.entries ≤ 64) made.components.items) }
+        All (λ t. length t.ports.entries ≤ 64) made.component_types.items) }
     ensures refused { IfErr result (IsRefusedBy (IsSortedSound sorted.now)) }
 {
     let types = make_types(alloc, &sorted.type_names, &sorted.types)?;
-    let components = make_component_types(alloc, sorted)?;
-    Ok(MadeTypes { types, components })
+    let component_types = make_component_types(alloc, sorted)?;
+    Ok(MadeTypes {
+        types,
+        component_types,
+    })
 }
 
 /// The second pass: what the definitions of a module define, where it has this test case, and no
@@ -313,11 +316,14 @@ pub fn define<'m>(
         → IfErr result (Tells (DefinitionsOfBreak parsed.now case.entry.case.now)) }
 {
     let sorted = sort_sound(alloc, parsed, case.case)?;
-    let MadeTypes { types, components } = make(alloc, &sorted)?;
+    let MadeTypes {
+        types,
+        component_types,
+    } = make(alloc, &sorted)?;
     Ok(Definitions {
         case,
         sorted,
         types,
-        components,
+        component_types,
     })
 }

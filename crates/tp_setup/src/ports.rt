@@ -268,7 +268,7 @@ pub fn make_components(
         All (IsSoundComponent sorted.now.port_names) (component_types_in sorted.now))) }
 {
     let mut components = Vec::new(alloc);
-    for component in &sorted.components {
+    for component in &sorted.component_types {
         let one = make_component(alloc, sorted, made, component)?;
         components.push(one)?;
     }

@@ -100,9 +100,9 @@ pub fn prepare(alloc: Global, parsed: &Module) -> Result<Prepared<'_>, ModuleFau
         case,
         sorted,
         types,
-        components,
+        component_types,
     } = find_definitions(alloc, parsed)?;
-    let configured = set_up_and_start(alloc, &sorted, case, components)?;
+    let configured = set_up_and_start(alloc, &sorted, case, component_types)?;
     Ok(Prepared {
         case,
         sorted,

@@ -25,11 +25,11 @@ pub struct Sorted<'m> {
     /// The names of the port types.
     pub port_names: NameSet<'m>,
     /// The port types.
-    pub ports: Vec<&'m PortType>,
+    pub port_types: Vec<&'m PortType>,
     /// The names of the component types.
     pub component_names: NameSet<'m>,
     /// The component types.
-    pub components: Vec<&'m ComponentType>,
+    pub component_types: Vec<&'m ComponentType>,
     /// The names of the functions.
     pub function_names: NameSet<'m>,
     /// The functions.
@@ -172,16 +172,16 @@ pub fn sort(alloc: Global, parsed: &Module) -> Result<Sorted<'_>, ModuleFault>
 {
     let definitions = parsed.definitions.as_slice();
     let (type_names, types) = sort_kind(alloc, definitions)?;
-    let (port_names, ports) = sort_kind(alloc, definitions)?;
-    let (component_names, components) = sort_kind(alloc, definitions)?;
+    let (port_names, port_types) = sort_kind(alloc, definitions)?;
+    let (component_names, component_types) = sort_kind(alloc, definitions)?;
     let (function_names, functions) = sort_kind(alloc, definitions)?;
     Ok(Sorted {
         type_names,
         types,
         port_names,
-        ports,
+        port_types,
         component_names,
-        components,
+        component_types,
         function_names,
         functions,
     })

@@ -33,10 +33,10 @@ returns-clause-rules c =
     let case = d.case.case.now in
     let made = c.in_ok-case.ensures.defined in
     let set : IsConfigOf m case c.in_ok-configured.configured.made.config = record {
-      types = d.components.items;
+      types = d.component_types.items;
       types_are = made.components;
       few_ports = made.few_ports;
-      set_up = subst (λ n. IsConfigBySetup n (map ports_of d.components.items) case c.in_ok-configured.configured.made.config) made.sorted.components.names_are
+      set_up = subst (λ n. IsConfigBySetup n (map ports_of d.component_types.items) case c.in_ok-configured.configured.made.config) made.sorted.components.names_are
           c.in_ok-configured.ensures.config;
     } in
     record {
@@ -63,10 +63,10 @@ returns-clause-made c =
       sorted = made.sorted;
       types = made.types;
       config = record {
-        types = d.components.items;
+        types = d.component_types.items;
         types_are = made.components;
         few_ports = made.few_ports;
-        set_up = subst (λ n. IsConfigBySetup n (map ports_of d.components.items) case c.in_ok-configured.configured.made.config) made.sorted.components.names_are
+        set_up = subst (λ n. IsConfigBySetup n (map ports_of d.component_types.items) case c.in_ok-configured.configured.made.config) made.sorted.components.names_are
             c.in_ok-configured.ensures.config;
       };
       variables_are = c.in_ok-configured.ensures.variables;
@@ -91,7 +91,7 @@ returns-in_err-configured-clause-told c =
     let found = c.in_ok-case.ensures in
     handed (Tells (DeclarationsBreak m)) c.from_residual-in_err-configured.result _ c.from_residual-in_err-configured.ensures.1
     (tells_map
-    (ThirdPassBreaks d.sorted.component_names (component_types_in d.sorted) (map ports_of d.components.items) (functions_in d.sorted) case line)
+    (ThirdPassBreaks d.sorted.component_names (component_types_in d.sorted) (map ports_of d.component_types.items) (functions_in d.sorted) case line)
     (DeclarationsBreak m) c.in_err-configured.field-0.0
     (λ rule at b. third_pass case line rule at
     (record { one_test_case = found.case; names = found.names; definitions = found.sound; begins = found.begins })
