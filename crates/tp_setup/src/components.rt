@@ -80,9 +80,9 @@ pub(crate) fn add_component(
 #[derive(Clone, Copy)]
 pub(crate) struct VariableRules<'a, 'm> {
     /// The names of the component types.
-    pub types: &'a NameSet<'m>,
+    pub type_names: &'a NameSet<'m>,
     /// The names of the ports of the main component.
-    pub ports: &'a NameSet<'m>,
+    pub port_names: &'a NameSet<'m>,
     /// How many component variables there may be.
     pub most: usize,
 }
@@ -98,25 +98,27 @@ fn check_variable<'m>(
 ) -> Result<(), ModuleFault>
     ensures added { OnOk result (variables.new ≡ variables.old ++ variable_name creation.now ∷ []) }
     ensures numbered { IsNumbered variables.new }
-    ensures no_port { OnOk result (Contains rules.now.ports.now (variable_name creation.now) → ⊥) }
+    ensures no_port { OnOk result (
+        Contains rules.now.port_names.now (variable_name creation.now) → ⊥) }
     ensures known { OnOk result (
-        Contains rules.now.types.now (string_bytes creation.now.type_name)) }
+        Contains rules.now.type_names.now (string_bytes creation.now.type_name)) }
     ensures same { OnOk result (
         string_bytes creation.now.type_name ≡ string_bytes creation.now.created) }
     ensures few { OnOk result (length variables.new ≤ rules.now.most) }
     ensures refused { IfErr result (IsRefusedBy (IsSoundVariable
-        rules.now.types.now rules.now.ports.now variables.old rules.now.most creation.now)) }
+        rules.now.type_names.now rules.now.port_names.now variables.old rules.now.most
+        creation.now)) }
     ensures told { (others : List (List ℕ)) → length variables.old < 4294967295
-        → IfErr result (TellsAt line (CreationBreaks rules.now.types.now rules.now.ports.now
-        others variables.old rules.now.most creation.now)) }
+        → IfErr result (TellsAt line (CreationBreaks rules.now.type_names.now
+        rules.now.port_names.now others variables.old rules.now.most creation.now)) }
 {
     if let Err(fault) = variables.add(creation.name.as_str()) {
         return Err(fault.at(line));
     }
-    if rules.ports.has(creation.name.as_str()) {
+    if rules.port_names.has(creation.name.as_str()) {
         return Err(refused(ModuleRule::Duplicate, line));
     }
-    if !rules.types.has(creation.type_name.as_str()) {
+    if !rules.type_names.has(creation.type_name.as_str()) {
         return Err(refused(ModuleRule::Unknown, line));
     }
     if creation.type_name.as_str() != creation.created.as_str() {
@@ -186,23 +188,24 @@ fn create<'m>(
         variables.new ≡ variables.old ++ variable_name at.entry.creation.now ∷ []) }
     ensures numbered { IsNumbered variables.new }
     ensures no_port { OnOk result (
-        Contains rules.now.ports.now (variable_name at.entry.creation.now) → ⊥) }
+        Contains rules.now.port_names.now (variable_name at.entry.creation.now) → ⊥) }
     ensures known { OnOk result (
-        Contains rules.now.types.now (string_bytes at.entry.creation.now.type_name)) }
+        Contains rules.now.type_names.now (string_bytes at.entry.creation.now.type_name)) }
     ensures same { OnOk result (string_bytes at.entry.creation.now.type_name
         ≡ string_bytes at.entry.creation.now.created) }
     ensures few { OnOk result (length variables.new ≤ rules.now.most) }
     ensures component { OnOk result (
-        Adds rules.now.types.now (created at.entry.creation.now) config.old config.new) }
+        Adds rules.now.type_names.now (created at.entry.creation.now) config.old config.new) }
     ensures err { OnErr result (config.new ≡ config.old) }
     ensures refused { IfErr result (IsRefusedBy (
-        IsSoundVariable rules.now.types.now rules.now.ports.now variables.old rules.now.most
-        at.entry.creation.now
-        × CanAdd rules.now.types.now (created at.entry.creation.now) config.old)) }
+        IsSoundVariable rules.now.type_names.now rules.now.port_names.now variables.old
+        rules.now.most at.entry.creation.now
+        × CanAdd rules.now.type_names.now (created at.entry.creation.now) config.old)) }
     ensures told { (others : List (List ℕ))
-        → HasRoomForVariables rules.now.types.now others variables.old rules.now.most config.old
-        → IfErr result (TellsAt at.entry.line (CreationBreaks rules.now.types.now
-        rules.now.ports.now others variables.old rules.now.most at.entry.creation.now)) }
+        → HasRoomForVariables rules.now.type_names.now others variables.old rules.now.most
+        config.old
+        → IfErr result (TellsAt at.entry.line (CreationBreaks rules.now.type_names.now
+        rules.now.port_names.now others variables.old rules.now.most at.entry.creation.now)) }
 {
     check_variable(variables, rules, at.creation, at.line)?;
     let component = DeclaredComponent {
@@ -211,7 +214,7 @@ fn create<'m>(
         role: Role::Test,
         line: at.line,
     };
-    add_component(alloc, config, rules.types, &component)?;
+    add_component(alloc, config, rules.type_names, &component)?;
     Ok(())
 }
 
@@ -227,20 +230,20 @@ pub(crate) fn create_components<'m>(
     rules: &VariableRules,
     setups: &'m [SetupStatement],
 ) -> Result<(), StoppedCreation<'m>>
-    ensures sound { OnOk result (HasSoundVariables rules.now.types.now rules.now.ports.now
+    ensures sound { OnOk result (HasSoundVariables rules.now.type_names.now rules.now.port_names.now
         rules.now.most (creations setups.now)) }
-    ensures added { OnOk result (AddsAll rules.now.types.now
+    ensures added { OnOk result (AddsAll rules.now.type_names.now
         (map created (creations setups.now)) config.old config.new) }
-    ensures stopped { IfErr result (λ stopped. HasStopped rules.now.types.now setups.now
+    ensures stopped { IfErr result (λ stopped. HasStopped rules.now.type_names.now setups.now
         stopped.before.now config.old config.new) }
     ensures refused { IfErr result (λ stopped. IsRefusedBy (
-        HasSoundVariables rules.now.types.now rules.now.ports.now rules.now.most
+        HasSoundVariables rules.now.type_names.now rules.now.port_names.now rules.now.most
         (creations setups.now)
-        × CanAddAll rules.now.types.now (variables setups.now) config.old) stopped.fault) }
+        × CanAddAll rules.now.type_names.now (variables setups.now) config.old) stopped.fault) }
     ensures told { (others : List (List ℕ))
-        → HasRoomForVariables rules.now.types.now others [] rules.now.most config.old
-        → IfErr result (λ stopped. StopsCreating rules.now.types.now rules.now.ports.now others
-        rules.now.most setups.now stopped.before.now stopped.fault) }
+        → HasRoomForVariables rules.now.type_names.now others [] rules.now.most config.old
+        → IfErr result (λ stopped. StopsCreating rules.now.type_names.now
+        rules.now.port_names.now others rules.now.most setups.now stopped.before.now stopped.fault) }
 {
     let mut variables = NameSet::new(alloc);
     for (i, setup) in setups.iter().enumerate() {

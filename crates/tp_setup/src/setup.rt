@@ -240,22 +240,22 @@ fn first_fault(
     case: CaseAt<'_>,
     stopped: StoppedCreation<'_>,
 ) -> ModuleFault
-    requires first { HasFirst rules.now.types.now case.case.now stopped.before.now config.old }
-    requires broken { HavePorts rules.now.types.now config.old.types
-        → IsRefusedBy (CanSetUpBeside rules.now.types.now rules.now.ports.now config.old.types
-        case.case.now) stopped.fault }
-    ensures broken { HavePorts rules.now.types.now config.old.types
-        → IsRefusedBy (CanSetUpBeside rules.now.types.now rules.now.ports.now config.old.types
-        case.entry.case.now) result }
-    ensures told { HavePorts rules.now.types.now config.old.types
-        → AreComponentTypesKnown rules.now.types.now (Defined.TestCase case.entry.case.now)
-        → StopsCreating rules.now.types.now rules.now.ports.now (codes "mtc" ∷ [])
+    requires first { HasFirst rules.now.type_names.now case.case.now stopped.before.now config.old }
+    requires broken { HavePorts rules.now.type_names.now config.old.types
+        → IsRefusedBy (CanSetUpBeside rules.now.type_names.now rules.now.port_names.now
+        config.old.types case.case.now) stopped.fault }
+    ensures broken { HavePorts rules.now.type_names.now config.old.types
+        → IsRefusedBy (CanSetUpBeside rules.now.type_names.now rules.now.port_names.now
+        config.old.types case.entry.case.now) result }
+    ensures told { HavePorts rules.now.type_names.now config.old.types
+        → AreComponentTypesKnown rules.now.type_names.now (Defined.TestCase case.entry.case.now)
+        → StopsCreating rules.now.type_names.now rules.now.port_names.now (codes "mtc" ∷ [])
         (most_variables case.entry.case.now) case.entry.case.now.setups.items
         stopped.entry.before.now stopped.entry.fault
-        → Tells (SetupBreaks rules.now.types.now rules.now.ports.now config.old.types
+        → Tells (SetupBreaks rules.now.type_names.now rules.now.port_names.now config.old.types
         case.entry.case.now case.entry.line) result }
 {
-    let system = match add_interface(alloc, config, rules.types, case.case, case.line) {
+    let system = match add_interface(alloc, config, rules.type_names, case.case, case.line) {
         Ok(system) => system,
         Err(fault) => return fault,
     };
@@ -288,8 +288,8 @@ fn create_beside(
         case.entry.case.now case.entry.line)) }
 {
     let rules = VariableRules {
-        types,
-        ports,
+        type_names: types,
+        port_names: ports,
         most: most_variables(case.case),
     };
     match create_components(alloc, &mut *config, &rules, &case.case.setups) {

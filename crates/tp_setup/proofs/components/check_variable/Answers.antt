@@ -17,8 +17,8 @@ returns-in-Err-clause-told c = λ others small.
     let names = c.args.variables.now in
     let one = c.args.creation.now in
     let rules = c.args.rules.now in
-    at_map c.args.line (NameBreaks names (variable_name one)) (CreationBreaks rules.types.now rules.ports.now others names rules.most one) c.at.result
-    (taken_told rules.types.now rules.ports.now others names rules.most one small)
+    at_map c.args.line (NameBreaks names (variable_name one)) (CreationBreaks rules.type_names.now rules.port_names.now others names rules.most one) c.at.result
+    (taken_told rules.type_names.now rules.port_names.now others names rules.most one small)
     (name_told names (variable_name one) c.args.line c.in-Err.fault c.at.result c.at.ensures.duplicate c.at.ensures.limit c.at.ensures.memory
     (rw c.as_str.ensures.value at c.in-Err.ensures.duplicate) c.in-Err.ensures.limit)
 
@@ -33,7 +33,7 @@ returns-then-not-has-clause-told c = λ others small.
     let fresh : Contains names (variable_name one) → ⊥ =
     λ h. repeated names (variable_name one) h
     (subst AreDistinct (c.in_default.ensures.ok ∙ ap (λ n. names ++ n ∷ []) c.as_str.ensures.value) c.in_default.ensures.distinct) in
-    let free : Contains c.args.rules.now.ports.now (variable_name one) → ⊥ =
+    let free : Contains c.args.rules.now.port_names.now (variable_name one) → ⊥ =
     λ h. true≢false (sym (c.has.ensures.known.1 (rw c.as_str-2.ensures.value h)) ∙ c.if-has.false) in
     rw c.refused-then-not-has.ensures (
       refl,
@@ -47,7 +47,7 @@ returns-then-ne-clause-told c = λ others small.
     let fresh : Contains names (variable_name one) → ⊥ =
     λ h. repeated names (variable_name one) h
     (subst AreDistinct (c.in_default.ensures.ok ∙ ap (λ n. names ++ n ∷ []) c.as_str.ensures.value) c.in_default.ensures.distinct) in
-    let free : Contains c.args.rules.now.ports.now (variable_name one) → ⊥ =
+    let free : Contains c.args.rules.now.port_names.now (variable_name one) → ⊥ =
     λ h. true≢false (sym (c.has.ensures.known.1 (rw c.as_str-2.ensures.value h)) ∙ c.if-has.false) in
     let same : c.as_str-4.result.now ≡ c.as_str-5.result.now → ⊥ =
     λ e. true≢false (sym c.if-ne.true ∙ c.ne.ensures ∙ ap not ((bytes_eq-Decides c.as_str-4.result.now c.as_str-5.result.now).1 e)) in
@@ -69,7 +69,7 @@ returns-then-len-rules-clause-told c = λ others small.
     let fresh : Contains names (variable_name one) → ⊥ =
     λ h. repeated names (variable_name one) h
     (subst AreDistinct (c.in_default.ensures.ok ∙ ap (λ n. names ++ n ∷ []) c.as_str.ensures.value) c.in_default.ensures.distinct) in
-    let free : Contains c.args.rules.now.ports.now (variable_name one) → ⊥ =
+    let free : Contains c.args.rules.now.port_names.now (variable_name one) → ⊥ =
     λ h. true≢false (sym (c.has.ensures.known.1 (rw c.as_str-2.ensures.value h)) ∙ c.if-has.false) in
     let same : c.as_str-4.result.now ≡ c.as_str-5.result.now =
     (bytes_eq-Decides c.as_str-4.result.now c.as_str-5.result.now).0 (negated _ (sym c.ne.ensures ∙ c.if-ne.false)) in

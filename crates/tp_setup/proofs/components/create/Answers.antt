@@ -12,7 +12,7 @@ use Rattle.tp_setup.proofs.components.create.Goals as goal
 pub returns-in_err-check_variable-clause-told : goal.returns-in_err-check_variable-clause-told
 returns-in_err-check_variable-clause-told c = λ others (room : HasRoomForVariables _ _ _ _ _).
     let rules = c.args.rules.now in
-    handed (TellsAt c.args.at.line (CreationBreaks rules.types.now rules.ports.now others c.args.variables.now rules.most c.args.at.creation.now))
+    handed (TellsAt c.args.at.line (CreationBreaks rules.type_names.now rules.port_names.now others c.args.variables.now rules.most c.args.at.creation.now))
     c.from_residual.result _ c.from_residual.ensures.1 (c.in_err-check_variable.ensures.told others (omega (arith, room.few, room.room)))
 
 pub returns-in_err-add_component-clause-told : goal.returns-in_err-add_component-clause-told
@@ -21,11 +21,11 @@ returns-in_err-add_component-clause-told c = λ others (room : HasRoomForVariabl
     let one = c.args.at.creation.now in
     let names = c.args.variables.now in
     let ok = c.in_ok-check_variable.ensures in
-    handed (TellsAt c.args.at.line (CreationBreaks rules.types.now rules.ports.now others names rules.most one))
+    handed (TellsAt c.args.at.line (CreationBreaks rules.type_names.now rules.port_names.now others names rules.most one))
     c.from_residual-in_err-add_component.result _ c.from_residual-in_err-add_component.ensures.1
-    (at_map c.args.at.line (AdditionBreaks rules.types.now (created one) c.args.config.now)
-    (CreationBreaks rules.types.now rules.ports.now others names rules.most one) c.in_err-add_component.field-0.0
-    (component_told rules.types.now rules.ports.now others names rules.most one c.args.config.now room (record {
+    (at_map c.args.at.line (AdditionBreaks rules.type_names.now (created one) c.args.config.now)
+    (CreationBreaks rules.type_names.now rules.port_names.now others names rules.most one) c.in_err-add_component.field-0.0
+    (component_told rules.type_names.now rules.port_names.now others names rules.most one c.args.config.now room (record {
       numbered = subst IsNumbered ok.added ok.numbered;
       no_port = ok.no_port;
       known = ok.known;

@@ -8,6 +8,6 @@ abbrev pub invariant-loop-i : goal.invariant-loop-i
 invariant-loop-i l = record {
   names : l.variables ≡ map variable_name (creations (take l.i l.setups));
   numbered : IsNumbered l.variables;
-  sound : HasSoundVariables l.rules.types.now l.rules.ports.now l.rules.most (creations (take l.i l.setups));
-  added : AddsAll l.rules.types.now (map created (creations (take l.i l.setups))) l.fn.config l.config;
+  sound : HasSoundVariables l.rules.type_names.now l.rules.port_names.now l.rules.most (creations (take l.i l.setups));
+  added : AddsAll l.rules.type_names.now (map created (creations (take l.i l.setups))) l.fn.config l.config;
 }
