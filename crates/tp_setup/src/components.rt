@@ -243,7 +243,8 @@ pub(crate) fn create_components<'m>(
     ensures told { (others : List (List ℕ))
         → HasRoomForVariables rules.now.type_names.now others [] rules.now.most config.old
         → IfErr result (λ stopped. StopsCreating rules.now.type_names.now
-        rules.now.port_names.now others rules.now.most setups.now stopped.before.now stopped.fault) }
+        rules.now.port_names.now others rules.now.most setups.now stopped.before.now
+        stopped.fault) }
 {
     let mut variables = NameSet::new(alloc);
     for (i, setup) in setups.iter().enumerate() {
