@@ -68,7 +68,7 @@ is_arrival_of r number m d _ is = absurd (none-some record { route = r; number =
 came_at : (report : Report) (r : RouteId) (d : CompId) (y : CompReport) (place number : ℕ) (e : Entry) → IsArrivalOf r number e → r.to.comp ≡ d
     → slice_get report.components.items d.0 ≡ Some y → slice_get y.desk.log place ≡ Some e → CameAt report place r number
 came_at report r d y place number e (stamp, env, is, from, same) to receiver stands = record {
-  envelope = env;
+  arrived = env;
   stamp = stamp;
   stands = in_report report r d y place (entry.Arrive r.to.port env stamp) to receiver (stands ∙ ap (λ x. Some x) is);
   sender = from;
@@ -181,12 +181,12 @@ module _ (made : Made) (report : Report) (order : List Spot) (h : IsReportOf mad
       → CameAt report b q o → (a : ℕ) × (a < b) × CameAt report a r n
   comes_before r q i j u v n o b m w to less out next at there into =
       let d = q.to.comp in
-      let x = reported (slice_get components d.0) b (entry.Arrive q.to.port into.envelope into.stamp) into.stands in
+      let x = reported (slice_get components d.0) b (entry.Arrive q.to.port into.arrived into.stamp) into.stands in
       let log = x.0.desk.log in
-      let came : slice_get log b ≡ Some (entry.Arrive q.to.port into.envelope into.stamp) = ap (λ o. slice_get (log_of o) b) (sym x.1) ∙ into.stands in
-      let sends : entry_at_spot logs (spot q.source.0 j) ≡ Some (entry.Sent q into.envelope.number w) =
+      let came : slice_get log b ≡ Some (entry.Arrive q.to.port into.arrived into.stamp) = ap (λ o. slice_get (log_of o) b) (sym x.1) ∙ into.stands in
+      let sends : entry_at_spot logs (spot q.source.0 j) ≡ Some (entry.Sent q into.arrived.number w) =
       stands_in q.source.0 j (entry.Sent q o w) next ∙ ap (λ s. Some (entry.Sent q s w)) (sym into.numbered) in
-      let so = as_much_before made report order h is d x.0 x.1 q v b into.stamp (spot q.source.0 j) into.envelope w refl into.sender came there sends in
+      let so = as_much_before made report order h is d x.0 x.1 q v b into.stamp (spot q.source.0 j) into.arrived w refl into.sender came there sends in
       let put : Posted = record { route = r; number = n; stamped = m } in
       let gives : sent_at d (spot r.source.0 i) ≡ Some put =
       ap (sending_in d) (stands_in r.source.0 i (entry.Sent r n m) out) ∙ sent_as d n r m to in

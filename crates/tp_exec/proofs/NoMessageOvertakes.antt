@@ -77,7 +77,7 @@ module _ (made : Made) (report : Report) (h : IsReportOf made report) where
       → CameAt report a r number → sent r.source r.to.comp ≡ came r.source r.to.comp
   all_came r i a number m out into =
       let x = reported (slice_get report.components.items r.source.0) i (entry.Sent r number m) out in
-      let y = reported (slice_get report.components.items r.to.comp.0) a (entry.Arrive r.to.port into.envelope into.stamp) into.stands in
+      let y = reported (slice_get report.components.items r.to.comp.0) a (entry.Arrive r.to.port into.arrived into.stamp) into.stands in
       ap (λ o. sent_to r.to.comp (log_of o)) x.1 ∙ h.between r.source r.to.comp x.0 y.0 x.1 y.1
       ∙ ap (λ o. arrived_from r.to.comp r.source (log_of o)) (sym y.1)
 
@@ -85,7 +85,7 @@ module _ (made : Made) (report : Report) (h : IsReportOf made report) where
   numbered_on : (r : RouteId) (a number : ℕ) → CameAt report a r number
       → map (λ x. x.0) (posted_on r (sent r.source r.to.comp)) ≡ numbers_from 0 (posted_on r (sent r.source r.to.comp))
   numbered_on r a number into =
-      let d = on_route made report h r a into.stamp into.envelope into.stands into.sender in
+      let d = on_route made report h r a into.stamp into.arrived into.stands into.sender in
       let same : posted_on r (sent r.source r.to.comp) ≡ sent_on r d.pair.source.desk.log =
       sent_by_routes r.to.comp r refl (history report r.source.0) ∙ ap (λ o. sent_on r (log_of o)) d.pair.source_is in
       subst (λ (xs : List (ℕ × Stamped)). map (λ x. x.0) xs ≡ numbers_from 0 xs) (sym same) d.numbered
@@ -100,12 +100,12 @@ module _ (made : Made) (report : Report) (h : IsReportOf made report) where
       let k = history report c.0 in
       let l = history report d.0 in
       let put : Posted = record { route = r; number = number; stamped = m } in
-      let got : Posted = posted r into.envelope into.stamp in
+      let got : Posted = posted r into.arrived into.stamp in
       let at : slice_get (sent c d) (so_much (sending_to d) k i) ≡ Some put =
       given_at (sending_to d) k i (entry.Sent r number m) put out (sent_as d number r m refl) in
       let there : slice_get (came c d) (so_much (arrival_from d c) l a) ≡ Some got =
-      given_at (arrival_from d c) l a (entry.Arrive r.to.port into.envelope into.stamp) got into.stands
-      (came_as c d r into.envelope into.stamp refl refl into.sender) in
+      given_at (arrival_from d c) l a (entry.Arrive r.to.port into.arrived into.stamp) got into.stands
+      (came_as c d r into.arrived into.stamp refl refl into.sender) in
       one_place r (sent c d) (numbered_on r a number into) (so_much (arrival_from d c) l a) (so_much (sending_to d) k i) got put
       (ap (λ s. slice_get s (so_much (arrival_from d c) l a)) (all_came r i a number m out into) ∙ there) at refl refl into.numbered
 
@@ -117,7 +117,7 @@ module _ (made : Made) (report : Report) (h : IsReportOf made report) where
       let k = history report c.0 in
       let l = history report d.0 in
       let later : slice_get k j ≡ Some (entry.Sent q o w) = ap (λ (e : CompId). slice_get (history report e.0) j) source ∙ next in
-      let stands : slice_get l b ≡ Some (entry.Arrive q.to.port after.envelope after.stamp) =
+      let stands : slice_get l b ≡ Some (entry.Arrive q.to.port after.arrived after.stamp) =
       ap (λ (e : CompId). slice_get (history report e.0) b) to ∙ after.stands in
       let one : so_much (arrival_from d c) l a ≡ so_much (sending_to d) k i = place_is r i a n m out into in
       let other : so_much (arrival_from d c) l b ≡ so_much (sending_to d) k j =

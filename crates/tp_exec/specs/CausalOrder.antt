@@ -43,11 +43,11 @@ NoCircle report = (a : Spot) → ¬ HappensBefore report a a
 
 -- what was sent on this route under this number came to its receiver, at this place of the receiver's history
 pub record CameAt (report : Report) (a : ℕ) (r : RouteId) (number : ℕ) : Type 0 where
-  pub envelope : Env Message
+  pub arrived : Env Message
   pub stamp : ℕ
-  pub stands : StandsAt report (record { comp = r.to.comp.0; place = a }) (entry.Arrive r.to.port envelope stamp)
-  pub sender : envelope.sender ≡ r.source.0
-  pub numbered : envelope.number ≡ number
+  pub stands : StandsAt report (record { comp = r.to.comp.0; place = a }) (entry.Arrive r.to.port arrived stamp)
+  pub sender : arrived.sender ≡ r.source.0
+  pub numbered : arrived.number ≡ number
 
 -- **no message overtakes another**: of two that one component sent to one other, at whatever ports, that came first
 -- which was sent first

@@ -10,7 +10,7 @@ use Rattle.tp_config.specs.declared.port_type.CompId.{CompId}
 use Rattle.tp_config.specs.declared.port_type.RouteId.{RouteId}
 use Rattle.tp_history.specs.declared.entry.Entry.{Entry}
 use Rattle.tp_history.specs.declared.entry.Entry.TheVariants as entry
-use Rattle.tp_inbox.specs.declared.envelope.Envelope.{Envelope}
+use Rattle.tp_inbox.specs.declared.envelope.InboxEnvelope.{InboxEnvelope}
 use Rattle.tp_history.specs.declared.posted.Posted.{Posted}
 use Rattle.tp_history.specs.History.{is_arrival, arrivals, arrival_on, arrived_on, arrival_from, arrived_from}
 use Rattle.tp_inbox.specs.Envelopes.{of, has, on_routes, InOrder, AreRouted}
@@ -84,7 +84,7 @@ cons_cond true x l = refl
 cons_cond false x l = refl
 
 -- what arrives on a route that meets one of the list alone is what that one's envelopes hold
-on_only : (routes : List RouteId) (q : RouteId) (p : ℕ) → ((k : ℕ) → k < length routes → meets q (route_at routes k) ≡ eqb p k) → (es : List Envelope)
+on_only : (routes : List RouteId) (q : RouteId) (p : ℕ) → ((k : ℕ) → k < length routes → meets q (route_at routes k) ≡ eqb p k) → (es : List InboxEnvelope)
     → AreRouted (length routes) es → arrived_on q (arrivals_of routes es) ≡ of p es
 unfolding arrived_on
 on_only routes q p only [] of_these = refl
@@ -94,14 +94,14 @@ on_only routes q p only (e ∷ es) of_these =
     ∙ cons_cond (eqb p e.place) (e.number, e.stamped) (of p es)
 
 -- what arrives on a route of the list is what its envelopes hold
-pub on_place : (comp : CompId) (ports : ℕ) (routes : List RouteId) → AreRoutes comp ports routes → (p : ℕ) → p < length routes → (es : List Envelope)
+pub on_place : (comp : CompId) (ports : ℕ) (routes : List RouteId) → AreRoutes comp ports routes → (p : ℕ) → p < length routes → (es : List InboxEnvelope)
     → AreRouted (length routes) es → arrived_on (route_at routes p) (arrivals_of routes es) ≡ of p es
 on_place comp ports routes r p low es of_these = on_only routes (route_at routes p) p (λ k few. meets_places comp ports routes r p k low few) es of_these
 
 -- on a route into the component that is none of the list nothing arrives
 pub on_none : (comp : CompId) (ports : ℕ) (routes : List RouteId) → AreRoutes comp ports routes → (q : RouteId) → q.to.comp ≡ comp
     → ((k : ℕ) → k < length routes → route_at routes k ≡ q → ⊥)
-    → (es : List Envelope) → AreRouted (length routes) es → arrived_on q (arrivals_of routes es) ≡ []
+    → (es : List InboxEnvelope) → AreRouted (length routes) es → arrived_on q (arrivals_of routes es) ≡ []
 unfolding arrived_on
 on_none comp ports routes r q to apart [] of_these = refl
 on_none comp ports routes r q to apart (e ∷ es) of_these =
@@ -116,7 +116,7 @@ on_none comp ports routes r q to apart (e ∷ es) of_these =
         absurd (apart e.place of_these.0 (sym (meeting comp q p to (r.here e.place absent_route of_these.0) same.0 same.1)))
     none (inr not_met) = not_met
 
-pub arrivals_are : (routes : List RouteId) (es : List Envelope) → arrivals (arrivals_of routes es) ≡ arrivals_of routes es
+pub arrivals_are : (routes : List RouteId) (es : List InboxEnvelope) → arrivals (arrivals_of routes es) ≡ arrivals_of routes es
 unfolding arrivals
 arrivals_are routes [] = refl
 arrivals_are routes (e ∷ es) = ap (λ l. arrival_of routes e ∷ l) (arrivals_are routes es)
@@ -191,7 +191,7 @@ came_in comp source [] = refl
 came_in comp source (e ∷ log) = came_step comp source e log (filter is_arrival log) (is_arrival e) refl (came_in comp source log)
 
 -- an arrival from a component, of an envelope on a route from it
-posted_as : (comp source : CompId) (routes : List RouteId) (e : Envelope) (b : Bool) → (route_at routes e.place).to.comp ≡ comp
+posted_as : (comp source : CompId) (routes : List RouteId) (e : InboxEnvelope) (b : Bool) → (route_at routes e.place).to.comp ≡ comp
     → eqb source.0 (route_at routes e.place).source.0 ≡ b
     → arrival_from comp source (arrival_of routes e) ≡ cond b (Some (posted_of routes e)) None
 posted_as comp source routes e true here same =
@@ -214,7 +214,7 @@ map_cond f false x l = refl
 
 -- what comes from a component is what the envelopes of its routes hold, in their order
 pub from_places : (comp : CompId) (ports : ℕ) (routes : List RouteId) → AreRoutes comp ports routes → (source : CompId) (places : List ℕ)
-    → AreFrom source routes places → (es : List Envelope) → AreRouted (length routes) es
+    → AreFrom source routes places → (es : List InboxEnvelope) → AreRouted (length routes) es
     → arrived_from comp source (arrivals_of routes es) ≡ map (posted_of routes) (on_routes places es)
 unfolding arrived_from
 from_places comp ports routes are source places from [] h = refl
@@ -224,7 +224,7 @@ from_places comp ports routes are source places from (e ∷ es) h =
     ∙ ap (cons_option (cond (has places e.place) (Some (posted_of routes e)) None)) (from_places comp ports routes are source places from es h.1)
     ∙ map_cond (posted_of routes) (has places e.place) e (on_routes places es)
 
-pub are_on : (routes : List RouteId) (es : List Envelope) → AreRouted (length routes) es → All (IsArrivalOn routes) (arrivals_of routes es)
+pub are_on : (routes : List RouteId) (es : List InboxEnvelope) → AreRouted (length routes) es → All (IsArrivalOn routes) (arrivals_of routes es)
 are_on routes [] of_these k d low = absurd (omega arith)
 are_on routes (e ∷ es) of_these zero d low = (
   route_at routes e.place,
@@ -234,7 +234,7 @@ are_on routes (e ∷ es) of_these zero d low = (
 )
 are_on routes (e ∷ es) of_these (suc k) d low = are_on routes es of_these.1 k d (omega arith)
 
-pub numbered_on : (comp : CompId) (ports : ℕ) (routes : List RouteId) → AreRoutes comp ports routes → (es : List Envelope) → AreRouted (length routes) es
+pub numbered_on : (comp : CompId) (ports : ℕ) (routes : List RouteId) → AreRoutes comp ports routes → (es : List InboxEnvelope) → AreRouted (length routes) es
     → InOrder es → AreArrivalsNumbered routes (arrivals_of routes es)
 numbered_on comp ports routes r es of_these order k d low = (
   (order k).0,

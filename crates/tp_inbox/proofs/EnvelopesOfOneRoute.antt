@@ -5,7 +5,7 @@ use Rattle.std.proofs.lemmas.Grind.{get_or-set_at}
 use Rattle.std.proofs.lemmas.List.{get_or-set_other, length-set}
 use Rattle.std.specs.Prelude.{◌||◌}
 use Rattle.std.proofs.lemmas.List.Elements.{filter-append}
-use Rattle.tp_inbox.specs.declared.envelope.Envelope.{Envelope}
+use Rattle.tp_inbox.specs.declared.envelope.InboxEnvelope.{InboxEnvelope}
 use Rattle.tp_history.specs.declared.stamped.Stamped.{Stamped}
 use Rattle.tp_history.specs.History.{numbered}
 use Rattle.tp_inbox.specs.Envelopes.{of, InOrder, AreRouted, AreCounts, has, on_routes}
@@ -21,15 +21,15 @@ cond_append : (b : Bool) (x : ℕ × Stamped) (xs ys : List (ℕ × Stamped)) �
 cond_append true x xs ys = refl
 cond_append false x xs ys = refl
 
-pub of-append : (p : ℕ) (xs ys : List Envelope) → of p (xs ++ ys) ≡ of p xs ++ of p ys
+pub of-append : (p : ℕ) (xs ys : List InboxEnvelope) → of p (xs ++ ys) ≡ of p xs ++ of p ys
 of-append p [] ys = refl
 of-append p (x ∷ xs) ys = ap (λ l. cond (eqb p x.place) ((x.number, x.stamped) ∷ l) l) (of-append p xs ys) ∙ cond_append (eqb p x.place) (x.number, x.stamped)
     (of p xs) (of p ys)
 
-pub of-here : (p : ℕ) (e : Envelope) → p ≡ e.place → of p (e ∷ []) ≡ (e.number, e.stamped) ∷ []
+pub of-here : (p : ℕ) (e : InboxEnvelope) → p ≡ e.place → of p (e ∷ []) ≡ (e.number, e.stamped) ∷ []
 of-here p e h = ap (λ b. cond b ((e.number, e.stamped) ∷ []) []) (eq-eqb p e.place h)
 
-pub of-else : (p : ℕ) (e : Envelope) → p ≢ e.place → of p (e ∷ []) ≡ []
+pub of-else : (p : ℕ) (e : InboxEnvelope) → p ≢ e.place → of p (e ∷ []) ≡ []
 of-else p e h = ap (λ b. cond b ((e.number, e.stamped) ∷ []) []) (ne_eqb p e.place h)
 
 pub numbered-snoc : (n : ℕ) (ms : List Stamped) (m : Stamped) → numbered n (ms ++ m ∷ []) ≡ numbered n ms ++ (n + length ms, m) ∷ []
@@ -48,22 +48,22 @@ numbered-front n [] (x ∷ xs) ys e = absurd (cc)
 numbered-front n (m ∷ ms) (x ∷ xs) ys e = let h = head_is x (n, m) (xs ++ ys) (numbered (n + 1) ms) e in let r = numbered-front (n + 1) ms xs ys h.1 in
     (m ∷ r.0, λ i. h.0 i ∷ r.1 i)
 
-pub in_order-front : (xs ys : List Envelope) → InOrder (xs ++ ys) → InOrder xs
+pub in_order-front : (xs ys : List InboxEnvelope) → InOrder (xs ++ ys) → InOrder xs
 in_order-front xs ys h p = let k = h p in numbered-front 0 k.0 (of p xs) (of p ys) (sym (of-append p xs ys) ∙ k.1)
 
-pub routed-append : (n : ℕ) (xs ys : List Envelope) → AreRouted n xs → AreRouted n ys → AreRouted n (xs ++ ys)
+pub routed-append : (n : ℕ) (xs ys : List InboxEnvelope) → AreRouted n xs → AreRouted n ys → AreRouted n (xs ++ ys)
 routed-append n [] ys a b = b
 routed-append n (x ∷ xs) ys a b = (a.0, routed-append n xs ys a.1 b)
 
-pub routed-front : (n : ℕ) (xs ys : List Envelope) → AreRouted n (xs ++ ys) → AreRouted n xs
+pub routed-front : (n : ℕ) (xs ys : List InboxEnvelope) → AreRouted n (xs ++ ys) → AreRouted n xs
 routed-front n [] ys a = tt
 routed-front n (x ∷ xs) ys a = (a.0, routed-front n xs ys a.1)
 
-pub routed-back : (n : ℕ) (xs ys : List Envelope) → AreRouted n (xs ++ ys) → AreRouted n ys
+pub routed-back : (n : ℕ) (xs ys : List InboxEnvelope) → AreRouted n (xs ++ ys) → AreRouted n ys
 routed-back n [] ys a = a
 routed-back n (x ∷ xs) ys a = routed-back n xs ys a.1
 
-pub routed-more : (n : ℕ) (xs : List Envelope) → AreRouted n xs → AreRouted (n + 1) xs
+pub routed-more : (n : ℕ) (xs : List InboxEnvelope) → AreRouted n xs → AreRouted (n + 1) xs
 routed-more n [] a = tt
 routed-more n (x ∷ xs) a = (let b = a.0 in omega arith, routed-more n xs a.1)
 
@@ -79,7 +79,7 @@ number_at_end n (y ∷ ys) x [] e = absurd (cc)
 number_at_end n (y ∷ ys) x (m ∷ ms) e =
     let h = head_is y (n, m) (ys ++ x ∷ []) (numbered (n + 1) ms) e in let q = number_at_end (n + 1) ys x ms h.1 in omega arith
 
-pub next_number : (xs : List Envelope) (e : Envelope) → InOrder (xs ++ e ∷ []) → e.number ≡ length (of e.place xs)
+pub next_number : (xs : List InboxEnvelope) (e : InboxEnvelope) → InOrder (xs ++ e ∷ []) → e.number ≡ length (of e.place xs)
 next_number xs e h =
     let k = h e.place in
     let q = number_at_end 0 (of e.place xs) (e.number, e.stamped) k.0
@@ -90,11 +90,11 @@ length-cond : (b : Bool) (x : ℕ × Stamped) (l : List (ℕ × Stamped)) (n : �
 length-cond true x l n h = omega arith
 length-cond false x l n h = omega arith
 
-pub length-of : (p : ℕ) (xs : List Envelope) → length (of p xs) ≤ length xs
+pub length-of : (p : ℕ) (xs : List InboxEnvelope) → length (of p xs) ≤ length xs
 length-of p [] = omega arith
 length-of p (x ∷ xs) = length-cond (eqb p x.place) (x.number, x.stamped) (of p xs) (length xs) (length-of p xs)
 
-pub counts_next : (n : ℕ) (counts : List ℕ) (xs : List Envelope) (e : Envelope) → AreCounts n counts xs → e.place < n → e.number ≡ length (of e.place xs)
+pub counts_next : (n : ℕ) (counts : List ℕ) (xs : List InboxEnvelope) (e : InboxEnvelope) → AreCounts n counts xs → e.place < n → e.number ≡ length (of e.place xs)
     → AreCounts n (set counts e.place (e.number + 1)) (xs ++ e ∷ [])
 counts_next n counts xs e h low num = (
   length-set counts e.place (e.number + 1) ∙ h.0,
@@ -117,7 +117,7 @@ length-numbered n [] = refl
 length-numbered n (m ∷ ms) = ap suc (length-numbered (n + 1) ms)
 
 -- one more envelope, which is the next of its route
-pub in_order-push : (es : List Envelope) (e : Envelope) → InOrder es → e.number ≡ length (of e.place es) → InOrder (es ++ e ∷ [])
+pub in_order-push : (es : List InboxEnvelope) (e : InboxEnvelope) → InOrder es → e.number ≡ length (of e.place es) → InOrder (es ++ e ∷ [])
 in_order-push es e h num p =
     let k = h p in
     ⊎_elim
@@ -164,12 +164,12 @@ has-append (r ∷ ps) qs p = ap (λ b. eqb p r || b) (has-append ps qs p) ∙ or
 pub has-either : (ps qs : List ℕ) (p : ℕ) → has (ps ++ qs) p ≡ true → (has ps p ≡ true) ⊎ (has qs p ≡ true)
 has-either ps qs p h = or_either (has ps p) (has qs p) (sym (has-append ps qs p) ∙ h)
 
-of_kept : (b : Bool) (p : ℕ) (e : Envelope) (es : List Envelope) → eqb p e.place ≡ false → of p (cond b (e ∷ es) es) ≡ of p es
+of_kept : (b : Bool) (p : ℕ) (e : InboxEnvelope) (es : List InboxEnvelope) → eqb p e.place ≡ false → of p (cond b (e ∷ es) es) ≡ of p es
 of_kept true p e es h = ap (λ c. cond c ((e.number, e.stamped) ∷ of p es) (of p es)) h
 of_kept false p e es h = refl
 
 -- the envelopes of a route are among those of the routes that it is one of
-pub of-among : (ps : List ℕ) (p : ℕ) (es : List Envelope) → has ps p ≡ true → of p (on_routes ps es) ≡ of p es
+pub of-among : (ps : List ℕ) (p : ℕ) (es : List InboxEnvelope) → has ps p ≡ true → of p (on_routes ps es) ≡ of p es
 of-among ps p [] h = refl
 of-among ps p (e ∷ es) h =
     let rest = of-among ps p es h in
@@ -182,29 +182,29 @@ of-among ps p (e ∷ es) h =
     of_kept (has ps e.place) p e (on_routes ps es) no_ ∙ rest ∙ sym (ap (λ c. cond c ((e.number, e.stamped) ∷ of p es) (of p es)) no_))
     (same_or_not p e.place)
 
-pub among-append : (ps : List ℕ) (xs ys : List Envelope) → on_routes ps (xs ++ ys) ≡ on_routes ps xs ++ on_routes ps ys
-among-append ps xs ys = filter-append (λ (e : Envelope). has ps e.place) xs ys
+pub among-append : (ps : List ℕ) (xs ys : List InboxEnvelope) → on_routes ps (xs ++ ys) ≡ on_routes ps xs ++ on_routes ps ys
+among-append ps xs ys = filter-append (λ (e : InboxEnvelope). has ps e.place) xs ys
 
-pub among-here : (ps : List ℕ) (es : List Envelope) (e : Envelope) → has ps e.place ≡ true → on_routes ps (es ++ e ∷ []) ≡ on_routes ps es ++ e ∷ []
+pub among-here : (ps : List ℕ) (es : List InboxEnvelope) (e : InboxEnvelope) → has ps e.place ≡ true → on_routes ps (es ++ e ∷ []) ≡ on_routes ps es ++ e ∷ []
 among-here ps es e h = among-append ps es (e ∷ []) ∙ ap (λ b. on_routes ps es ++ cond b (e ∷ []) []) h
 
-pub among-else : (ps : List ℕ) (es : List Envelope) (e : Envelope) → has ps e.place ≡ false → on_routes ps (es ++ e ∷ []) ≡ on_routes ps es
+pub among-else : (ps : List ℕ) (es : List InboxEnvelope) (e : InboxEnvelope) → has ps e.place ≡ false → on_routes ps (es ++ e ∷ []) ≡ on_routes ps es
 among-else ps es e h = among-append ps es (e ∷ []) ∙ ap (λ b. on_routes ps es ++ cond b (e ∷ []) []) h ∙ append_nil (on_routes ps es)
 
 -- on a route that there isn't yet nothing was put
-pub among-new : (n : ℕ) (es : List Envelope) → AreRouted n es → on_routes (n ∷ []) es ≡ []
+pub among-new : (n : ℕ) (es : List InboxEnvelope) → AreRouted n es → on_routes (n ∷ []) es ≡ []
 among-new n [] h = refl
 among-new n (e ∷ es) h =
     let low = h.0 in
     ap (λ b. cond b (e ∷ on_routes (n ∷ []) es) (on_routes (n ∷ []) es)) (false_or (has (n ∷ []) e.place) (λ yes_. let same = has-one n e.place yes_ in omega arith))
     ∙ among-new n es h.1
 
-none_there : (b : Bool) (e : Envelope) (l : List Envelope) → cond b (e ∷ l) l ≡ [] → (b ≡ false) × (l ≡ [])
+none_there : (b : Bool) (e : InboxEnvelope) (l : List InboxEnvelope) → cond b (e ∷ l) l ≡ [] → (b ≡ false) × (l ≡ [])
 none_there true e l h = absurd (cc)
 none_there false e l h = (refl, h)
 
 -- with routes on which nothing was put
-pub among-more : (ps qs : List ℕ) (es : List Envelope) → on_routes qs es ≡ [] → on_routes (ps ++ qs) es ≡ on_routes ps es
+pub among-more : (ps qs : List ℕ) (es : List InboxEnvelope) → on_routes qs es ≡ [] → on_routes (ps ++ qs) es ≡ on_routes ps es
 among-more ps qs [] h = refl
 among-more ps qs (e ∷ es) h =
     let k = none_there (has qs e.place) e (on_routes qs es) h in

@@ -8,7 +8,7 @@ use Rattle.crossbeam_queue.proofs.seg_queue.Chained.TheSendSync.{the_send as cha
 use Rattle.crossbeam_queue.proofs.seg_queue.Ends.TheSendSync.{the_send as ends_send, the_sync as ends_sync}
 use Rattle.atomic_blocks.proofs.web.Seat.TheSendSync.{the_send as seat_send}
 use Rattle.tp_floor.proofs.FloorThreadSafety.{notifier_send}
-use Rattle.tp_inbox.specs.contracts.envelope.Envelope as envelope
+use Rattle.tp_inbox.specs.contracts.envelope.InboxEnvelope as envelope
 use Rattle.tp_inbox.specs.contracts.channel.Channel as channel
 use Rattle.tp_inbox.specs.contracts.owner.Owner as owner
 use Rattle.tp_inbox.specs.contracts.owner.Owner.TheInside as owner_inside

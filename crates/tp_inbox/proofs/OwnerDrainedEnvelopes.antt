@@ -9,7 +9,7 @@ use Rattle.indexmap.specs.IndexMap.{get_by}
 use Rattle.tp_config.specs.declared.port_type.CompId.{CompId}
 use Rattle.tp_config.specs.declared.port_type.RouteId.{RouteId}
 use Rattle.tp_history.specs.declared.entry.Entry.{Entry}
-use Rattle.tp_inbox.specs.declared.envelope.Envelope.{Envelope}
+use Rattle.tp_inbox.specs.declared.envelope.InboxEnvelope.{InboxEnvelope}
 use Rattle.tp_inbox.specs.declared.channel.Channel.{Channel}
 use Rattle.tp_inbox.specs.declared.owner.Owner.TheInside as owner
 use Rattle.tp_inbox.specs.declared.rule.View.{View}
@@ -30,7 +30,7 @@ abbrev pub seen : owner.Inside → Draining
 seen s = record { inbox = inbox_of (arc_value s.channel); drained = drained_of s }
 
 -- the envelopes that it has drained
-abbrev pub moved : owner.Inside → List Envelope
+abbrev pub moved : owner.Inside → List InboxEnvelope
 moved s = envelopes_before s.pass.me.view.client.taken (one_of s.hand)
 
 pub owner_arrivals : (s : owner.Inside) (v : Draining) → IsOwner s → seen s ≡ v → AreArrivals v.inbox.routes v.drained
@@ -54,38 +54,38 @@ length-arrivals (e ∷ log) = shorter (is_arrival e) e (filter is_arrival log) (
     shorter false e l n h = omega arith
 
 -- the envelope that comes next is the next of its route
-pub next_of_route : (s : owner.Inside) (w : View) (e : Envelope) → IsOwner s → Sound w → KeepsRoutes s.pass.me.view.client w
+pub next_of_route : (s : owner.Inside) (w : View) (e : InboxEnvelope) → IsOwner s → Sound w → KeepsRoutes s.pass.me.view.client w
     → GivesNext s.pass.me.view.client s.hand (Some e) w
     → (e.place < length (arc_value s.channel).routes.items) × (e.number ≡ length (of e.place (moved s))) × (w.taken ≡ moved s ++ e ∷ [])
 next_of_route s w e h sound same is =
     let a = arrived w (moved s) e (length (arc_value s.channel).routes.items) sound (same.0 ∙ h.split_off) is in (a.0, a.1, is)
 
 -- where it is in hand again, what was drained stands before it, as it did
-pub hand-back : (all xs : List Envelope) (e : Envelope) (o : Option Envelope) → o ≡ Some e → all ≡ xs ++ e ∷ []
+pub hand-back : (all xs : List InboxEnvelope) (e : InboxEnvelope) (o : Option InboxEnvelope) → o ≡ Some e → all ≡ xs ++ e ∷ []
     → (envelopes_before all (one_of o) ≡ xs) × EndsWith all (one_of o)
 hand-back all xs e o some is = ends-append all xs (one_of o) (is ∙ ap (λ h. xs ++ one_of h) (sym some))
 
 -- where nothing comes, as much was drained as before
-pub drained-none : (s : owner.Inside) (w : View) (o : Option Envelope) → o ≡ None → GivesNext s.pass.me.view.client s.hand None w
+pub drained-none : (s : owner.Inside) (w : View) (o : Option InboxEnvelope) → o ≡ None → GivesNext s.pass.me.view.client s.hand None w
     → envelopes_before w.taken (one_of o) ≡ moved s
 drained-none s w o none is = λ i. envelopes_before (is.1 i) (one_of ((none ∙ sym is.0) i))
 
-pub drained-push : (routes : List RouteId) (all : List Envelope) (xs : List Envelope) (e : Envelope) (o : Option Envelope) (x : Entry) → o ≡ None → all ≡ xs
+pub drained-push : (routes : List RouteId) (all : List InboxEnvelope) (xs : List InboxEnvelope) (e : InboxEnvelope) (o : Option InboxEnvelope) (x : Entry) → o ≡ None → all ≡ xs
     ++ e ∷ [] → x ≡ arrival_of routes e
     → arrivals_of routes (envelopes_before all (one_of o)) ≡ arrivals_of routes xs ++ x ∷ []
 drained-push routes all xs e o x none is entry =
     ap (λ h. arrivals_of routes (envelopes_before all (one_of h))) none ∙ ap (arrivals_of routes) (before_nothing all ∙ is)
     ∙ map-append (arrival_of routes) xs (e ∷ []) ∙ ap (λ y. arrivals_of routes xs ++ y ∷ []) (sym entry)
 
-pub counts-push : (n : ℕ) (counts : List ℕ) (all xs : List Envelope) (e : Envelope) (o : Option Envelope) → o ≡ None → all ≡ xs ++ e ∷ []
+pub counts-push : (n : ℕ) (counts : List ℕ) (all xs : List InboxEnvelope) (e : InboxEnvelope) (o : Option InboxEnvelope) → o ≡ None → all ≡ xs ++ e ∷ []
     → AreCounts n counts xs → e.place < n → e.number ≡ length (of e.place xs)
     → AreCounts n (set counts e.place (e.number + 1)) (envelopes_before all (one_of o))
 counts-push n counts all xs e o none is were low number =
     subst (AreCounts n (set counts e.place (e.number + 1))) (sym (ap (λ h. envelopes_before all (one_of h)) none ∙ before_nothing all ∙ is))
     (counts_next n counts xs e were low number)
 
-pub ends-none : (all : List Envelope) (o : Option Envelope) → o ≡ None → EndsWith all (one_of o)
-ends-none all o none = subst (λ (h : Option Envelope). EndsWith all (one_of h)) (sym none) (ends_nothing all)
+pub ends-none : (all : List InboxEnvelope) (o : Option InboxEnvelope) → o ≡ None → EndsWith all (one_of o)
+ends-none all o none = subst (λ (h : Option InboxEnvelope). EndsWith all (one_of h)) (sym none) (ends_nothing all)
 
 -- the port of an envelope is one of the desk's
 pub port_within : (channel : Channel) (d : Journal) (place port : ℕ) → d.ports ≡ channel.ports → place < length channel.routes.items

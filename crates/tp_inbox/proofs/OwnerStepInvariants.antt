@@ -1,7 +1,7 @@
 -- What the owner's steps keep.
 use Rattle.std.proofs.Common.{◌≡◌, ℕ, zero, suc, ◌-◌, ◌<◌, Option, Some, None, List, [], ◌∷◌, ◌++◌, length, take, drop, take-append-drop, MatchOption, IfSome, refl, sym, ap, ◌∙◌, subst, length-append, arith}
 use Rattle.crossbeam_queue.specs.Fifo.{Held}
-use Rattle.tp_inbox.specs.declared.envelope.Envelope.{Envelope}
+use Rattle.tp_inbox.specs.declared.envelope.InboxEnvelope.{InboxEnvelope}
 use Rattle.tp_inbox.specs.declared.rule.View.{View}
 use Rattle.std.specs.Prelude.{slice_index_or}
 use Rattle.tp_inbox.specs.Envelopes.{of, InOrder, AreRouted, AreFronts, AreWhole, Ledger, on_routes, one_of, envelopes_before, EndsWith}
@@ -13,18 +13,18 @@ take_front [] ys n e = ap (λ k. take k ys) e
 take_front (x ∷ xs) ys zero e = absurd (omega arith)
 take_front (x ∷ xs) ys (suc n) e = ap (λ l. x ∷ l) (take_front xs ys n (omega arith))
 
-pub before-append : (xs ys : List Envelope) → envelopes_before (xs ++ ys) ys ≡ xs
+pub before-append : (xs ys : List InboxEnvelope) → envelopes_before (xs ++ ys) ys ≡ xs
 before-append xs ys = take_front xs ys (length (xs ++ ys) - length ys) (omega (arith, length-append xs ys))
 
-pub ends-append : (all xs ys : List Envelope) → all ≡ xs ++ ys → (envelopes_before all ys ≡ xs) × EndsWith all ys
+pub ends-append : (all xs ys : List InboxEnvelope) → all ≡ xs ++ ys → (envelopes_before all ys ≡ xs) × EndsWith all ys
 ends-append all xs ys e =
     let b : envelopes_before all ys ≡ xs = ap (λ l. envelopes_before l ys) e ∙ before-append xs ys in
     (b, e ∙ ap (λ l. l ++ ys) (sym b))
 
-pub before_nothing : (xs : List Envelope) → envelopes_before xs [] ≡ xs
+pub before_nothing : (xs : List InboxEnvelope) → envelopes_before xs [] ≡ xs
 before_nothing xs = ap (λ l. envelopes_before l []) (sym (append_nil xs)) ∙ before-append xs []
 
-pub sound_taken : (v : View) (e : Envelope) (w : View) → Sound v → Takes v e w → Sound w
+pub sound_taken : (v : View) (e : InboxEnvelope) (w : View) → Sound v → Takes v e w → Sound w
 sound_taken v e w s t =
     subst Sound (sym t.0) record {
       owner = refl;
@@ -36,17 +36,17 @@ sound_taken v e w s t =
 pub whole_at_nothing : (v : View) → Knows v [] → AreWhole v.taken v.known
 whole_at_nothing v k = subst (λ l. AreWhole l v.known) (append_nil v.taken) k
 
-pub fronts_of_known : (v : View) (items : List Envelope) → Knows v items → AreFronts v.taken v.known
+pub fronts_of_known : (v : View) (items : List InboxEnvelope) → Knows v items → AreFronts v.taken v.known
 fronts_of_known v items h k d low = let ps = (slice_index_or v.known k d).0 in (on_routes ps items, sym (among-append ps v.taken items) ∙ h k d low)
 
-pub in_order_before : (all kept : List Envelope) → InOrder all → InOrder (envelopes_before all kept)
+pub in_order_before : (all kept : List InboxEnvelope) → InOrder all → InOrder (envelopes_before all kept)
 in_order_before all kept h = let n = length all - length kept in in_order-front (take n all) (drop n all) (subst InOrder (sym (take-append-drop n all)) h)
 
-pub routed_before : (n m : ℕ) (all kept : List Envelope) → n ≡ m → AreRouted n all → AreRouted m (envelopes_before all kept)
+pub routed_before : (n m : ℕ) (all kept : List InboxEnvelope) → n ≡ m → AreRouted n all → AreRouted m (envelopes_before all kept)
 routed_before n m all kept e h = let k = length all - length kept in routed-front m (take k all) (drop k all)
-    (subst (λ (x : ℕ × List Envelope). AreRouted x.0 x.1) (λ i. (e i, sym (take-append-drop k all) i)) h)
+    (subst (λ (x : ℕ × List InboxEnvelope). AreRouted x.0 x.1) (λ i. (e i, sym (take-append-drop k all) i)) h)
 
-pub sound_after : (X : Type 0) (r : Option Envelope) (v w : View) → Sound v → MatchOption r ((w ≡ v) × Knows v []) (λ e. Takes v e w × X) → Sound w
+pub sound_after : (X : Type 0) (r : Option InboxEnvelope) (v w : View) → Sound v → MatchOption r ((w ≡ v) × Knows v []) (λ e. Takes v e w × X) → Sound w
 sound_after X None v w s h = subst Sound (sym h.0) s
 sound_after X (Some e) v w s h = sound_taken v e w s h.0
 
@@ -64,31 +64,31 @@ sound_joined v u w known n s e same held =
       fronts = subst (λ (x : View). AreFronts x.taken x.known) e (fronts_of_known u held.0 held.2);
     }
 
-pub gathered : (v u w : View) (known : List Ledger) (routes : ℕ) (hand : Option Envelope) (rest : List Envelope) → v.split_off ≡ routes
+pub gathered : (v u w : View) (known : List Ledger) (routes : ℕ) (hand : Option InboxEnvelope) (rest : List InboxEnvelope) → v.split_off ≡ routes
     → EndsWith v.taken (one_of hand) → rest ≡ [] → u ≡ owner_pass v.split_off v.taken known → w ≡ u
     → (w.split_off ≡ routes) × (w.known ≡ known) × EndsWith w.taken (one_of hand ++ rest) × IfSome hand (λ _. rest ≡ [])
 gathered v u w known routes hand rest split_off ends none e same = (
   ap (λ (x : View). x.split_off) (same ∙ e) ∙ split_off,
   ap (λ (x : View). x.known) (same ∙ e),
-  subst (λ (x : List Envelope × List Envelope). EndsWith x.0 x.1)
+  subst (λ (x : List InboxEnvelope × List InboxEnvelope). EndsWith x.0 x.1)
       (λ i. (ap (λ (x : View). x.taken) (sym (same ∙ e)) i, (sym (append_nil (one_of hand)) ∙ ap (λ l. one_of hand ++ l) (sym none)) i)) ends,
   at_some (rest ≡ []) hand none,
 )
 
-pub fronts_split : (w : View) (known : List Ledger) (kept : List Envelope) → Sound w → w.known ≡ known → EndsWith w.taken kept
+pub fronts_split : (w : View) (known : List Ledger) (kept : List InboxEnvelope) → Sound w → w.known ≡ known → EndsWith w.taken kept
     → AreFronts (envelopes_before w.taken kept ++ kept) known
-fronts_split w known kept s k e = subst (λ (x : List Envelope × List Ledger). AreFronts x.0 x.1) (λ i. (e i, k i)) s.fronts
+fronts_split w known kept s k e = subst (λ (x : List InboxEnvelope × List Ledger). AreFronts x.0 x.1) (λ i. (e i, k i)) s.fronts
 
-pub routed_rest : (n m : ℕ) (all xs ys : List Envelope) → n ≡ m → all ≡ xs ++ ys → AreRouted n all → AreRouted m ys
-routed_rest n m all xs ys e is h = routed-back m xs ys (subst (λ (x : ℕ × List Envelope). AreRouted x.0 x.1) (λ i. (e i, is i)) h)
+pub routed_rest : (n m : ℕ) (all xs ys : List InboxEnvelope) → n ≡ m → all ≡ xs ++ ys → AreRouted n all → AreRouted m ys
+routed_rest n m all xs ys e is h = routed-back m xs ys (subst (λ (x : ℕ × List InboxEnvelope). AreRouted x.0 x.1) (λ i. (e i, is i)) h)
 
 -- what was taken out is of a route that there is, and the next of its route
-pub arrived : (w : View) (xs : List Envelope) (e : Envelope) (routes : ℕ) → Sound w → w.split_off ≡ routes → w.taken ≡ xs ++ e ∷ [] → (e.place < routes)
+pub arrived : (w : View) (xs : List InboxEnvelope) (e : InboxEnvelope) (routes : ℕ) → Sound w → w.split_off ≡ routes → w.taken ≡ xs ++ e ∷ [] → (e.place < routes)
     × (e.number ≡ length (of e.place xs))
 arrived w xs e routes s m t = (
   (routed_rest w.split_off routes w.taken xs (e ∷ []) m t s.routed).0,
   next_number xs e (subst InOrder t s.order),
 )
 
-pub ends_nothing : (xs : List Envelope) → EndsWith xs []
+pub ends_nothing : (xs : List InboxEnvelope) → EndsWith xs []
 ends_nothing xs = (ends-append xs xs [] (sym (append_nil xs))).1

@@ -10,7 +10,7 @@ use Rattle.tp_history.specs.declared.posted.Posted.{Posted}
 use Rattle.tp_config.specs.declared.port_type.CompId.{CompId}
 use Rattle.tp_config.specs.declared.port_type.RouteId.{RouteId}
 use Rattle.tp_history.specs.declared.entry.Entry.{Entry}
-use Rattle.tp_inbox.specs.declared.envelope.Envelope.{Envelope}
+use Rattle.tp_inbox.specs.declared.envelope.InboxEnvelope.{InboxEnvelope}
 use Rattle.tp_inbox.specs.declared.channel.Channel.{Channel}
 use Rattle.tp_inbox.specs.declared.rule.View.{View}
 use Rattle.tp_history.specs.History.{arrivals, arrived_on, arrived_from}
@@ -53,11 +53,11 @@ pub routed_at : (channel : Channel) (v : View) (sent : List Sent) → Knowing ch
 routed_at channel v sent h = subst (λ (n : ℕ). AreRouted n v.taken) h.split_off h.sound.routed
 
 -- what came from a component is what of its sender's envelopes was taken out
-came_of : (channel : Channel) (taken : List Envelope) → AreRouted (length channel.routes.items) taken → (x : Ledger) (s : Sent) → IsPutOf channel.routes.items x s
+came_of : (channel : Channel) (taken : List InboxEnvelope) → AreRouted (length channel.routes.items) taken → (x : Ledger) (s : Sent) → IsPutOf channel.routes.items x s
     → arrived_from channel.comp s.0 (arrivals_of channel.routes.items taken) ≡ map (posted_of channel.routes.items) (on_routes x.0 taken)
 came_of channel taken routed x s h = from_places channel.comp channel.ports channel.routes.items channel.routed s.0 x.0 h.0 taken routed
 
-begun_each : (channel : Channel) (taken : List Envelope) → AreRouted (length channel.routes.items) taken → (known : List Ledger) (sent : List Sent)
+begun_each : (channel : Channel) (taken : List InboxEnvelope) → AreRouted (length channel.routes.items) taken → (known : List Ledger) (sent : List Sent)
     → AllZip (IsPutOf channel.routes.items) known sent → AreFronts taken known → AreBegun channel.comp (arrivals_of channel.routes.items taken) sent
 begun_each channel taken routed [] [] h fronts =
     All-nil (λ (s : Sent). Begins (arrived_from channel.comp s.0 (arrivals_of channel.routes.items taken)) s.1)
@@ -73,7 +73,7 @@ begun_each channel taken routed (x ∷ known) (s ∷ sent) h fronts =
     )
     (begun_each channel taken routed known sent h.1 (all_tail (λ (y : Ledger). Begins (on_routes y.0 taken) y.1) x known fronts))
 
-delivered_each : (channel : Channel) (taken : List Envelope) → AreRouted (length channel.routes.items) taken → (known : List Ledger) (sent : List Sent)
+delivered_each : (channel : Channel) (taken : List InboxEnvelope) → AreRouted (length channel.routes.items) taken → (known : List Ledger) (sent : List Sent)
     → AllZip (IsPutOf channel.routes.items) known sent → AreWhole taken known → AreDelivered channel.comp (arrivals_of channel.routes.items taken) sent
 delivered_each channel taken routed [] [] h whole =
     All-nil (λ (s : Sent). arrived_from channel.comp s.0 (arrivals_of channel.routes.items taken) ≡ s.1)
@@ -134,13 +134,13 @@ joined v u w known n s e same held = (
 )
 
 -- all that was taken out is what was drained, and then what is in hand
-pub taken_apart : (routes : List RouteId) (taken all : List Envelope) (hand : Option Envelope) (rest : List Entry) → taken ≡ all → EndsWith all (one_of hand)
+pub taken_apart : (routes : List RouteId) (taken all : List InboxEnvelope) (hand : Option InboxEnvelope) (rest : List Entry) → taken ≡ all → EndsWith all (one_of hand)
     → rest ≡ arrivals_of routes (one_of hand) → arrivals_of routes taken ≡ arrivals_of routes (envelopes_before all (one_of hand)) ++ rest
 taken_apart routes taken all hand rest same ends is =
     ap (arrivals_of routes) (same ∙ ends) ∙ map-append (arrival_of routes) (envelopes_before all (one_of hand)) (one_of hand)
     ∙ ap (λ l. arrivals_of routes (envelopes_before all (one_of hand)) ++ l) (sym is)
 
-pub hand_routed : (n m : ℕ) (all : List Envelope) (hand : Option Envelope) → n ≡ m → AreRouted n all → EndsWith all (one_of hand) → AreRouted m (one_of hand)
+pub hand_routed : (n m : ℕ) (all : List InboxEnvelope) (hand : Option InboxEnvelope) → n ≡ m → AreRouted n all → EndsWith all (one_of hand) → AreRouted m (one_of hand)
 hand_routed n m all hand same routed ends = routed_rest n m all (envelopes_before all (one_of hand)) (one_of hand) same ends routed
 
 -- one more that has joined
@@ -164,7 +164,7 @@ sent-push routes cs more known grown c x s same is grows source put =
     ∙ ap (λ (y : Sent). sent_by routes cs known ++ y ∷ []) (λ i. (source i, put i))
 
 -- one more is known
-pub known-push : (routes : List RouteId) (known grown : List Ledger) (sent more : List Sent) (w : View) (places : List ℕ) (put : List Envelope) (s : Sent)
+pub known-push : (routes : List RouteId) (known grown : List Ledger) (sent more : List Sent) (w : View) (places : List ℕ) (put : List InboxEnvelope) (s : Sent)
     → AllZip (IsPutOf routes) known sent → grown ≡ known ++ (w.places, w.put) ∷ [] → more ≡ sent ++ s ∷ [] → w ≡ sender_pass places put
     → AreFrom s.0 routes places → s.1 ≡ map (posted_of routes) put → AllZip (IsPutOf routes) grown more
 known-push routes known grown sent more w places put s was is grows view from ledger =

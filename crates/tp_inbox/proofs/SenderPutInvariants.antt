@@ -11,7 +11,7 @@ use Rattle.std.proofs.lemmas.List.Quantifiers.{all_pairs_push}
 use lib.ListN.{get_or-append}
 use Rattle.tp_config.specs.declared.port_type.CompId.{CompId}
 use Rattle.tp_config.specs.declared.port_type.RouteId.{RouteId}
-use Rattle.tp_inbox.specs.declared.envelope.Envelope.{Envelope}
+use Rattle.tp_inbox.specs.declared.envelope.InboxEnvelope.{InboxEnvelope}
 use Rattle.tp_inbox.specs.declared.rule.View.{View}
 use Rattle.tp_inbox.specs.declared.sender.Sender.TheInside as sender
 use Rattle.tp_history.specs.History.{same_route, posting_on, posted_on}
@@ -68,7 +68,7 @@ cons_cond true x l = refl
 cons_cond false x l = refl
 
 -- what was put on a route of the list is what its envelopes hold
-pub posted_at : (comp : CompId) (ports : ℕ) (routes : List RouteId) → AreRoutes comp ports routes → (p : ℕ) → p < length routes → (es : List Envelope)
+pub posted_at : (comp : CompId) (ports : ℕ) (routes : List RouteId) → AreRoutes comp ports routes → (p : ℕ) → p < length routes → (es : List InboxEnvelope)
     → AreRouted (length routes) es → posted_on (route_at routes p) (map (posted_of routes) es) ≡ of p es
 unfolding posted_on
 posted_at comp ports routes are p low [] h = refl
@@ -155,7 +155,7 @@ apart_at ps apart k j low few n same =
     ⊎_elim (λ (l : k < j). apart k j 0 l few same) (λ (l : j < k). apart j k 0 l low (sym same)) (either_way k j n)
 
 -- one more was put on this one of the routes
-pub told_next : (places counts : List ℕ) (es : List Envelope) (e : Envelope) (way n : ℕ) → AreTold places counts es → AllPairs (λ p q. p ≢ q) places
+pub told_next : (places counts : List ℕ) (es : List InboxEnvelope) (e : InboxEnvelope) (way n : ℕ) → AreTold places counts es → AllPairs (λ p q. p ≢ q) places
     → way < length places → e.place ≡ get_or places way 0 → n ≡ length (of e.place es) → AreTold places (set counts way (n + 1)) (es ++ e ∷ [])
 told_next places counts es e way n h apart low at num = (
   length-set counts way (n + 1) ∙ h.0,
@@ -181,7 +181,7 @@ told_next places counts es e way n h apart low at num = (
     length_snoc (y ∷ ys) x = let l = length_snoc ys x in omega arith
 
 -- a sender's pass after it has put one more
-pub pass_after : (v w : View) (places : List ℕ) (e : Envelope) → v ≡ sender_pass places v.put → PutsEnvelope v e w
+pub pass_after : (v w : View) (places : List ℕ) (e : InboxEnvelope) → v ≡ sender_pass places v.put → PutsEnvelope v e w
     → (w ≡ sender_pass places w.put) × (w.put ≡ v.put ++ e ∷ [])
 pass_after v w places e is put =
     let more : w.put ≡ v.put ++ e ∷ [] = ap (λ (x : View). x.put) put in (
@@ -190,7 +190,7 @@ pass_after v w places e is put =
     )
 
 -- the ledger of a sender that has put one more on this one of its routes
-pub ledger_after : (s : sender.Inside) (v : SenderLedger) (w : View) (way : ℕ) (e : Envelope) → IsSender s → seen s ≡ v → way < length v.routes
+pub ledger_after : (s : sender.Inside) (v : SenderLedger) (w : View) (way : ℕ) (e : InboxEnvelope) → IsSender s → seen s ≡ v → way < length v.routes
     → e.place ≡ get_or s.places.items way 0 → e.number ≡ length (put_on_way v way) → PutsEnvelope s.pass.me.view.client e w
     → map (posted_of (arc_value s.channel).routes.items) w.put
     ≡ v.ledger ++ record { route = route_at v.routes way; number = length (put_on_way v way); stamped = e.stamped } ∷ []
@@ -209,7 +209,7 @@ pub record Grown (s : sender.Inside) (w : View) (counts : List ℕ) : Type 0 whe
   pub routed : AreRouted (length (arc_value s.channel).routes.items) w.put
   pub told : AreTold s.places.items counts w.put
 
-pub grown : (s : sender.Inside) (v : SenderLedger) (w : View) (way : ℕ) (e : Envelope) (counts : List ℕ) → IsSender s
+pub grown : (s : sender.Inside) (v : SenderLedger) (w : View) (way : ℕ) (e : InboxEnvelope) (counts : List ℕ) → IsSender s
     → seen s ≡ v → way < length v.routes → e.place ≡ get_or s.places.items way 0 → e.number ≡ length (put_on_way v way)
     → PutsEnvelope s.pass.me.view.client e w → counts ≡ set s.counts.items way (e.number + 1) → Grown s w counts
 grown s v w way e counts h is low at num put told =
@@ -222,7 +222,7 @@ grown s v w way e counts h is low at num put told =
     record {
       view = p.0;
       routed = subst (AreRouted (length routes)) (sym p.1) (routed-append (length routes) s.pass.me.view.client.put (e ∷ []) h.routed (within, tt));
-      told = subst (λ (y : List ℕ × List Envelope). AreTold s.places.items y.0 y.1) (λ i. (sym told i, sym p.1 i))
+      told = subst (λ (y : List ℕ × List InboxEnvelope). AreTold s.places.items y.0 y.1) (λ i. (sym told i, sym p.1 i))
           (told_next s.places.items s.counts.items s.pass.me.view.client.put e way e.number h.counts h.apart k.0 at here);
     }
 
@@ -276,7 +276,7 @@ widened s v u w place places counts h is fresh other join at told low apart =
       low = subst (All (λ p. p < length routes)) (sym at) (All-push (λ p. p < length routes) s.places.items place h.low within);
       apart = subst (AllPairs (λ p q. p ≢ q)) (sym at) (all_pairs_push (λ p q. p ≢ q) s.places.items place h.apart unlike);
       routed = subst (AreRouted (length routes)) (sym empty) tt;
-      told = subst (λ (x : List ℕ × List ℕ × List Envelope). AreTold x.0 x.1 x.2) (λ i. (sym at i, sym told i, sym empty i))
+      told = subst (λ (x : List ℕ × List ℕ × List InboxEnvelope). AreTold x.0 x.1 x.2) (λ i. (sym at i, sym told i, sym empty i))
           (told_more s.places.items s.counts.items place (subst (AreTold s.places.items s.counts.items) none h.counts));
       put = same;
     }

@@ -6,7 +6,7 @@ use mathlib.Core.Option.{Option, some, none, some-injective, some-ne-none}
 use lib.ListN.{get_elem?}
 use Rattle.crossbeam_queue.specs.Fifo.{Pushes, Pops, Forks, Merges, Learns}
 use Rattle.crossbeam_queue.proofs.Lists.{at_set}
-use Rattle.tp_inbox.specs.declared.envelope.Envelope.{Envelope}
+use Rattle.tp_inbox.specs.declared.envelope.InboxEnvelope.{InboxEnvelope}
 use Rattle.tp_inbox.specs.declared.rule.View.{View}
 use Rattle.tp_inbox.specs.Envelopes.{of, InOrder, AreRouted, AreWhole, Ledger, has, on_routes}
 use Rattle.tp_inbox.specs.Rule.{sender_pass, owner_pass, spent, FitsSender, FitsOwner, Delivers, Takes, PutsEnvelope, Knows}
@@ -76,7 +76,7 @@ begins = record {
       (λ _. (refl, refl, refl, All-nil (λ (x : Ledger). (p : ℕ) → has x.0 p ≡ true → (p < 0) × (none ≡ none)), All-nil (λ (x : Ledger). on_routes x.0 [] ≡ x.1)));
 }
 
-pub sends : (n pass : ℕ) (places : List ℕ) (put : List Envelope) (e : Envelope) → has places e.place ≡ true → e.number ≡ length (of e.place put)
+pub sends : (n pass : ℕ) (places : List ℕ) (put : List InboxEnvelope) (e : InboxEnvelope) → has places e.place ≡ true → e.number ≡ length (of e.place put)
     → Pushes Delivers n pass (sender_pass places put) e (PutsEnvelope (sender_pass places put) e)
 sends n pass places put e own num items views _ h here =
     let mine = h.senders pass (sender_pass places put) here refl in
@@ -119,7 +119,7 @@ sends n pass places put e own num items views _ h here =
       refl,
     )
 
-pub takes : (pass split_off : ℕ) (taken : List Envelope) (known : List Ledger) → Pops Delivers pass (owner_pass split_off taken known) (Takes (owner_pass split_off taken known))
+pub takes : (pass split_off : ℕ) (taken : List InboxEnvelope) (known : List Ledger) → Pops Delivers pass (owner_pass split_off taken known) (Takes (owner_pass split_off taken known))
 takes pass split_off taken known e items views h here =
     let mine = h.owners pass (owner_pass split_off taken known) here refl in
     let w = owner_pass split_off (taken ++ e ∷ []) known in
@@ -152,13 +152,13 @@ takes pass split_off taken known e items views h here =
       ),
     )
 
-pub learns : (pass split_off : ℕ) (taken : List Envelope) (known : List Ledger) → Learns Delivers pass (owner_pass split_off taken known)
+pub learns : (pass split_off : ℕ) (taken : List InboxEnvelope) (known : List Ledger) → Learns Delivers pass (owner_pass split_off taken known)
     (Knows (owner_pass split_off taken known))
 learns pass split_off taken known items views h here =
     let mine = h.owners pass (owner_pass split_off taken known) here refl in
     subst (λ l. AreWhole (l ++ items) known) (sym mine.2) mine.4
 
-pub splits : (pass split_off : ℕ) (taken : List Envelope) (known : List Ledger) → Forks Delivers pass (owner_pass split_off taken known)
+pub splits : (pass split_off : ℕ) (taken : List InboxEnvelope) (known : List Ledger) → Forks Delivers pass (owner_pass split_off taken known)
     (owner_pass (split_off + 1) taken known) (sender_pass (split_off ∷ []) [])
 splits pass split_off taken known items views h here =
     let mine = h.owners pass (owner_pass split_off taken known) here refl in
@@ -210,7 +210,7 @@ all_one : {A : Type 0} (P : A → Type 0) (x : A) → P x → All P (x ∷ [])
 all_one P x h zero d low = h
 all_one P x h (suc k) d low = absurd (omega arith)
 
-pub joins : (pass split_off : ℕ) (taken : List Envelope) (known : List Ledger) (other : ℕ) (places : List ℕ) (put : List Envelope)
+pub joins : (pass split_off : ℕ) (taken : List InboxEnvelope) (known : List Ledger) (other : ℕ) (places : List ℕ) (put : List InboxEnvelope)
     → Merges Delivers pass (owner_pass split_off taken known) other (sender_pass places put) (owner_pass split_off taken (known ++ (places, put) ∷ [])) spent
 joins pass split_off taken known other places put items views h here two there =
     let mine = h.owners pass (owner_pass split_off taken known) here refl in
@@ -265,7 +265,7 @@ joins pass split_off taken known other places put items views h here two there =
     stays false o is = is
 
 -- a sender takes over the routes of another, which has put nothing
-pub pairs : (pass : ℕ) (places : List ℕ) (put : List Envelope) (other : ℕ) (others : List ℕ)
+pub pairs : (pass : ℕ) (places : List ℕ) (put : List InboxEnvelope) (other : ℕ) (others : List ℕ)
     → Merges Delivers pass (sender_pass places put) other (sender_pass others []) (sender_pass (places ++ others) put) spent
 pairs pass places put other others items views h here two there =
     let mine = h.senders pass (sender_pass places put) here refl in
@@ -330,33 +330,33 @@ pairs pass places put other others items views h here two there =
     stays false o is = is
 
 -- the steps, at a view that is known
-pub sends_as : (n pass : ℕ) (v : View) (places : List ℕ) (put : List Envelope) (e : Envelope) → v ≡ sender_pass places put → has places e.place ≡ true
+pub sends_as : (n pass : ℕ) (v : View) (places : List ℕ) (put : List InboxEnvelope) (e : InboxEnvelope) → v ≡ sender_pass places put → has places e.place ≡ true
     → e.number ≡ length (of e.place put) → Pushes Delivers n pass v e (PutsEnvelope v e)
 sends_as n pass v places put e is own num = subst (λ (u : View). Pushes Delivers n pass u e (PutsEnvelope u e)) (sym is) (sends n pass places put e own num)
 
-pub takes_as : (pass : ℕ) (v : View) (split_off : ℕ) (taken : List Envelope) (known : List Ledger) → v ≡ owner_pass split_off taken known
+pub takes_as : (pass : ℕ) (v : View) (split_off : ℕ) (taken : List InboxEnvelope) (known : List Ledger) → v ≡ owner_pass split_off taken known
     → Pops Delivers pass v (Takes v)
 takes_as pass v split_off taken known is = subst (λ (u : View). Pops Delivers pass u (Takes u)) (sym is) (takes pass split_off taken known)
 
-pub learns_as : (pass : ℕ) (v : View) (split_off : ℕ) (taken : List Envelope) (known : List Ledger) → v ≡ owner_pass split_off taken known
+pub learns_as : (pass : ℕ) (v : View) (split_off : ℕ) (taken : List InboxEnvelope) (known : List Ledger) → v ≡ owner_pass split_off taken known
     → Learns Delivers pass v (Knows v)
 learns_as pass v split_off taken known is = subst (λ (u : View). Learns Delivers pass u (Knows u)) (sym is) (learns pass split_off taken known)
 
-pub splits_as : (pass : ℕ) (v : View) (split_off : ℕ) (taken : List Envelope) (known : List Ledger) → v ≡ owner_pass split_off taken known
+pub splits_as : (pass : ℕ) (v : View) (split_off : ℕ) (taken : List InboxEnvelope) (known : List Ledger) → v ≡ owner_pass split_off taken known
     → Forks Delivers pass v (owner_pass (v.split_off + 1) v.taken v.known) (sender_pass (v.split_off ∷ []) [])
 splits_as pass v split_off taken known is =
     subst (λ (u : View). Forks Delivers pass u (owner_pass (u.split_off + 1) u.taken u.known) (sender_pass (u.split_off ∷ []) [])) (sym is)
     (splits pass split_off taken known)
 
-pub joins_as : (pass : ℕ) (v : View) (other : ℕ) (w : View) (split_off : ℕ) (taken : List Envelope) (known : List Ledger) (places : List ℕ)
-    (put : List Envelope) → v ≡ owner_pass split_off taken known → w ≡ sender_pass places put
+pub joins_as : (pass : ℕ) (v : View) (other : ℕ) (w : View) (split_off : ℕ) (taken : List InboxEnvelope) (known : List Ledger) (places : List ℕ)
+    (put : List InboxEnvelope) → v ≡ owner_pass split_off taken known → w ≡ sender_pass places put
     → Merges Delivers pass v other w (owner_pass v.split_off v.taken (v.known ++ (w.places, w.put) ∷ [])) spent
 joins_as pass v other w split_off taken known places put is its =
     subst (λ (x : View × View). Merges Delivers pass x.0 other x.1 (owner_pass x.0.split_off x.0.taken (x.0.known ++ (x.1.places, x.1.put) ∷ [])) spent)
     (λ i. (sym is i, sym its i))
     (joins pass split_off taken known other places put)
 
-pub pairs_as : (pass : ℕ) (v : View) (other : ℕ) (w : View) (places : List ℕ) (put : List Envelope) (others : List ℕ) → v ≡ sender_pass places put
+pub pairs_as : (pass : ℕ) (v : View) (other : ℕ) (w : View) (places : List ℕ) (put : List InboxEnvelope) (others : List ℕ) → v ≡ sender_pass places put
     → w ≡ sender_pass others [] → Merges Delivers pass v other w (sender_pass (v.places ++ w.places) v.put) spent
 pairs_as pass v other w places put others is its =
     subst (λ (x : View × View). Merges Delivers pass x.0 other x.1 (sender_pass (x.0.places ++ x.1.places) x.0.put) spent)

@@ -1,20 +1,20 @@
 -- Envelopes, read route by route.
 use Rattle.std.specs.Prelude.{◌≡◌, ℕ, ◌<◌, ◌==◌, ◌-◌, ◌||◌, Bool, false, cond, Option, Some, None, List, [], ◌∷◌, ◌++◌, length, take, filter, slice_index_or, All}
-use Rattle.tp_inbox.specs.declared.envelope.Envelope.{Envelope}
+use Rattle.tp_inbox.specs.declared.envelope.InboxEnvelope.{InboxEnvelope}
 use Rattle.tp_history.specs.declared.stamped.Stamped.{Stamped}
 use Rattle.tp_history.specs.History.{numbered}
 
 -- the numbers and messages of the envelopes of route p, in order
-abbrev pub of : ℕ → List Envelope → List (ℕ × Stamped)
+abbrev pub of : ℕ → List InboxEnvelope → List (ℕ × Stamped)
 of p [] = []
 of p (e ∷ es) = cond (p == e.place) ((e.number, e.stamped) ∷ of p es) (of p es)
 
 -- of each route the numbers are 0, 1, 2 and so on
-abbrev pub InOrder : List Envelope → Type 0
+abbrev pub InOrder : List InboxEnvelope → Type 0
 InOrder es = (p : ℕ) → (ms : List Stamped) × (of p es ≡ numbered 0 ms)
 
 -- each envelope is of one of the first n routes
-abbrev pub AreRouted : ℕ → List Envelope → Type 0
+abbrev pub AreRouted : ℕ → List InboxEnvelope → Type 0
 AreRouted n [] = Unit {0}
 AreRouted n (e ∷ es) = (e.place < n) × AreRouted n es
 
@@ -28,32 +28,32 @@ has [] p = false
 has (q ∷ qs) p = (p == q) || has qs p
 
 -- the envelopes of the routes at these places, in order
-abbrev pub on_routes : List ℕ → List Envelope → List Envelope
-on_routes ps es = filter (λ (e : Envelope). has ps e.place) es
+abbrev pub on_routes : List ℕ → List InboxEnvelope → List InboxEnvelope
+on_routes ps es = filter (λ (e : InboxEnvelope). has ps e.place) es
 
 -- the places of a sender's routes, and what it has put on them, in its order over all of them
 abbrev pub Ledger : Type 0
-Ledger = List ℕ × List Envelope
+Ledger = List ℕ × List InboxEnvelope
 
 -- of each sender, what of its routes is among these envelopes begins what it has put
-abbrev pub AreFronts : List Envelope → List Ledger → Type 0
+abbrev pub AreFronts : List InboxEnvelope → List Ledger → Type 0
 AreFronts es known = All (λ (x : Ledger). Begins (on_routes x.0 es) x.1) known
 
 -- of each sender, what of its routes is among these envelopes is what it has put
-abbrev pub AreWhole : List Envelope → List Ledger → Type 0
+abbrev pub AreWhole : List InboxEnvelope → List Ledger → Type 0
 AreWhole es known = All (λ (x : Ledger). on_routes x.0 es ≡ x.1) known
 
-abbrev pub one_of : Option Envelope → List Envelope
+abbrev pub one_of : Option InboxEnvelope → List InboxEnvelope
 one_of None = []
 one_of (Some e) = e ∷ []
 
 -- what stands before `kept` at the end of `all`
-abbrev pub envelopes_before : List Envelope → List Envelope → List Envelope
+abbrev pub envelopes_before : List InboxEnvelope → List InboxEnvelope → List InboxEnvelope
 envelopes_before all kept = take (length all - length kept) all
 
-abbrev pub EndsWith : List Envelope → List Envelope → Type 0
+abbrev pub EndsWith : List InboxEnvelope → List InboxEnvelope → Type 0
 EndsWith all kept = all ≡ envelopes_before all kept ++ kept
 
 -- how many of these envelopes each of the first n routes has
-abbrev pub AreCounts : ℕ → List ℕ → List Envelope → Type 0
+abbrev pub AreCounts : ℕ → List ℕ → List InboxEnvelope → Type 0
 AreCounts n counts es = (length counts ≡ n) × ((p : ℕ) → p < n → slice_index_or counts p 0 ≡ length (of p es))

@@ -7,7 +7,7 @@ use Rattle.tp_config.specs.declared.port_type.CompId.{CompId}
 use Rattle.tp_config.specs.declared.port_type.RouteId.{RouteId}
 use Rattle.tp_inbox.specs.declared.channel.Channel.{Channel}
 use Rattle.tp_history.specs.declared.entry.Entry.{Entry}
-use Rattle.tp_inbox.specs.declared.envelope.Envelope.{Envelope}
+use Rattle.tp_inbox.specs.declared.envelope.InboxEnvelope.{InboxEnvelope}
 use Rattle.tp_inbox.specs.declared.rule.View.{View}
 use Rattle.tp_inbox.specs.declared.sender.Sender.TheInside as sender
 use Rattle.tp_inbox.specs.declared.owner.Owner.TheInside as owner
@@ -32,7 +32,7 @@ abbrev pub AreFrom : CompId → List RouteId → List ℕ → Type 0
 AreFrom source routes places = (p : ℕ) → p < length routes → has places p ≡ (source.0 == (route_at routes p).source.0)
 
 -- so many of these envelopes are of the routes at these places
-abbrev pub AreTold : List ℕ → List ℕ → List Envelope → Type 0
+abbrev pub AreTold : List ℕ → List ℕ → List InboxEnvelope → Type 0
 AreTold places counts es =
     (length counts ≡ length places)
     × ((k : ℕ) → k < length places → slice_index_or counts k 0 ≡ length (of (slice_index_or places k 0) es))
@@ -76,13 +76,13 @@ abbrev pub KeepsRoutes : View → View → Type 0
 KeepsRoutes v w = (w.split_off ≡ v.split_off) × (w.known ≡ v.known)
 
 -- one envelope more was taken out; or none, and of each route that has joined all is taken out that was put there
-abbrev pub Fetches : View → Option Envelope → View → Type 0
+abbrev pub Fetches : View → Option InboxEnvelope → View → Type 0
 Fetches v (Some e) w = w.taken ≡ v.taken ++ e ∷ []
 Fetches v None w = (w.taken ≡ v.taken) × AreWhole w.taken w.known
 
 -- the envelope behind all that was drained: the one that was in hand, or one more that was taken out; or none, where
 -- none was in hand
-abbrev pub GivesNext : View → Option Envelope → Option Envelope → View → Type 0
+abbrev pub GivesNext : View → Option InboxEnvelope → Option InboxEnvelope → View → Type 0
 GivesNext v hand (Some e) w = w.taken ≡ envelopes_before v.taken (one_of hand) ++ e ∷ []
 GivesNext v hand None w = (hand ≡ None) × (w.taken ≡ v.taken)
 

@@ -7,7 +7,7 @@ use Rattle.tp_config.specs.declared.port_type.CompId.{CompId}
 use Rattle.tp_config.specs.declared.port_type.RouteId.{RouteId}
 use Rattle.tp_history.specs.declared.entry.Entry.{Entry}
 use Rattle.tp_history.specs.declared.entry.Entry.TheVariants as entry
-use Rattle.tp_inbox.specs.declared.envelope.Envelope.{Envelope}
+use Rattle.tp_inbox.specs.declared.envelope.InboxEnvelope.{InboxEnvelope}
 use Rattle.tp_history.specs.declared.stamped.Stamped.{Stamped}
 use Rattle.tp_history.specs.declared.posted.Posted.{Posted}
 use Rattle.tp_history.specs.History.{numbered, arrived_on, arrived_from}
@@ -45,18 +45,18 @@ abbrev pub sources_of : List RouteId → List CompId
 sources_of routes = sources_behind [] routes
 
 -- what an envelope has, by its route
-abbrev pub posted_of : List RouteId → Envelope → Posted
+abbrev pub posted_of : List RouteId → InboxEnvelope → Posted
 posted_of routes e = record { route = route_at routes e.place; number = e.number; stamped = e.stamped }
 
 -- what arrives where an envelope is moved
-abbrev pub env_of : List RouteId → Envelope → Env Message
+abbrev pub env_of : List RouteId → InboxEnvelope → Env Message
 env_of routes e = record { sender = (route_at routes e.place).source.0; number = e.number; msg = e.stamped.message }
 
 -- the entry that this makes
-abbrev pub arrival_of : List RouteId → Envelope → Entry
+abbrev pub arrival_of : List RouteId → InboxEnvelope → Entry
 arrival_of routes e = entry.Arrive (route_at routes e.place).to.port (env_of routes e) e.stamped.stamp
 
-abbrev pub arrivals_of : List RouteId → List Envelope → List Entry
+abbrev pub arrivals_of : List RouteId → List InboxEnvelope → List Entry
 arrivals_of routes es = map (arrival_of routes) es
 
 -- the entries that the rest of an inbox makes

@@ -2,18 +2,18 @@
 use Rattle.std.specs.Prelude.{◌≡◌, ℕ, ◌<◌, true, false, List, [], ◌∷◌, ◌++◌, All}
 use mathlib.Core.Option.{Option, some, none}
 use lib.ListN.{get_elem?}
-use Rattle.tp_inbox.specs.declared.envelope.Envelope.{Envelope}
+use Rattle.tp_inbox.specs.declared.envelope.InboxEnvelope.{InboxEnvelope}
 use Rattle.tp_inbox.specs.declared.rule.View.{View}
 use Rattle.tp_inbox.specs.Envelopes.{InOrder, AreFronts, AreWhole, AreRouted, Ledger, has, on_routes}
 
 -- the pass of a sender: the places of its routes, and what it has put on them
-abbrev pub sender_pass : List ℕ → List Envelope → View
+abbrev pub sender_pass : List ℕ → List InboxEnvelope → View
 sender_pass places put =
     record { sends = true; places = places; put = put; owns = false; split_off = 0; taken = []; known = [] }
 
 -- the pass of the owner: how many routes it has split off, what it has taken out, and the ledgers of those senders that
 -- have joined
-abbrev pub owner_pass : ℕ → List Envelope → List Ledger → View
+abbrev pub owner_pass : ℕ → List InboxEnvelope → List Ledger → View
 owner_pass split_off taken known =
     record { sends = false; places = []; put = []; owns = true; split_off = split_off; taken = taken; known = known }
 
@@ -23,14 +23,14 @@ spent = record { sends = false; places = []; put = []; owns = false; split_off =
 
 -- what a sender's pass has to do with the whole: it alone has its routes, and of all envelopes so far those of its
 -- routes are what it has put, in its order
-abbrev pub FitsSender : ℕ → (ℕ → Option ℕ) → List Envelope → ℕ → View → Type 0
+abbrev pub FitsSender : ℕ → (ℕ → Option ℕ) → List InboxEnvelope → ℕ → View → Type 0
 FitsSender split_off holder all pass v =
     v.sends ≡ true
     → ((p : ℕ) → has v.places p ≡ true → (p < split_off) × (holder p ≡ some pass)) × (on_routes v.places all ≡ v.put)
 
 -- the owner's, of which there is one: it knows what was taken out, how many routes there are, and what those put that
 -- have joined, whose routes nobody has any more
-abbrev pub FitsOwner : ℕ → ℕ → (ℕ → Option ℕ) → List Envelope → List Envelope → ℕ → View → Type 0
+abbrev pub FitsOwner : ℕ → ℕ → (ℕ → Option ℕ) → List InboxEnvelope → List InboxEnvelope → ℕ → View → Type 0
 FitsOwner owner split_off holder taken all pass v =
     v.owns ≡ true
     → (pass ≡ owner) × (v.split_off ≡ split_off) × (v.taken ≡ taken)
@@ -38,11 +38,11 @@ FitsOwner owner split_off holder taken all pass v =
 
 -- for each sender the envelopes of its routes, of what was taken out and then of what is held, are what it has put, in
 -- its order over all its routes; on each route they are numbered from 0, and there is no other route
-pub record Delivers (items : List Envelope) (views : List View) : Type 0 where
+pub record Delivers (items : List InboxEnvelope) (views : List View) : Type 0 where
   pub owner : ℕ
   pub split_off : ℕ
   pub holder : ℕ → Option ℕ
-  pub taken : List Envelope
+  pub taken : List InboxEnvelope
   pub routed : AreRouted split_off (taken ++ items)
   pub order : InOrder (taken ++ items)
   pub senders : (pass : ℕ) (v : View) → get_elem? views pass ≡ some v → FitsSender split_off holder (taken ++ items) pass v
@@ -50,16 +50,16 @@ pub record Delivers (items : List Envelope) (views : List View) : Type 0 where
       → FitsOwner owner split_off holder taken (taken ++ items) pass v
 
 -- an envelope that was taken out is the next of its route, and of a route that there is
-abbrev pub Takes : View → Envelope → View → Type 0
+abbrev pub Takes : View → InboxEnvelope → View → Type 0
 Takes v e w =
     (w ≡ owner_pass v.split_off (v.taken ++ e ∷ []) v.known)
     × (e.place < v.split_off) × InOrder (v.taken ++ e ∷ []) × AreFronts (v.taken ++ e ∷ []) v.known
 
-abbrev pub PutsEnvelope : View → Envelope → View → Type 0
+abbrev pub PutsEnvelope : View → InboxEnvelope → View → Type 0
 PutsEnvelope v e w = w ≡ sender_pass v.places (v.put ++ e ∷ [])
 
 -- of each sender that has joined, what was taken out and what the queue holds is what it has put
-abbrev pub Knows : View → List Envelope → Type 0
+abbrev pub Knows : View → List InboxEnvelope → Type 0
 Knows v items = AreWhole (v.taken ++ items) v.known
 
 -- the owner's pass, with what follows from the rule

@@ -2,7 +2,7 @@
 ghost use Rattle.std.specs.Prelude.{◌≡◌, ◌<◌, length};
 ghost use Rattle.tp_inbox.specs.Routed.{AreRoutes, env_of, route_at};
 
-use crate::envelope::Envelope;
+use crate::envelope::InboxEnvelope;
 use crate::rule::InboxQueue;
 use std::alloc::Global;
 use std::sync::{Arc, Condvar, Mutex, MutexGuard, Wait};
@@ -102,7 +102,7 @@ impl Channel {
     }
 
     /// The port to which an envelope goes, what arrives there, and its stamp.
-    pub(crate) fn addressed(&self, envelope: Envelope) -> (u32, Env<Message>, u64)
+    pub(crate) fn addressed(&self, envelope: InboxEnvelope) -> (u32, Env<Message>, u64)
         requires { envelope.place < length self.now.routes.items }
         ensures port { result.0 ≡ (route_at self.now.routes.items envelope.place).to.port }
         ensures env { result.1 ≡ env_of self.now.routes.items envelope }

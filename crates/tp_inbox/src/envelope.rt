@@ -3,7 +3,7 @@ use tp_history::stamped::Stamped;
 
 /// A message on its way into a component.
 #[derive(Drop)]
-pub(crate) struct Envelope {
+pub(crate) struct InboxEnvelope {
     /// The place of its route among the routes into the component, from 0.
     pub place: usize,
     /// Its number on its route, from 0.

@@ -9,7 +9,7 @@ ghost use Rattle.tp_inbox.specs.Envelopes.{AreRouted};
 ghost use Rattle.tp_inbox.specs.Ledgers.{AreSenders, IsDeskOf, put_by};
 
 use crate::channel::Channel;
-use crate::envelope::Envelope;
+use crate::envelope::InboxEnvelope;
 use crate::owner::{Owner, take_out};
 use crate::rule::{InboxPass, Route, TakeOut};
 use crate::sender::Sender;
@@ -63,7 +63,7 @@ impl Model for Gathered {
 }
 
 /// The envelope that was in hand, if any, as the first of the rest.
-fn with_hand(channel: &Channel, mut rest: Rest, hand: Option<Envelope>) -> Rest
+fn with_hand(channel: &Channel, mut rest: Rest, hand: Option<InboxEnvelope>) -> Rest
     requires empty { rest.items ≡ [] }
     requires room { 1 ≤ vec_capacity rest }
     requires routed { AreRouted (length channel.now.routes.items) (one_of hand) }

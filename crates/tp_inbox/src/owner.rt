@@ -11,7 +11,7 @@ ghost use Rattle.tp_inbox.specs.Routed.{AreArrivals, arrival_of};
 ghost use Rattle.tp_inbox.specs.Ledgers.{IsDeskOf, drained_on};
 
 use crate::channel::Channel;
-use crate::envelope::Envelope;
+use crate::envelope::InboxEnvelope;
 use crate::rule::{InboxQueue, InboxPass, TakeOut};
 use indexmap::IndexMap;
 use std::alloc::Global;
@@ -32,7 +32,7 @@ pub struct Owner {
     pub(crate) channel: Arc<Channel, Global>,
     pub(crate) pass: InboxPass,
     /// An envelope that was taken out of the queue and could not be moved.
-    pub(crate) hand: Option<Envelope>,
+    pub(crate) hand: Option<InboxEnvelope>,
     /// How many envelopes were taken out of the queue.
     pub(crate) taken: u64,
     /// How many envelopes of each route were drained.
@@ -63,7 +63,7 @@ impl Model for Owner {
 }
 
 /// The next envelope of the queue. Nothing where the queue was found empty.
-pub(crate) fn take_out<R: Wait>(rt: &R, queue: &InboxQueue, pass: &mut InboxPass) -> Option<Envelope>
+pub(crate) fn take_out<R: Wait>(rt: &R, queue: &InboxQueue, pass: &mut InboxPass) -> Option<InboxEnvelope>
     requires queue { IsSegPassOf queue.now pass.old }
     requires sound { Sound pass.old.me.view.client }
     ensures queue { IsSegPassOf queue.now pass.new }
@@ -80,9 +80,9 @@ fn next_envelope<R: Wait>(
     rt: &R,
     queue: &InboxQueue,
     pass: &mut InboxPass,
-    hand: &mut Option<Envelope>,
+    hand: &mut Option<InboxEnvelope>,
     taken: &mut u64,
-) -> Option<Envelope>
+) -> Option<InboxEnvelope>
     requires queue { IsSegPassOf queue.now pass.old }
     requires sound { Sound pass.old.me.view.client }
     requires ends { EndsWith pass.old.me.view.client.taken (one_of hand.old) }
@@ -108,9 +108,9 @@ fn next_envelope<R: Wait>(
 /// Where it answers 50 `Memory`, the envelope is in hand, where none was.
 fn deliver(
     channel: &Channel,
-    hand: &mut Option<Envelope>,
+    hand: &mut Option<InboxEnvelope>,
     desk: &mut Desk,
-    envelope: Envelope,
+    envelope: InboxEnvelope,
 ) -> Result<(), Memory>
     requires place { envelope.place < length channel.now.routes.items }
     requires ports { desk.old.ports ≡ channel.now.ports }
@@ -124,7 +124,7 @@ fn deliver(
     match desk.arrive(port, env, stamp) {
         Ok(()) => Ok(()),
         Err((memory, back)) => {
-            *hand = Some(Envelope {
+            *hand = Some(InboxEnvelope {
                 place,
                 number: back.number,
                 stamped: Stamped {
@@ -138,7 +138,7 @@ fn deliver(
 }
 
 /// What a wait finds at once where there is an envelope in hand.
-fn in_hand(hand: &Option<Envelope>) -> Option<Woken>
+fn in_hand(hand: &Option<InboxEnvelope>) -> Option<Woken>
     ensures { result ≡ option_map (λ _. Woken.Arrived) hand.now }
 {
     if hand.is_some() {

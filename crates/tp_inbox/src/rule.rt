@@ -4,7 +4,7 @@
 //! have any number of routes, its part of what the owner has taken out, followed by what the queue
 //! holds, is what the sender has put, in its order over all its routes; and on each route they are
 //! numbered from 0. It holds between any two steps of any threads.
-use crate::envelope::Envelope;
+use crate::envelope::InboxEnvelope;
 use crossbeam_queue::protocol::{Join, Lesson, Outcome, Protocol, Split};
 use crossbeam_queue::{RuledSegQueue, SegPass};
 use std::collections::LinkedList;
@@ -16,21 +16,21 @@ pub(crate) struct View {
     /// The places of the sender's routes.
     pub places: LinkedList<usize>,
     /// What the sender has put, in its order over all its routes.
-    pub put: LinkedList<Envelope>,
+    pub put: LinkedList<InboxEnvelope>,
     /// It is the owner's.
     pub owns: bool,
     /// How many routes the owner has split off.
     pub split_off: usize,
     /// What the owner has taken out, in order.
-    pub taken: LinkedList<Envelope>,
+    pub taken: LinkedList<InboxEnvelope>,
     /// Of each sender that has joined, the places of its routes and what it had put.
-    pub known: LinkedList<(LinkedList<usize>, LinkedList<Envelope>)>,
+    pub known: LinkedList<(LinkedList<usize>, LinkedList<InboxEnvelope>)>,
 }
 
 /// The rule itself.
 pub(crate) struct DeliveryRule;
 
-impl Protocol<Envelope, View> for DeliveryRule {
+impl Protocol<InboxEnvelope, View> for DeliveryRule {
     ghost use Rattle.std.specs.Prelude.{[]};
     ghost use Rattle.tp_inbox.specs.Rule.{owner_pass, Delivers};
 
@@ -75,7 +75,7 @@ impl Join<View> for Takeover {
 /// An envelope that a sender pushes.
 pub(crate) struct Put;
 
-impl Outcome<Envelope, View> for Put {
+impl Outcome<InboxEnvelope, View> for Put {
     ghost use Rattle.tp_inbox.specs.Rule.{PutsEnvelope};
 
     ghost then = { PutsEnvelope };
@@ -84,20 +84,20 @@ impl Outcome<Envelope, View> for Put {
 /// An envelope that the owner takes out, and what it learns where it looks into the queue.
 pub(crate) struct TakeOut;
 
-impl Outcome<Envelope, View> for TakeOut {
+impl Outcome<InboxEnvelope, View> for TakeOut {
     ghost use Rattle.tp_inbox.specs.Rule.{Takes};
 
     ghost then = { Takes };
 }
 
-impl Lesson<Envelope, View> for TakeOut {
+impl Lesson<InboxEnvelope, View> for TakeOut {
     ghost use Rattle.tp_inbox.specs.Rule.{Knows};
 
     ghost fact = { Knows };
 }
 
 /// The queue of an inbox.
-pub(crate) type InboxQueue = RuledSegQueue<Envelope, View, DeliveryRule>;
+pub(crate) type InboxQueue = RuledSegQueue<InboxEnvelope, View, DeliveryRule>;
 
 /// What a sender or the owner reaches the queue with.
-pub(crate) type InboxPass = SegPass<Envelope, View>;
+pub(crate) type InboxPass = SegPass<InboxEnvelope, View>;

@@ -11,7 +11,7 @@ ghost use Rattle.tp_inbox.specs.Ledgers.{end_of, extended, first_sender, put_on_
 ghost use Rattle.tp_inbox.specs.Routed.{route_at};
 
 use crate::channel::Channel;
-use crate::envelope::Envelope;
+use crate::envelope::InboxEnvelope;
 use crate::rule::{InboxPass, Put, Takeover};
 use std::alloc::Global;
 use std::marker::Model;
@@ -151,7 +151,7 @@ impl Sender {
         if number >= ROUTE_LIMIT {
             return Err((PutFault::Limit, stamped));
         }
-        let envelope = Envelope {
+        let envelope = InboxEnvelope {
             place: self.places[way],
             number,
             stamped,
