@@ -14,7 +14,7 @@ use Rattle.std.proofs.lemmas.Fmt.{decimal_digit, decimal_is_IsNumeral, decimal-d
 use Rattle.std.proofs.lemmas.Str.{IsUtf8-from_ascii}
 use Rattle.std.proofs.lemmas.Str.Parse.{IsNumeralModel, digit_at, numerals_by_value, tells_digits, parse_signed_minus, parse_signed_plain}
 use Rattle.std.proofs.lemmas.Result.{Ok-from_Ok_iff, OkIff-at_ok}
-use Rattle.tp_port.specs.Line.{BeginsAsInteger, IsName}
+use Rattle.tp_port.specs.QueueLine.{BeginsAsInteger, IsName}
 
 pub IsAscii-integer : (z : ℤ) → FitsSigned w64 z → IsAscii (signed_decimal z)
 IsAscii-integer (pos n) fits i = IsAscii-decimal n (omega (arith, fits.sfits)) i

@@ -8,7 +8,7 @@ use Rattle.std.proofs.Math.Seq.{take-append_seam}
 use Rattle.tp_port.specs.declared.replay.QueueFault.{QueueFault}
 use Rattle.tp_port.specs.declared.replay.QueueFault.TheVariants as fault
 use Rattle.tp_text.specs.Cutting.{lines_of}
-use Rattle.tp_port.specs.Line.{Line, IsGood, IsFirstBad, Spells, Says}
+use Rattle.tp_port.specs.QueueLine.{QueueLine, IsGood, IsFirstBad, Spells, Says}
 use Rattle.tp_port.specs.Replay.{Progress, answer, sighted, after, text_from, left_text, queue_text}
 use Rattle.tp_text.specs.declared.text.ReadFault.{ReadFault}
 use Rattle.tp_text.specs.declared.text.ReadFault.TheVariants as read
@@ -54,13 +54,13 @@ good_all lines done rest none is good =
 
 -- whatever the rest of a text says, the answers so far and those to it are the answers to the whole
 pub record Goes (text rest : List ℕ) (s : Progress) (out : List ℕ) : Type 0 where
-  pub on : (lines : List Line) → Says rest lines → (all : List Line) × Says text all × (out ++ text_from s lines ≡ queue_text all)
+  pub on : (lines : List QueueLine) → Says rest lines → (all : List QueueLine) × Says text all × (out ++ text_from s lines ≡ queue_text all)
 
 pub Goes-first : (text : List ℕ) (s : Progress) (out : List ℕ) → s ≡ record { senders = []; history = [] } → out ≡ [] → Goes text text s out
 Goes-first text s out e f =
     record { on = λ lines says. (lines, says, ap (λ o. o ++ text_from s lines) f ∙ ap (λ t. text_from t lines) e) }
 
-pub Goes-more : (text rest next line : List ℕ) (said : Line) (s t : Progress) (out more : List ℕ)
+pub Goes-more : (text rest next line : List ℕ) (said : QueueLine) (s t : Progress) (out more : List ℕ)
     → lines_of rest ≡ line ∷ lines_of next → Spells line said → t ≡ after s said
     → more ≡ out ++ answer (sighted s said) said → Goes text rest s out → Goes text next t more
 Goes-more text rest next line said s t out more cut spells progress answers goes =
@@ -78,12 +78,12 @@ Goes-more text rest next line said s t out more cut spells progress answers goes
     }
 
 pub Goes-end : (text rest : List ℕ) (s : Progress) (out : List ℕ) → length rest ≡ 0 → Goes text rest s out
-    → (all : List Line) × Says text all × (out ++ left_text s.senders s.history ≡ queue_text all)
+    → (all : List QueueLine) × Says text all × (out ++ left_text s.senders s.history ≡ queue_text all)
 Goes-end text rest s out none goes =
     let P : List ℕ → Type 0 = λ r. Says r [] in goes.on [] (subst P (sym (empty_is rest none)) tt)
 
 -- a text whose lines say something has good lines alone
-pub says_good : (texts : List (List ℕ)) (lines : List Line) → AllZip Spells texts lines → All IsGood texts
+pub says_good : (texts : List (List ℕ)) (lines : List QueueLine) → AllZip Spells texts lines → All IsGood texts
 says_good [] lines says k d h = absurd (omega arith)
 says_good (text ∷ texts) [] says k d h = absurd says
 says_good (text ∷ texts) (line ∷ lines) says zero d h = (line, says.0)

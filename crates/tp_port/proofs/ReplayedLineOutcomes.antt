@@ -10,7 +10,7 @@ use Rattle.tp_event.specs.declared.event.Event.{Event}
 use Rattle.tp_event.specs.declared.event.Event.TheVariants as event
 use Rattle.tp_port.specs.declared.engine.Engine.{Engine}
 use Rattle.tp_queue.specs.History.{accepted, arrival, top}
-use Rattle.tp_port.specs.Line.{Line, Wish, arrive, receive, check, trigger}
+use Rattle.tp_port.specs.QueueLine.{QueueLine, Wish, arrive, receive, check, trigger}
 use Rattle.tp_port.specs.Replay.{Progress, seen_in, seen_if, with_sender, sighted, answer, events_of, found, meets, triggered, from_of, sender_number, envelope_or_no, triggered_text, arriving}
 use Rattle.tp_queue.specs.Queues.{AtHistory, StandsFor}
 use Rattle.tp_port.specs.Carried.{CarriesLine, HasReached}
@@ -21,11 +21,11 @@ unfolding accepted
 accepted_quiet h es q = filter_map-append arrival h es ∙ ap (λ l. filter_map arrival h ++ l) q ∙ append-nil (filter_map arrival h)
 
 -- the senders that a line shows, seen by an engine that had come so far
-seen_by : (old new : Engine) (line : Line) (s : Progress) → HasReached old s → new.senders ≡ seen_in old.senders line → new.senders ≡ seen_in s.senders line
+seen_by : (old new : Engine) (line : QueueLine) (s : Progress) → HasReached old s → new.senders ≡ seen_in old.senders line → new.senders ≡ seen_in s.senders line
 seen_by old new line s come seen = seen ∙ ap (λ n. seen_in n line) come.senders
 
 -- a line with which nothing arrives
-pub carries_quiet : (old new : Engine) (line : Line)
+pub carries_quiet : (old new : Engine) (line : QueueLine)
     → ((s : Progress) → accepted (events_of s line) ≡ [])
     → new.senders ≡ seen_in old.senders line → length new.senders ≤ length old.senders + 1 → new.arrivals ≡ old.arrivals
     → ((s : Progress) → HasReached old s → StandsFor new.queue (s.history ++ events_of (sighted s line) line))
@@ -145,7 +145,7 @@ pub carries_arrive : (old new : Engine) (name : List ℕ) (value : ℤ) (sender 
     → length new.senders ≤ length old.senders + 1 → new.arrivals ≡ old.arrivals + 1
     → CarriesLine old new (arrive name value)
 carries_arrive old new name value sender sighting number queue text few more =
-    let line : Line = arrive name value in
+    let line : QueueLine = arrive name value in
     record {
       progress = λ s come.
           let env : Env ℤ = arriving (sighted s line) name value in

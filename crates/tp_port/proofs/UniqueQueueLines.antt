@@ -12,7 +12,7 @@ use Rattle.tp_port.specs.declared.pattern.IntegerPattern.TheVariants as pattern
 use Rattle.tp_port.specs.declared.command.CommandVerb.{CommandVerb}
 use Rattle.tp_port.specs.declared.command.CommandVerb.TheVariants as verb
 use Rattle.tp_text.specs.Cutting.{lines_of}
-use Rattle.tp_port.specs.Line.{Line, arrive, receive, check, trigger, clear, start, stop, halt, Wish, IsWish, IsQueueLine, PatternFits, Spells, Says, operands, verb_of, verb_text, pattern_text, from_words, wish_words}
+use Rattle.tp_port.specs.QueueLine.{QueueLine, arrive, receive, check, trigger, clear, start, stop, halt, Wish, IsWish, IsQueueLine, PatternFits, Spells, Says, operands, verb_of, verb_text, pattern_text, from_words, wish_words}
 
 -- from a verb's word back to the verb, by its first two bytes and its third
 abbrev verb_at : ℕ → ℕ → ℕ → CommandVerb
@@ -91,7 +91,7 @@ same_arrival name word n m p q e =
     let d : signed_decimal n ≡ signed_decimal m = cc in
     ap (λ x. arrive x n) w ∙ ap (arrive word) (same_signed n m p.1 q.1 d)
 
-same_line : (a b : Line) → verb_of a ≡ verb_of b → operands a ≡ operands b → IsQueueLine a → IsQueueLine b → a ≡ b
+same_line : (a b : QueueLine) → verb_of a ≡ verb_of b → operands a ≡ operands b → IsQueueLine a → IsQueueLine b → a ≡ b
 same_line (arrive name n) (arrive word m) e f p q = same_arrival name word n m p q f
 same_line (arrive name n) (receive want) e f p q = absurd (cc)
 same_line (arrive name n) (check want) e f p q = absurd (cc)
@@ -157,14 +157,14 @@ same_line halt start e f p q = absurd (cc)
 same_line halt stop e f p q = absurd (cc)
 same_line halt halt e f p q = refl
 
-one_line : (text : List ℕ) (a b : Line) → Spells text a → Spells text b → a ≡ b
+one_line : (text : List ℕ) (a b : QueueLine) → Spells text a → Spells text b → a ≡ b
 one_line text a b p q =
     let words : verb_text (verb_of a) ∷ operands a ≡ verb_text (verb_of b) ∷ operands b = sym p.0 ∙ q.0 in
     let v : verb_text (verb_of a) ≡ verb_text (verb_of b) = cc in
     let o : operands a ≡ operands b = cc in
     same_line a b (same_verb (verb_of a) (verb_of b) v) o p.1 q.1
 
-one_list : (texts : List (List ℕ)) (these those : List Line) → AllZip Spells texts these → AllZip Spells texts those → these ≡ those
+one_list : (texts : List (List ℕ)) (these those : List QueueLine) → AllZip Spells texts these → AllZip Spells texts those → these ≡ those
 one_list [] [] [] p q = refl
 one_list [] (a ∷ these) those p q = absurd p
 one_list [] [] (b ∷ those) p q = absurd q
@@ -173,5 +173,5 @@ one_list (t ∷ ts) (a ∷ these) [] p q = absurd q
 one_list (t ∷ ts) (a ∷ these) (b ∷ those) p q =
     ap (λ x. x ∷ these) (one_line t a b p.0 q.0) ∙ ap (λ l. b ∷ l) (one_list ts these those p.1 q.1)
 
-pub says_one : (text : List ℕ) (these those : List Line) → Says text these → Says text those → these ≡ those
+pub says_one : (text : List ℕ) (these those : List QueueLine) → Says text these → Says text those → these ≡ those
 says_one text these those p q = one_list (lines_of text) these those p q

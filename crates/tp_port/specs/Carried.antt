@@ -3,7 +3,7 @@ use Rattle.std.specs.Prelude.{◌≡◌, ℕ, ◌+◌, ◌≤◌, ◌++◌, leng
 use Rattle.tp_port.specs.declared.engine.Engine.{Engine}
 use Rattle.tp_queue.specs.History.{accepted}
 use Rattle.tp_queue.specs.Queues.{StandsFor}
-use Rattle.tp_port.specs.Line.{Line}
+use Rattle.tp_port.specs.QueueLine.{QueueLine}
 use Rattle.tp_port.specs.Replay.{Progress, after, answer, sighted}
 
 -- the engine has come so far: it has seen these senders, its queue stands for the port's history, and its arrivals are
@@ -19,7 +19,7 @@ pub record HasCounted (r : Engine) (most : ℕ) : Type 0 where
   pub senders : length r.senders ≤ most
 
 -- wherever the engine had come to, from there a line was carried out, and answered
-pub record CarriesLine (old new : Engine) (line : Line) : Type 0 where
+pub record CarriesLine (old new : Engine) (line : QueueLine) : Type 0 where
   pub progress : (s : Progress) → HasReached old s → HasReached new (after s line)
   pub answers : (s : Progress) → HasReached old s
       → string_bytes new.answers ≡ string_bytes old.answers ++ answer (sighted s line) line

@@ -6,7 +6,7 @@ use Rattle.tp_text.specs.declared.text.ReadFault.TheVariants as read_fault
 use Rattle.tp_text.specs.Cutting.{lines_of}
 use Rattle.tp_port.specs.declared.replay.QueueFault.{QueueFault}
 use Rattle.tp_port.specs.declared.replay.QueueFault.TheVariants as queue_fault
-use Rattle.tp_port.specs.Line.{Line, Says, IsGood, IsFirstBad}
+use Rattle.tp_port.specs.QueueLine.{QueueLine, Says, IsGood, IsFirstBad}
 use Rattle.tp_text.specs.Reading.{IsCapacity}
 use Rattle.tp_text.specs.declared.watched.Watched.{Watched}
 use Rattle.tp_text.specs.Watching.{Writes}
@@ -19,7 +19,7 @@ fault_of read_fault.Memory = queue_fault.Memory
 
 -- these are the answers to the lines of the text
 abbrev pub IsAnswerTo : List ℕ → List ℕ → Type 0
-IsAnswerTo text answer = (lines : List Line) × Says text lines × (answer ≡ queue_text lines)
+IsAnswerTo text answer = (lines : List QueueLine) × Says text lines × (answer ≡ queue_text lines)
 
 -- the answers to the text are written, where the text is known; or a front of them, and the writer has failed
 pub record IsReplayed {W : Type 0} (contents : W → Option (List ℕ)) (known : Option (List ℕ)) (old new : Watched W) : Type 0 where

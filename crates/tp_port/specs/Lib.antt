@@ -1,5 +1,5 @@
 pub mod Admits
-pub mod Line
+pub mod QueueLine
 pub mod Command
 pub mod Replay
 pub mod Carried

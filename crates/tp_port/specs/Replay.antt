@@ -12,7 +12,7 @@ use Rattle.tp_port.specs.declared.pattern.IntegerPattern.{IntegerPattern}
 use Rattle.tp_port.specs.declared.pattern.IntegerPattern.TheVariants as pattern
 use Rattle.tp_queue.specs.History.{accepted, queued, status_of, top}
 use Rattle.tp_queue.specs.Answers.{halted_count}
-use Rattle.tp_port.specs.Line.{Line, arrive, receive, check, trigger, clear, start, stop, halt, Wish}
+use Rattle.tp_port.specs.QueueLine.{QueueLine, arrive, receive, check, trigger, clear, start, stop, halt, Wish}
 
 -- how far a replay has come: the senders in the order of their first occurrence, and the port's history
 pub record Progress : Type 0 where
@@ -28,7 +28,7 @@ seen_if senders None = senders
 seen_if senders (Some name) = with_sender senders name
 
 -- the senders, once this line is seen
-abbrev pub seen_in : List (List ℕ) → Line → List (List ℕ)
+abbrev pub seen_in : List (List ℕ) → QueueLine → List (List ℕ)
 seen_in senders (arrive name n) = with_sender senders name
 seen_in senders (receive wish) = seen_if senders wish.from
 seen_in senders (check wish) = seen_if senders wish.from
@@ -76,7 +76,7 @@ triggered true e = event.Took e
 triggered false e = event.Dropped e
 
 -- the events of a line, none or one, where its senders are seen already
-abbrev pub events_of : Progress → Line → List (Event ℤ)
+abbrev pub events_of : Progress → QueueLine → List (Event ℤ)
 events_of s (arrive name n) = event.Arrive (arriving s name n) ∷ []
 events_of s (receive wish) = map event.Took (option_to_list (found_in s wish))
 events_of s (check wish) = map event.Found (option_to_list (found_in s wish))
@@ -112,7 +112,7 @@ halted_text None = codes "unchanged\n"
 halted_text (Some n) = counted_text (codes "halted ") n
 
 -- the answer to a line, where its senders are seen already
-abbrev pub answer : Progress → Line → List ℕ
+abbrev pub answer : Progress → QueueLine → List ℕ
 answer s (arrive name n) = codes "queued\n"
 answer s (receive wish) = envelope_or_no s.senders (codes "took ") (found_in s wish)
 answer s (check wish) = envelope_or_no s.senders (codes "found ") (found_in s wish)
@@ -123,11 +123,11 @@ answer s stop = codes "stopped\n"
 answer s halt = halted_text (halted_count (status_of s.history) s.history)
 
 -- how far it has come where a line is carried out: its senders are seen
-abbrev pub sighted : Progress → Line → Progress
+abbrev pub sighted : Progress → QueueLine → Progress
 sighted s line = record { senders = seen_in s.senders line; history = s.history }
 
 -- how far it has come after a line
-abbrev pub after : Progress → Line → Progress
+abbrev pub after : Progress → QueueLine → Progress
 after s line = record { senders = seen_in s.senders line; history = s.history ++ events_of (sighted s line) line }
 
 -- how many are left, and each of them
@@ -140,7 +140,7 @@ abbrev pub left_text : List (List ℕ) → List (Event ℤ) → List ℕ
 left_text senders h = text_of_left senders (queued h)
 
 -- the answers to the lines from there on, and then what is left
-abbrev pub text_from : Progress → List Line → List ℕ
+abbrev pub text_from : Progress → List QueueLine → List ℕ
 text_from s [] = left_text s.senders s.history
 text_from s (line ∷ lines) = answer (sighted s line) line ++ text_from (after s line) lines
 
@@ -149,5 +149,5 @@ abbrev pub first_progress : Progress
 first_progress = record { senders = []; history = [] }
 
 -- the text that a queue file of these lines answers
-abbrev pub queue_text : List Line → List ℕ
+abbrev pub queue_text : List QueueLine → List ℕ
 queue_text lines = text_from first_progress lines

@@ -4,7 +4,7 @@ ghost use Rattle.std.specs.Option.{option_to_list};
 ghost use Rattle.tp_event.specs.declared.event.Event.TheVariants as event;
 ghost use Rattle.tp_queue.specs.History.{top};
 ghost use Rattle.tp_queue.specs.Queues.{AtHistory, StandsFor};
-ghost use Rattle.tp_port.specs.Line.{arrive, check, clear, halt, receive, start, stop, trigger};
+ghost use Rattle.tp_port.specs.QueueLine.{arrive, check, clear, halt, receive, start, stop, trigger};
 ghost use Rattle.tp_port.specs.Command.{line_of, wish_of};
 ghost use Rattle.tp_port.specs.Carried.{CarriesLine, HasReached, HasCounted};
 ghost use Rattle.tp_port.specs.Replay.{Progress, envelope_or_no, first_progress, found, left_text, meets, triggered, triggered_text};

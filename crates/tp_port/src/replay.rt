@@ -3,7 +3,7 @@ ghost use Rattle.std.specs.Prelude.{◌≡◌, ◌<◌, ◌≤◌, ◌↔◌, le
 ghost use Rattle.tp_text.specs.Watching.{HasFailed, reader_left};
 ghost use Rattle.tp_text.specs.Cutting.{lines_of};
 ghost use Rattle.tp_port.specs.Faults.{HasFault, IsFaultOf, IsRefusedFor, IsReplayed};
-ghost use Rattle.tp_port.specs.Line.{IsFirstBad, IsGood, Line, Says};
+ghost use Rattle.tp_port.specs.QueueLine.{IsFirstBad, IsGood, QueueLine, Says};
 ghost use Rattle.tp_port.specs.Replay.{queue_text};
 
 use crate::command::command_of;
@@ -81,7 +81,7 @@ fn refusal_of(text: &[u8]) -> QueueFault
 /// The answers to the lines of a text.
 fn answers_to(alloc: Global, text: &[u8]) -> Result<String, QueueFault>
     requires { length text.now ≤ 1048576 }
-    ensures ok { IfOk result (λ out. (lines : List Line)
+    ensures ok { IfOk result (λ out. (lines : List QueueLine)
         × Says text.now lines × (string_bytes out ≡ queue_text lines)) }
     ensures err { IfErr result (IsRefusedFor text.now) }
 {

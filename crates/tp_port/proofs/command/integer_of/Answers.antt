@@ -1,6 +1,6 @@
 -- The decimal form of an integer begins as one.
 use Rattle.std.proofs.Common.{sym, subst, arith, List, ℕ}
-use Rattle.tp_port.specs.Line.{BeginsAsInteger}
+use Rattle.tp_port.specs.QueueLine.{BeginsAsInteger}
 use Rattle.tp_port.proofs.IntegerTextRoundTrip.{integer_begins}
 use Rattle.tp_port.proofs.command.integer_of.Goals as goal
 

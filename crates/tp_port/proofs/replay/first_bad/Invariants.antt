@@ -2,7 +2,7 @@
 use Rattle.std.proofs.Common.{◌≡◌, ◌+◌, ◌≤◌, ◌++◌, List, ℕ, length}
 use Rattle.std.specs.Prelude.{All}
 use Rattle.tp_text.specs.Cutting.{lines_of}
-use Rattle.tp_port.specs.Line.{IsGood}
+use Rattle.tp_port.specs.QueueLine.{IsGood}
 use Rattle.tp_port.proofs.replay.first_bad.Given as goal
 
 abbrev pub invariant-loop-rest : goal.invariant-loop-rest

@@ -2,7 +2,7 @@
 use Rattle.std.proofs.Common.{◌∙◌, ap, sym, refl, ◌++◌, arith}
 use Rattle.std.specs.Prelude.{string_bytes}
 use Rattle.tp_event.specs.declared.event.Event.TheVariants as event
-use Rattle.tp_port.specs.Line.{halt}
+use Rattle.tp_port.specs.QueueLine.{halt}
 use Rattle.tp_port.specs.Replay.{halted_text}
 use Rattle.tp_port.proofs.ReplayedLineOutcomes.{carries_quiet, quiet_one}
 use Rattle.tp_port.proofs.engine.Engine.halt.Goals as goal

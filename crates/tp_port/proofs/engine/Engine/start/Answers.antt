@@ -2,7 +2,7 @@
 use Rattle.std.proofs.Common.{◌∙◌, ap, refl, ◌++◌, arith}
 use Rattle.std.specs.Prelude.{codes, string_bytes}
 use Rattle.tp_event.specs.declared.event.Event.TheVariants as event
-use Rattle.tp_port.specs.Line.{start}
+use Rattle.tp_port.specs.QueueLine.{start}
 use Rattle.tp_port.specs.Replay.{counted_text}
 use Rattle.tp_port.proofs.ReplayedLineOutcomes.{carries_quiet, quiet_one}
 use Rattle.tp_port.proofs.engine.Engine.start.Goals as goal

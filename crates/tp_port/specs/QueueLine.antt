@@ -26,15 +26,15 @@ pub record Wish : Type 0 where
   pub from : Option (List ℕ)
 
 -- what a line says
-pub data Line : Type 0 where
-  arrive : List ℕ → ℤ → Line
-  receive : Wish → Line
-  check : Wish → Line
-  trigger : Wish → Line
-  clear : Line
-  start : Line
-  stop : Line
-  halt : Line
+pub data QueueLine : Type 0 where
+  arrive : List ℕ → ℤ → QueueLine
+  receive : Wish → QueueLine
+  check : Wish → QueueLine
+  trigger : Wish → QueueLine
+  clear : QueueLine
+  start : QueueLine
+  stop : QueueLine
+  halt : QueueLine
 
 -- the first word of a line
 abbrev pub verb_text : CommandVerb → List ℕ
@@ -47,7 +47,7 @@ verb_text verb.Start = codes "start"
 verb_text verb.Stop = codes "stop"
 verb_text verb.Halt = codes "halt"
 
-abbrev pub verb_of : Line → CommandVerb
+abbrev pub verb_of : QueueLine → CommandVerb
 verb_of (arrive name n) = verb.Arrive
 verb_of (receive wish) = verb.Receive
 verb_of (check wish) = verb.Check
@@ -78,7 +78,7 @@ abbrev pub arrival_words : List ℕ → ℤ → List (List ℕ)
 arrival_words name n = name ∷ signed_decimal n ∷ []
 
 -- the words after the first
-abbrev pub operands : Line → List (List ℕ)
+abbrev pub operands : QueueLine → List (List ℕ)
 operands (arrive name n) = arrival_words name n
 operands (receive wish) = wish_words wish
 operands (check wish) = wish_words wish
@@ -101,7 +101,7 @@ abbrev pub IsArriveLine : List ℕ → ℤ → Type 0
 IsArriveLine name n = IsName name × FitsSigned w64 n
 
 -- names are names, and integers have 64 signed bits
-abbrev pub IsQueueLine : Line → Type 0
+abbrev pub IsQueueLine : QueueLine → Type 0
 IsQueueLine (arrive name n) = IsArriveLine name n
 IsQueueLine (receive wish) = IsWish wish
 IsQueueLine (check wish) = IsWish wish
@@ -112,20 +112,20 @@ IsQueueLine stop = Unit {0}
 IsQueueLine halt = Unit {0}
 
 -- the text says the line: its words are the line's, with one space between them and none elsewhere
-abbrev pub Spells : List ℕ → Line → Type 0
+abbrev pub Spells : List ℕ → QueueLine → Type 0
 Spells text line = (words_of text ≡ verb_text (verb_of line) ∷ operands line) × IsQueueLine line
 
 -- the text is a line of a queue file
 abbrev pub IsGood : List ℕ → Type 0
-IsGood text = (line : Line) × Spells text line
+IsGood text = (line : QueueLine) × Spells text line
 
 -- the lines of the text say these, in order
-abbrev pub Says : List ℕ → List Line → Type 0
+abbrev pub Says : List ℕ → List QueueLine → Type 0
 Says text lines = AllZip Spells (lines_of text) lines
 
 -- a text says one list of lines at most
 abbrev pub SaysOneAtMost : Type 0
-SaysOneAtMost = (text : List ℕ) (these those : List Line) → Says text these → Says text those → these ≡ those
+SaysOneAtMost = (text : List ℕ) (these those : List QueueLine) → Says text these → Says text those → these ≡ those
 
 -- the line of this number, from 1, is the first that is not of a queue file
 abbrev pub IsFirstBad : List (List ℕ) → ℕ → Type 0
