@@ -94,11 +94,11 @@ FAULTS = [
         " for _ in rt.forever() {",
         "return all_rest;": "let _ = all_rest; return told;",
     }),
-    *faults_of_loop("FloorPlace::rest", "self.floor self.pass", "rested", {"": "true", "_as_last": "false"}),
-    Fault("rest_is_told_by_the_first_load", "floor", "FloorPlace::rest", {
-        "for _ in rt.forever() {": "if !self.floor.look(rt, &mut self.pass).rest() { return false; }"
+    *faults_of_loop("FloorPlace::begin_rest", "self.floor self.pass", "rested", {"": "true", "_as_last": "false"}),
+    Fault("rest_is_told_by_the_first_load", "floor", "FloorPlace::begin_rest", {
+        "for _ in rt.forever() {": "if !self.floor.look(rt, &mut self.pass).begin_rest() { return false; }"
         " for _ in rt.forever() {",
-        "if !rested.rest() { return false; }": "rested.resting += 1;",
+        "if !rested.begin_rest() { return false; }": "rested.resting += 1;",
     }),
     *faults_of_loop("FloorPlace::rise", "self.floor self.pass", "risen", {"": ""}),
     Fault("resting_is_not_loaded", "floor", "Floor::resting", {"self.look(rt, &mut self.counts.pass()).resting": "0"}),
@@ -113,10 +113,12 @@ FAULTS = [
     Fault("close_leaves_it_open", "notifier", "Notifier::close", {"self.closed = true;": ""}),
     Fault("look_finds_no_push", "notifier", "Notifier::look", {"if self.announced > taken {": "if 0 > taken {"}),
     Fault("look_finds_no_closing", "notifier", "Notifier::look", {"if self.closed {": "if false {"}),
-    Fault("rest_looks_at_no_rest", "notifier", "Notifier::rest", {"self.awaits.is_none() &&": ""}),
-    Fault("rest_leaves_the_place_awake", "notifier", "Notifier::rest", {"!self.place.rest(rt, hook)": "false"}),
-    Fault("rest_leaves_the_owner_awake", "notifier", "Notifier::rest", {"self.awaits = Some(taken);": ""}),
-    Fault("rest_awaits_one_more", "notifier", "Notifier::rest", {"self.awaits = Some(taken);": "self.awaits = Some(taken + 1);"}),
+    Fault("rest_looks_at_no_rest", "notifier", "Notifier::begin_rest", {"self.awaits.is_none() &&": ""}),
+    Fault("rest_leaves_the_place_awake", "notifier", "Notifier::begin_rest", {"!self.place.begin_rest(rt, hook)": "false"}),
+    Fault("rest_leaves_the_owner_awake", "notifier", "Notifier::begin_rest", {"self.awaits = Some(taken);": ""}),
+    Fault("rest_awaits_one_more", "notifier", "Notifier::begin_rest", {
+        "self.awaits = Some(taken);": "self.awaits = Some(taken + 1);",
+    }),
     Fault("rests_looks_at_no_rest", "notifier", "Notifier::rests", {"self.awaits.is_some()": "false"}),
     Fault("woken_finds_no_push", "notifier", "Notifier::woken", {"if self.announced > taken {": "if 0 > taken {"}),
 ]
