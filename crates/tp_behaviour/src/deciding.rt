@@ -33,7 +33,13 @@ pub enum Decision {
 
 /// Puts what was taken or found by the branch at this place into the variables that it names
 /// (22.2.2).
-fn enter(task: &Task<'_>, frame: &mut Frame, branches: &[ResolvedBranch], place: usize, env: Env<Message>)
+fn enter(
+    task: &Task<'_>,
+    frame: &mut Frame,
+    branches: &[ResolvedBranch],
+    place: usize,
+    env: Env<Message>,
+)
     requires there { place < length branches.now }
     requires held { HoldsAsDeclared task.now frame.old }
     requires can { CanEnterAll (stage_at task.now) (depth_of frame.old) branches.now }

@@ -4,7 +4,7 @@ ghost use Rattle.tp_behaviour.specs.Lasting.{AreLasting, AreLastingBranches, IsL
 
 use crate::fixed::is_fixed;
 use std::alloc::Global;
-use tp_play::body::{ResolvedBranch, RecvMsg, ResolvedStatement};
+use tp_play::body::{RecvMsg, ResolvedBranch, ResolvedStatement};
 use tp_play::fill::fill_template;
 use tp_refusal::memory::Memory;
 use tp_value::items::Items;
@@ -69,7 +69,10 @@ fn nothing(alloc: Global) -> Lasting {
 
 /// What lasts of the statements of a block.
 #[cycle(lasting)]
-pub(crate) fn lasting_block(alloc: Global, block: &[ResolvedStatement]) -> Result<Items<Lasting>, Memory>
+pub(crate) fn lasting_block(
+    alloc: Global,
+    block: &[ResolvedStatement],
+) -> Result<Items<Lasting>, Memory>
     ensures { IfOk result (AreLasting block.now) }
 {
     let mut made = Items::new(alloc);

@@ -91,7 +91,10 @@ fn file(
     ensures aimed { IsAimed sender.now }
 {
     for way in 0..sender.ways() {
-        let here = RoutePlace { sender: place, route_index: way };
+        let here = RoutePlace {
+            sender: place,
+            route_index: way,
+        };
         places.insert(sender.route(way), here)?;
     }
     Ok(())

@@ -25,7 +25,7 @@ use std::alloc::Global;
 use std::sync::Wait;
 use tp_config::port_type::CompId;
 use tp_event::event::Env;
-use tp_play::body::{ResolvedBranch, Receiving, RecvMsg};
+use tp_play::body::{Receiving, RecvMsg, ResolvedBranch};
 use tp_play::fill::fill_template;
 use tp_refusal::memory::Memory;
 use tp_value::message::{Message, MsgTemplate};

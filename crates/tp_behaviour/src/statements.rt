@@ -84,8 +84,15 @@ fn step<R: Wait, G: Gate>(
         ResolvedStatement::Control(port, operation) => {
             play_control(execution, worker, frame, *port, *operation)
         }
-        ResolvedStatement::AllPorts(operation) => play_all_ports(execution, worker, frame, *operation),
-        ResolvedStatement::SetVerdict(verdict) => play_set_verdict(execution.task, worker, frame, *verdict),
+        ResolvedStatement::AllPorts(operation) => play_all_ports(
+            execution, worker, frame, *operation,
+        ),
+        ResolvedStatement::SetVerdict(verdict) => play_set_verdict(
+            execution.task,
+            worker,
+            frame,
+            *verdict,
+        ),
         ResolvedStatement::Alt(branches, otherwise) => {
             let alt = Alt {
                 branches: branches.as_slice(),

@@ -11,7 +11,11 @@ pub const SIZE_CEILING: u64 = 100_001;
 pub fn cap(number: u64) -> u64
     ensures { result ≡ capped number }
 {
-    if number < SIZE_CEILING { number } else { SIZE_CEILING }
+    if number < SIZE_CEILING {
+        number
+    } else {
+        SIZE_CEILING
+    }
 }
 
 /// The turns of a `for` from this first value to this bound.

@@ -65,7 +65,10 @@ fn resolve_control(context: &Context, control: &Control) -> Result<ResolvedState
 
 /// What an operation on all ports stands for: 16 `NotInSut` in the system under test.
 #[tactic(auto, using(crate::proofs::StatementRules::cases))]
-fn resolve_all_ports(context: &Context, operation: PortOperation) -> Result<ResolvedStatement, ModuleFault>
+fn resolve_all_ports(
+    context: &Context,
+    operation: PortOperation,
+) -> Result<ResolvedStatement, ModuleFault>
     ensures stands { IfOk result (IsStatement
         context.now.scope.now context.now.variables.now (texts context.now.turns.now)
         (Action.AllPorts operation)) }
@@ -80,7 +83,10 @@ fn resolve_all_ports(context: &Context, operation: PortOperation) -> Result<Reso
 /// What `setverdict` stands for: 16 `NotInSut` in the system under test, then 13 `WrongType` for
 /// `error`.
 #[tactic(auto, using(crate::proofs::StatementRules::cases))]
-fn resolve_set_verdict(context: &Context, name: VerdictName) -> Result<ResolvedStatement, ModuleFault>
+fn resolve_set_verdict(
+    context: &Context,
+    name: VerdictName,
+) -> Result<ResolvedStatement, ModuleFault>
     ensures stands { IfOk result (IsStatement
         context.now.scope.now context.now.variables.now (texts context.now.turns.now)
         (Action.SetVerdict name)) }

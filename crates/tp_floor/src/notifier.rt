@@ -132,7 +132,12 @@ impl Notifier {
     /// The owner, which has taken so many out, rests from now on, unless no other living behaviour
     /// is awake: then it is told so. Where it rests already, it is not counted a second time. There
     /// is nothing for it: no more were announced than it has taken out, and the inbox is open.
-    pub fn begin_rest<R: Wait, S: RaceHook>(&mut self, rt: &R, hook: &mut S, taken: u64) -> Option<Woken>
+    pub fn begin_rest<R: Wait, S: RaceHook>(
+        &mut self,
+        rt: &R,
+        hook: &mut S,
+        taken: u64,
+    ) -> Option<Woken>
         requires { (self.old.announced ≤ taken) × (self.old.closed ≡ false) }
         ensures announced { self.new.announced ≡ self.old.announced }
         ensures closed { self.new.closed ≡ self.old.closed }

@@ -14,7 +14,7 @@ ghost use Rattle.std.specs.Arc.{arc_value};
 
 use crate::channel::Channel;
 use crate::owner::{Closer, Owner};
-use crate::rule::{InboxQueue, InboxPass, Route};
+use crate::rule::{InboxPass, InboxQueue, Route};
 use crate::sender::Sender;
 use indexmap::IndexMap;
 use std::alloc::Global;
@@ -118,7 +118,11 @@ fn split(
 
 /// The owner of an inbox from which nothing was drained, with a pass from which that of each route
 /// was split off.
-fn begin_owner(alloc: Global, channel: Arc<Channel, Global>, pass: InboxPass) -> Result<Owner, Memory>
+fn begin_owner(
+    alloc: Global,
+    channel: Arc<Channel, Global>,
+    pass: InboxPass,
+) -> Result<Owner, Memory>
     requires queue { IsSegPassOf (arc_value channel).queue pass }
     requires split_off { pass.me.view.client
         ≡ owner_pass (length (arc_value channel).routes.items) [] [] }

@@ -12,7 +12,7 @@ ghost use Rattle.tp_inbox.specs.Ledgers.{IsDeskOf, drained_on};
 
 use crate::channel::Channel;
 use crate::envelope::InboxEnvelope;
-use crate::rule::{InboxQueue, InboxPass, TakeOut};
+use crate::rule::{InboxPass, InboxQueue, TakeOut};
 use indexmap::IndexMap;
 use std::alloc::Global;
 use std::marker::Model;
@@ -63,7 +63,11 @@ impl Model for Owner {
 }
 
 /// The next envelope of the queue. Nothing where the queue was found empty.
-pub(crate) fn take_out<R: Wait>(rt: &R, queue: &InboxQueue, pass: &mut InboxPass) -> Option<InboxEnvelope>
+pub(crate) fn take_out<R: Wait>(
+    rt: &R,
+    queue: &InboxQueue,
+    pass: &mut InboxPass,
+) -> Option<InboxEnvelope>
     requires queue { IsSegPassOf queue.now pass.old }
     requires sound { Sound pass.old.me.view.client }
     ensures queue { IsSegPassOf queue.now pass.new }

@@ -15,8 +15,8 @@ ghost use Rattle.tp_setup.specs.Components.{AddsAll, HasSoundVariables, created,
 ghost use Rattle.tp_setup.specs.Configuring.{AreOwnPorts, AreSoundVariables, CanSetUp, CanSetUpBeside, Connects, HasFirst, HaveOwnPorts, HavePorts, IsPortOfEnd, IsConfigBySetup, IsStep, Makes, Maps, end_component_number, most_variables};
 
 use crate::components::{
-    DeclaredComponent, StoppedCreation, VariableRules, add_component, add_interface, create_components,
-    ports_of_type, variable_component,
+    DeclaredComponent, StoppedCreation, VariableRules, add_component, add_interface,
+    create_components, ports_of_type, variable_component,
 };
 use crate::config_faults::{connect_fault_at, map_fault_at};
 use crate::sorted::Sorted;

@@ -5,7 +5,9 @@ ghost use Rattle.tp_script.specs.Scripts.{IsScriptOf};
 ghost use Rattle.tpr.specs.Handed.{IsAnswered, IsJust};
 ghost use Rattle.tpr.specs.Checked.{HasCheckFault, IsCheckAnswer, IsRight, accepted_text, check_fault_status, check_fault_text};
 
-use crate::modes::{ANSWERED, FAULTED, REFUSED, status_if_written, write_memory, write_refused, write_unread};
+use crate::modes::{
+    ANSWERED, FAULTED, REFUSED, status_if_written, write_memory, write_refused, write_unread,
+};
 use std::alloc::Global;
 use std::io::{Read, Write};
 use tp_play::test_case::TestCase;

@@ -6,7 +6,9 @@ ghost use Rattle.tp_referee.specs.Rulings.{IsRulingOf};
 ghost use Rattle.tpr.specs.Handed.{IsAnswered, IsJust};
 ghost use Rattle.tpr.specs.Judged.{HasJudgeFault, IsJudgeAnswer, judge_fault_status, judge_fault_text};
 
-use crate::modes::{ANSWERED, FAULTED, REFUSED, status_if_written, write_memory, write_refused, write_unread};
+use crate::modes::{
+    ANSWERED, FAULTED, REFUSED, status_if_written, write_memory, write_refused, write_unread,
+};
 use std::alloc::Global;
 use std::io::{Read, Write};
 use tp_referee::ruling::{Ruling, referee};

@@ -4,7 +4,7 @@ ghost use Rattle.tp_text.specs.Watching.{Writes};
 ghost use Rattle.tpr_ordered.specs.Ordered.{AreWritten, IsOrderText, IsRunText};
 
 use crate::order_gate::OrderGate;
-use crate::orders::{StepOrder, Step};
+use crate::orders::{Step, StepOrder};
 use std::alloc::Global;
 use std::io::Write;
 use std::sync::Wait;

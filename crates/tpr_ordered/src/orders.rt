@@ -68,7 +68,12 @@ fn steps_of(
 /// The order that the line of this number says.
 ///
 /// 11 `Unknown` as `steps_of`.
-fn order_of(alloc: Global, config: &Config, line: &str, number: u32) -> Result<StepOrder, FileFault> {
+fn order_of(
+    alloc: Global,
+    config: &Config,
+    line: &str,
+    number: u32,
+) -> Result<StepOrder, FileFault> {
     let steps = steps_of(alloc, config, line, number)?;
     let line = String::from_str(alloc, line)?;
     Ok(StepOrder { line, steps })
@@ -81,7 +86,11 @@ fn order_of(alloc: Global, config: &Config, line: &str, number: u32) -> Result<S
 ///
 /// 2 `Read` where the text isn't UTF-8; else 11 `Unknown`, at the first line in which a name is
 /// that of no component.
-pub fn read_orders(alloc: Global, config: &Config, text: &[u8]) -> Result<Vec<StepOrder>, FileFault> {
+pub fn read_orders(
+    alloc: Global,
+    config: &Config,
+    text: &[u8],
+) -> Result<Vec<StepOrder>, FileFault> {
     let Ok(text) = str::from_utf8(text) else {
         return Err(FileFault::Read);
     };
