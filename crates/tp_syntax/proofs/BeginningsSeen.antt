@@ -24,12 +24,12 @@ use Rattle.tp_syntax.specs.Ahead.{is_name_in, is_zero, token_at}
 use Rattle.tp_syntax.specs.Sequences.{braced}
 use Rattle.tp_syntax.specs.Statements.{send_lexemes, receive_lexemes, received_lexemes, operation_lexemes, control_lexemes, all_ports_lexemes, set_verdict_lexemes, port_operation_lexeme, action_lexemes, counted_lexemes, branches_lexemes, otherwise_lexemes}
 use Rattle.tp_syntax.specs.Grammar.{action_part}
-use Rattle.tp_syntax.specs.Nesting.{action_depth}
 use Rattle.tp_syntax.specs.Reading.{IsEndedOr, Stops, receive_word}
 use Rattle.tp_syntax.specs.Stuck.{StandAtLeast}
 use Rattle.tp_syntax.specs.HiddenTokens.{AllHidden, CouldBe, IsStuckInHidden}
+use Rattle.tp_syntax.proofs.TokensBeyond.{stuck_hidden}
 use Rattle.tp_syntax.proofs.FirstTokensSeen.{hidden_could}
-use Rattle.tp_syntax.proofs.StandingTokens.{read_as, seen_first, stands_hidden}
+use Rattle.tp_syntax.proofs.StandingTokens.{read_as, seen_first}
 use Rattle.tp_syntax.proofs.StatementParts.{Says, kind_beginning}
 use Rattle.tp_syntax.proofs.StatementReading.{Kind, sends, receives, controls, all_controls, sets, chooses, counts, kind_lexemes, IsRightKind, action_kind, counted_opens}
 
@@ -129,47 +129,47 @@ kind_seen hidden (counts x) more ps b says port could =
     one_seen hidden ps b begins.For (word w.For) o.0 refl says.for_loop (read_as o.1 could)
 
 -- what could come next where a statement begins so
-abbrev pub BegunSeen : ℕ → ℕ → List Lexeme → List Placed → Beginning → Type 0
-BegunSeen hidden left more ps begins.Send = (x : Send) × IsRightKind left more (sends x) × CouldBe hidden ps (send_lexemes x ++ more)
-BegunSeen hidden left more ps begins.Receive = (x : Receive) × IsRightKind left more (receives x) × CouldBe hidden ps (receive_lexemes x ++ more)
-BegunSeen hidden left more ps begins.Control = (x : Control) × CouldBe hidden ps (control_lexemes x ++ more)
-BegunSeen hidden left more ps begins.AllPorts = (x : PortOperation) × CouldBe hidden ps (all_ports_lexemes x ++ more)
-BegunSeen hidden left more ps begins.SetVerdict = (x : VerdictName) × (1 ≤ left) × CouldBe hidden ps (set_verdict_lexemes x ++ more)
-BegunSeen hidden left more ps begins.Alt =
-    (xs : List Branch) × (x : Option ElseBranch) × IsRightKind left more (chooses xs x)
+abbrev pub BegunSeen : ℕ → List Lexeme → List Placed → Beginning → Type 0
+BegunSeen hidden more ps begins.Send = (x : Send) × IsRightKind more (sends x) × CouldBe hidden ps (send_lexemes x ++ more)
+BegunSeen hidden more ps begins.Receive = (x : Receive) × IsRightKind more (receives x) × CouldBe hidden ps (receive_lexemes x ++ more)
+BegunSeen hidden more ps begins.Control = (x : Control) × CouldBe hidden ps (control_lexemes x ++ more)
+BegunSeen hidden more ps begins.AllPorts = (x : PortOperation) × CouldBe hidden ps (all_ports_lexemes x ++ more)
+BegunSeen hidden more ps begins.SetVerdict = (x : VerdictName) × CouldBe hidden ps (set_verdict_lexemes x ++ more)
+BegunSeen hidden more ps begins.Alt =
+    (xs : List Branch) × (x : Option ElseBranch) × IsRightKind more (chooses xs x)
     × CouldBe hidden ps ((word w.Alt ∷ braced (branches_lexemes xs ++ otherwise_lexemes x)) ++ more)
-BegunSeen hidden left more ps begins.For = (x : Counted) × IsRightKind left more (counts x) × CouldBe hidden ps (counted_lexemes x ++ more)
+BegunSeen hidden more ps begins.For = (x : Counted) × IsRightKind more (counts x) × CouldBe hidden ps (counted_lexemes x ++ more)
 
-begun_seen : (hidden left : ℕ) (more : List Lexeme) (ps : List Placed) (k : Kind) → IsRightKind left more k → CouldBe hidden ps (kind_lexemes k ++ more) →
-    BegunSeen hidden left more ps (kind_beginning k)
-begun_seen hidden left more ps (sends x) right could = (x, right, could)
-begun_seen hidden left more ps (receives x) right could = (x, right, could)
-begun_seen hidden left more ps (controls x) right could = (x, could)
-begun_seen hidden left more ps (all_controls x) right could = (x, could)
-begun_seen hidden left more ps (sets x) right could = (x, right, could)
-begun_seen hidden left more ps (chooses xs x) right could = (xs, x, right, could)
-begun_seen hidden left more ps (counts x) right could = (x, right, could)
+begun_seen : (hidden : ℕ) (more : List Lexeme) (ps : List Placed) (k : Kind) → IsRightKind more k → CouldBe hidden ps (kind_lexemes k ++ more) →
+    BegunSeen hidden more ps (kind_beginning k)
+begun_seen hidden more ps (sends x) right could = (x, right, could)
+begun_seen hidden more ps (receives x) right could = (x, right, could)
+begun_seen hidden more ps (controls x) right could = (x, could)
+begun_seen hidden more ps (all_controls x) right could = (x, could)
+begun_seen hidden more ps (sets x) right could = (x, could)
+begun_seen hidden more ps (chooses xs x) right could = (xs, x, right, could)
+begun_seen hidden more ps (counts x) right could = (x, right, could)
 
 -- what a statement does could come next of the kind that `beginning` tells, or what tells the other is hidden
-pub action_seen : (hidden left : ℕ) (x : Action) (more : List Lexeme) (ps : List Placed) (b kind : Beginning) → Says ps b →
+pub action_seen : (hidden : ℕ) (x : Action) (more : List Lexeme) (ps : List Placed) (b kind : Beginning) → Says ps b →
     (is_name_in (token_at ps 0) ≡ true → IsOfPort b) →
-    b ≡ kind → (action_part x).is_right ≡ true → action_depth x ≤ left → IsEndedOr (action_part x).is_ended (Stops more) →
-    CouldBe hidden ps (action_lexemes x ++ more) → IsUntold hidden ps kind ⊎ BegunSeen hidden left more ps kind
-action_seen hidden left x more ps b kind says port is right deep ends could =
-    let k = action_kind left x more (action_lexemes x ++ more) right deep ends refl in
-    let read = read_as k.2 could in
+    b ≡ kind → (action_part x).is_right ≡ true → IsEndedOr (action_part x).is_ended (Stops more) →
+    CouldBe hidden ps (action_lexemes x ++ more) → IsUntold hidden ps kind ⊎ BegunSeen hidden more ps kind
+action_seen hidden x more ps b kind says port is right ends could =
+    let k = action_kind x more right ends in
+    let read = read_as (ap (λ (l : List Lexeme). l ++ more) k.2) could in
     elim (kind_seen hidden k.0 more ps b says port read) [
       | inl untold ↦ inl (subst (IsUntold hidden ps) is untold)
-      | inr same ↦ inr (subst (BegunSeen hidden left more ps) (sym same ∙ is) (begun_seen hidden left more ps k.0 k.1 read))
+      | inr same ↦ inr (subst (BegunSeen hidden more ps) (sym same ∙ is) (begun_seen hidden more ps k.0 k.1 read))
     ]
 
 -- an operation on a port where another could come next is stuck at what is hidden
 pub port_stuck : (hidden : ℕ) (p : Parser) (e : Stuck) → IsCutInPort hidden p.rest.now → StandAtLeast 0 p e →
     (is_name_in (token_at p.rest.now 0) ≡ true → StandAtLeast 1 p e) →
     (is_name_in (token_at p.rest.now 0) ≡ true → token_at p.rest.now 1 ≡ Some (symbol Dot) → StandAtLeast 2 p e) → IsStuckInHidden hidden e
-port_stuck hidden p e (inl h) beyond named dotted = stands_hidden hidden 0 p e (omega arith) beyond
-port_stuck hidden p e (inr (is, inl h)) beyond named dotted = stands_hidden hidden 1 p e h (named is)
-port_stuck hidden p e (inr (is, inr (dot, h))) beyond named dotted = stands_hidden hidden 2 p e h (dotted is dot)
+port_stuck hidden p e (inl h) beyond named dotted = stuck_hidden hidden 0 p e (omega arith) beyond
+port_stuck hidden p e (inr (is, inl h)) beyond named dotted = stuck_hidden hidden 1 p e h (named is)
+port_stuck hidden p e (inr (is, inr (dot, h))) beyond named dotted = stuck_hidden hidden 2 p e h (dotted is dot)
 
 -- or what it leaves is hidden
 pub port_passed : (hidden : ℕ) (ps qs : List Placed) (more : List Lexeme) → IsCutInPort hidden ps → length qs ≤ length ps →

@@ -1,5 +1,5 @@
 -- Parameters, functions and definitions by what is seen of them.
-use Rattle.std.proofs.Common.{inl, inr, ◌⊎◌, ◌≡◌, ◌≢◌, ℕ, ◌+◌, ◌<◌, ◌≤◌, Bool, true, false, not, List, [], ◌∷◌, ◌++◌, Option, Some, map, length, refl, ap, sym, subst, ◌∙◌, append_assoc, string_bytes, arith}
+use Rattle.std.proofs.Common.{inl, inr, ◌⊎◌, ◌≡◌, ◌≢◌, ℕ, ◌+◌, ◌<◌, Bool, true, false, not, List, [], ◌∷◌, ◌++◌, Option, Some, map, length, refl, ap, sym, subst, ◌∙◌, append_assoc, string_bytes, arith}
 use Rattle.std.specs.List.{AllByRecursion}
 use Rattle.std.proofs.lemmas.Bool.{false≢true}
 use Rattle.tp_token.specs.declared.token.Placed.{Placed}
@@ -18,7 +18,6 @@ use Rattle.tp_syntax.specs.Statements.{variables_lexemes, statements_lexemes}
 use Rattle.tp_syntax.specs.Definitions.{parameters_lexemes, record_type_lexemes, list_type_lexemes, port_type_lexemes, component_type_lexemes, function_lexemes, test_case_lexemes, defined_lexemes, definitions_lexemes, module_lexemes}
 use Rattle.tp_syntax.specs.Grammar.{defined_part}
 use Rattle.tp_syntax.specs.HiddenTokens.{AllHidden, CouldBe}
-use Rattle.tp_syntax.specs.Nesting.{defined_depth}
 use Rattle.tp_syntax.specs.Reading.{first, is_type}
 use Rattle.tp_syntax.proofs.FirstTokensAhead.{at_2}
 use Rattle.tp_syntax.proofs.FirstTokensSeen.{hidden_could, none_left, next_seen, next_passed, absent_seen, absent_first}
@@ -54,28 +53,28 @@ uncut (inl c) = c
 uncut (inr h) = absurd (false≢true h.0)
 
 -- a definition of this kind could come next where `function` does, or all is hidden
-pub function_seen : (left hidden : ℕ) (x : Defined) (r : List Lexeme) (ps : List Placed) → (defined_part x).is_right ≡ true → defined_depth x ≤ left →
+pub function_seen : (hidden : ℕ) (x : Defined) (r : List Lexeme) (ps : List Placed) → (defined_part x).is_right ≡ true →
     CouldBe hidden ps (defined_lexemes x ++ r) → token_at ps 0 ≡ Some (word w.Function) →
-    ((t : Function) × ((defined_part (defined.Function t)).is_right ≡ true) × (defined_depth (defined.Function t) ≤ left) × CouldBe hidden ps (function_lexemes t ++ r)) ⊎ AllHidden hidden ps
+    ((t : Function) × ((defined_part (defined.Function t)).is_right ≡ true) × CouldBe hidden ps (function_lexemes t ++ r)) ⊎ AllHidden hidden ps
 unfolding defined_lexemes record_type_lexemes list_type_lexemes port_type_lexemes component_type_lexemes test_case_lexemes
-function_seen left hidden (defined.Record t) r ps right deep could at = inr (absent_seen hidden ps (word w.Type) _ refl could (λ other. cc (other, at)))
-function_seen left hidden (defined.List t) r ps right deep could at = inr (absent_seen hidden ps (word w.Type) _ refl could (λ other. cc (other, at)))
-function_seen left hidden (defined.Port t) r ps right deep could at = inr (absent_seen hidden ps (word w.Type) _ refl could (λ other. cc (other, at)))
-function_seen left hidden (defined.Component t) r ps right deep could at = inr (absent_seen hidden ps (word w.Type) _ refl could (λ other. cc (other, at)))
-function_seen left hidden (defined.Function t) r ps right deep could at = inl (t, right, deep, could)
-function_seen left hidden (defined.TestCase t) r ps right deep could at = inr (absent_seen hidden ps (word w.Testcase) _ refl could (λ other. cc (other, at)))
+function_seen hidden (defined.Record t) r ps right could at = inr (absent_seen hidden ps (word w.Type) _ refl could (λ other. cc (other, at)))
+function_seen hidden (defined.List t) r ps right could at = inr (absent_seen hidden ps (word w.Type) _ refl could (λ other. cc (other, at)))
+function_seen hidden (defined.Port t) r ps right could at = inr (absent_seen hidden ps (word w.Type) _ refl could (λ other. cc (other, at)))
+function_seen hidden (defined.Component t) r ps right could at = inr (absent_seen hidden ps (word w.Type) _ refl could (λ other. cc (other, at)))
+function_seen hidden (defined.Function t) r ps right could at = inl (t, right, could)
+function_seen hidden (defined.TestCase t) r ps right could at = inr (absent_seen hidden ps (word w.Testcase) _ refl could (λ other. cc (other, at)))
 
 -- the same where `testcase` does
-pub test_case_seen : (left hidden : ℕ) (x : Defined) (r : List Lexeme) (ps : List Placed) → (defined_part x).is_right ≡ true → defined_depth x ≤ left →
+pub test_case_seen : (hidden : ℕ) (x : Defined) (r : List Lexeme) (ps : List Placed) → (defined_part x).is_right ≡ true →
     CouldBe hidden ps (defined_lexemes x ++ r) → token_at ps 0 ≡ Some (word w.Testcase) →
-    ((t : TestCase) × ((defined_part (defined.TestCase t)).is_right ≡ true) × (defined_depth (defined.TestCase t) ≤ left) × CouldBe hidden ps (test_case_lexemes t ++ r)) ⊎ AllHidden hidden ps
+    ((t : TestCase) × ((defined_part (defined.TestCase t)).is_right ≡ true) × CouldBe hidden ps (test_case_lexemes t ++ r)) ⊎ AllHidden hidden ps
 unfolding defined_lexemes record_type_lexemes list_type_lexemes port_type_lexemes component_type_lexemes function_lexemes
-test_case_seen left hidden (defined.Record t) r ps right deep could at = inr (absent_seen hidden ps (word w.Type) _ refl could (λ other. cc (other, at)))
-test_case_seen left hidden (defined.List t) r ps right deep could at = inr (absent_seen hidden ps (word w.Type) _ refl could (λ other. cc (other, at)))
-test_case_seen left hidden (defined.Port t) r ps right deep could at = inr (absent_seen hidden ps (word w.Type) _ refl could (λ other. cc (other, at)))
-test_case_seen left hidden (defined.Component t) r ps right deep could at = inr (absent_seen hidden ps (word w.Type) _ refl could (λ other. cc (other, at)))
-test_case_seen left hidden (defined.Function t) r ps right deep could at = inr (absent_seen hidden ps (word w.Function) _ refl could (λ other. cc (other, at)))
-test_case_seen left hidden (defined.TestCase t) r ps right deep could at = inl (t, right, deep, could)
+test_case_seen hidden (defined.Record t) r ps right could at = inr (absent_seen hidden ps (word w.Type) _ refl could (λ other. cc (other, at)))
+test_case_seen hidden (defined.List t) r ps right could at = inr (absent_seen hidden ps (word w.Type) _ refl could (λ other. cc (other, at)))
+test_case_seen hidden (defined.Port t) r ps right could at = inr (absent_seen hidden ps (word w.Type) _ refl could (λ other. cc (other, at)))
+test_case_seen hidden (defined.Component t) r ps right could at = inr (absent_seen hidden ps (word w.Type) _ refl could (λ other. cc (other, at)))
+test_case_seen hidden (defined.Function t) r ps right could at = inr (absent_seen hidden ps (word w.Function) _ refl could (λ other. cc (other, at)))
+test_case_seen hidden (defined.TestCase t) r ps right could at = inl (t, right, could)
 
 -- where neither word comes next, a type could, or all is hidden
 pub type_seen : (hidden : ℕ) (x : Defined) (r : List Lexeme) (ps : List Placed) → CouldBe hidden ps (defined_lexemes x ++ r) → token_at ps 0 ≢ Some (word w.Function) →

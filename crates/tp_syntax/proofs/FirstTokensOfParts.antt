@@ -1,14 +1,11 @@
 -- With which tokens parts begin.
-use Rattle.std.proofs.Common.{inl, inr, ap, ◌≡◌, true, false, List, [], ◌∷◌, ◌++◌, Some, refl, string_bytes}
-use Rattle.tp_token.specs.declared.token.Symbol.TheVariants.{Assign, Dot, LeftParen, RightBrace, RightParen}
-use Rattle.tp_token.specs.declared.token.Placed.{Placed}
-use Rattle.tp_token.specs.declared.word.Word.TheVariants as w
-use Rattle.tp_token.specs.Lexeme.{Lexeme, name, word, symbol}
-use Rattle.tp_syntax.specs.Ahead.{ahead, is_name_in, starts_zero}
+use Rattle.std.proofs.Common.{◌≡◌, true, false, List, [], ◌∷◌, ◌++◌, Some, refl, string_bytes}
+use Rattle.tp_token.specs.declared.token.Symbol.TheVariants.{RightBrace, RightParen}
+use Rattle.tp_token.specs.Lexeme.{Lexeme, name, symbol}
+use Rattle.tp_syntax.specs.Ahead.{starts_zero}
 use Rattle.tp_tree.specs.declared.message.TypeName.{TypeName}
 use Rattle.tp_tree.specs.declared.message.TypeName.TheVariants as type_name
 use Rattle.tp_tree.specs.declared.tree.FieldType.{FieldType}
-use Rattle.tp_tree.specs.declared.tree.Parameter.{Parameter}
 use Rattle.tp_tree.specs.declared.tree.ComponentName.{ComponentName}
 use Rattle.tp_tree.specs.declared.tree.ComponentName.TheVariants as component_name
 use Rattle.tp_tree.specs.declared.tree.Way.{Way}
@@ -24,11 +21,10 @@ use Rattle.tp_tree.specs.declared.tree.Defined.{Defined}
 use Rattle.tp_tree.specs.declared.tree.Defined.TheVariants as defined
 use Rattle.tp_tree.specs.declared.tree.Definition.{Definition}
 use Rattle.tp_syntax.specs.Sequences.{end_lexemes}
-use Rattle.tp_syntax.specs.Definitions.{field_type_lexemes, parameter_lexemes, way_lexeme, direction_lexemes, port_declaration_lexemes, setup_action_lexemes, setup_lexemes, start_lexemes, record_type_lexemes, list_type_lexemes, port_type_lexemes, component_type_lexemes, function_lexemes, test_case_lexemes, defined_lexemes, definition_lexemes}
+use Rattle.tp_syntax.specs.Definitions.{field_type_lexemes, way_lexeme, direction_lexemes, port_declaration_lexemes, setup_action_lexemes, setup_lexemes, start_lexemes, record_type_lexemes, list_type_lexemes, port_type_lexemes, component_type_lexemes, function_lexemes, test_case_lexemes, defined_lexemes, definition_lexemes}
 use Rattle.tp_syntax.specs.Values.{type_lexemes}
 use Rattle.tp_syntax.specs.Statements.{component_lexemes, variable_lexemes}
-use Rattle.tp_syntax.specs.Reading.{BeginsSetup, IsStart, first}
-use Rattle.tp_syntax.proofs.FirstTokensAhead.{at_0, at_1, at_2, at_3}
+use Rattle.tp_syntax.specs.Reading.{first}
 use Rattle.tp_syntax.proofs.PartsLeftToRead.{is_begin}
 
 way_begins : (x : Way) → is_begin (Some (way_lexeme x)) ≡ true
@@ -89,32 +85,6 @@ setup_no_zero (setup_action.Map a b) r = refl
 pub definition_begins : (x : Definition) (r : List Lexeme) → is_begin (first (definition_lexemes x ++ r)) ≡ true
 definition_begins x r = defined_begins x.defined (end_lexemes x.has_semicolon) r
 
-setup_action_at : (x : SetupAction) (e r : List Lexeme) (ps : List Placed) → ahead ps ≡ (setup_action_lexemes x ++ e) ++ r → BeginsSetup ps
-unfolding setup_action_lexemes
-setup_action_at (setup_action.Create c) e r ps same =
-    inr (inr (
-      at_0 ps (word w.Var) _ same refl,
-      ap is_name_in (at_1 ps (word w.Var) (name (string_bytes c.type_name)) _ same refl refl),
-      ap is_name_in (at_2 ps (word w.Var) (name (string_bytes c.type_name)) (name (string_bytes c.name)) _ same refl refl refl),
-      at_3 ps (word w.Var) (name (string_bytes c.type_name)) (name (string_bytes c.name)) (symbol Assign) _ same refl refl refl refl,
-    ))
-setup_action_at (setup_action.Connect a b) e r ps same = inl (at_0 ps (word w.Connect) _ same refl)
-setup_action_at (setup_action.Map a b) e r ps same = inr (inl (at_0 ps (word w.Map) _ same refl))
-
--- a setup statement is read as one
-pub setup_at : (x : SetupStatement) (r : List Lexeme) (ps : List Placed) → ahead ps ≡ setup_lexemes x ++ r → BeginsSetup ps
-setup_at x r ps same = setup_action_at x.action (end_lexemes x.has_semicolon) r ps same
-
--- the start of a component is read as one
-pub start_at : (x : ComponentStart) (r : List Lexeme) (ps : List Placed) → ahead ps ≡ start_lexemes x ++ r → IsStart ps
-unfolding start_lexemes
-start_at x r ps same = (
-  ap is_name_in (at_0 ps (name (string_bytes x.component)) _ same refl),
-  at_1 ps (name (string_bytes x.component)) (symbol Dot) _ same refl refl,
-  at_2 ps (name (string_bytes x.component)) (symbol Dot) (word w.Start) _ same refl refl refl,
-  at_3 ps (name (string_bytes x.component)) (symbol Dot) (word w.Start) (symbol LeftParen) _ same refl refl refl refl,
-)
-
 type_no_brace : (x : TypeName) (e r : List Lexeme) → first ((type_lexemes x ++ e) ++ r) ≡ Some (symbol RightBrace) → ⊥
 type_no_brace type_name.Integer e r h = cc
 type_no_brace type_name.Boolean e r h = cc
@@ -123,9 +93,6 @@ type_no_brace (type_name.Named n) e r h = cc
 
 pub field_no_brace : (x : FieldType) (r : List Lexeme) → first (field_type_lexemes x ++ r) ≡ Some (symbol RightBrace) → ⊥
 field_no_brace x r h = type_no_brace x.type_name (name (string_bytes x.name.name) ∷ []) r h
-
-pub parameter_no_paren : (x : Parameter) (r : List Lexeme) → first (parameter_lexemes x ++ r) ≡ Some (symbol RightParen) → ⊥
-parameter_no_paren x r h = cc
 
 pub component_no_paren : (x : ComponentName) (r : List Lexeme) → first (component_lexemes x ++ r) ≡ Some (symbol RightParen) → ⊥
 component_no_paren (component_name.Named n) r h = cc

@@ -55,12 +55,6 @@ ahead_stands stand p left (Next n) passed h = omega arith
 ahead_stands stand p left (Passed n) passed h = omega arith
 ahead_stands stand p left Memory passed h = tt
 
--- stuck at the next token, behind so many
-pub place_stands : (stand : ℕ) (p q : Parser) (e : Stuck) → stand + length q.rest.now ≤ length p.rest.now → IsWrongBehind 0 q e → StandAtLeast stand p e
-place_stands stand p q (Next n) passed at = omega arith
-place_stands stand p q (Passed n) passed at = omega arith
-place_stands stand p q Memory passed at = absurd at
-
 -- stuck for want of memory
 pub memory_hidden : (hidden : ℕ) (e : Stuck) → IsForMemory e → IsStuckInHidden hidden e
 memory_hidden hidden (Next n) m = absurd m

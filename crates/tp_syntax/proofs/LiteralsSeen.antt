@@ -7,10 +7,12 @@ use Rattle.tp_token.specs.declared.token.Placed.{Placed}
 use Rattle.tp_token.specs.declared.word.Word.TheVariants as w
 use Rattle.tp_token.specs.declared.token.Symbol.TheVariants.{DotDot, Minus, RightParen}
 use Rattle.tp_token.specs.Lexeme.{Lexeme, name, word, number, text, symbol, lexeme_of}
+use Rattle.tp_syntax.specs.declared.stuck.Stuck.{Stuck}
+use Rattle.tp_syntax.specs.declared.stuck.Stuck.TheVariants.{Next, Passed, Memory}
 use Rattle.tp_syntax.specs.Ahead.{lexemes, is_number_in, minus_before, starts_zero, plain, token_at}
 use Rattle.tp_syntax.specs.Faults.{is_minus}
 use Rattle.tp_syntax.specs.Grammar.{is_64_bit, is_bound}
-use Rattle.tp_syntax.specs.HiddenTokens.{AgreeWhereSeen, AllHidden, CouldBe}
+use Rattle.tp_syntax.specs.HiddenTokens.{AgreeWhereSeen, AllHidden, CouldBe, IsStuckInHidden}
 use Rattle.tp_syntax.specs.Reading.{IsRange}
 use Rattle.tp_syntax.specs.Templates.{low_lexemes, high_lexemes}
 use Rattle.tp_syntax.specs.Values.{int_lexemes}
@@ -217,3 +219,13 @@ range_unseen hidden None ts ps right other could =
     (i.0, i.1, omega (arith, i.2), i.3)
 range_unseen hidden (Some z) ts [] right other could = all_before hidden 1 [] (none_could hidden [] _ refl could (some_int z (symbol DotDot ∷ ts)))
 range_unseen hidden (Some z) ts (p ∷ ps) right other could = number_unseen hidden z ts (p ∷ ps) ps (lexeme_of p.token) right refl (omega arith) refl refl refl other could
+
+-- a number that is too great is no integer
+pub too_great : (n : ℕ) → 9223372036854775808 ≤ n → is_64_bit (pos n) ≡ true → ⊥
+too_great n h is = grind (arith, nat_tests)
+
+-- stuck where nothing is hidden is stuck for want of memory alone
+pub nothing_hidden : (hidden : ℕ) (e : Stuck) → IsStuckInHidden 0 e → IsStuckInHidden hidden e
+nothing_hidden hidden (Next n) h = absurd (omega arith)
+nothing_hidden hidden (Passed n) h = absurd (omega arith)
+nothing_hidden hidden Memory h = tt

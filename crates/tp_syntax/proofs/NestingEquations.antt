@@ -1,6 +1,5 @@
 -- How deep the tree nests, an equation for each variant.
-use Rattle.std.proofs.Common.{◌≡◌, ◌≤◌, ◌+◌, max, ℕ, ℤ, Bool, List, [], ◌∷◌, ◌++◌, Option, Some, None, map, ap, sym, subst, ◌∙◌, arith}
-use Rattle.std.proofs.lemmas.List.{map_push}
+use Rattle.std.proofs.Common.{◌≡◌, ◌+◌, max, ℕ, ℤ, Bool, Option, Some, None, map, ap, sym, ◌∙◌}
 use Rattle.std.specs.declared.vec.Vec.{Vec}
 use Rattle.std.specs.declared.alloc.Global.{Global}
 use Rattle.std.specs.declared.string.String.{String}
@@ -21,10 +20,8 @@ use Rattle.tp_event.specs.declared.operation.PortOperation.{PortOperation}
 use Rattle.tp_tree.specs.declared.tree.VerdictName.{VerdictName}
 use Rattle.tp_tree.specs.declared.tree.Action.TheVariants as a
 use Rattle.tp_tree.specs.declared.tree.Action.TheOpen as oa
-use Rattle.tp_tree.specs.declared.tree.Action.TheFolds.{fold-roll-Action, fold-roll-BranchBody, fold-roll-Counted, fold-roll-ElseBranch, fold_out-Branch, fold_out-Counted, fold_out-ElseBranch, fold_out-Statement}
-use Rattle.tp_tree.specs.declared.tree.Action.TheViews.{roll-Counted, roll-ElseBranch}
+use Rattle.tp_tree.specs.declared.tree.Action.TheFolds.{fold-roll-Action, fold-roll-BranchBody, fold_out-Branch, fold_out-Counted, fold_out-ElseBranch, fold_out-Statement}
 use Rattle.tp_tree.specs.declared.tree.BranchBody.TheVariants as b
-use Rattle.tp_tree.specs.declared.tree.Turns.{Turns}
 use Rattle.tp_tree.specs.declared.tree.Branch.{Branch, out-Branch}
 use Rattle.tp_tree.specs.declared.tree.Counted.{Counted, out-Counted}
 use Rattle.tp_tree.specs.declared.tree.ElseBranch.{ElseBranch, out-ElseBranch}
@@ -226,44 +223,3 @@ pub statement_depth_out : (x : Statement) → statement_depth x ≡ action_depth
 unfolding statement_depth action_depth
 statement_depth_out x =
     fold_out-Statement ℕ ℕ ℕ ℕ ℕ ℕ action_depth_step body_depth_step branch_depth_step counted_depth_step else_depth_step statement_depth_step x
-
-pub counted_depth_made : (x : Turns) (ss : Vec Statement Global)
-    → counted_depth (roll-Counted (record { turns = x; block = ss })) ≡ statements_depth ss.items + 1
-unfolding counted_depth statement_depth
-counted_depth_made x ss =
-    fold-roll-Counted ℕ ℕ ℕ ℕ ℕ ℕ action_depth_step body_depth_step branch_depth_step counted_depth_step else_depth_step statement_depth_step
-    (record { turns = x; block = ss })
-
-pub else_branch_depth_made : (n : ℕ) (ss : Vec Statement Global) (e : Bool)
-    → else_branch_depth (roll-ElseBranch (record { line = n; block = ss; has_semicolon = e })) ≡ statements_depth ss.items + 1
-unfolding else_branch_depth statement_depth
-else_branch_depth_made n ss e =
-    fold-roll-ElseBranch ℕ ℕ ℕ ℕ ℕ ℕ action_depth_step body_depth_step branch_depth_step counted_depth_step else_depth_step statement_depth_step
-    (record { line = n; block = ss; has_semicolon = e })
-
--- how deep statements nest, variant by variant
-pub ruleset statement_nesting = (
-  action_depth_send,
-  action_depth_receive,
-  action_depth_control,
-  action_depth_all_ports,
-  action_depth_set_verdict,
-  action_depth_for,
-  action_depth_alt,
-  body_depth_nothing,
-  body_depth_block,
-  branch_depth_out,
-  counted_depth_out,
-  else_branch_depth_out,
-  statement_depth_out,
-)
-
-pub deepest_push : (ns : List ℕ) (n m : ℕ) → deepest ns ≤ m → n ≤ m → deepest (ns ++ n ∷ []) ≤ m
-deepest_push [] n m each here = omega (arith, here)
-deepest_push (k ∷ ns) n m each here =
-    let rest : deepest ns ≤ m = omega (arith, each) in
-    omega (arith, each, deepest_push ns n m rest here)
-
--- one more of a list
-pub push_nests : {A : Type 0} (f : A → ℕ) (xs : List A) (x : A) (m : ℕ) → deepest (map f xs) ≤ m → f x ≤ m → deepest (map f (xs ++ x ∷ [])) ≤ m
-push_nests f xs x m each here = subst (λ l. deepest l ≤ m) (sym (map_push f xs x)) (deepest_push (map f xs) (f x) m each here)

@@ -1,5 +1,5 @@
 -- Operations by what is seen of them.
-use Rattle.std.proofs.Common.{inl, inr, ◌⊎◌, ◌≡◌, ℕ, ◌+◌, ◌≤◌, pos, true, false, List, [], ◌∷◌, ◌++◌, Option, Some, None, append_assoc, refl, ap, sym, subst, ◌∙◌, arith, string_bytes}
+use Rattle.std.proofs.Common.{inl, inr, ◌⊎◌, ◌≡◌, ℕ, pos, true, false, List, [], ◌∷◌, ◌++◌, Option, Some, None, append_assoc, refl, ap, sym, subst, ◌∙◌, string_bytes}
 use Rattle.std.specs.declared.alloc.Global.{Global}
 use Rattle.std.specs.declared.string.String.{String}
 use Rattle.std.proofs.lemmas.Bool.{false≢true}
@@ -27,7 +27,6 @@ use Rattle.tp_syntax.specs.Ahead.{lexemes, is_name_in, token_at}
 use Rattle.tp_syntax.specs.Faults.{is_minus}
 use Rattle.tp_syntax.specs.Grammar.{is_sent, is_template, is_template_part, is_value}
 use Rattle.tp_syntax.specs.HiddenTokens.{AllHidden, CouldBe}
-use Rattle.tp_syntax.specs.Nesting.{operation_depth, part_depth, sent_depth, template_depth, value_depth}
 use Rattle.tp_syntax.specs.Reading.{first, ends_operation, MaybeName, Stops}
 use Rattle.tp_syntax.specs.Statements.{component_lexemes, from_lexemes, named_part, operation_lexemes, redirect_lexemes, redirect_parts, sent_lexemes, template_part, to_lexemes}
 use Rattle.tp_syntax.specs.Templates.{message_template_lexemes}
@@ -102,13 +101,13 @@ variable_unseen hidden n more (p ∷ ps) paren other could us =
     ]
 
 -- and elsewhere a message could be: the `)` behind a variable is hidden
-pub message_seen : (hidden left : ℕ) (x : SentExpression) (more : List Lexeme) (ps : List Placed) → is_sent x ≡ true → sent_depth x ≤ left →
+pub message_seen : (hidden : ℕ) (x : SentExpression) (more : List Lexeme) (ps : List Placed) → is_sent x ≡ true →
     first more ≡ Some (symbol RightParen) → ((is_name_in (token_at ps 0) ≡ true) × (token_at ps 1 ≡ Some (symbol RightParen)) → ⊥) →
     CouldBe hidden ps (sent_lexemes x ++ more) →
-    (m : Message) × (is_value m.value ≡ true) × (value_depth m.value ≤ left) × CouldBe hidden ps (message_lexemes m ++ more)
-message_seen hidden left (sent.Message m) more ps right deep paren other could = (m, right, deep, could)
-message_seen hidden left (sent.Variable n) more ps right deep paren other could =
-    (named_message n, values.zero_right, values.zero_deep left, variable_unseen hidden n more ps paren other could _)
+    (m : Message) × (is_value m.value ≡ true) × CouldBe hidden ps (message_lexemes m ++ more)
+message_seen hidden (sent.Message m) more ps right paren other could = (m, right, could)
+message_seen hidden (sent.Variable n) more ps right paren other could =
+    (named_message n, values.zero_right, variable_unseen hidden n more ps paren other could _)
 
 -- where no `to` comes next, no receivers could
 pub no_receivers : (hidden : ℕ) (x : Option Receivers) (more : List Lexeme) (ps : List Placed) → (token_at ps 0 ≡ Some (word w.To) → ⊥) →
@@ -132,20 +131,7 @@ receivers_seen hidden (Some (destination.Component c)) more ps rest e stops coul
 receivers_seen hidden (Some destination.AllComponents) more ps rest e stops could =
     (destination.AllComponents, next_passed hidden ps rest (word w.To) (word w.To) _ e refl could)
 
-all_hidden : (hidden : ℕ) (c : ComponentName) (more : List Lexeme) (ps rest : List Placed) → lexemes ps ≡ word w.All ∷ lexemes rest →
-    CouldBe hidden ps (component_lexemes c ++ more) → AllHidden hidden ps
-all_hidden hidden (component_name.Named n) more ps rest e could = next_other hidden ps rest (word w.All) (name (string_bytes n)) more e refl could (λ same. cc same)
-all_hidden hidden component_name.Mtc more ps rest e could = next_other hidden ps rest (word w.All) (word w.Mtc) more e refl could (λ same. cc same)
-all_hidden hidden component_name.SelfComponent more ps rest e could = next_other hidden ps rest (word w.All) (word w.SelfWord) more e refl could (λ same. cc same)
-
--- behind `all` there `component` could come next
-pub all_components_seen : (hidden : ℕ) (d : Receivers) (more : List Lexeme) (ps rest : List Placed) → lexemes ps ≡ word w.All ∷ lexemes rest →
-    CouldBe hidden ps (receivers_lexemes d ++ more) → CouldBe hidden rest (word w.Component ∷ more)
-all_components_seen hidden destination.AllComponents more ps rest e could = next_passed hidden ps rest (word w.All) (word w.All) _ e refl could
-all_components_seen hidden (destination.Component c) more ps rest e could =
-    hidden_could (shorter_hidden ps rest (word w.All) e (all_hidden hidden c more ps rest e could))
-
--- and without it a component could
+-- behind `to`, where no `all` comes next, a component could
 pub receiver_seen : (hidden : ℕ) (d : Receivers) (more : List Lexeme) (ps : List Placed) → (token_at ps 0 ≡ Some (word w.All) → ⊥) →
     CouldBe hidden ps (receivers_lexemes d ++ more) → (c : ComponentName) × CouldBe hidden ps (component_lexemes c ++ more)
 receiver_seen hidden (destination.Component c) more ps other could = (c, could)
@@ -169,16 +155,15 @@ left_paren_hidden hidden more (p ∷ ps) other at could =
     behind_hidden hidden more (p ∷ ps) ps (symbol LeftParen) (ap (λ (t : Lexeme). t ∷ lexemes ps) same) refl other could
 
 -- where a `(` comes next, a template could, or all is hidden
-pub template_seen : (hidden left : ℕ) (x : Option MessageTemplate) (more : List Lexeme) (ps : List Placed) → is_template_part x ≡ true → part_depth x ≤ left →
+pub template_seen : (hidden : ℕ) (x : Option MessageTemplate) (more : List Lexeme) (ps : List Placed) → is_template_part x ≡ true →
     (first more ≡ Some (symbol LeftParen) → ⊥) → token_at ps 0 ≡ Some (symbol LeftParen) → CouldBe hidden ps (template_part x ++ more) →
-    AllHidden hidden ps ⊎ ((m : MessageTemplate) × (is_template m.template ≡ true) × (template_depth m.template + 1 ≤ left)
+    AllHidden hidden ps ⊎ ((m : MessageTemplate) × (is_template m.template ≡ true)
     × CouldBe hidden ps (symbol LeftParen ∷ (message_template_lexemes m ++ symbol RightParen ∷ more)))
-template_seen hidden left None more ps right deep other at could = inl (left_paren_hidden hidden more ps other at could)
-template_seen hidden left (Some m) more ps right deep other at could =
+template_seen hidden None more ps right other at could = inl (left_paren_hidden hidden more ps other at could)
+template_seen hidden (Some m) more ps right other at could =
     inr (
       m,
       right,
-      deep,
       subst (λ (ts : List Lexeme). CouldBe hidden ps (symbol LeftParen ∷ ts)) (append_assoc (message_template_lexemes m) (symbol RightParen ∷ []) more) could,
     )
 
@@ -268,26 +253,17 @@ sender_no_paren None x more stops at =
     redirect_other x.value x.sender more (symbol LeftParen) (λ same. cc same) (stops_other more (symbol LeftParen) refl stops) at
 sender_no_paren (Some c) x more stops at = cc at
 
--- what a receiving operation holds may stand as deep as the operation
-pub part_fits : (k : ReceiveKind) (n left : ℕ) → operation_depth k n ≤ left → n ≤ left
-part_fits receive_kind.Receive n left deep = deep
-part_fits receive_kind.Trigger n left deep = deep
-part_fits receive_kind.Check n left deep = omega arith
-
 -- behind `check` its parentheses could come next, or all is hidden
-pub check_seen : (hidden left n : ℕ) (k : ReceiveKind) (ts more : List Lexeme) (ps rest : List Placed) → lexemes ps ≡ word w.Check ∷ lexemes rest →
-    operation_depth k n ≤ left → CouldBe hidden ps (operation_lexemes k ts ++ more) →
-    AllHidden hidden rest ⊎ ((n + 1 ≤ left) × CouldBe hidden rest (symbol LeftParen ∷ word w.Receive ∷ (ts ++ symbol RightParen ∷ more)))
-check_seen hidden left n receive_kind.Receive ts more ps rest e deep could =
+pub check_seen : (hidden : ℕ) (k : ReceiveKind) (ts more : List Lexeme) (ps rest : List Placed) → lexemes ps ≡ word w.Check ∷ lexemes rest →
+    CouldBe hidden ps (operation_lexemes k ts ++ more) →
+    AllHidden hidden rest ⊎ CouldBe hidden rest (symbol LeftParen ∷ word w.Receive ∷ (ts ++ symbol RightParen ∷ more))
+check_seen hidden receive_kind.Receive ts more ps rest e could =
     inl (shorter_hidden ps rest (word w.Check) e (next_other hidden ps rest (word w.Check) (word w.Receive) _ e refl could (λ same. cc same)))
-check_seen hidden left n receive_kind.Trigger ts more ps rest e deep could =
+check_seen hidden receive_kind.Trigger ts more ps rest e could =
     inl (shorter_hidden ps rest (word w.Check) e (next_other hidden ps rest (word w.Check) (word w.Trigger) _ e refl could (λ same. cc same)))
-check_seen hidden left n receive_kind.Check ts more ps rest e deep could =
-    inr (
-      deep,
-      subst (λ (us : List Lexeme). CouldBe hidden rest (symbol LeftParen ∷ word w.Receive ∷ us)) (append_assoc ts (symbol RightParen ∷ []) more)
-          (next_passed hidden ps rest (word w.Check) (word w.Check) _ e refl could),
-    )
+check_seen hidden receive_kind.Check ts more ps rest e could =
+    inr (subst (λ (us : List Lexeme). CouldBe hidden rest (symbol LeftParen ∷ word w.Receive ∷ us)) (append_assoc ts (symbol RightParen ∷ []) more)
+    (next_passed hidden ps rest (word w.Check) (word w.Check) _ e refl could))
 
 -- behind `trigger` what it holds could come next
 pub trigger_seen : (hidden : ℕ) (k : ReceiveKind) (ts more : List Lexeme) (ps rest : List Placed) → lexemes ps ≡ word w.Trigger ∷ lexemes rest →

@@ -1,5 +1,5 @@
 -- What is left of several parts, as a loop reads them where the front of a text alone is seen.
-use Rattle.std.proofs.Common.{inl, inr, ◌≡◌, ℕ, ◌≤◌, ◌<◌, Bool, true, List, [], ◌∷◌, ◌++◌, Some, map, length, refl, ap, sym, subst, ◌∙◌, append_assoc, arith}
+use Rattle.std.proofs.Common.{inl, inr, ◌≡◌, ℕ, ◌<◌, Bool, true, List, [], ◌∷◌, ◌++◌, Some, map, length, refl, ap, sym, subst, ◌∙◌, append_assoc, arith}
 use Rattle.std.specs.List.{AllByRecursion}
 use Rattle.std.proofs.lemmas.Bool.{false≢true}
 use Rattle.tp_token.specs.declared.token.Placed.{Placed}
@@ -8,7 +8,6 @@ use Rattle.tp_token.specs.Lexeme.{Lexeme, name, symbol, lexeme_of}
 use Rattle.tp_syntax.specs.Ahead.{ahead, lexemes, is_name_in, token_at}
 use Rattle.tp_syntax.specs.Grammar.{has_one, one_and_each}
 use Rattle.tp_syntax.specs.HiddenTokens.{AllHidden, CouldBe}
-use Rattle.tp_syntax.specs.Nesting.{deepest}
 use Rattle.tp_syntax.specs.Reading.{first, ends_operation, IsField, Stops}
 use Rattle.tp_syntax.specs.Sequences.{more_by_commas, by_commas}
 use Rattle.tp_syntax.proofs.FirstTokensAhead.{named, raw}
@@ -113,11 +112,10 @@ field_hidden f alone hidden xs more ps rest n e assign could =
       | inr a ↦ field_hidden_of f alone hidden xs more rest n a.0 a.1 assign a.2
     ]
 
--- one of several that are right, and no deeper than allowed
-pub some_item : {A : Type 0} (g : A → Bool) (d : A → ℕ) (m : ℕ) (xs : List A) → 0 < length xs → one_and_each (map g xs) ≡ true → deepest (map d xs) ≤ m →
-    (y : A) × (g y ≡ true) × (d y ≤ m)
-some_item g d m [] some right deep = absurd (omega arith)
-some_item g d m (x ∷ xs) some right deep = let all = one_right g d m (x ∷ xs) right deep in (x, all.0.0, all.0.1)
+-- one of several that are right
+pub some_item : {A : Type 0} (g : A → Bool) (xs : List A) → 0 < length xs → one_and_each (map g xs) ≡ true → (y : A) × (g y ≡ true)
+some_item g [] some right = absurd (omega arith)
+some_item g (x ∷ xs) some right = let all = one_right g (x ∷ xs) right in (x, all.0)
 
 -- a name and `:=` come next
 pub field_ahead : (ps : List Placed) → IsField ps → (n : List ℕ) × (rest : List Placed) × (ahead ps ≡ name n ∷ symbol Assign ∷ ahead rest)

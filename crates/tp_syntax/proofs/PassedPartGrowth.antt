@@ -100,10 +100,6 @@ one_push (c ∷ cs) b h is =
     let both = and_parts c (each cs) h in
     and_from c (each (cs ++ b ∷ [])) both.0 (each_push cs b both.1 is)
 
--- the first of several
-pub first_right : {A : Type 0} (f : A → Bool) (x : A) → f x ≡ true → one_and_each (map f (x ∷ [])) ≡ true
-first_right f x is = and_from (f x) true is refl
-
 -- one more of several
 pub push_right : {A : Type 0} (f : A → Bool) (xs : List A) (x : A) → one_and_each (map f xs) ≡ true → f x ≡ true → one_and_each (map f (xs ++ x ∷ [])) ≡ true
 push_right f xs x all is = subst (λ bs. one_and_each bs ≡ true) (sym (map_push f xs x)) (one_push (map f xs) (f x) all is)

@@ -7,34 +7,35 @@ use Rattle.tp_token.specs.declared.token.Symbol.TheVariants.{Comma, DotDot, Minu
 use Rattle.tp_token.specs.Lexeme.{Lexeme, word, number, symbol}
 use Rattle.tp_tree.specs.declared.message.Template.{Template}
 use Rattle.tp_tree.specs.declared.message.Template.TheVariants as v
-use Rattle.tp_syntax.specs.Ahead.{lexemes, token_at}
+use Rattle.tp_syntax.specs.Ahead.{is_number_in, lexemes, token_at}
 use Rattle.tp_syntax.specs.Grammar.{each, one_and_each, is_64_bit, is_template}
 use Rattle.tp_syntax.specs.HiddenTokens.{AllHidden, CouldBe}
-use Rattle.tp_syntax.specs.Nesting.{deepest, template_depth}
 use Rattle.tp_syntax.specs.Reading.{IsRange}
 use Rattle.tp_syntax.specs.Sequences.{by_commas, more_by_commas}
 use Rattle.tp_syntax.specs.Templates.{low_lexemes, high_lexemes, template_lexemes}
 use Rattle.tp_syntax.specs.Values.{int_lexemes}
 use Rattle.tp_syntax.proofs.GrammarEquations as grammar
-use Rattle.tp_syntax.proofs.NestingEquations as nesting
 use Rattle.tp_syntax.proofs.TemplateTokens as tokens
-use Rattle.tp_syntax.proofs.RangeReading.{number_of}
 use Rattle.tp_syntax.proofs.TemplateReading.{template_behind, template_minus}
 use Rattle.tp_syntax.proofs.FirstTokensSeen.{absent_seen, first_token, hidden_could, passed_before}
 use Rattle.tp_syntax.proofs.LiteralsSeen.{IntegerBefore, int_seen, minus_seen, token_rest}
 use Rattle.tp_syntax.proofs.PartsLeftSeen.{unbraced_seen}
 
+number_of : (o : Option Lexeme) → is_number_in o ≡ true → (n : ℕ) × (o ≡ Some (number n))
+number_of (Some (number n)) h = (n, refl)
+number_of o h = absurd (false≢true h)
+
 -- where a number or a `-` comes next, a template is an integer, or all is hidden
 abbrev pub IntegerSeen : ℕ → List Lexeme → List Placed → Type 0
 IntegerSeen hidden more ps = (z : ℤ) × (is_64_bit z ≡ true) × CouldBe hidden ps (int_lexemes z ++ more)
 
-number_first : (hidden left n : ℕ) (x : Template) (more : List Lexeme) (ps rest : List Placed) → lexemes ps ≡ number n ∷ lexemes rest → is_template x ≡ true → template_depth x ≤ left →
+number_first : (hidden n : ℕ) (x : Template) (more : List Lexeme) (ps rest : List Placed) → lexemes ps ≡ number n ∷ lexemes rest → is_template x ≡ true →
     CouldBe hidden ps (template_lexemes x ++ more) → IntegerSeen hidden more ps
-number_first hidden left n x more ps rest e right deep could =
+number_first hidden n x more ps rest e right could =
     elim (first_token [] hidden ps rest (number n) (template_lexemes x ++ more) e could) [
       | inl h ↦ (pos 0, refl, hidden_could h)
       | inr a ↦
-          let b = template_behind left x more (number n) _ right deep (sym a.1) in
+          let b = template_behind x more (number n) _ right (sym a.1) in
           (pos n, b.0, subst (λ (ts : List Lexeme). CouldBe hidden ps ts) (sym a.1 ∙ ap (λ (ts : List Lexeme). number n ∷ ts) b.1) could)
     ]
 
@@ -86,25 +87,24 @@ range_hidden hidden z xs more ps (inr (inr (is, dots))) could =
           inr (omega (arith, a.2))
     ]
 
-range_first : (hidden left : ℕ) (x : Template) (more : List Lexeme) (ps : List Placed) → IsRange ps → is_template x ≡ true → template_depth x ≤ left →
+range_first : (hidden : ℕ) (x : Template) (more : List Lexeme) (ps : List Placed) → IsRange ps → is_template x ≡ true →
     CouldBe hidden ps (template_lexemes x ++ more) → IntegerSeen hidden more ps
-range_first hidden left x more ps (inl (minus, infinity)) right deep could = let a = token_rest ps (symbol Minus) minus in minus_first hidden x more ps a.0 a.1 right could
-range_first hidden left x more ps (inr (inl (minus, is, dots))) right deep could = let a = token_rest ps (symbol Minus) minus in minus_first hidden x more ps a.0 a.1 right could
-range_first hidden left x more ps (inr (inr (is, dots))) right deep could =
+range_first hidden x more ps (inl (minus, infinity)) right could = let a = token_rest ps (symbol Minus) minus in minus_first hidden x more ps a.0 a.1 right could
+range_first hidden x more ps (inr (inl (minus, is, dots))) right could = let a = token_rest ps (symbol Minus) minus in minus_first hidden x more ps a.0 a.1 right could
+range_first hidden x more ps (inr (inr (is, dots))) right could =
     let n = number_of (token_at ps 0) is in
     let a = token_rest ps (number n.0) n.1 in
-    number_first hidden left n.0 x more ps a.0 a.1 right deep could
+    number_first hidden n.0 x more ps a.0 a.1 right could
 
 -- where a range comes next, and templates could, an integer could, and behind its first tokens all is hidden
-pub templates_unseen : (hidden left : ℕ) (xs : List Template) (more : List Lexeme) (ps : List Placed) → one_and_each (map is_template xs) ≡ true → deepest (map template_depth xs) ≤ left →
+pub templates_unseen : (hidden : ℕ) (xs : List Template) (more : List Lexeme) (ps : List Placed) → one_and_each (map is_template xs) ≡ true →
     IsRange ps → CouldBe hidden ps ((by_commas (map template_lexemes xs) ++ symbol RightParen ∷ []) ++ more) →
     (z : ℤ) × (is_64_bit z ≡ true) × (ts : List Lexeme) × CouldBe hidden ps (int_lexemes z ++ ts) × MinusOrHidden hidden ps
-templates_unseen hidden left [] more ps right deep is could = absurd (false≢true right)
-templates_unseen hidden left (x ∷ xs) more ps right deep is could =
+templates_unseen hidden [] more ps right is could = absurd (false≢true right)
+templates_unseen hidden (x ∷ xs) more ps right is could =
     let rest = more_by_commas (map template_lexemes xs) ++ symbol RightParen ∷ more in
     let here = and_parts (is_template x) (each (map is_template xs)) right in
-    let room : template_depth x ≤ left = omega arith in
-    let i = range_first hidden left x rest ps is here.0 room
+    let i = range_first hidden x rest ps is here.0
     (subst (λ (ts : List Lexeme). CouldBe hidden ps ts) (append_assoc (template_lexemes x) (more_by_commas (map template_lexemes xs)) (symbol RightParen ∷ more))
     (unbraced_seen hidden ps (by_commas (map template_lexemes (x ∷ xs))) more (symbol RightParen) could)) in
     (i.0, i.1, rest, i.2, range_hidden hidden i.0 xs more ps is i.2)
@@ -129,6 +129,3 @@ integer_alone hidden ps i =
 
 pub integer_right : (z : ℤ) → is_64_bit z ≡ true → one_and_each (map is_template (v.Int z ∷ [])) ≡ true
 integer_right z right = ap (λ b. b && true) (grammar.template_int z ∙ right)
-
-pub integer_deep : (z : ℤ) (left : ℕ) → deepest (map template_depth (v.Int z ∷ [])) ≤ left
-integer_deep z left = omega (arith, nesting.template_depth_int z)

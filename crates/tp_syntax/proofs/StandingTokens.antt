@@ -1,29 +1,15 @@
 -- How many tokens stand before the parser is stuck, where some were passed before, or are hidden.
-use Rattle.std.proofs.Common.{inl, inr, ◌⊎◌, ◌≡◌, ℕ, ◌+◌, ◌<◌, ◌≤◌, false, List, ◌∷◌, [], Some, length, refl, ap, subst, ◌∙◌, arith}
+use Rattle.std.proofs.Common.{inl, inr, ◌⊎◌, ◌≡◌, ℕ, ◌+◌, ◌≤◌, false, List, ◌∷◌, [], Some, length, refl, ap, subst, ◌∙◌, arith}
 use Rattle.tp_token.specs.declared.token.Placed.{Placed}
 use Rattle.tp_token.specs.Lexeme.{Lexeme, lexeme_of}
 use Rattle.tp_syntax.specs.declared.cursor.Parser.{Parser}
 use Rattle.tp_syntax.specs.declared.stuck.Stuck.{Stuck}
-use Rattle.tp_syntax.specs.declared.stuck.Stuck.TheVariants.{Next, Passed, Memory}
 use Rattle.tp_syntax.specs.Ahead.{ahead, is_zero, lexemes, token_at}
 use Rattle.tp_syntax.specs.Stuck.{StandAtLeast}
-use Rattle.tp_syntax.specs.HiddenTokens.{AllHidden, CouldBe, IsStuckInHidden}
+use Rattle.tp_syntax.specs.HiddenTokens.{AllHidden, CouldBe}
+use Rattle.tp_syntax.proofs.TokensBeyond.{beyond_stands}
 use Rattle.tp_syntax.proofs.FirstTokensAhead.{opened}
 use Rattle.tp_syntax.proofs.FirstTokensSeen.{next_seen, none_left}
-
--- where more tokens stand than are seen, the parser is stuck at what is hidden
-pub stands_hidden : (hidden stand : ℕ) (p : Parser) (e : Stuck) → length p.rest.now < stand + hidden → StandAtLeast stand p e → IsStuckInHidden hidden e
-stands_hidden hidden stand p (Next n) h at = omega arith
-stands_hidden hidden stand p (Passed n) h at = omega arith
-stands_hidden hidden stand p Memory h at = tt
-
--- behind tokens that were passed, those stand and these
-pub stands_behind : (stand before behind : ℕ) (p q : Parser) (e : Stuck) → stand ≤ before + behind → before + length q.rest.now ≤ length p.rest.now →
-    StandAtLeast behind q e →
-    StandAtLeast stand p e
-stands_behind stand before behind p q (Next n) sum passed at = omega arith
-stands_behind stand before behind p q (Passed n) sum passed at = omega arith
-stands_behind stand before behind p q Memory sum passed at = tt
 
 -- the second parser is the first one, or so many tokens at least were passed
 abbrev pub IsSameOrBeyond : ℕ → Parser → Parser → Type 0
@@ -33,7 +19,7 @@ IsSameOrBeyond stand p q = (q ≡ p) ⊎ (stand + length q.rest.now ≤ length p
 pub loop_stands : (stand : ℕ) (p q : Parser) (e : Stuck) → IsSameOrBeyond stand p q → (q ≡ p → StandAtLeast stand q e) → StandAtLeast 0 q e →
     StandAtLeast stand p e
 loop_stands stand p q e (inl same) at_first at = subst (λ (r : Parser). StandAtLeast stand r e) same (at_first same)
-loop_stands stand p q e (inr far) at_first at = stands_behind stand stand 0 p q e (omega arith) far at
+loop_stands stand p q e (inr far) at_first at = beyond_stands stand 0 p q e (omega arith) at
 
 -- one more turn of a loop: so many tokens are passed, since they are at first, or were before
 pub loop_passes : (stand : ℕ) (p q r : Parser) → IsSameOrBeyond stand p q → (q ≡ p → stand + length r.rest.now ≤ length q.rest.now) →

@@ -1,13 +1,10 @@
 -- A statement by the tokens that it begins with.
-use Rattle.std.proofs.Common.{inl, inr, ◌≡◌, ℕ, ◌+◌, ◌≤◌, max, Bool, true, false, List, [], ◌∷◌, ◌++◌, Option, Some, refl, ap, sym, subst, ◌∙◌, append_assoc}
+use Rattle.std.proofs.Common.{inl, inr, ◌≡◌, Bool, true, false, List, [], ◌∷◌, ◌++◌, Option, Some, refl, ap, sym, subst, ◌∙◌, append_assoc}
 use Rattle.std.specs.declared.vec.Vec.{Vec}
 use Rattle.std.specs.declared.alloc.Global.{Global}
 use Rattle.std.proofs.lemmas.Bool.{and_parts, false≢true}
-use Rattle.std.proofs.lemmas.List.{append_cancel_right}
-use Rattle.tp_token.specs.declared.token.Placed.{Placed}
 use Rattle.tp_token.specs.declared.word.Word.TheVariants as w
-use Rattle.tp_token.specs.declared.token.Symbol.TheVariants.{LeftBrace}
-use Rattle.tp_token.specs.Lexeme.{Lexeme, word, symbol}
+use Rattle.tp_token.specs.Lexeme.{Lexeme, word}
 use Rattle.tp_event.specs.declared.operation.PortOperation.{PortOperation}
 use Rattle.tp_tree.specs.declared.tree.Send.{Send}
 use Rattle.tp_tree.specs.declared.tree.Receive.{Receive}
@@ -23,16 +20,13 @@ use Rattle.tp_tree.specs.declared.tree.Branch.{Branch}
 use Rattle.tp_tree.specs.declared.tree.ElseBranch.{ElseBranch}
 use Rattle.tp_tree.specs.declared.tree.Counted.{Counted}
 use Rattle.tp_tree.specs.declared.tree.Statement.{Statement, out-Statement}
-use Rattle.tp_syntax.specs.Ahead.{ahead, starts_zero}
+use Rattle.tp_syntax.specs.Ahead.{starts_zero}
 use Rattle.tp_syntax.specs.Sequences.{braced, end_lexemes}
-use Rattle.tp_syntax.specs.Statements.{send_lexemes, receive_lexemes, control_lexemes, all_ports_lexemes, set_verdict_lexemes, for_lexemes, action_lexemes, body_lexemes, branch_lexemes, counted_lexemes, statement_lexemes, branches_lexemes, otherwise_lexemes}
-use Rattle.tp_syntax.specs.Grammar.{Part, are_parts, has_one, is_sent, is_template_part, action_part, body_part, counted_part, branches_parts, otherwise_parts}
-use Rattle.tp_syntax.specs.Nesting.{sent_depth, receive_depth, action_depth, counted_depth, branches_depth, otherwise_depth}
-use Rattle.tp_syntax.specs.Reading.{IsEndOf, IsEndedOr, Stops, first, is_end_ahead}
+use Rattle.tp_syntax.specs.Statements.{send_lexemes, receive_lexemes, control_lexemes, all_ports_lexemes, set_verdict_lexemes, for_lexemes, action_lexemes, branch_lexemes, counted_lexemes, statement_lexemes, branches_lexemes, otherwise_lexemes}
+use Rattle.tp_syntax.specs.Grammar.{Part, are_parts, has_one, is_sent, is_template_part, action_part, counted_part, branches_parts, otherwise_parts}
+use Rattle.tp_syntax.specs.Reading.{IsEndedOr, Stops, first}
 use Rattle.tp_syntax.proofs.StatementTokens as tokens
 use Rattle.tp_syntax.proofs.GrammarEquations as grammar
-use Rattle.tp_syntax.proofs.NestingEquations as nesting
-use Rattle.tp_syntax.proofs.FirstTokensAhead.{end_first}
 use Rattle.tp_syntax.proofs.PartsLeftToRead.{is_begin}
 
 -- a fact of what each statement does, variant by variant
@@ -85,53 +79,47 @@ kind_lexemes (sets x) = set_verdict_lexemes x
 kind_lexemes (chooses xs e) = word w.Alt ∷ braced (branches_lexemes xs ++ otherwise_lexemes e)
 kind_lexemes (counts x) = counted_lexemes x
 
--- it is as the grammar has it, and nests no deeper than allowed
-abbrev pub IsRightKind : ℕ → List Lexeme → Kind → Type 0
-IsRightKind left more (sends x) = (is_sent x.sent ≡ true) × (sent_depth x.sent + 1 ≤ left) × Stops more
-IsRightKind left more (receives x) = (is_template_part x.template ≡ true) × (receive_depth x ≤ left) × Stops more
-IsRightKind left more (controls x) = Unit {0}
-IsRightKind left more (all_controls x) = Unit {0}
-IsRightKind left more (sets x) = 1 ≤ left
-IsRightKind left more (chooses xs e) =
+-- it is as the grammar has it, and may stand there
+abbrev pub IsRightKind : List Lexeme → Kind → Type 0
+IsRightKind more (sends x) = (is_sent x.sent ≡ true) × Stops more
+IsRightKind more (receives x) = (is_template_part x.template ≡ true) × Stops more
+IsRightKind more (controls x) = Unit {0}
+IsRightKind more (all_controls x) = Unit {0}
+IsRightKind more (sets x) = Unit {0}
+IsRightKind more (chooses xs e) =
     (has_one (branches_parts xs ++ otherwise_parts e) ≡ true) × (are_parts (branches_parts xs ++ otherwise_parts e) ≡ true)
-    × (max (branches_depth xs) (otherwise_depth e) + 1 ≤ left)
-IsRightKind left more (counts x) = ((counted_part x).is_right ≡ true) × (counted_depth x ≤ left)
+IsRightKind more (counts x) = (counted_part x).is_right ≡ true
 
 not_ended : (p : Part) (more : List Lexeme) → p.is_ended ≡ false → IsEndedOr p.is_ended (Stops more) → Stops more
 not_ended p more e (inl ended) = absurd (false≢true (sym e ∙ ended))
 not_ended p more e (inr stops) = stops
 
 -- what a statement does is of a kind
-pub action_kind : (left : ℕ) (x : Action) (more ts : List Lexeme) → (action_part x).is_right ≡ true → action_depth x ≤ left →
-    IsEndedOr (action_part x).is_ended (Stops more) → ts ≡ action_lexemes x ++ more → (k : Kind) × IsRightKind left more k × (ts ≡ kind_lexemes k ++ more)
-action_kind left x more ts =
-    action_cases (λ x. (action_part x).is_right ≡ true → action_depth x ≤ left → IsEndedOr (action_part x).is_ended (Stops more) →
-    ts ≡ action_lexemes x ++ more → (k : Kind) × IsRightKind left more k × (ts ≡ kind_lexemes k ++ more)) (record {
-      send = λ x right deep ends e.
+pub action_kind : (x : Action) (more : List Lexeme) → (action_part x).is_right ≡ true → IsEndedOr (action_part x).is_ended (Stops more) →
+    (k : Kind) × IsRightKind more k × (action_lexemes x ≡ kind_lexemes k)
+action_kind x more =
+    action_cases (λ x. (action_part x).is_right ≡ true → IsEndedOr (action_part x).is_ended (Stops more) →
+    (k : Kind) × IsRightKind more k × (action_lexemes x ≡ kind_lexemes k)) (record {
+      send = λ x right ends.
           let part = grammar.action_send x in (
             sends x,
-            (sym (ap (λ (p : Part). p.is_right) part) ∙ right, rw nesting.action_depth_send at deep, not_ended (action_part (a.Send x)) more (ap (λ (p : Part). p.is_ended) part) ends),
-            e ∙ ap (λ (l : List Lexeme). l ++ more) (tokens.action_send x),
+            (sym (ap (λ (p : Part). p.is_right) part) ∙ right, not_ended (action_part (a.Send x)) more (ap (λ (p : Part). p.is_ended) part) ends),
+            tokens.action_send x,
           );
-      receive = λ x right deep ends e.
+      receive = λ x right ends.
           let part = grammar.action_receive x in (
             receives x,
-            (sym (ap (λ (p : Part). p.is_right) part) ∙ right, rw nesting.action_depth_receive at deep, not_ended (action_part (a.Receive x)) more (ap (λ (p : Part). p.is_ended) part) ends),
-            e ∙ ap (λ (l : List Lexeme). l ++ more) (tokens.action_receive x),
+            (sym (ap (λ (p : Part). p.is_right) part) ∙ right, not_ended (action_part (a.Receive x)) more (ap (λ (p : Part). p.is_ended) part) ends),
+            tokens.action_receive x,
           );
-      control = λ x right deep ends e. (controls x, tt, e ∙ ap (λ (l : List Lexeme). l ++ more) (tokens.action_control x));
-      all_ports = λ x right deep ends e. (all_controls x, tt, e ∙ ap (λ (l : List Lexeme). l ++ more) (tokens.action_all_ports x));
-      set_verdict = λ x right deep ends e.
-          (sets x, rw nesting.action_depth_set_verdict at deep, e ∙ ap (λ (l : List Lexeme). l ++ more) (tokens.action_set_verdict x));
-      alt = λ xs y right deep ends e.
+      control = λ x right ends. (controls x, tt, tokens.action_control x);
+      all_ports = λ x right ends. (all_controls x, tt, tokens.action_all_ports x);
+      set_verdict = λ x right ends. (sets x, tt, tokens.action_set_verdict x);
+      alt = λ xs y right ends.
           let both = and_parts (has_one (branches_parts xs.items ++ otherwise_parts y)) (are_parts (branches_parts xs.items ++ otherwise_parts y))
           (sym (ap (λ (p : Part). p.is_right) (grammar.action_alt xs y)) ∙ right) in
-          (chooses xs.items y, (both.0, both.1, rw nesting.action_depth_alt at deep), e ∙ ap (λ (l : List Lexeme). l ++ more) (tokens.action_alt xs y));
-      counted = λ x right deep ends e. (
-        counts x,
-        (sym (ap (λ (p : Part). p.is_right) (grammar.action_for x)) ∙ right, rw nesting.action_depth_for at deep),
-        e ∙ ap (λ (l : List Lexeme). l ++ more) (tokens.action_for x),
-      );
+          (chooses xs.items y, both, tokens.action_alt xs y);
+      counted = λ x right ends. (counts x, sym (ap (λ (p : Part). p.is_right) (grammar.action_for x)) ∙ right, tokens.action_for x);
     }) x
 
 pub counted_opens : (x : Counted) (r : List Lexeme) → (ts : List Lexeme) × (counted_lexemes x ++ r ≡ word w.For ∷ ts)
@@ -150,19 +138,6 @@ kind_begins (all_controls x) r = refl
 kind_begins (sets x) r = refl
 kind_begins (chooses xs e) r = refl
 kind_begins (counts x) r = ap is_begin (counted_first x r)
-
-for_goes : (b : Bool) (ts us : List Lexeme) → ts ≡ word w.For ∷ us → is_end_ahead b ts ≡ false
-for_goes b ts us e = ap (λ (t : List Lexeme). is_end_ahead b t) e
-
-kind_goes : (b : Bool) (k : Kind) (r : List Lexeme) → is_end_ahead b (kind_lexemes k ++ r) ≡ false
-unfolding send_lexemes receive_lexemes control_lexemes all_ports_lexemes set_verdict_lexemes
-kind_goes b (sends x) r = refl
-kind_goes b (receives x) r = refl
-kind_goes b (controls x) r = refl
-kind_goes b (all_controls x) r = refl
-kind_goes b (sets x) r = refl
-kind_goes b (chooses xs e) r = refl
-kind_goes b (counts x) r = let h = counted_opens x r in for_goes b _ h.0 h.1
 
 -- what a statement does, as its kind
 pub kind_of : (x : Action) → (k : Kind) × (action_lexemes x ≡ kind_lexemes k)
@@ -201,12 +176,6 @@ action_no_zero x r = let k = kind_of x in ap (λ (l : List Lexeme). starts_zero 
 pub statement_begins : (x : Statement) (r : List Lexeme) → is_begin (first (statement_lexemes x ++ r)) ≡ true
 statement_begins x r = let k = statement_kind x r in ap (λ (t : List Lexeme). is_begin (first t)) k.2 ∙ kind_begins k.0 k.1
 
--- where a statement comes next, the end of a block doesn't
-pub statement_goes : (b : Bool) (x : Statement) (r : List Lexeme) (ps : List Placed) → ahead ps ≡ statement_lexemes x ++ r → IsEndOf b ps → ⊥
-statement_goes b x r ps e ends =
-    let k = statement_kind x r in
-    false≢true (sym (ap (is_end_ahead b) (e ∙ k.2) ∙ kind_goes b k.0 k.1) ∙ end_first b ps ends)
-
 -- a branch begins with a `[`
 pub branch_begins : (x : Branch) (r : List Lexeme) → is_begin (first (branch_lexemes x ++ r)) ≡ true
 branch_begins x r = ap (λ (l : List Lexeme). is_begin (first (l ++ r))) (tokens.branch_out x)
@@ -231,30 +200,3 @@ kind_blocked x =
           ap (λ (p : Part). p.is_ended) (grammar.action_for x ∙ grammar.counted_out x)
           ∙ sym (ap (λ (l : List Lexeme). is_blocked (first (l ++ []))) (tokens.action_for x) ∙ ap is_blocked (counted_first x []));
     }) x
-
--- what has the same tokens ends in a block likewise
-pub same_ended : (x y : Action) (ts : List Lexeme) → action_lexemes x ++ ts ≡ action_lexemes y ++ ts → (action_part x).is_ended ≡ (action_part y).is_ended
-unfolding is_blocked
-same_ended x y ts e =
-    let same = append_cancel_right (action_lexemes x) (action_lexemes y) ts e in
-    kind_blocked x ∙ ap (λ (l : List Lexeme). is_blocked (first (l ++ []))) same ∙ sym (kind_blocked y)
-
--- whether tokens begin with a `{`
-is_braced : Option Lexeme → Bool
-is_braced (Some (symbol LeftBrace)) = true
-is_braced _ = false
-
-body_braced : (x : BranchBody) → (body_part x).is_ended ≡ is_braced (first (body_lexemes x ++ []))
-unfolding is_braced
-body_braced x =
-    body_cases (λ x. (body_part x).is_ended ≡ is_braced (first (body_lexemes x ++ [])))
-    (ap (λ (p : Part). p.is_ended) grammar.body_nothing ∙ sym (ap (λ (l : List Lexeme). is_braced (first (l ++ []))) tokens.body_nothing))
-    (λ ss. ap (λ (p : Part). p.is_ended) (grammar.body_block ss) ∙ sym (ap (λ (l : List Lexeme). is_braced (first (l ++ []))) (tokens.body_block ss)))
-    x
-
--- what has the same tokens is a block likewise
-pub same_braced : (x y : BranchBody) (ts : List Lexeme) → body_lexemes x ++ ts ≡ body_lexemes y ++ ts → (body_part x).is_ended ≡ (body_part y).is_ended
-unfolding is_braced
-same_braced x y ts e =
-    let same = append_cancel_right (body_lexemes x) (body_lexemes y) ts e in
-    body_braced x ∙ ap (λ (l : List Lexeme). is_braced (first (l ++ []))) same ∙ sym (body_braced y)

@@ -1,5 +1,5 @@
 -- What a statement, a branch or a block could be where the front of a text alone is seen.
-use Rattle.std.proofs.Common.{inl, inr, ◌⊎◌, ◌≡◌, ◌≢◌, ℕ, ◌+◌, ◌<◌, ◌≤◌, Bool, true, false, ◌||◌, List, [], ◌∷◌, ◌++◌, Option, Some, None, length, refl, ap, sym, subst, ◌∙◌, append_assoc, arith, string_bytes}
+use Rattle.std.proofs.Common.{inl, inr, ◌⊎◌, ◌≡◌, ◌≢◌, ℕ, ◌+◌, ◌<◌, Bool, true, false, ◌||◌, List, [], ◌∷◌, ◌++◌, Option, Some, None, length, refl, ap, sym, subst, ◌∙◌, append_assoc, arith, string_bytes}
 use Rattle.std.specs.Prelude.{is_some}
 use Rattle.std.proofs.lemmas.Bool.{and_parts, false≢true}
 use Rattle.tp_token.specs.declared.token.Placed.{Placed}
@@ -16,12 +16,10 @@ use Rattle.tp_syntax.specs.Ahead.{ahead, is_name_in, is_zero, lexemes, token_at}
 use Rattle.tp_syntax.specs.Sequences.{braced, end_lexemes}
 use Rattle.tp_syntax.specs.Statements.{send_lexemes, receive_lexemes, control_lexemes, all_ports_lexemes, set_verdict_lexemes, action_lexemes, body_lexemes, branch_lexemes, statement_lexemes, statements_lexemes, branches_lexemes, otherwise_lexemes}
 use Rattle.tp_syntax.specs.Grammar.{Part, are_parts, has_one, action_part, body_part, else_branch_part, statements_parts, branches_parts, otherwise_parts}
-use Rattle.tp_syntax.specs.Nesting.{body_depth, statements_depth, otherwise_depth}
 use Rattle.tp_syntax.specs.Reading.{AllStand, IsEndOf, IsEndedOr, MayStandBefore, first, is_branch_ahead, is_end_ahead, may_end_before}
 use Rattle.tp_syntax.specs.HiddenTokens.{AllHidden, CouldBe, IsCutAt}
 use Rattle.tp_syntax.proofs.StatementTokens as tokens
 use Rattle.tp_syntax.proofs.GrammarEquations as grammar
-use Rattle.tp_syntax.proofs.NestingEquations as nesting
 use Rattle.tp_syntax.proofs.FirstTokensAhead.{at_0, named}
 use Rattle.tp_syntax.proofs.FirstTokensSeen.{absent_first, absent_seen, front_seen, hidden_could, next_other, next_passed, next_seen}
 use Rattle.tp_syntax.proofs.PartsLeftToRead.{is_begin, no_brace}
@@ -96,11 +94,11 @@ action_same hidden x y us vs ps read could =
     ]
 
 -- so its `;` may be missing where it is
-pub statement_ends_seen : (hidden left : ℕ) (x : Statement) (more ts us : List Lexeme) (a : Action) (closed : Bool) (ps : List Placed) →
-    StatementGiven left x more ts → ahead ps ≡ action_lexemes a ++ us →
+pub statement_ends_seen : (hidden : ℕ) (x : Statement) (more us : List Lexeme) (a : Action) (closed : Bool) (ps : List Placed) →
+    StatementGiven x more → ahead ps ≡ action_lexemes a ++ us →
     CouldBe hidden ps (action_lexemes (out-Statement x).action ++ (end_lexemes (out-Statement x).has_semicolon ++ more)) → closed ≡ (action_part a).is_ended →
     AllHidden hidden ps ⊎ MayStandBefore (closed || (out-Statement x).has_semicolon) more
-statement_ends_seen hidden left x more ts us a closed ps g read could is =
+statement_ends_seen hidden x more us a closed ps g read could is =
     let s = out-Statement x in
     elim (action_same hidden s.action a us (end_lexemes s.has_semicolon ++ more) ps read could) [
       | inl h ↦ inl h
@@ -150,11 +148,11 @@ body_at x us ps =
     x
 
 -- the block that was read ends as the branch's does that could come next, so its `;` may be missing where it is, or all is hidden
-pub branch_ends_seen : (hidden left : ℕ) (x : Branch) (more ts us : List Lexeme) (y : BranchBody) (closed : Bool) (ps : List Placed) →
-    BranchGiven left x more ts → ahead ps ≡ body_lexemes y ++ us → (token_at ps 0 ≡ Some (symbol LeftBrace) → (body_part y).is_ended ≡ true) →
+pub branch_ends_seen : (hidden : ℕ) (x : Branch) (more us : List Lexeme) (y : BranchBody) (closed : Bool) (ps : List Placed) →
+    BranchGiven x more → ahead ps ≡ body_lexemes y ++ us → (token_at ps 0 ≡ Some (symbol LeftBrace) → (body_part y).is_ended ≡ true) →
     CouldBe hidden ps (body_lexemes (out-Branch x).body ++ (end_lexemes (out-Branch x).has_semicolon ++ more)) → closed ≡ (body_part y).is_ended →
     AllHidden hidden ps ⊎ MayStandBefore (closed || (out-Branch x).has_semicolon) more
-branch_ends_seen hidden left x more ts us y closed ps g read braced could is =
+branch_ends_seen hidden x more us y closed ps g read braced could is =
     let s = out-Branch x in
     elim (body_same_of hidden s.body (body_part y).is_ended (end_lexemes s.has_semicolon ++ more) ps (body_at y us ps read) braced g.body_ends could) [
       | inl h ↦ inl h
@@ -172,23 +170,20 @@ body_none_seen hidden x more ps =
     x
 
 -- where a `{` comes next, a block could, or all is hidden
-pub body_next_seen : (hidden left : ℕ) (x : BranchBody) (more : List Lexeme) (ps : List Placed) → (body_part x).is_right ≡ true → body_depth x ≤ left →
+pub body_next_seen : (hidden : ℕ) (x : BranchBody) (more : List Lexeme) (ps : List Placed) → (body_part x).is_right ≡ true →
     IsEndedOr (body_part x).is_ended (first more ≢ Some (symbol LeftBrace)) → token_at ps 0 ≡ Some (symbol LeftBrace) →
     CouldBe hidden ps (body_lexemes x ++ more) →
-    AllHidden hidden ps ⊎ ((ss : List Statement) × (are_parts (statements_parts ss) ≡ true) × (statements_depth ss + 1 ≤ left)
-    × CouldBe hidden ps (braced (statements_lexemes ss) ++ more))
-body_next_seen hidden left x more ps =
-    body_cases (λ x. (body_part x).is_right ≡ true → body_depth x ≤ left → IsEndedOr (body_part x).is_ended (first more ≢ Some (symbol LeftBrace)) →
+    AllHidden hidden ps ⊎ ((ss : List Statement) × (are_parts (statements_parts ss) ≡ true) × CouldBe hidden ps (braced (statements_lexemes ss) ++ more))
+body_next_seen hidden x more ps =
+    body_cases (λ x. (body_part x).is_right ≡ true → IsEndedOr (body_part x).is_ended (first more ≢ Some (symbol LeftBrace)) →
     token_at ps 0 ≡ Some (symbol LeftBrace) → CouldBe hidden ps (body_lexemes x ++ more) →
-    AllHidden hidden ps ⊎ ((ss : List Statement) × (are_parts (statements_parts ss) ≡ true) × (statements_depth ss + 1 ≤ left)
-    × CouldBe hidden ps (braced (statements_lexemes ss) ++ more)))
-    (λ right deep ends at could. inl (brace_hidden hidden _ more ps nothing_open ends at
+    AllHidden hidden ps ⊎ ((ss : List Statement) × (are_parts (statements_parts ss) ≡ true) × CouldBe hidden ps (braced (statements_lexemes ss) ++ more)))
+    (λ right ends at could. inl (brace_hidden hidden _ more ps nothing_open ends at
     (read_as (ap (λ (l : List Lexeme). l ++ more) tokens.body_nothing) could)))
-    (λ ss right deep ends at could.
+    (λ ss right ends at could.
     inr (
       ss.items,
       sym (ap (λ (p : Part). p.is_right) (grammar.body_block ss)) ∙ right,
-      rw nesting.body_depth_block at deep,
       read_as (ap (λ (l : List Lexeme). l ++ more) (tokens.body_block ss)) could,
     ))
     x
@@ -201,20 +196,18 @@ no_otherwise_seen hidden (Some x) more ps could other =
     hidden_could (absent_seen hidden ps (symbol LeftBracket) _ refl (read_as (else_opens x more) could) other)
 
 -- where a `[` comes next, `[else]` could, or all is hidden
-pub otherwise_next_seen : (hidden left : ℕ) (x : Option ElseBranch) (more : List Lexeme) (ps : List Placed) → AllStand (otherwise_parts x) more →
-    otherwise_depth x ≤ left →
+pub otherwise_next_seen : (hidden : ℕ) (x : Option ElseBranch) (more : List Lexeme) (ps : List Placed) → AllStand (otherwise_parts x) more →
     first more ≡ Some (symbol RightBrace) → token_at ps 0 ≡ Some (symbol LeftBracket) → CouldBe hidden ps (otherwise_lexemes x ++ more) →
-    AllHidden hidden ps ⊎ ((ss : List Statement) × (e : Bool) × (are_parts (statements_parts ss) ≡ true) × (statements_depth ss + 1 ≤ left)
+    AllHidden hidden ps ⊎ ((ss : List Statement) × (e : Bool) × (are_parts (statements_parts ss) ≡ true)
     × CouldBe hidden ps (symbol LeftBracket ∷ word w.Else ∷ symbol RightBracket ∷ (braced (statements_lexemes ss) ++ (end_lexemes e ++ more))))
-otherwise_next_seen hidden left None more ps stand deep brace at could =
+otherwise_next_seen hidden None more ps stand brace at could =
     inl (absent_first hidden ps (symbol RightBrace) more refl brace could (λ is. cc (at, is)))
-otherwise_next_seen hidden left (Some x) more ps stand deep brace at could =
+otherwise_next_seen hidden (Some x) more ps stand brace at could =
     let right = (and_parts (else_branch_part x).is_right (may_end_before (else_branch_part x).is_ended (first more)) stand).0 in
     inr (
       (out-ElseBranch x).block.items,
       (out-ElseBranch x).has_semicolon,
       sym (ap (λ (p : Part). p.is_right) (grammar.else_branch_out x)) ∙ right,
-      rw nesting.else_branch_depth_out at deep,
       read_as (else_opens x more) could,
     )
 

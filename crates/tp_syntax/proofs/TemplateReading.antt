@@ -1,11 +1,10 @@
 -- A template by the token that it begins with.
-use Rattle.std.proofs.Common.{inl, inr, ◌⊎◌, ◌≡◌, ℕ, suc, ◌+◌, ◌-◌, ◌≤◌, ℤ, pos, negsuc, Bool, true, false, List, [], ◌∷◌, ◌++◌, Option, Some, map, refl, ap, sym, subst, ◌∙◌, arith, string_bytes}
+use Rattle.std.proofs.Common.{inl, inr, ◌⊎◌, ◌≡◌, ℕ, suc, ℤ, pos, negsuc, Bool, true, false, List, [], ◌∷◌, ◌++◌, Option, Some, map, refl, ap, sym, subst, ◌∙◌, string_bytes}
 use Rattle.std.specs.List.{list_all}
 use Rattle.std.specs.declared.vec.Vec.{Vec}
 use Rattle.std.specs.declared.alloc.Global.{Global}
 use Rattle.std.specs.declared.string.String.{String}
 use Rattle.std.proofs.lemmas.Bool.{and_parts, false≢true}
-use Rattle.tp_token.specs.declared.token.Placed.{Placed}
 use Rattle.tp_token.specs.declared.word.Word.TheVariants as w
 use Rattle.tp_token.specs.declared.token.Symbol.TheVariants.{Assign, DotDot, LeftBrace, LeftParen, Minus, Question, RightBrace, RightParen, Star}
 use Rattle.tp_token.specs.Lexeme.{Lexeme, name, word, number, text, symbol}
@@ -14,32 +13,30 @@ use Rattle.tp_tree.specs.declared.message.Template.TheVariants as v
 use Rattle.tp_tree.specs.declared.message.Template.TheOpen as o
 use Rattle.tp_tree.specs.declared.message.Template.TheViews.{roll-Template, out-Template, roll-out-Template}
 use Rattle.tp_tree.specs.declared.message.TemplateField.{TemplateField, out-TemplateField}
-use Rattle.tp_syntax.specs.Ahead.{ahead, lexemes_from, plain}
+use Rattle.tp_syntax.specs.Ahead.{plain}
 use Rattle.tp_syntax.specs.Sequences.{by_commas, braced, parenthesised}
 use Rattle.tp_syntax.specs.Values.{int_lexemes, bool_lexeme}
 use Rattle.tp_syntax.specs.Templates.{low_lexemes, high_lexemes, template_lexemes, template_field_lexemes}
 use Rattle.tp_syntax.specs.Grammar.{each, one_and_each, is_bound, is_64_bit, is_plain, is_template, is_template_field}
-use Rattle.tp_syntax.specs.Nesting.{deepest, template_depth, template_field_depth}
 use Rattle.tp_syntax.specs.Reading.{first}
 use Rattle.tp_syntax.proofs.TemplateTokens as tokens
 use Rattle.tp_syntax.proofs.GrammarEquations as grammar
-use Rattle.tp_syntax.proofs.NestingEquations as nesting
 use Rattle.tp_syntax.proofs.FirstTokensOfLiterals.{sign_first, no_bool, no_int, no_bool_brace, int_unnamed, bool_unnamed, some_int}
 
 -- a fact of each template, variant by variant
-record Cases (Q : Template → Type 0) : Type 0 where
-  int : (z : ℤ) → Q (v.Int z)
-  bool : (b : Bool) → Q (v.Bool b)
-  characters : (t : Vec ℕ Global) → Q (v.Text t)
-  named : (n : String Global) → Q (v.Name n)
-  any : Q v.Any
-  any_or_none : Q v.AnyOrNone
-  one_of : (ts : Vec Template Global) → Q (v.OneOf ts)
-  complement : (ts : Vec Template Global) → Q (v.Complement ts)
-  range : (low high : Option ℤ) → Q (v.Range low high)
-  pattern : (t : Vec ℕ Global) → Q (v.Pattern t)
-  list : (ts : Vec Template Global) → Q (v.List ts)
-  fields : (fs : Vec TemplateField Global) → Q (v.Record fs)
+pub record Cases (Q : Template → Type 0) : Type 0 where
+  pub int : (z : ℤ) → Q (v.Int z)
+  pub bool : (b : Bool) → Q (v.Bool b)
+  pub characters : (t : Vec ℕ Global) → Q (v.Text t)
+  pub named : (n : String Global) → Q (v.Name n)
+  pub any : Q v.Any
+  pub any_or_none : Q v.AnyOrNone
+  pub one_of : (ts : Vec Template Global) → Q (v.OneOf ts)
+  pub complement : (ts : Vec Template Global) → Q (v.Complement ts)
+  pub range : (low high : Option ℤ) → Q (v.Range low high)
+  pub pattern : (t : Vec ℕ Global) → Q (v.Pattern t)
+  pub list : (ts : Vec Template Global) → Q (v.List ts)
+  pub fields : (fs : Vec TemplateField Global) → Q (v.Record fs)
 
 layer : (Q : Template → Type 0) → Cases Q → (y : o.Template-F Template TemplateField) → Q (roll-Template y)
 layer Q c (o.Int z) = subst Q (sym (v.rolls-Int z)) (c.int z)
@@ -55,105 +52,96 @@ layer Q c (o.Pattern x) = subst Q (sym (v.rolls-Pattern x)) (c.pattern x)
 layer Q c (o.List x) = subst Q (sym (v.rolls-List x)) (c.list x)
 layer Q c (o.Record x) = subst Q (sym (v.rolls-Record x)) (c.fields x)
 
-template_cases : (Q : Template → Type 0) → Cases Q → (x : Template) → Q x
+pub template_cases : (Q : Template → Type 0) → Cases Q → (x : Template) → Q x
 template_cases Q c x = subst Q (roll-out-Template x) (layer Q c (out-Template x))
 
 -- a range, or several templates, behind the `(`
-abbrev pub InParentheses : ℕ → List Lexeme → List Lexeme → Type 0
-InParentheses left more ts =
+abbrev pub InParentheses : List Lexeme → List Lexeme → Type 0
+InParentheses more ts =
     ((low : Option ℤ) × (high : Option ℤ) × (is_bound low ≡ true) × (is_bound high ≡ true)
     × (ts ≡ ((low_lexemes low ++ symbol DotDot ∷ high_lexemes high) ++ symbol RightParen ∷ []) ++ more))
-    ⊎ ((xs : List Template) × (one_and_each (map is_template xs) ≡ true) × (deepest (map template_depth xs) ≤ left)
+    ⊎ ((xs : List Template) × (one_and_each (map is_template xs) ≡ true)
     × (ts ≡ (by_commas (map template_lexemes xs) ++ symbol RightParen ∷ []) ++ more))
 
 -- several templates, or several fields, behind the `{`
-abbrev pub InBraces : ℕ → List Lexeme → List Lexeme → Type 0
-InBraces left more ts =
-    ((xs : List Template) × (each (map is_template xs) ≡ true) × (deepest (map template_depth xs) ≤ left)
+abbrev pub InBraces : List Lexeme → List Lexeme → Type 0
+InBraces more ts =
+    ((xs : List Template) × (each (map is_template xs) ≡ true)
     × (ts ≡ (by_commas (map template_lexemes xs) ++ symbol RightBrace ∷ []) ++ more))
-    ⊎ ((fs : List TemplateField) × (one_and_each (map is_template_field fs) ≡ true) × (deepest (map template_field_depth fs) ≤ left)
+    ⊎ ((fs : List TemplateField) × (one_and_each (map is_template_field fs) ≡ true)
     × (ts ≡ (by_commas (map template_field_lexemes fs) ++ symbol RightBrace ∷ []) ++ more))
 
--- what stands behind the first token of a template, in which so many brackets may be opened
-abbrev pub Behind : ℕ → List Lexeme → Lexeme → List Lexeme → Type 0
-Behind left more (number n) ts = (is_64_bit (pos n) ≡ true) × (ts ≡ more)
-Behind left more (word w.True) ts = ts ≡ more
-Behind left more (word w.False) ts = ts ≡ more
-Behind left more (text cs) ts = ts ≡ more
-Behind left more (name n) ts = ts ≡ more
-Behind left more (symbol Question) ts = ts ≡ more
-Behind left more (symbol Star) ts = ts ≡ more
-Behind left more (symbol Minus) ts = (n : ℕ) × (ts ≡ number (suc n) ∷ more)
-Behind left more (word w.Complement) ts =
-    (xs : List Template) × (one_and_each (map is_template xs) ≡ true) × (deepest (map template_depth xs) + 1 ≤ left)
+-- what stands behind the first token of a template
+abbrev pub Behind : List Lexeme → Lexeme → List Lexeme → Type 0
+Behind more (number n) ts = (is_64_bit (pos n) ≡ true) × (ts ≡ more)
+Behind more (word w.True) ts = ts ≡ more
+Behind more (word w.False) ts = ts ≡ more
+Behind more (text cs) ts = ts ≡ more
+Behind more (name n) ts = ts ≡ more
+Behind more (symbol Question) ts = ts ≡ more
+Behind more (symbol Star) ts = ts ≡ more
+Behind more (symbol Minus) ts = Unit {0}
+Behind more (word w.Complement) ts =
+    (xs : List Template) × (one_and_each (map is_template xs) ≡ true)
     × (ts ≡ parenthesised (by_commas (map template_lexemes xs)) ++ more)
-Behind left more (word w.Pattern) ts = (cs : List ℕ) × (list_all is_plain cs ≡ true) × (ts ≡ text cs ∷ more)
-Behind left more (symbol LeftParen) ts = (m : ℕ) × (left ≡ m + 1) × InParentheses m more ts
-Behind left more (symbol LeftBrace) ts = (m : ℕ) × (left ≡ m + 1) × InBraces m more ts
-Behind left more t ts = ⊥
+Behind more (word w.Pattern) ts = (cs : List ℕ) × (list_all is_plain cs ≡ true) × (ts ≡ text cs ∷ more)
+Behind more (symbol LeftParen) ts = InParentheses more ts
+Behind more (symbol LeftBrace) ts = InBraces more ts
+Behind more t ts = ⊥
 
-moved : (left : ℕ) (more : List Lexeme) (u t : Lexeme) (us ts : List Lexeme) → u ∷ us ≡ t ∷ ts → Behind left more u us → Behind left more t ts
-moved left more u t us ts e b =
+moved : (more : List Lexeme) (u t : Lexeme) (us ts : List Lexeme) → u ∷ us ≡ t ∷ ts → Behind more u us → Behind more t ts
+moved more u t us ts e b =
     let same : u ≡ t = cc in
     let rest : us ≡ ts = cc in
-    subst (λ x. Behind left more x ts) same (subst (λ (x : List Lexeme). Behind left more u x) rest b)
+    subst (λ x. Behind more x ts) same (subst (λ (x : List Lexeme). Behind more u x) rest b)
 
-int_behind : (left : ℕ) (more : List Lexeme) (z : ℤ) (t : Lexeme) (ts : List Lexeme) → is_64_bit z ≡ true → int_lexemes z ++ more ≡ t ∷ ts → Behind left more t ts
-int_behind left more (pos n) t ts right e = moved left more (number n) t more ts e (right, refl)
-int_behind left more (negsuc n) t ts right e = moved left more (symbol Minus) t (number (suc n) ∷ more) ts e (n, refl)
+int_behind : (more : List Lexeme) (z : ℤ) (t : Lexeme) (ts : List Lexeme) → is_64_bit z ≡ true → int_lexemes z ++ more ≡ t ∷ ts → Behind more t ts
+int_behind more (pos n) t ts right e = moved more (number n) t more ts e (right, refl)
+int_behind more (negsuc n) t ts right e = moved more (symbol Minus) t (number (suc n) ∷ more) ts e tt
 
-bool_behind : (left : ℕ) (more : List Lexeme) (b : Bool) (t : Lexeme) (ts : List Lexeme) → (bool_lexeme b ∷ []) ++ more ≡ t ∷ ts → Behind left more t ts
-bool_behind left more true t ts e = moved left more (word w.True) t more ts e refl
-bool_behind left more false t ts e = moved left more (word w.False) t more ts e refl
+bool_behind : (more : List Lexeme) (b : Bool) (t : Lexeme) (ts : List Lexeme) → (bool_lexeme b ∷ []) ++ more ≡ t ∷ ts → Behind more t ts
+bool_behind more true t ts e = moved more (word w.True) t more ts e refl
+bool_behind more false t ts e = moved more (word w.False) t more ts e refl
 
-brace_behind : (left n : ℕ) (more ls : List Lexeme) (t : Lexeme) (ts : List Lexeme) → n + 1 ≤ left → braced ls ++ more ≡ t ∷ ts →
-    ((m : ℕ) → n ≤ m → InBraces m more ((ls ++ symbol RightBrace ∷ []) ++ more)) → Behind left more t ts
-brace_behind left n more ls t ts deep e inside =
-    let room : left ≡ (left - 1) + 1 = omega arith in
-    let fits : n ≤ left - 1 = omega arith in
-    moved left more (symbol LeftBrace) t ((ls ++ symbol RightBrace ∷ []) ++ more) ts e (left - 1, room, inside (left - 1) fits)
+brace_behind : (more ls : List Lexeme) (t : Lexeme) (ts : List Lexeme) → braced ls ++ more ≡ t ∷ ts →
+    InBraces more ((ls ++ symbol RightBrace ∷ []) ++ more) → Behind more t ts
+brace_behind more ls t ts e inside = moved more (symbol LeftBrace) t ((ls ++ symbol RightBrace ∷ []) ++ more) ts e inside
 
-paren_behind : (left n : ℕ) (more ls : List Lexeme) (t : Lexeme) (ts : List Lexeme) → n + 1 ≤ left → parenthesised ls ++ more ≡ t ∷ ts →
-    ((m : ℕ) → n ≤ m → InParentheses m more ((ls ++ symbol RightParen ∷ []) ++ more)) → Behind left more t ts
-paren_behind left n more ls t ts deep e inside =
-    let room : left ≡ (left - 1) + 1 = omega arith in
-    let fits : n ≤ left - 1 = omega arith in
-    moved left more (symbol LeftParen) t ((ls ++ symbol RightParen ∷ []) ++ more) ts e (left - 1, room, inside (left - 1) fits)
+paren_behind : (more ls : List Lexeme) (t : Lexeme) (ts : List Lexeme) → parenthesised ls ++ more ≡ t ∷ ts →
+    InParentheses more ((ls ++ symbol RightParen ∷ []) ++ more) → Behind more t ts
+paren_behind more ls t ts e inside = moved more (symbol LeftParen) t ((ls ++ symbol RightParen ∷ []) ++ more) ts e inside
 
 -- a template by its first token
-pub template_behind : (left : ℕ) (x : Template) (more : List Lexeme) (t : Lexeme) (ts : List Lexeme) →
-    is_template x ≡ true → template_depth x ≤ left → template_lexemes x ++ more ≡ t ∷ ts → Behind left more t ts
-template_behind left x more t ts =
-    template_cases (λ x. is_template x ≡ true → template_depth x ≤ left → template_lexemes x ++ more ≡ t ∷ ts → Behind left more t ts) (record {
-      int = λ z right deep e. int_behind left more z t ts (sym (grammar.template_int z) ∙ right) (ap (λ (l : List Lexeme). l ++ more) (sym (tokens.template_int z)) ∙ e);
-      bool = λ b right deep e. bool_behind left more b t ts (ap (λ (l : List Lexeme). l ++ more) (sym (tokens.template_bool b)) ∙ e);
-      characters = λ cs right deep e. moved left more (text cs.items) t more ts (ap (λ (l : List Lexeme). l ++ more) (sym (tokens.template_text cs)) ∙ e) refl;
-      named = λ n right deep e. moved left more (name (string_bytes n)) t more ts (ap (λ (l : List Lexeme). l ++ more) (sym (tokens.template_name n)) ∙ e) refl;
-      any = λ right deep e. moved left more (symbol Question) t more ts (ap (λ (l : List Lexeme). l ++ more) (sym tokens.template_any) ∙ e) refl;
-      any_or_none = λ right deep e. moved left more (symbol Star) t more ts (ap (λ (l : List Lexeme). l ++ more) (sym tokens.template_any_or_none) ∙ e) refl;
-      one_of = λ xs right deep e.
-          paren_behind left (deepest (map template_depth xs.items)) more (by_commas (map template_lexemes xs.items)) t ts
-          (rw nesting.template_depth_one_of at deep) (ap (λ (l : List Lexeme). l ++ more) (sym (tokens.template_one_of xs)) ∙ e)
-          (λ m fits. inr (xs.items, sym (grammar.template_one_of xs) ∙ right, fits, refl));
-      complement = λ xs right deep e.
-          moved left more (word w.Complement) t (parenthesised (by_commas (map template_lexemes xs.items)) ++ more) ts (ap (λ (l : List Lexeme). l ++ more) (sym (tokens.template_complement xs)) ∙ e)
-          (xs.items, sym (grammar.template_complement xs) ∙ right, rw nesting.template_depth_complement at deep, refl);
-      range = λ low high right deep e.
+pub template_behind : (x : Template) (more : List Lexeme) (t : Lexeme) (ts : List Lexeme) →
+    is_template x ≡ true → template_lexemes x ++ more ≡ t ∷ ts → Behind more t ts
+template_behind x more t ts =
+    template_cases (λ x. is_template x ≡ true → template_lexemes x ++ more ≡ t ∷ ts → Behind more t ts) (record {
+      int = λ z right e. int_behind more z t ts (sym (grammar.template_int z) ∙ right) (ap (λ (l : List Lexeme). l ++ more) (sym (tokens.template_int z)) ∙ e);
+      bool = λ b right e. bool_behind more b t ts (ap (λ (l : List Lexeme). l ++ more) (sym (tokens.template_bool b)) ∙ e);
+      characters = λ cs right e. moved more (text cs.items) t more ts (ap (λ (l : List Lexeme). l ++ more) (sym (tokens.template_text cs)) ∙ e) refl;
+      named = λ n right e. moved more (name (string_bytes n)) t more ts (ap (λ (l : List Lexeme). l ++ more) (sym (tokens.template_name n)) ∙ e) refl;
+      any = λ right e. moved more (symbol Question) t more ts (ap (λ (l : List Lexeme). l ++ more) (sym tokens.template_any) ∙ e) refl;
+      any_or_none = λ right e. moved more (symbol Star) t more ts (ap (λ (l : List Lexeme). l ++ more) (sym tokens.template_any_or_none) ∙ e) refl;
+      one_of = λ xs right e.
+          paren_behind more (by_commas (map template_lexemes xs.items)) t ts (ap (λ (l : List Lexeme). l ++ more) (sym (tokens.template_one_of xs)) ∙ e)
+          (inr (xs.items, sym (grammar.template_one_of xs) ∙ right, refl));
+      complement = λ xs right e.
+          moved more (word w.Complement) t (parenthesised (by_commas (map template_lexemes xs.items)) ++ more) ts
+          (ap (λ (l : List Lexeme). l ++ more) (sym (tokens.template_complement xs)) ∙ e)
+          (xs.items, sym (grammar.template_complement xs) ∙ right, refl);
+      range = λ low high right e.
           let bounds = and_parts (is_bound low) (is_bound high) (sym (grammar.template_range low high) ∙ right) in
-          let room : 0 + 1 ≤ left = rw nesting.template_depth_range at deep in
-          paren_behind left 0 more (low_lexemes low ++ symbol DotDot ∷ high_lexemes high) t ts room (ap (λ (l : List Lexeme). l ++ more) (sym (tokens.template_range low high)) ∙ e)
-          (λ m fits. inl (low, high, bounds.0, bounds.1, refl));
-      pattern = λ cs right deep e.
-          moved left more (word w.Pattern) t (text cs.items ∷ more) ts (ap (λ (l : List Lexeme). l ++ more) (sym (tokens.template_pattern cs)) ∙ e)
+          paren_behind more (low_lexemes low ++ symbol DotDot ∷ high_lexemes high) t ts (ap (λ (l : List Lexeme). l ++ more) (sym (tokens.template_range low high)) ∙ e)
+          (inl (low, high, bounds.0, bounds.1, refl));
+      pattern = λ cs right e.
+          moved more (word w.Pattern) t (text cs.items ∷ more) ts (ap (λ (l : List Lexeme). l ++ more) (sym (tokens.template_pattern cs)) ∙ e)
           (cs.items, sym (grammar.template_pattern cs) ∙ right, refl);
-      list = λ xs right deep e.
-          brace_behind left (deepest (map template_depth xs.items)) more (by_commas (map template_lexemes xs.items)) t ts
-          (rw nesting.template_depth_list at deep) (ap (λ (l : List Lexeme). l ++ more) (sym (tokens.template_list xs)) ∙ e)
-          (λ m fits. inl (xs.items, sym (grammar.template_list xs) ∙ right, fits, refl));
-      fields = λ fs right deep e.
-          brace_behind left (deepest (map template_field_depth fs.items)) more (by_commas (map template_field_lexemes fs.items)) t ts
-          (rw nesting.template_depth_record at deep) (ap (λ (l : List Lexeme). l ++ more) (sym (tokens.template_record fs)) ∙ e)
-          (λ m fits. inr (fs.items, sym (grammar.template_record fs) ∙ right, fits, refl));
+      list = λ xs right e.
+          brace_behind more (by_commas (map template_lexemes xs.items)) t ts (ap (λ (l : List Lexeme). l ++ more) (sym (tokens.template_list xs)) ∙ e)
+          (inl (xs.items, sym (grammar.template_list xs) ∙ right, refl));
+      fields = λ fs right e.
+          brace_behind more (by_commas (map template_field_lexemes fs.items)) t ts (ap (λ (l : List Lexeme). l ++ more) (sym (tokens.template_record fs)) ∙ e)
+          (inr (fs.items, sym (grammar.template_record fs) ∙ right, refl));
     }) x
 
 -- behind a `-` stands a number, without its sign
@@ -215,9 +203,6 @@ pub template_field_opens : (f : TemplateField) (r : List Lexeme) →
     template_field_lexemes f ++ r ≡ name (string_bytes (out-TemplateField f).name) ∷ symbol Assign ∷ (template_lexemes (out-TemplateField f).template ++ r)
 template_field_opens f r = ap (λ (l : List Lexeme). l ++ r) (tokens.template_field_out f)
 
-pub template_field_starts : (y : TemplateField) (r : List Lexeme) → (n : List ℕ) × (ts : List Lexeme) × (template_field_lexemes y ++ r ≡ name n ∷ symbol Assign ∷ ts)
-template_field_starts y r = (_, _, template_field_opens y r)
-
 -- a field doesn't begin with a `}`
 pub template_field_no_brace : (y : TemplateField) (r : List Lexeme) → first (template_field_lexemes y ++ r) ≡ Some (symbol RightBrace) → ⊥
 template_field_no_brace y r e = cc (ap first (template_field_opens y r), e)
@@ -238,31 +223,20 @@ is_template_token (symbol Minus) = true
 is_template_token (symbol LeftBrace) = true
 is_template_token t = false
 
-pub behind_token : (left : ℕ) (more : List Lexeme) (t : Lexeme) (ts : List Lexeme) → Behind left more t ts → is_template_token t ≡ true
-behind_token left more (number n) ts b = refl
-behind_token left more (text cs) ts b = refl
-behind_token left more (name n) ts b = refl
-behind_token left more (word w.True) ts b = refl
-behind_token left more (word w.False) ts b = refl
-behind_token left more (word w.Complement) ts b = refl
-behind_token left more (word w.Pattern) ts b = refl
-behind_token left more (symbol Question) ts b = refl
-behind_token left more (symbol Star) ts b = refl
-behind_token left more (symbol LeftParen) ts b = refl
-behind_token left more (symbol Minus) ts b = refl
-behind_token left more (symbol LeftBrace) ts b = refl
-behind_token left more t ts b = absurd b
-
-token_of : (left : ℕ) (x : Template) (more : List Lexeme) (t : Lexeme) (ps : List Placed) → is_template x ≡ true → template_depth x ≤ left →
-    template_lexemes x ++ more ≡ lexemes_from t ps → is_template_token t ≡ true
-token_of left x more (symbol Minus) ps right deep e = refl
-token_of left x more (symbol s) ps right deep e = behind_token left more (symbol s) (ahead ps) (template_behind left x more (symbol s) (ahead ps) right deep e)
-token_of left x more t ps right deep e = behind_token left more t (ahead ps) (template_behind left x more t (ahead ps) right deep e)
-
--- the first token of a template is one that it may begin with
-pub template_token : (left : ℕ) (x : Template) (more : List Lexeme) (t : Lexeme) (ps : List Placed) → is_template x ≡ true → template_depth x ≤ left →
-    template_lexemes x ++ more ≡ lexemes_from t ps → is_template_token t ≡ true
-template_token left x more t ps right deep e = token_of left x more t ps right deep e
+pub behind_token : (more : List Lexeme) (t : Lexeme) (ts : List Lexeme) → Behind more t ts → is_template_token t ≡ true
+behind_token more (number n) ts b = refl
+behind_token more (text cs) ts b = refl
+behind_token more (name n) ts b = refl
+behind_token more (word w.True) ts b = refl
+behind_token more (word w.False) ts b = refl
+behind_token more (word w.Complement) ts b = refl
+behind_token more (word w.Pattern) ts b = refl
+behind_token more (symbol Question) ts b = refl
+behind_token more (symbol Star) ts b = refl
+behind_token more (symbol LeftParen) ts b = refl
+behind_token more (symbol Minus) ts b = refl
+behind_token more (symbol LeftBrace) ts b = refl
+behind_token more t ts b = absurd b
 
 -- a template has a token
 pub template_some : (x : Template) (more : List Lexeme) → template_lexemes x ++ more ≡ [] → ⊥

@@ -1,5 +1,5 @@
 -- A template by what is seen of it.
-use Rattle.std.proofs.Common.{inl, inr, ◌⊎◌, ◌≡◌, ℕ, ◌+◌, ◌≤◌, ℤ, pos, Bool, true, false, ◌&&◌, Option, None, List, [], ◌∷◌, ◌++◌, Some, map, length, append_assoc, refl, ap, sym, subst, ◌∙◌, arith, string_bytes}
+use Rattle.std.proofs.Common.{inl, inr, ◌⊎◌, ◌≡◌, ℕ, ◌≤◌, ℤ, pos, Bool, true, false, ◌&&◌, Option, None, List, [], ◌∷◌, ◌++◌, Some, map, length, append_assoc, refl, ap, sym, subst, ◌∙◌, arith, string_bytes}
 use Rattle.std.specs.declared.string.String.{String}
 use Rattle.std.specs.declared.alloc.Global.{Global}
 use Rattle.std.proofs.lemmas.Bool.{false≢true}
@@ -18,25 +18,23 @@ use Rattle.tp_syntax.specs.Values.{int_lexemes}
 use Rattle.tp_syntax.specs.Templates.{low_lexemes, high_lexemes, template_lexemes, template_field_lexemes}
 use Rattle.tp_syntax.specs.Grammar.{each, one_and_each, is_64_bit, is_bound, is_plain, is_template, is_template_field}
 use Rattle.tp_syntax.specs.HiddenTokens.{AllHidden, CouldBe}
-use Rattle.tp_syntax.specs.Nesting.{deepest, template_depth, template_field_depth}
 use Rattle.tp_syntax.specs.Reading.{IsField}
 use Rattle.std.proofs.lemmas.List.{length-map}
 use Rattle.tp_syntax.proofs.GrammarEquations as grammar
-use Rattle.tp_syntax.proofs.NestingEquations as nesting
 use Rattle.tp_syntax.proofs.TemplateTokens as tokens
 use Rattle.tp_syntax.proofs.PartsLeftSeen.{unbraced_seen, named_first, field_hidden}
-use Rattle.tp_syntax.proofs.BracedFieldsOrList.{too_great}
+use Rattle.tp_syntax.proofs.LiteralsSeen.{too_great}
 use Rattle.tp_syntax.proofs.FirstTokensSeen.{hidden_could, shorter_hidden, first_token, front_seen, next_seen, CouldBeSigned, absent_seen, none_could, could_cons}
 use Rattle.tp_syntax.proofs.TemplateReading.{Behind, template_behind, template_minus, is_template_token, behind_token, template_named, template_field_opens}
 
 -- the first token of a template, which is no `-`, is hidden, or these could stand behind it
-pub template_seen : (hidden left : ℕ) (x : Template) (more : List Lexeme) (ps rest : List Placed) (t : Lexeme) → lexemes ps ≡ t ∷ lexemes rest → is_minus t ≡ false →
-    is_template x ≡ true → template_depth x ≤ left → CouldBe hidden ps (template_lexemes x ++ more) →
-    AllHidden hidden ps ⊎ ((behind : List Lexeme) × Behind left more t behind × CouldBe hidden rest behind)
-template_seen hidden left x more ps rest t e m right deep could =
+pub template_seen : (hidden : ℕ) (x : Template) (more : List Lexeme) (ps rest : List Placed) (t : Lexeme) → lexemes ps ≡ t ∷ lexemes rest → is_minus t ≡ false →
+    is_template x ≡ true → CouldBe hidden ps (template_lexemes x ++ more) →
+    AllHidden hidden ps ⊎ ((behind : List Lexeme) × Behind more t behind × CouldBe hidden rest behind)
+template_seen hidden x more ps rest t e m right could =
     elim (front_seen hidden ps rest t (template_lexemes x ++ more) e m could) [
       | inl h ↦ inl h
-      | inr a ↦ inr (a.0, template_behind left x more t a.0 right deep a.1, a.2)
+      | inr a ↦ inr (a.0, template_behind x more t a.0 right a.1, a.2)
     ]
 
 -- whether it is a template alone
@@ -54,30 +52,30 @@ whole_sign : (t : Lexeme) → is_whole t ≡ true → is_minus t ≡ false
 whole_sign (symbol Minus) h = absurd (false≢true h)
 whole_sign t h = refl
 
-whole_behind : (left : ℕ) (more : List Lexeme) (t : Lexeme) (ts : List Lexeme) → is_whole t ≡ true → Behind left more t ts → ts ≡ more
-whole_behind left more (number n) ts h b = b.1
-whole_behind left more (text cs) ts h b = b
-whole_behind left more (name n) ts h b = b
-whole_behind left more (word w.True) ts h b = b
-whole_behind left more (word w.False) ts h b = b
-whole_behind left more (symbol Question) ts h b = b
-whole_behind left more (symbol Star) ts h b = b
-whole_behind left more t ts h b = absurd (false≢true h)
+whole_behind : (more : List Lexeme) (t : Lexeme) (ts : List Lexeme) → is_whole t ≡ true → Behind more t ts → ts ≡ more
+whole_behind more (number n) ts h b = b.1
+whole_behind more (text cs) ts h b = b
+whole_behind more (name n) ts h b = b
+whole_behind more (word w.True) ts h b = b
+whole_behind more (word w.False) ts h b = b
+whole_behind more (symbol Question) ts h b = b
+whole_behind more (symbol Star) ts h b = b
+whole_behind more t ts h b = absurd (false≢true h)
 
 -- behind a token that is a template alone the others could be
-pub template_whole : (hidden left : ℕ) (x : Template) (more : List Lexeme) (ps rest : List Placed) (t : Lexeme) → lexemes ps ≡ t ∷ lexemes rest → is_whole t ≡ true →
-    is_template x ≡ true → template_depth x ≤ left → CouldBe hidden ps (template_lexemes x ++ more) → CouldBe hidden rest more
-template_whole hidden left x more ps rest t e whole right deep could =
-    elim (template_seen hidden left x more ps rest t e (whole_sign t whole) right deep could) [
+pub template_whole : (hidden : ℕ) (x : Template) (more : List Lexeme) (ps rest : List Placed) (t : Lexeme) → lexemes ps ≡ t ∷ lexemes rest → is_whole t ≡ true →
+    is_template x ≡ true → CouldBe hidden ps (template_lexemes x ++ more) → CouldBe hidden rest more
+template_whole hidden x more ps rest t e whole right could =
+    elim (template_seen hidden x more ps rest t e (whole_sign t whole) right could) [
       | inl h ↦ hidden_could (shorter_hidden ps rest t e h)
-      | inr b ↦ subst (λ (ts : List Lexeme). CouldBe hidden rest ts) (whole_behind left more t b.0 whole b.1) b.2
+      | inr b ↦ subst (λ (ts : List Lexeme). CouldBe hidden rest ts) (whole_behind more t b.0 whole b.1) b.2
     ]
 
 -- a number that is too great for a template is hidden
-pub template_too_great : (hidden left n : ℕ) (x : Template) (more : List Lexeme) (ps rest : List Placed) → lexemes ps ≡ number n ∷ lexemes rest → 9223372036854775808 ≤ n →
-    is_template x ≡ true → template_depth x ≤ left → CouldBe hidden ps (template_lexemes x ++ more) → AllHidden hidden ps
-template_too_great hidden left n x more ps rest e great right deep could =
-    elim (template_seen hidden left x more ps rest (number n) e refl right deep could) [
+pub template_too_great : (hidden n : ℕ) (x : Template) (more : List Lexeme) (ps rest : List Placed) → lexemes ps ≡ number n ∷ lexemes rest → 9223372036854775808 ≤ n →
+    is_template x ≡ true → CouldBe hidden ps (template_lexemes x ++ more) → AllHidden hidden ps
+template_too_great hidden n x more ps rest e great right could =
+    elim (template_seen hidden x more ps rest (number n) e refl right could) [
       | inl h ↦ h
       | inr b ↦ absurd (too_great n great b.1.0)
     ]
@@ -93,31 +91,22 @@ template_signed hidden x more ps rest e right could =
     ]
 
 -- several templates in braces, or several fields, could stand behind the `{`
-abbrev pub InBracesSeen : ℕ → ℕ → List Lexeme → List Placed → Type 0
-InBracesSeen hidden left more ps =
-    ((vs : List Template) × (each (map is_template vs) ≡ true) × (deepest (map template_depth vs) ≤ left)
+abbrev pub InBracesSeen : ℕ → List Lexeme → List Placed → Type 0
+InBracesSeen hidden more ps =
+    ((vs : List Template) × (each (map is_template vs) ≡ true)
     × CouldBe hidden ps ((by_commas (map template_lexemes vs) ++ symbol RightBrace ∷ []) ++ more))
-    ⊎ ((fs : List TemplateField) × (one_and_each (map is_template_field fs) ≡ true) × (deepest (map template_field_depth fs) ≤ left)
+    ⊎ ((fs : List TemplateField) × (one_and_each (map is_template_field fs) ≡ true)
     × CouldBe hidden ps ((by_commas (map template_field_lexemes fs) ++ symbol RightBrace ∷ []) ++ more))
 
-pub template_braced : (hidden left inner : ℕ) (x : Template) (more : List Lexeme) (ps rest : List Placed) → lexemes ps ≡ symbol LeftBrace ∷ lexemes rest → inner + 1 ≡ left →
-    is_template x ≡ true → template_depth x ≤ left → CouldBe hidden ps (template_lexemes x ++ more) → InBracesSeen hidden inner more rest
-template_braced hidden left inner x more ps rest e room right deep could =
-    elim (template_seen hidden left x more ps rest (symbol LeftBrace) e refl right deep could) [
-      | inl h ↦ inl ([], refl, omega arith, hidden_could (shorter_hidden ps rest (symbol LeftBrace) e h))
-      | inr b ↦ elim b.1.2 [
-        | inl l ↦ inl (l.0, l.1, omega (arith, l.2, b.1.1), subst (λ (ts : List Lexeme). CouldBe hidden rest ts) l.3 b.2)
-        | inr l ↦ inr (l.0, l.1, omega (arith, l.2, b.1.1), subst (λ (ts : List Lexeme). CouldBe hidden rest ts) l.3 b.2)
+pub template_braced : (hidden : ℕ) (x : Template) (more : List Lexeme) (ps rest : List Placed) → lexemes ps ≡ symbol LeftBrace ∷ lexemes rest →
+    is_template x ≡ true → CouldBe hidden ps (template_lexemes x ++ more) → InBracesSeen hidden more rest
+template_braced hidden x more ps rest e right could =
+    elim (template_seen hidden x more ps rest (symbol LeftBrace) e refl right could) [
+      | inl h ↦ inl ([], refl, hidden_could (shorter_hidden ps rest (symbol LeftBrace) e h))
+      | inr b ↦ elim b.1 [
+        | inl l ↦ inl (l.0, l.1, subst (λ (ts : List Lexeme). CouldBe hidden rest ts) l.2 b.2)
+        | inr l ↦ inr (l.0, l.1, subst (λ (ts : List Lexeme). CouldBe hidden rest ts) l.2 b.2)
       ]
-    ]
-
--- a `{` behind which no bracket may be opened is hidden
-pub template_full : (hidden left : ℕ) (x : Template) (more : List Lexeme) (ps rest : List Placed) → lexemes ps ≡ symbol LeftBrace ∷ lexemes rest → left ≡ 0 →
-    is_template x ≡ true → template_depth x ≤ left → CouldBe hidden ps (template_lexemes x ++ more) → AllHidden hidden ps
-template_full hidden left x more ps rest e full right deep could =
-    elim (template_seen hidden left x more ps rest (symbol LeftBrace) e refl right deep could) [
-      | inl h ↦ h
-      | inr b ↦ absurd (omega (arith, b.1.1))
     ]
 
 no_sign : (t : Lexeme) → (is_template_token t ≡ true → ⊥) → is_minus t ≡ false
@@ -125,29 +114,26 @@ no_sign (symbol Minus) other = absurd (other refl)
 no_sign (symbol s) other = refl
 no_sign t other = refl
 
--- a token that no value begins with is hidden
-pub template_other : (hidden left : ℕ) (x : Template) (more : List Lexeme) (ps rest : List Placed) (t : Lexeme) → lexemes ps ≡ t ∷ lexemes rest → (is_template_token t ≡ true → ⊥) →
-    is_template x ≡ true → template_depth x ≤ left → CouldBe hidden ps (template_lexemes x ++ more) → AllHidden hidden ps
-template_other hidden left x more ps rest t e other right deep could =
-    elim (template_seen hidden left x more ps rest t e (no_sign t other) right deep could) [
+-- a token that no template begins with is hidden
+pub template_other : (hidden : ℕ) (x : Template) (more : List Lexeme) (ps rest : List Placed) (t : Lexeme) → lexemes ps ≡ t ∷ lexemes rest → (is_template_token t ≡ true → ⊥) →
+    is_template x ≡ true → CouldBe hidden ps (template_lexemes x ++ more) → AllHidden hidden ps
+template_other hidden x more ps rest t e other right could =
+    elim (template_seen hidden x more ps rest t e (no_sign t other) right could) [
       | inl h ↦ h
-      | inr b ↦ absurd (other (behind_token left more t b.0 b.1))
+      | inr b ↦ absurd (other (behind_token more t b.0 b.1))
     ]
 
 -- the number 0, as a template that may always stand there
 pub zero_right : is_template (v.Int (pos 0)) ≡ true
 zero_right = grammar.template_int (pos 0)
 
-pub zero_deep : (left : ℕ) → template_depth (v.Int (pos 0)) ≤ left
-zero_deep left = omega (arith, nesting.template_depth_int (pos 0))
-
 -- a list that isn't closed at once could begin with a template
-pub list_some : (hidden left : ℕ) (xs : List Template) (more : List Lexeme) (ps : List Placed) → each (map is_template xs) ≡ true → deepest (map template_depth xs) ≤ left →
+pub list_some : (hidden : ℕ) (xs : List Template) (more : List Lexeme) (ps : List Placed) → each (map is_template xs) ≡ true →
     (token_at ps 0 ≡ Some (symbol RightBrace) → ⊥) → CouldBe hidden ps ((by_commas (map template_lexemes xs) ++ symbol RightBrace ∷ []) ++ more) →
-    (ys : List Template) × (one_and_each (map is_template ys) ≡ true) × (deepest (map template_depth ys) ≤ left) × CouldBe hidden ps (by_commas (map template_lexemes ys) ++ symbol RightBrace ∷ more)
-list_some hidden left [] more ps right deep other could =
-    (v.Int (pos 0) ∷ [], ap (λ b. b && true) zero_right, omega (arith, zero_deep left), hidden_could (absent_seen hidden ps (symbol RightBrace) more refl could other))
-list_some hidden left (x ∷ xs) more ps right deep other could = (x ∷ xs, right, deep, unbraced_seen hidden ps (by_commas (map template_lexemes (x ∷ xs))) more (symbol RightBrace) could)
+    (ys : List Template) × (one_and_each (map is_template ys) ≡ true) × CouldBe hidden ps (by_commas (map template_lexemes ys) ++ symbol RightBrace ∷ more)
+list_some hidden [] more ps right other could =
+    (v.Int (pos 0) ∷ [], ap (λ b. b && true) zero_right, hidden_could (absent_seen hidden ps (symbol RightBrace) more refl could other))
+list_some hidden (x ∷ xs) more ps right other could = (x ∷ xs, right, unbraced_seen hidden ps (by_commas (map template_lexemes (x ∷ xs))) more (symbol RightBrace) could)
 
 record_front : (hidden : ℕ) (f : TemplateField) (us : List Lexeme) (ps : List Placed) → (IsField ps → ⊥) → CouldBe hidden ps (template_field_lexemes f ++ us) →
     (length ps ≤ hidden) × CouldBe hidden ps (by_commas (map template_lexemes (v.Name (out-TemplateField f).name ∷ [])) ++ symbol RightBrace ∷ [])
@@ -185,9 +171,6 @@ record_unseen hidden (f ∷ fs) more ps right other could =
 pub name_right : (n : String Global) → one_and_each (map is_template (v.Name n ∷ [])) ≡ true
 name_right n = ap (λ b. b && true) (grammar.template_name n)
 
-pub name_deep : (n : String Global) (left : ℕ) → deepest (map template_depth (v.Name n ∷ [])) ≤ left
-name_deep n left = omega (arith, nesting.template_depth_name n)
-
 -- where a list could come next, and a name and `:=` do, all is hidden but the name
 pub list_unseen : (hidden : ℕ) (xs : List Template) (more : List Lexeme) (ps : List Placed) → IsField ps →
     CouldBe hidden ps ((by_commas (map template_lexemes xs) ++ symbol RightBrace ∷ []) ++ more) → length ps ≤ hidden
@@ -200,50 +183,41 @@ list_unseen hidden xs more ps (is, assign) could =
     omega arith
 
 -- a range, or several templates, could stand behind the `(`
-abbrev pub InParenthesesSeen : ℕ → ℕ → List Lexeme → List Placed → Type 0
-InParenthesesSeen hidden left more ps =
+abbrev pub InParenthesesSeen : ℕ → List Lexeme → List Placed → Type 0
+InParenthesesSeen hidden more ps =
     ((low : Option ℤ) × (high : Option ℤ) × (is_bound low ≡ true) × (is_bound high ≡ true)
     × CouldBe hidden ps (((low_lexemes low ++ symbol DotDot ∷ high_lexemes high) ++ symbol RightParen ∷ []) ++ more))
-    ⊎ ((xs : List Template) × (one_and_each (map is_template xs) ≡ true) × (deepest (map template_depth xs) ≤ left)
+    ⊎ ((xs : List Template) × (one_and_each (map is_template xs) ≡ true)
     × CouldBe hidden ps ((by_commas (map template_lexemes xs) ++ symbol RightParen ∷ []) ++ more))
 
-pub template_in_parentheses : (hidden left inner : ℕ) (x : Template) (more : List Lexeme) (ps rest : List Placed) → lexemes ps ≡ symbol LeftParen ∷ lexemes rest → inner + 1 ≡ left →
-    is_template x ≡ true → template_depth x ≤ left → CouldBe hidden ps (template_lexemes x ++ more) → InParenthesesSeen hidden inner more rest
-template_in_parentheses hidden left inner x more ps rest e room right deep could =
-    elim (template_seen hidden left x more ps rest (symbol LeftParen) e refl right deep could) [
+pub template_in_parentheses : (hidden : ℕ) (x : Template) (more : List Lexeme) (ps rest : List Placed) → lexemes ps ≡ symbol LeftParen ∷ lexemes rest →
+    is_template x ≡ true → CouldBe hidden ps (template_lexemes x ++ more) → InParenthesesSeen hidden more rest
+template_in_parentheses hidden x more ps rest e right could =
+    elim (template_seen hidden x more ps rest (symbol LeftParen) e refl right could) [
       | inl h ↦ inl (None, None, refl, refl, hidden_could (shorter_hidden ps rest (symbol LeftParen) e h))
-      | inr b ↦ elim b.1.2 [
+      | inr b ↦ elim b.1 [
         | inl l ↦ inl (l.0, l.1, l.2, l.3, subst (λ (ts : List Lexeme). CouldBe hidden rest ts) l.4 b.2)
-        | inr l ↦ inr (l.0, l.1, omega (arith, l.2, b.1.1), subst (λ (ts : List Lexeme). CouldBe hidden rest ts) l.3 b.2)
+        | inr l ↦ inr (l.0, l.1, subst (λ (ts : List Lexeme). CouldBe hidden rest ts) l.2 b.2)
       ]
     ]
 
--- a `(` behind which no bracket may be opened is hidden
-pub template_parentheses_full : (hidden left : ℕ) (x : Template) (more : List Lexeme) (ps rest : List Placed) → lexemes ps ≡ symbol LeftParen ∷ lexemes rest → left ≡ 0 →
-    is_template x ≡ true → template_depth x ≤ left → CouldBe hidden ps (template_lexemes x ++ more) → AllHidden hidden ps
-template_parentheses_full hidden left x more ps rest e full right deep could =
-    elim (template_seen hidden left x more ps rest (symbol LeftParen) e refl right deep could) [
-      | inl h ↦ h
-      | inr b ↦ absurd (omega (arith, b.1.1))
-    ]
-
 -- behind `complement` templates in parentheses could stand, or all is hidden
-pub template_complement_seen : (hidden left : ℕ) (x : Template) (more : List Lexeme) (ps rest : List Placed) → lexemes ps ≡ word w.Complement ∷ lexemes rest →
-    is_template x ≡ true → template_depth x ≤ left → CouldBe hidden ps (template_lexemes x ++ more) →
-    AllHidden hidden rest ⊎ ((xs : List Template) × (one_and_each (map is_template xs) ≡ true) × (deepest (map template_depth xs) + 1 ≤ left)
+pub template_complement_seen : (hidden : ℕ) (x : Template) (more : List Lexeme) (ps rest : List Placed) → lexemes ps ≡ word w.Complement ∷ lexemes rest →
+    is_template x ≡ true → CouldBe hidden ps (template_lexemes x ++ more) →
+    AllHidden hidden rest ⊎ ((xs : List Template) × (one_and_each (map is_template xs) ≡ true)
     × CouldBe hidden rest (parenthesised (by_commas (map template_lexemes xs)) ++ more))
-template_complement_seen hidden left x more ps rest e right deep could =
-    elim (template_seen hidden left x more ps rest (word w.Complement) e refl right deep could) [
+template_complement_seen hidden x more ps rest e right could =
+    elim (template_seen hidden x more ps rest (word w.Complement) e refl right could) [
       | inl h ↦ inl (shorter_hidden ps rest (word w.Complement) e h)
-      | inr b ↦ inr (b.1.0, b.1.1, b.1.2, subst (λ (ts : List Lexeme). CouldBe hidden rest ts) b.1.3 b.2)
+      | inr b ↦ inr (b.1.0, b.1.1, subst (λ (ts : List Lexeme). CouldBe hidden rest ts) b.1.2 b.2)
     ]
 
 -- behind `pattern` a text with plain characters could stand
-pub template_pattern_seen : (hidden left : ℕ) (x : Template) (more : List Lexeme) (ps rest : List Placed) → lexemes ps ≡ word w.Pattern ∷ lexemes rest →
-    is_template x ≡ true → template_depth x ≤ left → CouldBe hidden ps (template_lexemes x ++ more) →
+pub template_pattern_seen : (hidden : ℕ) (x : Template) (more : List Lexeme) (ps rest : List Placed) → lexemes ps ≡ word w.Pattern ∷ lexemes rest →
+    is_template x ≡ true → CouldBe hidden ps (template_lexemes x ++ more) →
     (cs : List ℕ) × (list_all is_plain cs ≡ true) × CouldBe hidden rest (text cs ∷ more)
-template_pattern_seen hidden left x more ps rest e right deep could =
-    elim (template_seen hidden left x more ps rest (word w.Pattern) e refl right deep could) [
+template_pattern_seen hidden x more ps rest e right could =
+    elim (template_seen hidden x more ps rest (word w.Pattern) e refl right could) [
       | inl h ↦ ([], refl, hidden_could (shorter_hidden ps rest (word w.Pattern) e h))
       | inr b ↦ (b.1.0, b.1.1, subst (λ (ts : List Lexeme). CouldBe hidden rest ts) b.1.2 b.2)
     ]

@@ -10,9 +10,10 @@ use Rattle.tp_syntax.specs.declared.stuck.Stuck.{Stuck}
 use Rattle.tp_syntax.specs.Ahead.{ahead, is_name_in, token_at}
 use Rattle.tp_syntax.specs.HiddenTokens.{AllHidden, CouldBe, IsCutAt, IsCutCreation, IsCutStart, IsStuckInHidden}
 use Rattle.tp_syntax.specs.Stuck.{IsForMemory, StandAtLeast}
+use Rattle.tp_syntax.proofs.TokensBeyond.{stuck_hidden}
 use Rattle.tp_syntax.proofs.FirstTokensAhead.{named, raw}
 use Rattle.tp_syntax.proofs.FirstTokensSeen.{hidden_could, memory_hidden}
-use Rattle.tp_syntax.proofs.TestCasesSeen.{passed_hidden, stuck_hidden}
+use Rattle.tp_syntax.proofs.TestCasesSeen.{passed_hidden}
 
 -- behind the setup statements, the starts, the variables and the statements of a test case these could come next, or
 -- what was before them is cut

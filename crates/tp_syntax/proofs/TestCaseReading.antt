@@ -1,7 +1,6 @@
 -- What stands in the braces of a function and of a test case: where it may stand, and what comes next behind it.
-use Rattle.std.proofs.Common.{◌≡◌, ◌≢◌, ℕ, ◌≤◌, Bool, true, false, ◌&&◌, ◌||◌, List, [], ◌∷◌, ◌++◌, Option, Some, None, map, refl, ap, sym, subst, ◌∙◌, append_assoc, string_bytes}
+use Rattle.std.proofs.Common.{◌≡◌, ◌≢◌, ℕ, Bool, true, false, ◌&&◌, ◌||◌, List, [], ◌∷◌, ◌++◌, Option, Some, None, map, refl, ap, sym, subst, ◌∙◌, append_assoc, string_bytes}
 use Rattle.std.proofs.lemmas.Bool.{and_parts, false≢true}
-use Rattle.tp_token.specs.declared.token.Placed.{Placed}
 use Rattle.tp_token.specs.declared.word.Word.TheVariants as w
 use Rattle.tp_token.specs.declared.token.Symbol.TheVariants.{Assign, Dot, LeftParen, RightBrace, Semicolon}
 use Rattle.tp_token.specs.Lexeme.{Lexeme, name, word, symbol}
@@ -19,19 +18,15 @@ use Rattle.tp_tree.specs.declared.tree.ComponentStart.{ComponentStart}
 use Rattle.tp_tree.specs.declared.tree.AllDone.{AllDone}
 use Rattle.tp_tree.specs.declared.tree.Function.{Function}
 use Rattle.tp_tree.specs.declared.tree.TestCase.{TestCase}
-use Rattle.tp_tree.specs.declared.tree.Defined.{Defined}
 use Rattle.tp_tree.specs.declared.tree.Defined.TheVariants as defined
-use Rattle.tp_syntax.specs.Ahead.{ahead, token_at}
 use Rattle.tp_syntax.specs.Sequences.{end_lexemes}
 use Rattle.tp_syntax.specs.Values.{type_lexemes}
 use Rattle.tp_syntax.specs.Statements.{send_lexemes, receive_lexemes, received_lexemes, operation_lexemes, control_lexemes, all_ports_lexemes, set_verdict_lexemes, port_operation_lexeme, variable_lexemes, variables_lexemes, action_lexemes, statement_lexemes, statements_lexemes}
-use Rattle.tp_syntax.specs.Definitions.{record_type_lexemes, list_type_lexemes, port_type_lexemes, component_type_lexemes, function_lexemes, test_case_lexemes, defined_lexemes, start_lexemes, starts_lexemes, all_done_lexemes}
+use Rattle.tp_syntax.specs.Definitions.{start_lexemes, starts_lexemes, all_done_lexemes}
 use Rattle.tp_syntax.specs.Grammar.{Part, action_part, variable_part, statement_part, statements_parts, setup_part, start_part, all_done_parts, behaviour_parts, defined_part}
-use Rattle.tp_syntax.specs.Nesting.{defined_depth}
-use Rattle.tp_syntax.specs.Reading.{AllStand, IsPlaced, first, is_end_ahead, is_setup_ahead, is_start_ahead, is_type, may_end_before, may_all_stand}
+use Rattle.tp_syntax.specs.Reading.{AllStand, IsPlaced, first, is_end_ahead, is_setup_ahead, is_start_ahead, may_end_before, may_all_stand}
 use Rattle.tp_syntax.proofs.StatementTokens as tokens
 use Rattle.tp_syntax.proofs.GrammarEquations as grammar
-use Rattle.tp_syntax.proofs.FirstTokensAhead.{at_0}
 use Rattle.tp_syntax.proofs.PartsLeftToRead.{Follows, begin_stands, follows_all, is_begin, parts_stand, stand_before, stand_behind}
 use Rattle.tp_syntax.proofs.FirstTokensOfParts.{start_begins, variable_begins}
 use Rattle.tp_syntax.proofs.StatementReading.{Kind, sends, receives, controls, all_controls, sets, chooses, counts, kind_lexemes, action_cases, counted_opens, statement_begins, statement_kind}
@@ -279,57 +274,6 @@ pub case_no_start : (x : TestCase) (ts : List Lexeme) → CaseStands x ts → is
 case_no_start x ts stands =
     variables_no_start x.variables.items (behind_variables x ts)
     (statements_no_start x.statements.items (behind_statements x ts) stands.statements (done_no_start x.all_done ts))
-
--- whether tokens are those of a definition that ends in a `}`
-is_closed : List Lexeme → Bool
-is_closed (word w.Type ∷ word w.Record ∷ word w.Of ∷ ts) = false
-is_closed ts = true
-
-closed_by : (x : Defined) (ts : List Lexeme) → (defined_part x).is_ended ≡ is_closed (defined_lexemes x ++ ts)
-unfolding is_closed defined_lexemes record_type_lexemes list_type_lexemes port_type_lexemes component_type_lexemes function_lexemes test_case_lexemes
-closed_by (defined.Record t) ts = refl
-closed_by (defined.List t) ts = refl
-closed_by (defined.Port t) ts = refl
-closed_by (defined.Component t) ts = refl
-closed_by (defined.Function t) ts = refl
-closed_by (defined.TestCase t) ts = refl
-
--- what has the same tokens ends in a `}` likewise
-pub same_closed : (x y : Defined) (ts : List Lexeme) → defined_lexemes x ++ ts ≡ defined_lexemes y ++ ts → (defined_part x).is_ended ≡ (defined_part y).is_ended
-unfolding is_closed
-same_closed x y ts e = closed_by x ts ∙ ap is_closed e ∙ sym (closed_by y ts)
-
--- a definition of this kind begins with `function`, `testcase` or `type`
-pub function_of : (left : ℕ) (x : Defined) (r : List Lexeme) (ps : List Placed) → (defined_part x).is_right ≡ true → defined_depth x ≤ left → ahead ps ≡ defined_lexemes x ++ r →
-    token_at ps 0 ≡ Some (word w.Function) →
-    (t : Function) × ((defined_part (defined.Function t)).is_right ≡ true) × (defined_depth (defined.Function t) ≤ left) × (ahead ps ≡ function_lexemes t ++ r)
-unfolding defined_lexemes record_type_lexemes list_type_lexemes port_type_lexemes component_type_lexemes test_case_lexemes
-function_of left (defined.Record t) r ps right deep e at = let h = at_0 ps (word w.Type) _ e refl in absurd (cc (h, at))
-function_of left (defined.List t) r ps right deep e at = let h = at_0 ps (word w.Type) _ e refl in absurd (cc (h, at))
-function_of left (defined.Port t) r ps right deep e at = let h = at_0 ps (word w.Type) _ e refl in absurd (cc (h, at))
-function_of left (defined.Component t) r ps right deep e at = let h = at_0 ps (word w.Type) _ e refl in absurd (cc (h, at))
-function_of left (defined.Function t) r ps right deep e at = (t, right, deep, e)
-function_of left (defined.TestCase t) r ps right deep e at = let h = at_0 ps (word w.Testcase) _ e refl in absurd (cc (h, at))
-
-pub test_case_of : (left : ℕ) (x : Defined) (r : List Lexeme) (ps : List Placed) → (defined_part x).is_right ≡ true → defined_depth x ≤ left → ahead ps ≡ defined_lexemes x ++ r →
-    token_at ps 0 ≡ Some (word w.Testcase) →
-    (t : TestCase) × ((defined_part (defined.TestCase t)).is_right ≡ true) × (defined_depth (defined.TestCase t) ≤ left) × (ahead ps ≡ test_case_lexemes t ++ r)
-unfolding defined_lexemes record_type_lexemes list_type_lexemes port_type_lexemes component_type_lexemes function_lexemes
-test_case_of left (defined.Record t) r ps right deep e at = let h = at_0 ps (word w.Type) _ e refl in absurd (cc (h, at))
-test_case_of left (defined.List t) r ps right deep e at = let h = at_0 ps (word w.Type) _ e refl in absurd (cc (h, at))
-test_case_of left (defined.Port t) r ps right deep e at = let h = at_0 ps (word w.Type) _ e refl in absurd (cc (h, at))
-test_case_of left (defined.Component t) r ps right deep e at = let h = at_0 ps (word w.Type) _ e refl in absurd (cc (h, at))
-test_case_of left (defined.Function t) r ps right deep e at = let h = at_0 ps (word w.Function) _ e refl in absurd (cc (h, at))
-test_case_of left (defined.TestCase t) r ps right deep e at = (t, right, deep, e)
-
-pub type_of : (x : Defined) (r : List Lexeme) (ps : List Placed) → ahead ps ≡ defined_lexemes x ++ r → token_at ps 0 ≢ Some (word w.Function) → token_at ps 0 ≢ Some (word w.Testcase) → is_type x ≡ true
-unfolding defined_lexemes function_lexemes test_case_lexemes
-type_of (defined.Record t) r ps e function case = refl
-type_of (defined.List t) r ps e function case = refl
-type_of (defined.Port t) r ps e function case = refl
-type_of (defined.Component t) r ps e function case = refl
-type_of (defined.Function t) r ps e function case = absurd (function (at_0 ps (word w.Function) _ e refl))
-type_of (defined.TestCase t) r ps e function case = absurd (case (at_0 ps (word w.Testcase) _ e refl))
 
 -- what is ended may stand anywhere but before a `;`
 pub ended_stands : (t : Option Lexeme) → t ≢ Some (symbol Semicolon) → may_end_before true t ≡ true

@@ -17,7 +17,6 @@ use Rattle.tp_tree.specs.declared.tree.SetupAction.TheVariants as setup_action
 use Rattle.tp_tree.specs.declared.tree.SetupStatement.{SetupStatement}
 use Rattle.tp_syntax.specs.declared.cursor.Parser.{Parser}
 use Rattle.tp_syntax.specs.declared.stuck.Stuck.{Stuck}
-use Rattle.tp_syntax.specs.declared.stuck.Stuck.TheVariants.{Next, Passed, Memory}
 use Rattle.tp_syntax.specs.Ahead.{is_name_in, is_zero, lexemes, token_at}
 use Rattle.tp_syntax.specs.Definitions.{all_done_lexemes, arguments_lexemes, ends_lexemes, setup_action_lexemes, setup_lexemes, start_lexemes, system_lexemes}
 use Rattle.tp_syntax.specs.Faults.{is_minus}
@@ -26,7 +25,8 @@ use Rattle.tp_syntax.specs.HiddenTokens.{AllHidden, CouldBe, IsCutCreation, IsCu
 use Rattle.tp_syntax.specs.Reading.{AllStand, BeginsSetup, IsPlaced, IsStart, MayStandBefore, MaybeName, first, is_setup_ahead, is_start_ahead, may_end_before}
 use Rattle.tp_syntax.specs.Sequences.{end_lexemes, more_by_commas}
 use Rattle.tp_syntax.specs.Statements.{component_lexemes}
-use Rattle.tp_syntax.specs.Stuck.{IsStuckBehind, StandAtLeast}
+use Rattle.tp_syntax.specs.Stuck.{StandAtLeast}
+use Rattle.tp_syntax.proofs.TokensBeyond.{hidden_stuck, stuck_hidden}
 use Rattle.tp_syntax.proofs.FirstTokensAhead.{named}
 use Rattle.tp_syntax.proofs.FirstTokensOfParts.{component_no_paren}
 use Rattle.tp_syntax.proofs.FirstTokensSeen.{absent_first, absent_seen, front_seen, hidden_could, next_other, next_passed, next_seen, none_left, same_could, shorter_hidden}
@@ -37,36 +37,6 @@ use Rattle.tp_syntax.proofs.PartsLeftToRead.{all_any, is_begin}
 -- where less than one token more than so many is seen, and so many are passed, all is hidden
 pub passed_hidden : (hidden stand : ℕ) (ps qs : List Placed) → length ps < stand + hidden → stand + length qs ≤ length ps → AllHidden hidden qs
 passed_hidden hidden stand ps qs h passed = omega arith
-
--- the same where the parser is stuck behind so many
-pub stuck_hidden : (hidden stand : ℕ) (p : Parser) (e : Stuck) → length p.rest.now < stand + hidden → StandAtLeast stand p e → IsStuckInHidden hidden e
-stuck_hidden hidden stand p (Next n) h at = omega arith
-stuck_hidden hidden stand p (Passed n) h at = omega arith
-stuck_hidden hidden stand p Memory h at = tt
-
--- where all was hidden, the parser is stuck in what is hidden, since it never goes back
-pub hidden_stands : (hidden : ℕ) (p : Parser) (e : Stuck) → AllHidden hidden p.rest.now → StandAtLeast 0 p e → IsStuckInHidden hidden e
-hidden_stands hidden p (Next n) h at = omega arith
-hidden_stands hidden p (Passed n) h at = omega arith
-hidden_stands hidden p Memory h at = tt
-
--- so many were passed, and the parser isn't stuck before what is left behind them
-pub further_stands : (stand : ℕ) (p q : Parser) (e : Stuck) → stand + length q.rest.now ≤ length p.rest.now → StandAtLeast 0 q e → StandAtLeast stand p e
-further_stands stand p q (Next n) passed at = omega arith
-further_stands stand p q (Passed n) passed at = omega arith
-further_stands stand p q Memory passed at = tt
-
--- the parser is stuck at the next token, or for want of memory, behind so many
-pub stuck_stands : (stand : ℕ) (p q : Parser) (e : Stuck) → stand + length q.rest.now ≤ length p.rest.now → IsStuckBehind 0 q e → StandAtLeast stand p e
-stuck_stands stand p q (Next n) passed at = omega arith
-stuck_stands stand p q (Passed n) passed at = omega arith
-stuck_stands stand p q Memory passed at = tt
-
--- stuck at the next token, where all is hidden, or for want of memory
-pub hidden_stuck : (hidden : ℕ) (p : Parser) (e : Stuck) → IsStuckBehind 0 p e → AllHidden hidden p.rest.now → IsStuckInHidden hidden e
-hidden_stuck hidden p (Next n) place h = omega arith
-hidden_stuck hidden p (Passed n) place h = omega arith
-hidden_stuck hidden p Memory place h = tt
 
 -- this token comes next, and the others could come behind it
 pub record OpensSeen (hidden : ℕ) (ps : List Placed) (u : Lexeme) (us : List Lexeme) : Type 0 where
@@ -205,7 +175,7 @@ pub setup_stuck : (hidden : ℕ) (more : List Lexeme) (p : Parser) (e : Stuck) �
     CouldBe hidden p.rest.now more → IsStuckInHidden hidden e
 setup_stuck hidden more p e begins other at beyond could =
     elim (setup_hidden hidden more p.rest.now begins other could) [
-      | inl h ↦ hidden_stands hidden p e h at
+      | inl h ↦ hidden_stuck hidden p e h at
       | inr a ↦ stuck_hidden hidden 3 p e a.3 (beyond a.0 a.1 a.2)
     ]
 
@@ -281,7 +251,7 @@ pub start_stuck : (hidden : ℕ) (more : List Lexeme) (p : Parser) (e : Stuck) �
     CouldBe hidden p.rest.now more → IsStuckInHidden hidden e
 start_stuck hidden more p e begins other at beyond could =
     elim (start_hidden hidden more p.rest.now begins other could) [
-      | inl h ↦ hidden_stands hidden p e h at
+      | inl h ↦ hidden_stuck hidden p e h at
       | inr a ↦ stuck_hidden hidden 3 p e a.3 (beyond a.0 a.1 a.2)
     ]
 

@@ -1,11 +1,11 @@
 -- How a text goes on behind a token within the limits.
-use Rattle.std.proofs.Common.{◌≡◌, ℕ, ◌+◌, ◌<◌, ◌≤◌, Bool, false, List, [], ◌∷◌, ◌++◌, map, length, drop, get_or, refl, ap, sym, subst, ◌∙◌, append_assoc, arith}
+use Rattle.std.proofs.Common.{◌≡◌, ℕ, ◌+◌, ◌<◌, ◌≤◌, Bool, false, List, [], ◌∷◌, ◌++◌, Option, map, length, drop, get_or, refl, ap, sym, subst, ◌∙◌, append_assoc, append-nil, arith}
 use Rattle.std.proofs.lemmas.List.{drop_all, drop_more, length_push}
 use Rattle.tp_token.specs.declared.token.Placed.{Placed}
 use Rattle.tp_token.specs.Lexeme.{Lexeme, name, word, number, text, symbol, PlacedLexeme, lexeme_of, placed_lexeme}
 use Rattle.tp_syntax.specs.declared.faults.Bracket.{Bracket}
 use Rattle.tp_syntax.specs.declared.faults.Bracket.TheVariants.{Opens, Closes, Neither}
-use Rattle.tp_syntax.specs.Faults.{Input, GoesOnWith, IsAllowed, IsLimitAt, IsSyntaxAt, AreAllowed, MayStandOpen, bracket_behind, input_of, is_minus, line_of, opened_behind, symbol_bracket}
+use Rattle.tp_syntax.specs.Faults.{Input, GoesOnWith, IsAllowed, IsCut, IsCutOf, AreAllowed, AreWithin, MayStandOpen, bracket_behind, input_of, is_minus, opened_behind, symbol_bracket}
 
 pub allowed_push : (opened : ℕ) (signed : Bool) (ts : List PlacedLexeme) (t : PlacedLexeme) (end : ℕ) (end_signed : Bool) → AreAllowed opened signed ts end end_signed →
     IsAllowed end end_signed t.token → AreAllowed opened signed (ts ++ t ∷ []) (opened_behind end t.token) (is_minus t.token)
@@ -76,41 +76,28 @@ one_gone i ps place opened signed t opened_there signed_there g within at is e f
     subst (λ n. HasGone i ps (place + 1) n signed_there) (sym e)
     (subst (λ b. HasGone i ps (place + 1) (opened_behind opened (lexeme_of t.token)) b) (sym f) gone)
 
--- 15 at the token at a place
-pub limit_there : (i : Input) (ps : List Placed) (place opened : ℕ) (signed : Bool) (t : Placed) (good n : ℕ) → HasGone i ps place opened signed →
-    place < length ps → t ≡ get_or ps place t → place < good → (IsAllowed opened signed (lexeme_of t.token) → ⊥) → n ≡ t.line →
-    IsLimitAt i good n
-limit_there i ps place opened signed t good n g within at among beyond e = record {
-  opened = opened;
-  signed = signed;
-  token = placed_lexeme t;
-  rest = map placed_lexeme (drop (place + 1) ps);
-  at = next_at i ps place opened signed t g within at;
-  among = subst (λ m. m < good) (sym g.all) among;
-  beyond = beyond;
-  line = e;
-}
+-- behind all of them each is within the limits
+pub all_gone : (ps : List Placed) (place opened : ℕ) (signed : Bool) → HasGone (input_of ps 0) ps place opened signed → length ps ≤ place →
+    AreWithin (map placed_lexeme ps)
+all_gone ps place opened signed g behind =
+    let none : map placed_lexeme (drop place ps) ≡ [] = ap (λ (qs : List Placed). map placed_lexeme qs) (drop_all place ps behind) in
+    let all : map placed_lexeme ps ≡ g.at.passed = g.at.is ∙ ap (λ (ts : List PlacedLexeme). g.at.passed ++ ts) none ∙ append-nil g.at.passed in
+    (opened, signed, subst (λ (ts : List PlacedLexeme). AreAllowed 0 false ts opened signed) (sym all) g.at.allowed)
 
--- 10 at the token at a place
-pub syntax_there : (i : Input) (ps : List Placed) (place opened : ℕ) (signed : Bool) (t : Placed) (good n : ℕ) → HasGone i ps place opened signed →
-    place < length ps → t ≡ get_or ps place t → place ≡ good → n ≡ t.line → IsSyntaxAt i good n
-syntax_there i ps place opened signed t good n g within at same e = record {
-  opened = opened;
-  signed = signed;
-  rest = placed_lexeme t ∷ map placed_lexeme (drop (place + 1) ps);
-  at = next_at i ps place opened signed t g within at;
-  all = g.all ∙ same;
-  line = e;
-}
-
--- 10 at the end of the text
-pub syntax_at_end : (ps : List Placed) (last place opened : ℕ) (signed : Bool) (good : ℕ) → HasGone (input_of ps last) ps place opened signed →
-    length ps ≤ place → place ≡ good → IsSyntaxAt (input_of ps last) good last
-syntax_at_end ps last place opened signed good g behind same = record {
-  opened = opened;
-  signed = signed;
-  rest = map placed_lexeme (drop place ps);
-  at = g.at;
-  all = g.all ∙ same;
-  line = sym (ap (λ (qs : List Placed). line_of (map placed_lexeme qs) last) (drop_all place ps behind));
-}
+-- the tokens are cut behind the first that is beyond the limits
+pub cut_there : (ps : List Placed) (place opened : ℕ) (signed : Bool) (t : Placed) (front : List PlacedLexeme) (beyond : Option ℕ) →
+    HasGone (input_of ps 0) ps place opened signed → place < length ps → t ≡ get_or ps place t → (IsAllowed opened signed (lexeme_of t.token) → ⊥) →
+    ((passed rest : List PlacedLexeme) (u : PlacedLexeme) → map placed_lexeme ps ≡ passed ++ u ∷ rest → length passed ≡ place → IsCutOf passed u signed front beyond) →
+    IsCut (map placed_lexeme ps) front beyond
+cut_there ps place opened signed t front beyond g within at out cut =
+    let next = next_at (input_of ps 0) ps place opened signed t g within at in record {
+      opened = opened;
+      signed = signed;
+      passed = g.at.passed;
+      token = placed_lexeme t;
+      rest = map placed_lexeme (drop (place + 1) ps);
+      is = next.is;
+      allowed = g.at.allowed;
+      beyond_limits = out;
+      front_is = cut g.at.passed (map placed_lexeme (drop (place + 1) ps)) (placed_lexeme t) next.is g.all;
+    }

@@ -125,11 +125,6 @@ bool_same true false r s e = absurd (cc)
 bool_same false true r s e = absurd (cc)
 bool_same false false r s e = (refl, tails e)
 
--- whether a `;` comes next
-is_semicolon : Option Lexeme → Bool
-is_semicolon (Some (symbol Semicolon)) = true
-is_semicolon _ = false
-
 no_semicolon : (b : Bool) (r : List Lexeme) → may_end_before b (first r) ≡ true → (s : List Lexeme) → r ≡ symbol Semicolon ∷ s → ⊥
 no_semicolon b r h s e = false≢true (ap (λ (t : List Lexeme). may_end_before b (first t)) (sym e) ∙ h)
 

@@ -1,10 +1,9 @@
 -- A value by the token that it begins with.
-use Rattle.std.proofs.Common.{inl, inr, ◌⊎◌, ◌≡◌, ℕ, suc, ◌+◌, ◌-◌, ◌≤◌, ℤ, pos, negsuc, Bool, true, false, List, [], ◌∷◌, ◌++◌, Some, map, refl, ap, sym, subst, ◌∙◌, arith, string_bytes}
+use Rattle.std.proofs.Common.{inl, inr, ◌⊎◌, ◌≡◌, ℕ, suc, ℤ, pos, negsuc, Bool, true, false, List, [], ◌∷◌, ◌++◌, Some, map, refl, ap, sym, subst, ◌∙◌, string_bytes}
 use Rattle.std.specs.declared.vec.Vec.{Vec}
 use Rattle.std.specs.declared.alloc.Global.{Global}
 use Rattle.std.specs.declared.string.String.{String}
 use Rattle.std.proofs.lemmas.Bool.{false≢true}
-use Rattle.tp_token.specs.declared.token.Placed.{Placed}
 use Rattle.tp_token.specs.declared.word.Word.TheVariants as w
 use Rattle.tp_token.specs.declared.token.Symbol.TheVariants.{Assign, LeftBrace, Minus, RightBrace}
 use Rattle.tp_token.specs.Lexeme.{Lexeme, name, word, number, text, symbol}
@@ -13,15 +12,13 @@ use Rattle.tp_tree.specs.declared.message.Value.TheVariants as v
 use Rattle.tp_tree.specs.declared.message.Value.TheOpen as o
 use Rattle.tp_tree.specs.declared.message.Value.TheViews.{roll-Value, out-Value, roll-out-Value}
 use Rattle.tp_tree.specs.declared.message.ValueField.{ValueField, out-ValueField}
-use Rattle.tp_syntax.specs.Ahead.{ahead, lexemes_from, plain}
+use Rattle.tp_syntax.specs.Ahead.{plain}
 use Rattle.tp_syntax.specs.Sequences.{by_commas, braced}
 use Rattle.tp_syntax.specs.Values.{int_lexemes, bool_lexeme, value_lexemes, value_field_lexemes}
 use Rattle.tp_syntax.specs.Grammar.{each, one_and_each, is_64_bit, is_value, is_value_field}
-use Rattle.tp_syntax.specs.Nesting.{deepest, value_depth, value_field_depth}
 use Rattle.tp_syntax.specs.Reading.{first}
 use Rattle.tp_syntax.proofs.ValueTokens as tokens
 use Rattle.tp_syntax.proofs.GrammarEquations as grammar
-use Rattle.tp_syntax.proofs.NestingEquations as nesting
 use Rattle.tp_syntax.proofs.FirstTokensOfLiterals.{sign_first, no_bool, no_int, no_bool_brace, int_unnamed, bool_unnamed, some_int}
 
 layer : (Q : Value → Type 0) → ((z : ℤ) → Q (v.Int z)) → ((b : Bool) → Q (v.Bool b)) → ((t : Vec ℕ Global) → Q (v.Text t)) →
@@ -35,67 +32,62 @@ layer Q i b t n l r (o.List x) = subst Q (sym (v.rolls-List x)) (l x)
 layer Q i b t n l r (o.Record x) = subst Q (sym (v.rolls-Record x)) (r x)
 
 -- a fact of each value, variant by variant
-value_cases : (Q : Value → Type 0) → ((z : ℤ) → Q (v.Int z)) → ((b : Bool) → Q (v.Bool b)) → ((t : Vec ℕ Global) → Q (v.Text t)) →
+pub value_cases : (Q : Value → Type 0) → ((z : ℤ) → Q (v.Int z)) → ((b : Bool) → Q (v.Bool b)) → ((t : Vec ℕ Global) → Q (v.Text t)) →
     ((n : String Global) → Q (v.Name n)) → ((vs : Vec Value Global) → Q (v.List vs)) → ((fs : Vec ValueField Global) → Q (v.Record fs)) → (x : Value) → Q x
 value_cases Q i b t n l r x = subst Q (roll-out-Value x) (layer Q i b t n l r (out-Value x))
 
 -- several values in braces, or several fields, behind the `{`
-abbrev pub InBraces : ℕ → List Lexeme → List Lexeme → Type 0
-InBraces left more ts =
-    ((vs : List Value) × (each (map is_value vs) ≡ true) × (deepest (map value_depth vs) ≤ left)
+abbrev pub InBraces : List Lexeme → List Lexeme → Type 0
+InBraces more ts =
+    ((vs : List Value) × (each (map is_value vs) ≡ true)
     × (ts ≡ (by_commas (map value_lexemes vs) ++ symbol RightBrace ∷ []) ++ more))
-    ⊎ ((fs : List ValueField) × (one_and_each (map is_value_field fs) ≡ true) × (deepest (map value_field_depth fs) ≤ left)
+    ⊎ ((fs : List ValueField) × (one_and_each (map is_value_field fs) ≡ true)
     × (ts ≡ (by_commas (map value_field_lexemes fs) ++ symbol RightBrace ∷ []) ++ more))
 
--- what stands behind the first token of a value, in which so many brackets may be opened
-abbrev pub Behind : ℕ → List Lexeme → Lexeme → List Lexeme → Type 0
-Behind left more (number n) ts = (is_64_bit (pos n) ≡ true) × (ts ≡ more)
-Behind left more (word w.True) ts = ts ≡ more
-Behind left more (word w.False) ts = ts ≡ more
-Behind left more (text cs) ts = ts ≡ more
-Behind left more (name n) ts = ts ≡ more
-Behind left more (symbol Minus) ts = Unit {0}
-Behind left more (symbol LeftBrace) ts = (m : ℕ) × (left ≡ m + 1) × InBraces m more ts
-Behind left more t ts = ⊥
+-- what stands behind the first token of a value
+abbrev pub Behind : List Lexeme → Lexeme → List Lexeme → Type 0
+Behind more (number n) ts = (is_64_bit (pos n) ≡ true) × (ts ≡ more)
+Behind more (word w.True) ts = ts ≡ more
+Behind more (word w.False) ts = ts ≡ more
+Behind more (text cs) ts = ts ≡ more
+Behind more (name n) ts = ts ≡ more
+Behind more (symbol Minus) ts = Unit {0}
+Behind more (symbol LeftBrace) ts = InBraces more ts
+Behind more t ts = ⊥
 
-moved : (left : ℕ) (more : List Lexeme) (u t : Lexeme) (us ts : List Lexeme) → u ∷ us ≡ t ∷ ts → Behind left more u us → Behind left more t ts
-moved left more u t us ts e b =
+moved : (more : List Lexeme) (u t : Lexeme) (us ts : List Lexeme) → u ∷ us ≡ t ∷ ts → Behind more u us → Behind more t ts
+moved more u t us ts e b =
     let same : u ≡ t = cc in
     let rest : us ≡ ts = cc in
-    subst (λ x. Behind left more x ts) same (subst (λ (x : List Lexeme). Behind left more u x) rest b)
+    subst (λ x. Behind more x ts) same (subst (λ (x : List Lexeme). Behind more u x) rest b)
 
-int_behind : (left : ℕ) (more : List Lexeme) (z : ℤ) (t : Lexeme) (ts : List Lexeme) → is_64_bit z ≡ true → int_lexemes z ++ more ≡ t ∷ ts → Behind left more t ts
-int_behind left more (pos n) t ts right e = moved left more (number n) t more ts e (right, refl)
-int_behind left more (negsuc n) t ts right e = moved left more (symbol Minus) t (number (suc n) ∷ more) ts e tt
+int_behind : (more : List Lexeme) (z : ℤ) (t : Lexeme) (ts : List Lexeme) → is_64_bit z ≡ true → int_lexemes z ++ more ≡ t ∷ ts → Behind more t ts
+int_behind more (pos n) t ts right e = moved more (number n) t more ts e (right, refl)
+int_behind more (negsuc n) t ts right e = moved more (symbol Minus) t (number (suc n) ∷ more) ts e tt
 
-bool_behind : (left : ℕ) (more : List Lexeme) (b : Bool) (t : Lexeme) (ts : List Lexeme) → (bool_lexeme b ∷ []) ++ more ≡ t ∷ ts → Behind left more t ts
-bool_behind left more true t ts e = moved left more (word w.True) t more ts e refl
-bool_behind left more false t ts e = moved left more (word w.False) t more ts e refl
+bool_behind : (more : List Lexeme) (b : Bool) (t : Lexeme) (ts : List Lexeme) → (bool_lexeme b ∷ []) ++ more ≡ t ∷ ts → Behind more t ts
+bool_behind more true t ts e = moved more (word w.True) t more ts e refl
+bool_behind more false t ts e = moved more (word w.False) t more ts e refl
 
-brace_behind : (left n : ℕ) (more ls : List Lexeme) (t : Lexeme) (ts : List Lexeme) → n + 1 ≤ left → braced ls ++ more ≡ t ∷ ts →
-    ((m : ℕ) → n ≤ m → InBraces m more ((ls ++ symbol RightBrace ∷ []) ++ more)) → Behind left more t ts
-brace_behind left n more ls t ts deep e inside =
-    let room : left ≡ (left - 1) + 1 = omega arith in
-    let fits : n ≤ left - 1 = omega arith in
-    moved left more (symbol LeftBrace) t ((ls ++ symbol RightBrace ∷ []) ++ more) ts e (left - 1, room, inside (left - 1) fits)
+brace_behind : (more ls : List Lexeme) (t : Lexeme) (ts : List Lexeme) → braced ls ++ more ≡ t ∷ ts →
+    InBraces more ((ls ++ symbol RightBrace ∷ []) ++ more) → Behind more t ts
+brace_behind more ls t ts e inside = moved more (symbol LeftBrace) t ((ls ++ symbol RightBrace ∷ []) ++ more) ts e inside
 
 -- a value by its first token
-pub value_behind : (left : ℕ) (x : Value) (more : List Lexeme) (t : Lexeme) (ts : List Lexeme) →
-    is_value x ≡ true → value_depth x ≤ left → value_lexemes x ++ more ≡ t ∷ ts → Behind left more t ts
-value_behind left x more t ts =
-    value_cases (λ x. is_value x ≡ true → value_depth x ≤ left → value_lexemes x ++ more ≡ t ∷ ts → Behind left more t ts)
-    (λ z right deep e. int_behind left more z t ts (sym (grammar.value_int z) ∙ right) (ap (λ (l : List Lexeme). l ++ more) (sym (tokens.value_int z)) ∙ e))
-    (λ b right deep e. bool_behind left more b t ts (ap (λ (l : List Lexeme). l ++ more) (sym (tokens.value_bool b)) ∙ e))
-    (λ cs right deep e. moved left more (text cs.items) t more ts (ap (λ (l : List Lexeme). l ++ more) (sym (tokens.value_text cs)) ∙ e) refl)
-    (λ n right deep e. moved left more (name (string_bytes n)) t more ts (ap (λ (l : List Lexeme). l ++ more) (sym (tokens.value_name n)) ∙ e) refl)
-    (λ vs right deep e.
-    brace_behind left (deepest (map value_depth vs.items)) more (by_commas (map value_lexemes vs.items)) t ts
-    (rw nesting.value_depth_list at deep) (ap (λ (l : List Lexeme). l ++ more) (sym (tokens.value_list vs)) ∙ e)
-    (λ m fits. inl (vs.items, sym (grammar.value_list vs) ∙ right, fits, refl)))
-    (λ fs right deep e.
-    brace_behind left (deepest (map value_field_depth fs.items)) more (by_commas (map value_field_lexemes fs.items)) t ts
-    (rw nesting.value_depth_record at deep) (ap (λ (l : List Lexeme). l ++ more) (sym (tokens.value_record fs)) ∙ e)
-    (λ m fits. inr (fs.items, sym (grammar.value_record fs) ∙ right, fits, refl)))
+pub value_behind : (x : Value) (more : List Lexeme) (t : Lexeme) (ts : List Lexeme) →
+    is_value x ≡ true → value_lexemes x ++ more ≡ t ∷ ts → Behind more t ts
+value_behind x more t ts =
+    value_cases (λ x. is_value x ≡ true → value_lexemes x ++ more ≡ t ∷ ts → Behind more t ts)
+    (λ z right e. int_behind more z t ts (sym (grammar.value_int z) ∙ right) (ap (λ (l : List Lexeme). l ++ more) (sym (tokens.value_int z)) ∙ e))
+    (λ b right e. bool_behind more b t ts (ap (λ (l : List Lexeme). l ++ more) (sym (tokens.value_bool b)) ∙ e))
+    (λ cs right e. moved more (text cs.items) t more ts (ap (λ (l : List Lexeme). l ++ more) (sym (tokens.value_text cs)) ∙ e) refl)
+    (λ n right e. moved more (name (string_bytes n)) t more ts (ap (λ (l : List Lexeme). l ++ more) (sym (tokens.value_name n)) ∙ e) refl)
+    (λ vs right e.
+    brace_behind more (by_commas (map value_lexemes vs.items)) t ts (ap (λ (l : List Lexeme). l ++ more) (sym (tokens.value_list vs)) ∙ e)
+    (inl (vs.items, sym (grammar.value_list vs) ∙ right, refl)))
+    (λ fs right e.
+    brace_behind more (by_commas (map value_field_lexemes fs.items)) t ts (ap (λ (l : List Lexeme). l ++ more) (sym (tokens.value_record fs)) ∙ e)
+    (inr (fs.items, sym (grammar.value_record fs) ∙ right, refl)))
     x
 
 -- behind a `-` stands a number, without its sign
@@ -139,9 +131,6 @@ pub value_field_opens : (f : ValueField) (r : List Lexeme) →
     value_field_lexemes f ++ r ≡ name (string_bytes (out-ValueField f).name) ∷ symbol Assign ∷ (value_lexemes (out-ValueField f).value ++ r)
 value_field_opens f r = ap (λ (l : List Lexeme). l ++ r) (tokens.value_field_out f)
 
-pub value_field_starts : (y : ValueField) (r : List Lexeme) → (n : List ℕ) × (ts : List Lexeme) × (value_field_lexemes y ++ r ≡ name n ∷ symbol Assign ∷ ts)
-value_field_starts y r = (_, _, value_field_opens y r)
-
 -- a field doesn't begin with a `}`
 pub value_field_no_brace : (y : ValueField) (r : List Lexeme) → first (value_field_lexemes y ++ r) ≡ Some (symbol RightBrace) → ⊥
 value_field_no_brace y r e = cc (ap first (value_field_opens y r), e)
@@ -157,26 +146,15 @@ is_value_token (symbol Minus) = true
 is_value_token (symbol LeftBrace) = true
 is_value_token t = false
 
-pub behind_token : (left : ℕ) (more : List Lexeme) (t : Lexeme) (ts : List Lexeme) → Behind left more t ts → is_value_token t ≡ true
-behind_token left more (number n) ts b = refl
-behind_token left more (text cs) ts b = refl
-behind_token left more (name n) ts b = refl
-behind_token left more (word w.True) ts b = refl
-behind_token left more (word w.False) ts b = refl
-behind_token left more (symbol Minus) ts b = refl
-behind_token left more (symbol LeftBrace) ts b = refl
-behind_token left more t ts b = absurd b
-
-token_of : (left : ℕ) (x : Value) (more : List Lexeme) (t : Lexeme) (ps : List Placed) → is_value x ≡ true → value_depth x ≤ left →
-    value_lexemes x ++ more ≡ lexemes_from t ps → is_value_token t ≡ true
-token_of left x more (symbol Minus) ps right deep e = refl
-token_of left x more (symbol s) ps right deep e = behind_token left more (symbol s) (ahead ps) (value_behind left x more (symbol s) (ahead ps) right deep e)
-token_of left x more t ps right deep e = behind_token left more t (ahead ps) (value_behind left x more t (ahead ps) right deep e)
-
--- the first token of a value is one that it may begin with
-pub value_token : (left : ℕ) (x : Value) (more : List Lexeme) (t : Lexeme) (ps : List Placed) → is_value x ≡ true → value_depth x ≤ left →
-    value_lexemes x ++ more ≡ lexemes_from t ps → is_value_token t ≡ true
-value_token left x more t ps right deep e = token_of left x more t ps right deep e
+pub behind_token : (more : List Lexeme) (t : Lexeme) (ts : List Lexeme) → Behind more t ts → is_value_token t ≡ true
+behind_token more (number n) ts b = refl
+behind_token more (text cs) ts b = refl
+behind_token more (name n) ts b = refl
+behind_token more (word w.True) ts b = refl
+behind_token more (word w.False) ts b = refl
+behind_token more (symbol Minus) ts b = refl
+behind_token more (symbol LeftBrace) ts b = refl
+behind_token more t ts b = absurd b
 
 -- a value has a token
 pub value_some : (x : Value) (more : List Lexeme) → value_lexemes x ++ more ≡ [] → ⊥

@@ -1,5 +1,5 @@
 -- A value by what is seen of it.
-use Rattle.std.proofs.Common.{inl, inr, ◌⊎◌, ◌≡◌, ℕ, ◌+◌, ◌≤◌, ℤ, pos, Bool, true, false, ◌&&◌, List, [], ◌∷◌, ◌++◌, Some, map, length, append_assoc, refl, ap, sym, subst, ◌∙◌, arith, string_bytes}
+use Rattle.std.proofs.Common.{inl, inr, ◌⊎◌, ◌≡◌, ℕ, ◌≤◌, ℤ, pos, Bool, true, false, ◌&&◌, List, [], ◌∷◌, ◌++◌, Some, map, length, append_assoc, refl, ap, sym, subst, ◌∙◌, arith, string_bytes}
 use Rattle.std.specs.declared.string.String.{String}
 use Rattle.std.specs.declared.alloc.Global.{Global}
 use Rattle.std.proofs.lemmas.Bool.{false≢true}
@@ -16,25 +16,23 @@ use Rattle.tp_syntax.specs.Sequences.{by_commas, more_by_commas}
 use Rattle.tp_syntax.specs.Values.{int_lexemes, value_lexemes, value_field_lexemes}
 use Rattle.tp_syntax.specs.Grammar.{each, one_and_each, is_64_bit, is_value, is_value_field}
 use Rattle.tp_syntax.specs.HiddenTokens.{AllHidden, CouldBe}
-use Rattle.tp_syntax.specs.Nesting.{deepest, value_depth, value_field_depth}
 use Rattle.tp_syntax.specs.Reading.{IsField}
 use Rattle.std.proofs.lemmas.List.{length-map}
 use Rattle.tp_syntax.proofs.GrammarEquations as grammar
-use Rattle.tp_syntax.proofs.NestingEquations as nesting
 use Rattle.tp_syntax.proofs.ValueTokens as tokens
 use Rattle.tp_syntax.proofs.PartsLeftSeen.{unbraced_seen, named_first, field_hidden}
-use Rattle.tp_syntax.proofs.BracedFieldsOrList.{too_great}
+use Rattle.tp_syntax.proofs.LiteralsSeen.{too_great}
 use Rattle.tp_syntax.proofs.FirstTokensSeen.{hidden_could, shorter_hidden, first_token, front_seen, next_seen, CouldBeSigned, absent_seen, none_could, could_cons}
 use Rattle.tp_syntax.proofs.ValueReading.{Behind, value_behind, value_minus, is_value_token, behind_token, value_named, value_field_opens}
 
 -- the first token of a value, which is no `-`, is hidden, or these could stand behind it
-pub value_seen : (hidden left : ℕ) (x : Value) (more : List Lexeme) (ps rest : List Placed) (t : Lexeme) → lexemes ps ≡ t ∷ lexemes rest → is_minus t ≡ false →
-    is_value x ≡ true → value_depth x ≤ left → CouldBe hidden ps (value_lexemes x ++ more) →
-    AllHidden hidden ps ⊎ ((behind : List Lexeme) × Behind left more t behind × CouldBe hidden rest behind)
-value_seen hidden left x more ps rest t e m right deep could =
+pub value_seen : (hidden : ℕ) (x : Value) (more : List Lexeme) (ps rest : List Placed) (t : Lexeme) → lexemes ps ≡ t ∷ lexemes rest → is_minus t ≡ false →
+    is_value x ≡ true → CouldBe hidden ps (value_lexemes x ++ more) →
+    AllHidden hidden ps ⊎ ((behind : List Lexeme) × Behind more t behind × CouldBe hidden rest behind)
+value_seen hidden x more ps rest t e m right could =
     elim (front_seen hidden ps rest t (value_lexemes x ++ more) e m could) [
       | inl h ↦ inl h
-      | inr a ↦ inr (a.0, value_behind left x more t a.0 right deep a.1, a.2)
+      | inr a ↦ inr (a.0, value_behind x more t a.0 right a.1, a.2)
     ]
 
 -- whether it is a value alone
@@ -50,28 +48,28 @@ whole_sign : (t : Lexeme) → is_whole t ≡ true → is_minus t ≡ false
 whole_sign (symbol s) h = absurd (false≢true h)
 whole_sign t h = refl
 
-whole_behind : (left : ℕ) (more : List Lexeme) (t : Lexeme) (ts : List Lexeme) → is_whole t ≡ true → Behind left more t ts → ts ≡ more
-whole_behind left more (number n) ts h b = b.1
-whole_behind left more (text cs) ts h b = b
-whole_behind left more (name n) ts h b = b
-whole_behind left more (word w.True) ts h b = b
-whole_behind left more (word w.False) ts h b = b
-whole_behind left more t ts h b = absurd (false≢true h)
+whole_behind : (more : List Lexeme) (t : Lexeme) (ts : List Lexeme) → is_whole t ≡ true → Behind more t ts → ts ≡ more
+whole_behind more (number n) ts h b = b.1
+whole_behind more (text cs) ts h b = b
+whole_behind more (name n) ts h b = b
+whole_behind more (word w.True) ts h b = b
+whole_behind more (word w.False) ts h b = b
+whole_behind more t ts h b = absurd (false≢true h)
 
 -- behind a token that is a value alone the others could be
-pub value_whole : (hidden left : ℕ) (x : Value) (more : List Lexeme) (ps rest : List Placed) (t : Lexeme) → lexemes ps ≡ t ∷ lexemes rest → is_whole t ≡ true →
-    is_value x ≡ true → value_depth x ≤ left → CouldBe hidden ps (value_lexemes x ++ more) → CouldBe hidden rest more
-value_whole hidden left x more ps rest t e whole right deep could =
-    elim (value_seen hidden left x more ps rest t e (whole_sign t whole) right deep could) [
+pub value_whole : (hidden : ℕ) (x : Value) (more : List Lexeme) (ps rest : List Placed) (t : Lexeme) → lexemes ps ≡ t ∷ lexemes rest → is_whole t ≡ true →
+    is_value x ≡ true → CouldBe hidden ps (value_lexemes x ++ more) → CouldBe hidden rest more
+value_whole hidden x more ps rest t e whole right could =
+    elim (value_seen hidden x more ps rest t e (whole_sign t whole) right could) [
       | inl h ↦ hidden_could (shorter_hidden ps rest t e h)
-      | inr b ↦ subst (λ (ts : List Lexeme). CouldBe hidden rest ts) (whole_behind left more t b.0 whole b.1) b.2
+      | inr b ↦ subst (λ (ts : List Lexeme). CouldBe hidden rest ts) (whole_behind more t b.0 whole b.1) b.2
     ]
 
 -- a number that is too great for a value is hidden
-pub value_too_great : (hidden left n : ℕ) (x : Value) (more : List Lexeme) (ps rest : List Placed) → lexemes ps ≡ number n ∷ lexemes rest → 9223372036854775808 ≤ n →
-    is_value x ≡ true → value_depth x ≤ left → CouldBe hidden ps (value_lexemes x ++ more) → AllHidden hidden ps
-value_too_great hidden left n x more ps rest e great right deep could =
-    elim (value_seen hidden left x more ps rest (number n) e refl right deep could) [
+pub value_too_great : (hidden n : ℕ) (x : Value) (more : List Lexeme) (ps rest : List Placed) → lexemes ps ≡ number n ∷ lexemes rest → 9223372036854775808 ≤ n →
+    is_value x ≡ true → CouldBe hidden ps (value_lexemes x ++ more) → AllHidden hidden ps
+value_too_great hidden n x more ps rest e great right could =
+    elim (value_seen hidden x more ps rest (number n) e refl right could) [
       | inl h ↦ h
       | inr b ↦ absurd (too_great n great b.1.0)
     ]
@@ -87,31 +85,22 @@ value_signed hidden x more ps rest e right could =
     ]
 
 -- several values in braces, or several fields, could stand behind the `{`
-abbrev pub InBracesSeen : ℕ → ℕ → List Lexeme → List Placed → Type 0
-InBracesSeen hidden left more ps =
-    ((vs : List Value) × (each (map is_value vs) ≡ true) × (deepest (map value_depth vs) ≤ left)
+abbrev pub InBracesSeen : ℕ → List Lexeme → List Placed → Type 0
+InBracesSeen hidden more ps =
+    ((vs : List Value) × (each (map is_value vs) ≡ true)
     × CouldBe hidden ps ((by_commas (map value_lexemes vs) ++ symbol RightBrace ∷ []) ++ more))
-    ⊎ ((fs : List ValueField) × (one_and_each (map is_value_field fs) ≡ true) × (deepest (map value_field_depth fs) ≤ left)
+    ⊎ ((fs : List ValueField) × (one_and_each (map is_value_field fs) ≡ true)
     × CouldBe hidden ps ((by_commas (map value_field_lexemes fs) ++ symbol RightBrace ∷ []) ++ more))
 
-pub value_braced : (hidden left inner : ℕ) (x : Value) (more : List Lexeme) (ps rest : List Placed) → lexemes ps ≡ symbol LeftBrace ∷ lexemes rest → inner + 1 ≡ left →
-    is_value x ≡ true → value_depth x ≤ left → CouldBe hidden ps (value_lexemes x ++ more) → InBracesSeen hidden inner more rest
-value_braced hidden left inner x more ps rest e room right deep could =
-    elim (value_seen hidden left x more ps rest (symbol LeftBrace) e refl right deep could) [
-      | inl h ↦ inl ([], refl, omega arith, hidden_could (shorter_hidden ps rest (symbol LeftBrace) e h))
-      | inr b ↦ elim b.1.2 [
-        | inl l ↦ inl (l.0, l.1, omega (arith, l.2, b.1.1), subst (λ (ts : List Lexeme). CouldBe hidden rest ts) l.3 b.2)
-        | inr l ↦ inr (l.0, l.1, omega (arith, l.2, b.1.1), subst (λ (ts : List Lexeme). CouldBe hidden rest ts) l.3 b.2)
+pub value_braced : (hidden : ℕ) (x : Value) (more : List Lexeme) (ps rest : List Placed) → lexemes ps ≡ symbol LeftBrace ∷ lexemes rest →
+    is_value x ≡ true → CouldBe hidden ps (value_lexemes x ++ more) → InBracesSeen hidden more rest
+value_braced hidden x more ps rest e right could =
+    elim (value_seen hidden x more ps rest (symbol LeftBrace) e refl right could) [
+      | inl h ↦ inl ([], refl, hidden_could (shorter_hidden ps rest (symbol LeftBrace) e h))
+      | inr b ↦ elim b.1 [
+        | inl l ↦ inl (l.0, l.1, subst (λ (ts : List Lexeme). CouldBe hidden rest ts) l.2 b.2)
+        | inr l ↦ inr (l.0, l.1, subst (λ (ts : List Lexeme). CouldBe hidden rest ts) l.2 b.2)
       ]
-    ]
-
--- a `{` behind which no bracket may be opened is hidden
-pub value_full : (hidden left : ℕ) (x : Value) (more : List Lexeme) (ps rest : List Placed) → lexemes ps ≡ symbol LeftBrace ∷ lexemes rest → left ≡ 0 →
-    is_value x ≡ true → value_depth x ≤ left → CouldBe hidden ps (value_lexemes x ++ more) → AllHidden hidden ps
-value_full hidden left x more ps rest e full right deep could =
-    elim (value_seen hidden left x more ps rest (symbol LeftBrace) e refl right deep could) [
-      | inl h ↦ h
-      | inr b ↦ absurd (omega (arith, b.1.1))
     ]
 
 no_sign : (t : Lexeme) → (is_value_token t ≡ true → ⊥) → is_minus t ≡ false
@@ -120,28 +109,25 @@ no_sign (symbol s) other = refl
 no_sign t other = refl
 
 -- a token that no value begins with is hidden
-pub value_other : (hidden left : ℕ) (x : Value) (more : List Lexeme) (ps rest : List Placed) (t : Lexeme) → lexemes ps ≡ t ∷ lexemes rest → (is_value_token t ≡ true → ⊥) →
-    is_value x ≡ true → value_depth x ≤ left → CouldBe hidden ps (value_lexemes x ++ more) → AllHidden hidden ps
-value_other hidden left x more ps rest t e other right deep could =
-    elim (value_seen hidden left x more ps rest t e (no_sign t other) right deep could) [
+pub value_other : (hidden : ℕ) (x : Value) (more : List Lexeme) (ps rest : List Placed) (t : Lexeme) → lexemes ps ≡ t ∷ lexemes rest → (is_value_token t ≡ true → ⊥) →
+    is_value x ≡ true → CouldBe hidden ps (value_lexemes x ++ more) → AllHidden hidden ps
+value_other hidden x more ps rest t e other right could =
+    elim (value_seen hidden x more ps rest t e (no_sign t other) right could) [
       | inl h ↦ h
-      | inr b ↦ absurd (other (behind_token left more t b.0 b.1))
+      | inr b ↦ absurd (other (behind_token more t b.0 b.1))
     ]
 
 -- the number 0, as a value that may always stand there
 pub zero_right : is_value (v.Int (pos 0)) ≡ true
 zero_right = grammar.value_int (pos 0)
 
-pub zero_deep : (left : ℕ) → value_depth (v.Int (pos 0)) ≤ left
-zero_deep left = omega (arith, nesting.value_depth_int (pos 0))
-
 -- a list that isn't closed at once could begin with a value
-pub list_some : (hidden left : ℕ) (xs : List Value) (more : List Lexeme) (ps : List Placed) → each (map is_value xs) ≡ true → deepest (map value_depth xs) ≤ left →
+pub list_some : (hidden : ℕ) (xs : List Value) (more : List Lexeme) (ps : List Placed) → each (map is_value xs) ≡ true →
     (token_at ps 0 ≡ Some (symbol RightBrace) → ⊥) → CouldBe hidden ps ((by_commas (map value_lexemes xs) ++ symbol RightBrace ∷ []) ++ more) →
-    (ys : List Value) × (one_and_each (map is_value ys) ≡ true) × (deepest (map value_depth ys) ≤ left) × CouldBe hidden ps (by_commas (map value_lexemes ys) ++ symbol RightBrace ∷ more)
-list_some hidden left [] more ps right deep other could =
-    (v.Int (pos 0) ∷ [], ap (λ b. b && true) zero_right, omega (arith, zero_deep left), hidden_could (absent_seen hidden ps (symbol RightBrace) more refl could other))
-list_some hidden left (x ∷ xs) more ps right deep other could = (x ∷ xs, right, deep, unbraced_seen hidden ps (by_commas (map value_lexemes (x ∷ xs))) more (symbol RightBrace) could)
+    (ys : List Value) × (one_and_each (map is_value ys) ≡ true) × CouldBe hidden ps (by_commas (map value_lexemes ys) ++ symbol RightBrace ∷ more)
+list_some hidden [] more ps right other could =
+    (v.Int (pos 0) ∷ [], ap (λ b. b && true) zero_right, hidden_could (absent_seen hidden ps (symbol RightBrace) more refl could other))
+list_some hidden (x ∷ xs) more ps right other could = (x ∷ xs, right, unbraced_seen hidden ps (by_commas (map value_lexemes (x ∷ xs))) more (symbol RightBrace) could)
 
 record_front : (hidden : ℕ) (f : ValueField) (us : List Lexeme) (ps : List Placed) → (IsField ps → ⊥) → CouldBe hidden ps (value_field_lexemes f ++ us) →
     (length ps ≤ hidden) × CouldBe hidden ps (by_commas (map value_lexemes (v.Name (out-ValueField f).name ∷ [])) ++ symbol RightBrace ∷ [])
@@ -178,9 +164,6 @@ record_unseen hidden (f ∷ fs) more ps right other could =
 -- a name alone is right as a list
 pub name_right : (n : String Global) → one_and_each (map is_value (v.Name n ∷ [])) ≡ true
 name_right n = ap (λ b. b && true) (grammar.value_name n)
-
-pub name_deep : (n : String Global) (left : ℕ) → deepest (map value_depth (v.Name n ∷ [])) ≤ left
-name_deep n left = omega (arith, nesting.value_depth_name n)
 
 -- where a list could come next, and a name and `:=` do, all is hidden but the name
 pub list_unseen : (hidden : ℕ) (xs : List Value) (more : List Lexeme) (ps : List Placed) → IsField ps →

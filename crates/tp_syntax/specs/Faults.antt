@@ -1,18 +1,16 @@
 -- Where the grammar refuses a text that has tokens: which tokens are beyond the limits, and which lines may be named.
-use Rattle.std.specs.Prelude.{◌≡◌, ℕ, ◌+◌, ◌-◌, ◌<◌, ◌≤◌, Bool, true, false, List, [], ◌∷◌, ◌++◌, map, length, take}
+use Rattle.std.specs.Prelude.{◌≡◌, ℕ, zero, ◌+◌, ◌-◌, ◌<◌, ◌≤◌, min, ◌⊎◌, Bool, true, false, List, [], ◌∷◌, ◌++◌, map, length, take, drop, Option, None, Some}
 use Rattle.tp_token.specs.declared.fault.TextRule.TheVariants.{Syntax, Limit}
 use Rattle.tp_token.specs.declared.fault.ScriptFault.{ScriptFault}
 use Rattle.tp_token.specs.declared.fault.ScriptFault.TheVariants.{Refused, Memory}
 use Rattle.tp_token.specs.declared.token.Symbol.{Symbol}
 use Rattle.tp_token.specs.declared.token.Symbol.TheVariants.{LeftBrace, RightBrace, LeftParen, RightParen, LeftBracket, RightBracket, Comma, Semicolon, Colon, Dot, Question, Star, Minus, Less, Plus, DotDot, Assign, Arrow}
 use Rattle.tp_token.specs.declared.token.Placed.{Placed}
-use Rattle.tp_token.specs.Fault.{IsMemory}
 use Rattle.tp_token.specs.Lexeme.{Lexeme, name, word, number, text, symbol, PlacedLexeme, placed_lexeme}
 use Rattle.tp_tree.specs.declared.tree.Module.{Module}
 use Rattle.tp_syntax.specs.Ahead.{plain}
 use Rattle.tp_syntax.specs.Definitions.{module_lexemes}
 use Rattle.tp_syntax.specs.Grammar.{IsGrammatical}
-use Rattle.tp_syntax.specs.Nesting.{module_depth}
 use Rattle.tp_syntax.specs.declared.faults.Bracket.{Bracket}
 use Rattle.tp_syntax.specs.declared.faults.Bracket.TheVariants.{Opens, Closes, Neither}
 
@@ -103,43 +101,78 @@ abbrev pub line_of : List PlacedLexeme → ℕ → ℕ
 line_of [] last = last
 line_of (t ∷ ts) last = t.line
 
--- 10 on this line: so many tokens stand, each within the limits, and the one behind them can't, or the end of the text
-pub record IsSyntaxAt (i : Input) (standing n : ℕ) : Type 0 where
+-- the token as the limits let it stand: a number that is too great is the greatest that may stand there
+abbrev pub brought_within : Bool → Lexeme → Lexeme
+brought_within signed (number n) = number (min n (greatest_number signed))
+brought_within signed t = t
+
+-- the next token, brought within the limits, where one comes next
+abbrev pub next_within : Bool → List PlacedLexeme → List Lexeme
+next_within signed [] = []
+next_within signed (t ∷ ts) = brought_within signed t.token ∷ []
+
+-- no text of the grammar, however deep it nests, begins with the tokens that stand and the next one; where none comes next,
+-- none consists of those that stand
+abbrev pub NoneGoesOn : List PlacedLexeme → List Lexeme → Type 0
+NoneGoesOn stand next =
+    (m : Module) (others : List Lexeme) → plain others ≡ module_lexemes m → IsGrammatical m
+    → take (length stand + 1) others ≡ map (λ t. t.token) stand ++ next → ⊥
+
+-- 10 on this line: the tokens before the first of these are within the limits, and no text of the grammar goes on with it,
+-- or ends there
+pub record IsSyntaxAt (i : Input) (n : ℕ) : Type 0 where
   pub opened : ℕ
   pub signed : Bool
   pub rest : List PlacedLexeme
   pub at : GoesOnWith i opened signed rest
-  pub all : length at.passed ≡ standing
+  pub none : NoneGoesOn at.passed (next_within signed rest)
   pub line : n ≡ line_of rest i.last_line
 
--- 15 on this line: so many tokens stand, and this is the first of them that is beyond the limits
-pub record IsLimitAt (i : Input) (standing n : ℕ) : Type 0 where
+-- 15 on this line: this is the first token that is beyond the limits
+pub record IsLimitAt (i : Input) (n : ℕ) : Type 0 where
   pub opened : ℕ
   pub signed : Bool
   pub token : PlacedLexeme
   pub rest : List PlacedLexeme
   pub at : GoesOnWith i opened signed (token ∷ rest)
-  pub among : length at.passed < standing
   pub beyond : IsAllowed opened signed token.token → ⊥
   pub line : n ≡ token.line
 
--- so many tokens stand, and the text is refused so: 15 at the first of them that is beyond the limits, else 10 behind
--- them; or memory was refused
-abbrev pub IsFaultOf : Input → ℕ → ScriptFault → Type 0
-IsFaultOf i standing (Refused Syntax n) = IsSyntaxAt i standing n
-IsFaultOf i standing (Refused Limit n) = IsLimitAt i standing n
-IsFaultOf i standing (Memory m) = Unit {0}
+-- the grammar refuses the text so: 15 at the first token that is beyond the limits, or 10 at one before it, or at that very
+-- one, with which no text of the grammar goes on; or memory was refused
+abbrev pub IsFaultIn : Input → ScriptFault → Type 0
+IsFaultIn i (Refused Syntax n) = IsSyntaxAt i n
+IsFaultIn i (Refused Limit n) = IsLimitAt i n
+IsFaultIn i (Memory m) = Unit {0}
 
--- no text of the grammar whose brackets nest at most 32 deep has the same tokens up to and with the one behind so many; or,
--- where these are all, the same tokens and no more
-abbrev pub NoneGoesOn : Input → ℕ → Type 0
-NoneGoesOn i standing =
-    (m : Module) (others : List Lexeme) → plain others ≡ module_lexemes m → IsGrammatical m → module_depth m ≤ 32
-    → take (standing + 1) others ≡ take (standing + 1) (map (λ t. t.token) i.tokens) → ⊥
+-- these tokens are those passed and the one behind them, brought within the limits, whose line is noted
+abbrev pub IsCutOf : List PlacedLexeme → PlacedLexeme → Bool → List PlacedLexeme → Option ℕ → Type 0
+IsCutOf passed t signed front beyond =
+    (front ≡ passed ++ record { token = brought_within signed t.token; line = t.line } ∷ []) × (beyond ≡ Some t.line)
 
--- the grammar refuses the text so: 15 at the first of the tokens that stand that is beyond the limits, else 10 behind them,
--- where no text of the grammar goes on; or memory was refused
-pub record IsFaultIn (i : Input) (fault : ScriptFault) : Type 0 where
-  pub standing : ℕ
-  pub is : IsFaultOf i standing fault
-  pub none : (IsMemory fault → ⊥) → NoneGoesOn i standing
+-- these tokens are cut behind the first that is beyond the limits
+pub record IsCut (tokens front : List PlacedLexeme) (beyond : Option ℕ) : Type 0 where
+  pub opened : ℕ
+  pub signed : Bool
+  pub passed : List PlacedLexeme
+  pub token : PlacedLexeme
+  pub rest : List PlacedLexeme
+  pub is : tokens ≡ passed ++ token ∷ rest
+  pub allowed : AreAllowed 0 false passed opened signed
+  pub beyond_limits : IsAllowed opened signed token.token → ⊥
+  pub front_is : IsCutOf passed token signed front beyond
+
+-- each token is within the limits
+abbrev pub AreWithin : List PlacedLexeme → Type 0
+AreWithin ts = (opened : ℕ) × (signed : Bool) × AreAllowed 0 false ts opened signed
+
+-- these are all the tokens, each within the limits; or they are cut behind the first that isn't, whose line is noted
+abbrev pub AreTokensSeen : List PlacedLexeme → List PlacedLexeme → Option ℕ → Type 0
+AreTokensSeen tokens front beyond =
+    ((front ≡ tokens) × (beyond ≡ None) × AreWithin tokens) ⊎ IsCut tokens front beyond
+
+-- the fault where so many of these tokens, or none, can't stand: 15 where all stand and the last is beyond the limits, else
+-- 10 at the first that can't, or at the end of the text
+abbrev pub fault_in : List PlacedLexeme → Option ℕ → ℕ → ℕ → ScriptFault
+fault_in front (Some line) zero last = Refused Limit line
+fault_in front beyond left last = Refused Syntax (line_of (drop (length front - left) front) last)

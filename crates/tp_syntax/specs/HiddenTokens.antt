@@ -45,13 +45,13 @@ IsStuckInHidden hidden Memory = Unit {0}
 
 -- where these tokens could come next, they are passed, and what stands behind them could come next; or the parser is
 -- stuck at what is hidden, or memory was refused
-abbrev pub ReadsSeen : {A : Type 0} → ℕ → Parser → List Lexeme → List Lexeme → Result A Stuck → Parser → Type 0
-ReadsSeen hidden p ts more result q =
+abbrev pub Reads : {A : Type 0} → ℕ → Parser → List Lexeme → List Lexeme → Result A Stuck → Parser → Type 0
+Reads hidden p ts more result q =
     CouldBe hidden p.rest.now (ts ++ more) → MatchResult result (λ _. CouldBe hidden q.rest.now more) (IsStuckInHidden hidden)
 
 -- the same for several parts, where the end of them is told by tokens that may be hidden: they may be left off in a cut
-abbrev pub ReadsSeenOr : {A : Type 0} → ℕ → Parser → List Lexeme → List Lexeme → Result A Stuck → Parser → Type 0 → Type 0
-ReadsSeenOr hidden p ts more result q cut =
+abbrev pub ReadsOr : {A : Type 0} → ℕ → Parser → List Lexeme → List Lexeme → Result A Stuck → Parser → Type 0 → Type 0
+ReadsOr hidden p ts more result q cut =
     CouldBe hidden p.rest.now (ts ++ more) → MatchResult result (λ _. CouldBe hidden q.rest.now more ⊎ cut) (IsStuckInHidden hidden)
 
 -- no more than this token, which comes next, is seen of what is left

@@ -5,6 +5,7 @@ pub mod Faults
 pub mod Forward
 pub mod Grammar
 pub mod HiddenTokens
+pub mod Limits
 pub mod Lines
 pub mod Nesting
 pub mod Passing

@@ -1,5 +1,5 @@
--- That what is right is read: the tokens of a part are passed, whatever stands behind them, or memory was refused.
-use Rattle.std.specs.Prelude.{◌≡◌, Bool, true, false, ◌&&◌, ◌⊎◌, IsTrue, List, [], ◌∷◌, ◌++◌, Option, Some, None, Result, MatchResult}
+-- Where a part may stand, and which tokens it begins with.
+use Rattle.std.specs.Prelude.{◌≡◌, Bool, true, false, ◌&&◌, ◌⊎◌, IsTrue, List, [], ◌∷◌, Option, Some, None}
 use Rattle.std.specs.declared.alloc.Global.{Global}
 use Rattle.std.specs.declared.string.String.{String}
 use Rattle.tp_token.specs.declared.word.Word.{Word}
@@ -11,15 +11,8 @@ use Rattle.tp_event.specs.declared.operation.ReceiveKind.{ReceiveKind}
 use Rattle.tp_event.specs.declared.operation.ReceiveKind.TheVariants as receive_kind
 use Rattle.tp_tree.specs.declared.tree.Defined.{Defined}
 use Rattle.tp_tree.specs.declared.tree.Defined.TheVariants as defined
-use Rattle.tp_syntax.specs.declared.cursor.Parser.{Parser}
-use Rattle.tp_syntax.specs.declared.stuck.Stuck.{Stuck}
-use Rattle.tp_syntax.specs.Ahead.{ahead, is_name_in, is_number_in, token_at}
+use Rattle.tp_syntax.specs.Ahead.{is_name_in, is_number_in, token_at}
 use Rattle.tp_syntax.specs.Grammar.{Part}
-use Rattle.tp_syntax.specs.Stuck.{IsForMemory}
-
--- where these tokens come next, they are passed, and what stands behind them comes next, or memory was refused
-abbrev pub Reads : {A : Type 0} → Parser → List Lexeme → List Lexeme → Result A Stuck → Parser → Type 0
-Reads p ts more result q = ahead p.rest.now ≡ ts ++ more → MatchResult result (λ _. ahead q.rest.now ≡ more) IsForMemory
 
 -- the first of the tokens
 abbrev pub first : List Lexeme → Option Lexeme

@@ -1,5 +1,5 @@
 -- Where the parser is stuck, and why.
-use Rattle.std.specs.Prelude.{◌≡◌, ℕ, ◌+◌, ◌-◌, Bool, true, false, length, Option, Some, ◌≤◌, Result, MatchResult}
+use Rattle.std.specs.Prelude.{◌≡◌, ℕ, ◌+◌, Bool, true, false, length, Option, Some, ◌≤◌, Result, MatchResult}
 use Rattle.tp_token.specs.declared.token.Symbol.TheVariants.{Minus, LeftBrace, LeftParen}
 use Rattle.tp_token.specs.declared.word.Word.TheVariants.{Complement, Pattern}
 use Rattle.tp_token.specs.Lexeme.{Lexeme, number, word, symbol}
@@ -59,8 +59,8 @@ StandAtLeast stand p Memory = Unit {0}
 abbrev pub GoesBeyond : {A : Type 0} → ℕ → Parser → Result A Stuck → Parser → Type 0
 GoesBeyond stand p result q = MatchResult result (λ _. stand + length q.rest.now ≤ length p.rest.now) (StandAtLeast stand p)
 
--- how many of so many tokens stand before the one that can't, or before the end of the text; all, where memory was refused
-abbrev pub standing : Stuck → ℕ → ℕ
-standing (Next left) total = total - left
-standing (Passed left) total = total - (left + 1)
-standing Memory total = total
+-- how many tokens are left from the one that can't stand on; none, where memory was refused
+abbrev pub left_where_stuck : Stuck → ℕ
+left_where_stuck (Next left) = left
+left_where_stuck (Passed left) = left + 1
+left_where_stuck Memory = 0

@@ -4,9 +4,9 @@ ghost use Rattle.std.specs.Bool.{OnTrue, OnFalse};
 ghost use Rattle.tp_token.specs.Lexeme.{Lexeme, name, symbol, word, lexeme_of};
 ghost use Rattle.tp_syntax.specs.Ahead.{ahead, lexemes, lexemes_from, is_name_in, is_number_in, symbol_in, token_at, word_in};
 ghost use Rattle.tp_syntax.specs.Forward.{GoesForward, next_line};
-ghost use Rattle.tp_syntax.specs.HiddenTokens.{ReadsSeen};
+ghost use Rattle.tp_syntax.specs.HiddenTokens.{Reads};
 ghost use Rattle.tp_syntax.specs.Passing.{Passes};
-ghost use Rattle.tp_syntax.specs.Reading.{Reads, MayStandBefore, first};
+ghost use Rattle.tp_syntax.specs.Reading.{MayStandBefore, first};
 ghost use Rattle.tp_syntax.specs.Sequences.{end_lexemes};
 ghost use Rattle.tp_syntax.specs.Standing.{IsPartEnded};
 ghost use Rattle.tp_syntax.specs.Stuck.{IsStuckAt, IsStuckBehind, IsWrongBehind, GoesBeyond};
@@ -24,20 +24,6 @@ pub(crate) struct Parser<'a, 't> {
 }
 
 impl<'a, 't> Parser<'a, 't> {
-    /// How many brackets may still be opened behind one more, of so many before it. The parser is
-    /// stuck behind that one exactly where it is none.
-    pub fn below(&self, left: u32) -> Result<u32, Stuck>
-        ensures value { IfOk result (λ inner. inner + 1 ≡ left) }
-        ensures full { OnErr result (left ≡ 0) }
-        ensures behind { IfErr result (λ e. e ≡ Stuck.Next (length self.now.rest.now)) }
-        ensures stuck { IfErr result (IsStuckAt self.now) }
-    {
-        if left == 0 {
-            return Err(Stuck::Next(self.rest.len()));
-        }
-        Ok(left - 1)
-    }
-
     /// The next token, which is passed. Stuck at the end of the text.
     pub fn take(&mut self) -> Result<&'a Placed<'t>, Stuck>
         ensures tokens { IfOk result (λ p.
@@ -63,10 +49,8 @@ impl<'a, 't> Parser<'a, 't> {
             (ahead self.old.rest.now ≡ lexemes_from (symbol want) self.new.rest.now) }
         ensures shorter { OnOk result (length self.new.rest.now + 1 ≡ length self.old.rest.now) }
         ensures forward { OnOk result (GoesForward self.old self.new) }
-        ensures reads { (more : List Lexeme) →
-            Reads self.old (symbol want ∷ []) more result self.new }
-        ensures reads_seen { (hidden : ℕ) (more : List Lexeme) →
-            ReadsSeen hidden self.old (symbol want ∷ []) more result self.new }
+        ensures reads { (hidden : ℕ) (more : List Lexeme) →
+            Reads hidden self.old (symbol want ∷ []) more result self.new }
         ensures place { IfErr result (IsWrongBehind 0 self.old) }
         ensures stuck { IfErr result (IsStuckAt self.new) }
     {
@@ -77,39 +61,14 @@ impl<'a, 't> Parser<'a, 't> {
         }
     }
 
-    /// Passes this bracket, and says how many may be opened behind it, of so many before it. Stuck
-    /// where another token comes next, or none, and behind a bracket that is one too many.
-    pub fn open(&mut self, want: Symbol, left: u32) -> Result<u32, Stuck>
-        ensures tokens { OnOk result
-            (ahead self.old.rest.now ≡ lexemes_from (symbol want) self.new.rest.now) }
-        ensures shorter { OnOk result (length self.new.rest.now + 1 ≡ length self.old.rest.now) }
-        ensures forward { OnOk result (GoesForward self.old self.new) }
-        ensures inner { IfOk result (λ inner. inner + 1 ≡ left) }
-        ensures reads { (more : List Lexeme) →
-            0 < left →
-            Reads self.old (symbol want ∷ []) more result self.new }
-        ensures reads_seen { (hidden : ℕ) (more : List Lexeme) →
-            0 < left →
-            ReadsSeen hidden self.old (symbol want ∷ []) more result self.new }
-        ensures beyond { GoesBeyond 0 self.old result self.new }
-        ensures beyond_bracket { token_at self.old.rest.now 0 ≡ Some (symbol want) →
-            GoesBeyond 1 self.old result self.new }
-        ensures stuck { IfErr result (IsStuckAt self.new) }
-    {
-        self.symbol(want)?;
-        self.below(left)
-    }
-
     /// Passes this word. Stuck where another token comes next, or none.
     pub fn word(&mut self, want: Word) -> Result<(), Stuck>
         ensures tokens { OnOk result
             (ahead self.old.rest.now ≡ word want ∷ ahead self.new.rest.now) }
         ensures shorter { OnOk result (length self.new.rest.now + 1 ≡ length self.old.rest.now) }
         ensures forward { OnOk result (GoesForward self.old self.new) }
-        ensures reads { (more : List Lexeme) →
-            Reads self.old (word want ∷ []) more result self.new }
-        ensures reads_seen { (hidden : ℕ) (more : List Lexeme) →
-            ReadsSeen hidden self.old (word want ∷ []) more result self.new }
+        ensures reads { (hidden : ℕ) (more : List Lexeme) →
+            Reads hidden self.old (word want ∷ []) more result self.new }
         ensures place { IfErr result (IsWrongBehind 0 self.old) }
         ensures stuck { IfErr result (IsStuckAt self.new) }
     {
@@ -126,10 +85,8 @@ impl<'a, 't> Parser<'a, 't> {
             ahead self.old.rest.now ≡ name (string_bytes n) ∷ ahead self.new.rest.now) }
         ensures shorter { OnOk result (length self.new.rest.now + 1 ≡ length self.old.rest.now) }
         ensures forward { OnOk result (GoesForward self.old self.new) }
-        ensures reads { (spelling : List ℕ) (more : List Lexeme) →
-            Reads self.old (name spelling ∷ []) more result self.new }
-        ensures reads_seen { (hidden : ℕ) (spelling : List ℕ) (more : List Lexeme) →
-            ReadsSeen hidden self.old (name spelling ∷ []) more result self.new }
+        ensures reads { (hidden : ℕ) (spelling : List ℕ) (more : List Lexeme) →
+            Reads hidden self.old (name spelling ∷ []) more result self.new }
         ensures place { IfErr result (IsStuckBehind 0 self.old) }
         ensures stuck { IfErr result (IsStuckAt self.new) }
     {
@@ -146,10 +103,8 @@ impl<'a, 't> Parser<'a, 't> {
             (ahead self.old.rest.now ≡ name (string_bytes want.now) ∷ ahead self.new.rest.now) }
         ensures shorter { OnOk result (length self.new.rest.now + 1 ≡ length self.old.rest.now) }
         ensures forward { OnOk result (GoesForward self.old self.new) }
-        ensures reads { (more : List Lexeme) →
-            Reads self.old (name (string_bytes want.now) ∷ []) more result self.new }
-        ensures reads_seen { (hidden : ℕ) (more : List Lexeme) →
-            ReadsSeen hidden self.old (name (string_bytes want.now) ∷ []) more result self.new }
+        ensures reads { (hidden : ℕ) (more : List Lexeme) →
+            Reads hidden self.old (name (string_bytes want.now) ∷ []) more result self.new }
         ensures place { IfErr result (IsWrongBehind 0 self.old) }
         ensures stuck { IfErr result (IsStuckAt self.new) }
     {
@@ -303,12 +258,9 @@ impl<'a, 't> Parser<'a, 't> {
         ensures grammatical { IfOk result (λ e. IsPartEnded (is_closed || e) self.new) }
         ensures shorter { OnOk result (length self.new.rest.now ≤ length self.old.rest.now) }
         ensures forward { OnOk result (GoesForward self.old self.new) }
-        ensures reads { (e : Bool) (more : List Lexeme) →
+        ensures reads { (hidden : ℕ) (e : Bool) (more : List Lexeme) →
             MayStandBefore (is_closed || e) more →
-            Reads self.old (end_lexemes e) more result self.new }
-        ensures reads_seen { (hidden : ℕ) (e : Bool) (more : List Lexeme) →
-            MayStandBefore (is_closed || e) more →
-            ReadsSeen hidden self.old (end_lexemes e) more result self.new }
+            Reads hidden self.old (end_lexemes e) more result self.new }
         ensures place { IfErr result (IsWrongBehind 0 self.old) }
         ensures stuck { IfErr result (IsStuckAt self.new) }
     {

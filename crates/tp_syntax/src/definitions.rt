@@ -7,10 +7,10 @@ ghost use Rattle.tp_syntax.specs.Nesting.{defined_depth, definitions_depth, modu
 ghost use Rattle.tp_syntax.specs.Forward.{PassesLines};
 ghost use Rattle.tp_syntax.specs.Lines.{noted_in_order, noted_by_commas, parameter_notes, function_notes, defined_notes, definition_notes, module_notes};
 ghost use Rattle.tp_syntax.specs.Passing.{Passes};
-ghost use Rattle.tp_syntax.specs.Reading.{AllStand, IsPlaced, Reads, first};
+ghost use Rattle.tp_syntax.specs.Reading.{AllStand, IsPlaced, first};
 ghost use Rattle.tp_syntax.specs.Standing.{GoesOver, HasPassed};
 ghost use Rattle.tp_syntax.specs.Stuck.{IsStuckAt, GoesBeyond};
-ghost use Rattle.tp_syntax.specs.HiddenTokens.{ReadsSeen};
+ghost use Rattle.tp_syntax.specs.HiddenTokens.{Reads};
 
 use crate::cursor::Parser;
 use crate::stuck::Stuck;
@@ -33,10 +33,8 @@ impl<'a, 't> Parser<'a, 't> {
         ensures tokens { IfOk result (λ x. Passes self.old (parameter_lexemes x) self.new) }
         ensures shorter { OnOk result (length self.new.rest.now < length self.old.rest.now) }
         ensures lines { IfOk result (λ x. PassesLines self.old (parameter_notes x) self.new) }
-        ensures reads { (x : Parameter) (more : List Lexeme) →
-            Reads self.old (parameter_lexemes x) more result self.new }
-        ensures reads_seen { (hidden : ℕ) (x : Parameter) (more : List Lexeme) →
-            ReadsSeen hidden self.old (parameter_lexemes x) more result self.new }
+        ensures reads { (hidden : ℕ) (x : Parameter) (more : List Lexeme) →
+            Reads hidden self.old (parameter_lexemes x) more result self.new }
         ensures beyond { GoesBeyond 0 self.old result self.new }
         ensures stuck { IfErr result (IsStuckAt self.new) }
     {
@@ -51,12 +49,9 @@ impl<'a, 't> Parser<'a, 't> {
         ensures shorter { OnOk result (length self.new.rest.now ≤ length self.old.rest.now) }
         ensures lines { IfOk result (λ x.
             PassesLines self.old (noted_by_commas (map parameter_notes x.items)) self.new) }
-        ensures reads { (xs : List Parameter) (more : List Lexeme) →
+        ensures reads { (hidden : ℕ) (xs : List Parameter) (more : List Lexeme) →
             first more ≡ Some (symbol Symbol.RightParen) →
-            Reads self.old (parameters_lexemes xs) more result self.new }
-        ensures reads_seen { (hidden : ℕ) (xs : List Parameter) (more : List Lexeme) →
-            first more ≡ Some (symbol Symbol.RightParen) →
-            ReadsSeen hidden self.old (parameters_lexemes xs) more result self.new }
+            Reads hidden self.old (parameters_lexemes xs) more result self.new }
         ensures beyond { GoesBeyond 0 self.old result self.new }
         ensures stuck { IfErr result (IsStuckAt self.new) }
     {
@@ -75,21 +70,15 @@ impl<'a, 't> Parser<'a, 't> {
 
     /// A function.
     #[tactic(auto, using(std::proofs::lemmas::List::append_assoc), unfolding(crate::specs::Definitions::function_lexemes))]
-    fn function(&mut self, alloc: Global, left: u32) -> Result<Function, Stuck>
+    fn function(&mut self, alloc: Global) -> Result<Function, Stuck>
         ensures tokens { IfOk result (λ x. Passes self.old (function_lexemes x) self.new) }
         ensures shorter { OnOk result (length self.new.rest.now + 2 ≤ length self.old.rest.now) }
         ensures lines { IfOk result (λ x. PassesLines self.old (function_notes x) self.new) }
-        ensures nested { IfOk result (λ x. defined_depth (Defined.Function x) ≤ left) }
         ensures grammatical { IfOk result (λ x.
             IsTrue (defined_part (Defined.Function x)).is_right) }
-        ensures reads { (x : Function) (more : List Lexeme) →
+        ensures reads { (hidden : ℕ) (x : Function) (more : List Lexeme) →
             IsTrue (defined_part (Defined.Function x)).is_right →
-            defined_depth (Defined.Function x) ≤ left →
-            Reads self.old (function_lexemes x) more result self.new }
-        ensures reads_seen { (hidden : ℕ) (x : Function) (more : List Lexeme) →
-            IsTrue (defined_part (Defined.Function x)).is_right →
-            defined_depth (Defined.Function x) ≤ left →
-            ReadsSeen hidden self.old (function_lexemes x) more result self.new }
+            Reads hidden self.old (function_lexemes x) more result self.new }
         ensures beyond { GoesBeyond 0 self.old result self.new }
         ensures stuck { IfErr result (IsStuckAt self.new) }
     {
@@ -101,9 +90,9 @@ impl<'a, 't> Parser<'a, 't> {
         self.word(Word::Runs)?;
         self.word(Word::On)?;
         let runs_on = self.name(alloc)?;
-        let inner = self.open(Symbol::LeftBrace, left)?;
+        self.symbol(Symbol::LeftBrace)?;
         let variables = self.variables(alloc)?;
-        let statements = self.statements(alloc, inner, false)?;
+        let statements = self.statements(alloc, false)?;
         self.symbol(Symbol::RightBrace)?;
         Ok(Function {
             name,
@@ -116,29 +105,23 @@ impl<'a, 't> Parser<'a, 't> {
 
     /// What a definition defines.
     #[tactic(auto, unfolding(crate::specs::Definitions::defined_lexemes))]
-    fn defined(&mut self, alloc: Global, left: u32) -> Result<Defined, Stuck>
+    fn defined(&mut self, alloc: Global) -> Result<Defined, Stuck>
         ensures tokens { IfOk result (λ x. Passes self.old (defined_lexemes x) self.new) }
         ensures shorter { OnOk result (length self.new.rest.now + 2 ≤ length self.old.rest.now) }
         ensures lines { IfOk result (λ x. PassesLines self.old (defined_notes x) self.new) }
-        ensures nested { IfOk result (λ x. defined_depth x ≤ left) }
         ensures grammatical { IfOk result (λ x. IsTrue (defined_part x).is_right) }
-        ensures reads { (x : Defined) (more : List Lexeme) →
+        ensures reads { (hidden : ℕ) (x : Defined) (more : List Lexeme) →
             IsTrue (defined_part x).is_right →
-            defined_depth x ≤ left →
-            Reads self.old (defined_lexemes x) more result self.new }
-        ensures reads_seen { (hidden : ℕ) (x : Defined) (more : List Lexeme) →
-            IsTrue (defined_part x).is_right →
-            defined_depth x ≤ left →
-            ReadsSeen hidden self.old (defined_lexemes x) more result self.new }
+            Reads hidden self.old (defined_lexemes x) more result self.new }
         ensures beyond { GoesBeyond 0 self.old result self.new }
         ensures stuck { IfErr result (IsStuckAt self.new) }
     {
         if self.is_word_at(0, Word::Function) {
-            let function = self.function(alloc, left)?;
+            let function = self.function(alloc)?;
             return Ok(Defined::Function(function));
         }
         if self.is_word_at(0, Word::Testcase) {
-            let test_case = self.test_case(alloc, left)?;
+            let test_case = self.test_case(alloc)?;
             return Ok(Defined::TestCase(test_case));
         }
         self.defined_type(alloc)
@@ -146,25 +129,19 @@ impl<'a, 't> Parser<'a, 't> {
 
     /// A definition.
     #[tactic(auto, using(std::proofs::lemmas::List::append_assoc))]
-    fn definition(&mut self, alloc: Global, left: u32) -> Result<Definition, Stuck>
+    fn definition(&mut self, alloc: Global) -> Result<Definition, Stuck>
         ensures tokens { IfOk result (λ x. Passes self.old (definition_lexemes x) self.new) }
         ensures shorter { OnOk result (length self.new.rest.now < length self.old.rest.now) }
         ensures lines { IfOk result (λ x. PassesLines self.old (definition_notes x) self.new) }
-        ensures nested { IfOk result (λ x. defined_depth x.defined ≤ left) }
         ensures grammatical { IfOk result (λ x. HasPassed (definition_part x) self.new) }
-        ensures reads { (x : Definition) (more : List Lexeme) →
+        ensures reads { (hidden : ℕ) (x : Definition) (more : List Lexeme) →
             IsPlaced (definition_part x) more →
-            defined_depth x.defined ≤ left →
-            Reads self.old (definition_lexemes x) more result self.new }
-        ensures reads_seen { (hidden : ℕ) (x : Definition) (more : List Lexeme) →
-            IsPlaced (definition_part x) more →
-            defined_depth x.defined ≤ left →
-            ReadsSeen hidden self.old (definition_lexemes x) more result self.new }
+            Reads hidden self.old (definition_lexemes x) more result self.new }
         ensures beyond { GoesBeyond 0 self.old result self.new }
         ensures stuck { IfErr result (IsStuckAt self.new) }
     {
         let line = self.line();
-        let defined = self.defined(alloc, left)?;
+        let defined = self.defined(alloc)?;
         let is_closed = ends_in_brace(&defined);
         let has_semicolon = self.end(is_closed)?;
         Ok(Definition {
@@ -175,61 +152,47 @@ impl<'a, 't> Parser<'a, 't> {
     }
 
     /// The definitions of a module, up to its `}`.
-    fn definitions(&mut self, alloc: Global, left: u32) -> Result<Vec<Definition>, Stuck>
+    fn definitions(&mut self, alloc: Global) -> Result<Vec<Definition>, Stuck>
         ensures tokens { IfOk result (λ x. Passes self.old (definitions_lexemes x.items) self.new) }
         ensures shorter { OnOk result (length self.new.rest.now ≤ length self.old.rest.now) }
         ensures lines { IfOk result (λ x.
             PassesLines self.old (noted_in_order (map definition_notes x.items)) self.new) }
-        ensures nested { IfOk result (λ x. definitions_depth x.items ≤ left) }
         ensures grammatical { IfOk result (λ x.
             GoesOver self.old (map definition_part x.items) self.new) }
-        ensures reads { (xs : List Definition) (more : List Lexeme) →
+        ensures reads { (hidden : ℕ) (xs : List Definition) (more : List Lexeme) →
             AllStand (map definition_part xs) more →
-            definitions_depth xs ≤ left →
             first more ≡ Some (symbol Symbol.RightBrace) →
-            Reads self.old (definitions_lexemes xs) more result self.new }
-        ensures reads_seen { (hidden : ℕ) (xs : List Definition) (more : List Lexeme) →
-            AllStand (map definition_part xs) more →
-            definitions_depth xs ≤ left →
-            first more ≡ Some (symbol Symbol.RightBrace) →
-            ReadsSeen hidden self.old (definitions_lexemes xs) more result self.new }
+            Reads hidden self.old (definitions_lexemes xs) more result self.new }
         ensures beyond { GoesBeyond 0 self.old result self.new }
         ensures stuck { IfErr result (IsStuckAt self.new) }
     {
         let mut definitions = Vec::new(alloc);
         'more: while !self.is_symbol_at(0, Symbol::RightBrace) {
-            let definition = self.definition(alloc, left)?;
+            let definition = self.definition(alloc)?;
             definitions.push(definition)?;
         }
         Ok(definitions)
     }
 
-    /// A module, in which so many brackets may be open.
+    /// A module.
     #[tactic(auto, using(std::proofs::lemmas::List::append_assoc))]
-    pub fn module(&mut self, alloc: Global, left: u32) -> Result<Module, Stuck>
+    pub fn module(&mut self, alloc: Global) -> Result<Module, Stuck>
         ensures tokens { IfOk result (λ x. Passes self.old (module_lexemes x) self.new) }
         ensures shorter { OnOk result (length self.new.rest.now < length self.old.rest.now) }
         ensures lines { IfOk result (λ x. PassesLines self.old (module_notes x) self.new) }
-        ensures nested { IfOk result (λ x. module_depth x ≤ left) }
         ensures grammatical { IfOk result IsGrammatical }
-        ensures reads { (x : Module) (more : List Lexeme) →
+        ensures reads { (hidden : ℕ) (x : Module) (more : List Lexeme) →
             IsGrammatical x →
-            module_depth x ≤ left →
             first more ≢ Some (symbol Symbol.Semicolon) →
-            Reads self.old (module_lexemes x) more result self.new }
-        ensures reads_seen { (hidden : ℕ) (x : Module) (more : List Lexeme) →
-            IsGrammatical x →
-            module_depth x ≤ left →
-            first more ≢ Some (symbol Symbol.Semicolon) →
-            ReadsSeen hidden self.old (module_lexemes x) more result self.new }
+            Reads hidden self.old (module_lexemes x) more result self.new }
         ensures beyond { GoesBeyond 0 self.old result self.new }
         ensures stuck { IfErr result (IsStuckAt self.new) }
     {
         let line = self.line();
         self.word(Word::Module)?;
         let name = self.name(alloc)?;
-        let inner = self.open(Symbol::LeftBrace, left)?;
-        let definitions = self.definitions(alloc, inner)?;
+        self.symbol(Symbol::LeftBrace)?;
+        let definitions = self.definitions(alloc)?;
         self.symbol(Symbol::RightBrace)?;
         let has_semicolon = self.end(true)?;
         Ok(Module {

@@ -1,8 +1,7 @@
 //! Which fault of a text comes first, by its tokens.
-ghost use Rattle.std.specs.Prelude.{◌≡◌, ◌-◌, ◌≤◌, ◌↔◌, IsTrue, length};
-ghost use Rattle.tp_token.specs.Fault.{IsMemory};
-ghost use Rattle.tp_token.specs.Lexeme.{lexeme_of};
-ghost use Rattle.tp_syntax.specs.Faults.{IsAllowed, IsFaultOf, greatest_number, input_of, is_minus, opened_behind, symbol_bracket};
+ghost use Rattle.std.specs.Prelude.{◌≡◌, ◌<◌, ◌≤◌, ◌↔◌, ◌∷◌, ◌++◌, ◌-◌, IsTrue, List, drop, length, map};
+ghost use Rattle.tp_token.specs.Lexeme.{PlacedLexeme, lexeme_of, placed_lexeme};
+ghost use Rattle.tp_syntax.specs.Faults.{IsAllowed, IsCutOf, AreTokensSeen, brought_within, fault_in, greatest_number, is_minus, line_of, opened_behind, symbol_bracket};
 
 use tp_token::fault::ScriptFault;
 use tp_token::token::{Placed, Symbol, Token};
@@ -26,7 +25,7 @@ pub(crate) enum Bracket {
 
 /// How many brackets may be open at once. It is a function, where the constant alone would do, so
 /// that a clause holds the number 32: an edit of the number is then refused, to a lower one too.
-pub(crate) fn most_brackets() -> u32
+fn most_brackets() -> u32
     ensures { result ≡ 32 }
 {
     BRACKETS
@@ -93,28 +92,88 @@ fn is_minus(token: &Token) -> bool
     matches!(token, Token::Symbol(Symbol::Minus))
 }
 
-/// The fault of a text in which, of its tokens, the last so many can't stand: 15 `Limit` at the
-/// first of those before them that is beyond the limits; else 10 `Syntax` at the first of these, or
-/// at the end of the text.
-pub(crate) fn first_fault(tokens: &[Placed], left: usize, last_line: u32) -> ScriptFault
-    ensures place { IsFaultOf (input_of tokens.now last_line) (length tokens.now - left) result }
-    ensures memory { IsMemory result → ⊥ }
+/// The tokens in which the grammar looks for the fault of a text: all of them, or those up to the
+/// first that is beyond the limits. That one is brought within them, so that the grammar says
+/// whether it can stand there.
+#[derive(Drop)]
+pub(crate) struct Front<'t> {
+    pub tokens: Vec<Placed<'t>>,
+    /// The line of the last one, where that is beyond the limits.
+    pub beyond: Option<u32>,
+}
+
+impl<'t> Front<'t> {
+    /// The fault where so many of the tokens, the last ones, can't stand: 10 `Syntax` at the first
+    /// of these, or at the end of the text where there is none; 15 `Limit` where there is none and
+    /// the last token is beyond the limits.
+    pub fn fault(&self, left: usize, last_line: u32) -> ScriptFault
+        ensures { result ≡ fault_in (map placed_lexeme self.now.tokens.items) self.now.beyond left
+            last_line }
+    {
+        match self.beyond {
+            Some(line) if left == 0 => ScriptFault::limit(line),
+            _ => ScriptFault::syntax(self.line_at(left, last_line)),
+        }
+    }
+
+    /// The line of the first of so many tokens, the last ones, or of the text's end.
+    fn line_at(&self, left: usize, last_line: u32) -> u32
+        ensures { result ≡ line_of (drop (length self.now.tokens.items - left)
+            (map placed_lexeme self.now.tokens.items)) last_line }
+    {
+        match self.tokens.get(self.tokens.len().saturating_sub(left)) {
+            Some(placed) => placed.line,
+            None => last_line,
+        }
+    }
+}
+
+/// The tokens of a text up to the first that is beyond the limits, or all.
+pub(crate) fn front_of(tokens: Vec<Placed>) -> Front
+    ensures { AreTokensSeen (map placed_lexeme tokens.entry.items)
+        (map placed_lexeme result.tokens.items) result.beyond }
 {
-    let good = tokens.len().saturating_sub(left);
     let mut opened = 0;
     let mut is_signed = false;
     let mut place = 0;
-    'more: while place < good {
+    'more: while place < tokens.len() {
         let placed = &tokens[place];
         if !is_allowed(&placed.token, opened, is_signed) {
-            return ScriptFault::limit(placed.line);
+            return cut_behind(tokens, place, is_signed);
         }
         opened = opened_behind(&placed.token, opened);
         is_signed = is_minus(&placed.token);
         place += 1;
     }
-    if good < tokens.len() {
-        return ScriptFault::syntax(tokens[good].line);
+    Front {
+        tokens,
+        beyond: None,
     }
-    ScriptFault::syntax(last_line)
+}
+
+/// The tokens up to this place, the last one brought within the limits.
+fn cut_behind(mut tokens: Vec<Placed>, place: usize, is_signed: bool) -> Front
+    requires { place < length tokens.items }
+    ensures { (passed rest : List PlacedLexeme) (t : PlacedLexeme) →
+        map placed_lexeme tokens.entry.items ≡ passed ++ t ∷ rest →
+        length passed ≡ place →
+        IsCutOf passed t is_signed (map placed_lexeme result.tokens.items) result.beyond }
+{
+    tokens.truncate(place + 1);
+    let line = tokens[place].line;
+    bring_within(&mut tokens[place].token, is_signed);
+    Front {
+        tokens,
+        beyond: Some(line),
+    }
+}
+
+/// Makes a number that is too great the greatest one that may stand there: directly behind a `-`,
+/// or elsewhere.
+fn bring_within(token: &mut Token, is_signed: bool)
+    ensures { lexeme_of token.new ≡ brought_within is_signed (lexeme_of token.old) }
+{
+    if let Token::Number(number) = token {
+        *number = (*number).min(greatest_number(is_signed));
+    }
 }

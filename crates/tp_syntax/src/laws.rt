@@ -1,4 +1,5 @@
 //! Laws of the grammar, each as a function whose contract it is. They do nothing.
+ghost use Rattle.tp_syntax.specs.Limits.{DepthsAreOfTokens};
 ghost use Rattle.tp_syntax.specs.Same.{ModulesAreUnique, ReadingsAreUnique};
 ghost use Rattle.tp_syntax.specs.Same.{SameModulesHaveSameTokens};
 
@@ -18,4 +19,10 @@ pub fn modules_are_unique()
 /// answers is, but for its lines, the only module of the grammar that the text is read as.
 pub fn readings_are_unique()
     ensures { ReadingsAreUnique }
+{}
+
+/// The law that brackets nest in a module as deep as they are open at once among its tokens: a
+/// module of the grammar nests at most 32 deep just where each of its tokens is within the limits.
+pub fn depths_are_of_tokens()
+    ensures { DepthsAreOfTokens }
 {}

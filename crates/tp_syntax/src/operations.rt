@@ -1,15 +1,14 @@
 //! Operations on ports: sends, receiving operations, and those that start or stop a port.
-ghost use Rattle.std.specs.Prelude.{[], true, ◌↔◌, ◌≢◌, List, Option, Some, ◌≡◌, ◌+◌, ◌<◌, ◌≤◌, ◌∷◌, ◌++◌, IsTrue, length, IfOk, OnOk, IfErr, ℕ};
+ghost use Rattle.std.specs.Prelude.{[], true, ◌↔◌, ◌≢◌, List, Option, Some, ◌≡◌, ◌<◌, ◌≤◌, ◌∷◌, ◌++◌, IsTrue, length, IfOk, OnOk, IfErr, ℕ};
 ghost use Rattle.tp_token.specs.Lexeme.{Lexeme, symbol, word};
 ghost use Rattle.tp_syntax.specs.Ahead.{ahead, is_name_in, token_at};
 ghost use Rattle.tp_syntax.specs.Forward.{GoesForward};
 ghost use Rattle.tp_syntax.specs.Passing.{Passes};
 ghost use Rattle.tp_syntax.specs.Statements.{component_lexemes, sent_lexemes, to_lexemes, send_lexemes, template_part, from_lexemes, named_part, redirect_lexemes, receive_lexemes, port_operation_lexeme, control_lexemes, all_ports_lexemes};
 ghost use Rattle.tp_syntax.specs.Grammar.{is_sent, is_template_part};
-ghost use Rattle.tp_syntax.specs.Nesting.{part_depth, receive_depth, sent_depth};
-ghost use Rattle.tp_syntax.specs.Reading.{MaybeName, Reads, Stops, first};
+ghost use Rattle.tp_syntax.specs.Reading.{MaybeName, Stops, first};
 ghost use Rattle.tp_syntax.specs.Stuck.{IsStuckAt, IsStuckBehind, IsWrongBehind, GoesBeyond};
-ghost use Rattle.tp_syntax.specs.HiddenTokens.{ReadsSeen};
+ghost use Rattle.tp_syntax.specs.HiddenTokens.{Reads};
 
 use crate::cursor::Parser;
 use crate::stuck::Stuck;
@@ -34,10 +33,8 @@ impl<'a, 't> Parser<'a, 't> {
         ensures tokens { IfOk result (λ c. Passes self.old (component_lexemes c) self.new) }
         ensures shorter { OnOk result (length self.new.rest.now < length self.old.rest.now) }
         ensures forward { OnOk result (GoesForward self.old self.new) }
-        ensures reads { (x : ComponentName) (more : List Lexeme) →
-            Reads self.old (component_lexemes x) more result self.new }
-        ensures reads_seen { (hidden : ℕ) (x : ComponentName) (more : List Lexeme) →
-            ReadsSeen hidden self.old (component_lexemes x) more result self.new }
+        ensures reads { (hidden : ℕ) (x : ComponentName) (more : List Lexeme) →
+            Reads hidden self.old (component_lexemes x) more result self.new }
         ensures place { IfErr result (IsStuckBehind 0 self.old) }
         ensures stuck { IfErr result (IsStuckAt self.new) }
     {
@@ -62,22 +59,15 @@ impl<'a, 't> Parser<'a, 't> {
     }
 
     /// What is sent.
-    fn sent(&mut self, alloc: Global, left: u32) -> Result<SentExpression, Stuck>
+    fn sent(&mut self, alloc: Global) -> Result<SentExpression, Stuck>
         ensures tokens { IfOk result (λ s. Passes self.old (sent_lexemes s) self.new) }
         ensures shorter { OnOk result (length self.new.rest.now < length self.old.rest.now) }
         ensures forward { OnOk result (GoesForward self.old self.new) }
-        ensures nested { IfOk result (λ s. sent_depth s ≤ left) }
         ensures grammatical { IfOk result (λ s. IsTrue (is_sent s)) }
-        ensures reads { (x : SentExpression) (more : List Lexeme) →
+        ensures reads { (hidden : ℕ) (x : SentExpression) (more : List Lexeme) →
             IsTrue (is_sent x) →
-            sent_depth x ≤ left →
             first more ≡ Some (symbol Symbol.RightParen) →
-            Reads self.old (sent_lexemes x) more result self.new }
-        ensures reads_seen { (hidden : ℕ) (x : SentExpression) (more : List Lexeme) →
-            IsTrue (is_sent x) →
-            sent_depth x ≤ left →
-            first more ≡ Some (symbol Symbol.RightParen) →
-            ReadsSeen hidden self.old (sent_lexemes x) more result self.new }
+            Reads hidden self.old (sent_lexemes x) more result self.new }
         ensures beyond { GoesBeyond 0 self.old result self.new }
         ensures stuck { IfErr result (IsStuckAt self.new) }
     {
@@ -85,7 +75,7 @@ impl<'a, 't> Parser<'a, 't> {
             let name = self.name(alloc)?;
             return Ok(SentExpression::Variable(name));
         }
-        let message = self.message(alloc, left)?;
+        let message = self.message(alloc)?;
         Ok(SentExpression::Message(message))
     }
 
@@ -94,12 +84,9 @@ impl<'a, 't> Parser<'a, 't> {
         ensures tokens { IfOk result (λ d. Passes self.old (to_lexemes d) self.new) }
         ensures shorter { OnOk result (length self.new.rest.now ≤ length self.old.rest.now) }
         ensures forward { OnOk result (GoesForward self.old self.new) }
-        ensures reads { (x : Option Receivers) (more : List Lexeme) →
+        ensures reads { (hidden : ℕ) (x : Option Receivers) (more : List Lexeme) →
             Stops more →
-            Reads self.old (to_lexemes x) more result self.new }
-        ensures reads_seen { (hidden : ℕ) (x : Option Receivers) (more : List Lexeme) →
-            Stops more →
-            ReadsSeen hidden self.old (to_lexemes x) more result self.new }
+            Reads hidden self.old (to_lexemes x) more result self.new }
         ensures beyond { GoesBeyond 0 self.old result self.new }
         ensures stuck { IfErr result (IsStuckAt self.new) }
     {
@@ -116,22 +103,15 @@ impl<'a, 't> Parser<'a, 't> {
 
     /// A send.
     #[tactic(auto, using(std::proofs::lemmas::List::append_assoc), unfolding(crate::specs::Statements::send_lexemes))]
-    pub fn send(&mut self, alloc: Global, left: u32) -> Result<Send, Stuck>
+    pub fn send(&mut self, alloc: Global) -> Result<Send, Stuck>
         ensures tokens { IfOk result (λ s. Passes self.old (send_lexemes s) self.new) }
         ensures shorter { OnOk result (length self.new.rest.now < length self.old.rest.now) }
         ensures forward { OnOk result (GoesForward self.old self.new) }
-        ensures nested { IfOk result (λ s. sent_depth s.sent + 1 ≤ left) }
         ensures grammatical { IfOk result (λ s. IsTrue (is_sent s.sent)) }
-        ensures reads { (x : Send) (more : List Lexeme) →
+        ensures reads { (hidden : ℕ) (x : Send) (more : List Lexeme) →
             IsTrue (is_sent x.sent) →
-            sent_depth x.sent + 1 ≤ left →
             Stops more →
-            Reads self.old (send_lexemes x) more result self.new }
-        ensures reads_seen { (hidden : ℕ) (x : Send) (more : List Lexeme) →
-            IsTrue (is_sent x.sent) →
-            sent_depth x.sent + 1 ≤ left →
-            Stops more →
-            ReadsSeen hidden self.old (send_lexemes x) more result self.new }
+            Reads hidden self.old (send_lexemes x) more result self.new }
         ensures beyond { GoesBeyond 0 self.old result self.new }
         ensures beyond_name { is_name_in (token_at self.old.rest.now 0) ≡ true →
             GoesBeyond 1 self.old result self.new }
@@ -143,8 +123,8 @@ impl<'a, 't> Parser<'a, 't> {
         let port = self.name(alloc)?;
         self.symbol(Symbol::Dot)?;
         self.word(Word::Send)?;
-        let inner = self.open(Symbol::LeftParen, left)?;
-        let sent = self.sent(alloc, inner)?;
+        self.symbol(Symbol::LeftParen)?;
+        let sent = self.sent(alloc)?;
         self.symbol(Symbol::RightParen)?;
         let to = self.to_part(alloc)?;
         Ok(Send { port, sent, to })
@@ -152,30 +132,23 @@ impl<'a, 't> Parser<'a, 't> {
 
     /// The template of a receiving operation in its parentheses, if it is there.
     #[tactic(auto, using(std::proofs::lemmas::List::append_assoc))]
-    fn template_part(&mut self, alloc: Global, left: u32) -> Result<Option<MessageTemplate>, Stuck>
+    fn template_part(&mut self, alloc: Global) -> Result<Option<MessageTemplate>, Stuck>
         ensures tokens { IfOk result (λ t. Passes self.old (template_part t) self.new) }
         ensures shorter { OnOk result (length self.new.rest.now ≤ length self.old.rest.now) }
         ensures forward { OnOk result (GoesForward self.old self.new) }
-        ensures nested { IfOk result (λ t. part_depth t ≤ left) }
         ensures grammatical { IfOk result (λ t. IsTrue (is_template_part t)) }
-        ensures reads { (x : Option MessageTemplate) (more : List Lexeme) →
+        ensures reads { (hidden : ℕ) (x : Option MessageTemplate) (more : List Lexeme) →
             IsTrue (is_template_part x) →
-            part_depth x ≤ left →
             first more ≢ Some (symbol Symbol.LeftParen) →
-            Reads self.old (template_part x) more result self.new }
-        ensures reads_seen { (hidden : ℕ) (x : Option MessageTemplate) (more : List Lexeme) →
-            IsTrue (is_template_part x) →
-            part_depth x ≤ left →
-            first more ≢ Some (symbol Symbol.LeftParen) →
-            ReadsSeen hidden self.old (template_part x) more result self.new }
+            Reads hidden self.old (template_part x) more result self.new }
         ensures beyond { GoesBeyond 0 self.old result self.new }
         ensures stuck { IfErr result (IsStuckAt self.new) }
     {
         if !self.is_symbol_at(0, Symbol::LeftParen) {
             return Ok(None);
         }
-        let inner = self.open(Symbol::LeftParen, left)?;
-        let template = self.message_template(alloc, inner)?;
+        self.symbol(Symbol::LeftParen)?;
+        let template = self.message_template(alloc)?;
         self.symbol(Symbol::RightParen)?;
         Ok(Some(template))
     }
@@ -185,12 +158,9 @@ impl<'a, 't> Parser<'a, 't> {
         ensures tokens { IfOk result (λ c. Passes self.old (from_lexemes c) self.new) }
         ensures shorter { OnOk result (length self.new.rest.now ≤ length self.old.rest.now) }
         ensures forward { OnOk result (GoesForward self.old self.new) }
-        ensures reads { (x : Option ComponentName) (more : List Lexeme) →
+        ensures reads { (hidden : ℕ) (x : Option ComponentName) (more : List Lexeme) →
             first more ≢ Some (word Word.From) →
-            Reads self.old (from_lexemes x) more result self.new }
-        ensures reads_seen { (hidden : ℕ) (x : Option ComponentName) (more : List Lexeme) →
-            first more ≢ Some (word Word.From) →
-            ReadsSeen hidden self.old (from_lexemes x) more result self.new }
+            Reads hidden self.old (from_lexemes x) more result self.new }
         ensures beyond { GoesBeyond 0 self.old result self.new }
         ensures stuck { IfErr result (IsStuckAt self.new) }
     {
@@ -206,12 +176,9 @@ impl<'a, 't> Parser<'a, 't> {
         ensures tokens { IfOk result (λ n. Passes self.old (named_part want n) self.new) }
         ensures shorter { OnOk result (length self.new.rest.now ≤ length self.old.rest.now) }
         ensures forward { OnOk result (GoesForward self.old self.new) }
-        ensures reads { (x : MaybeName) (more : List Lexeme) →
+        ensures reads { (hidden : ℕ) (x : MaybeName) (more : List Lexeme) →
             first more ≢ Some (word want) →
-            Reads self.old (named_part want x) more result self.new }
-        ensures reads_seen { (hidden : ℕ) (x : MaybeName) (more : List Lexeme) →
-            first more ≢ Some (word want) →
-            ReadsSeen hidden self.old (named_part want x) more result self.new }
+            Reads hidden self.old (named_part want x) more result self.new }
         ensures beyond { GoesBeyond 0 self.old result self.new }
         ensures stuck { IfErr result (IsStuckAt self.new) }
     {
@@ -228,12 +195,9 @@ impl<'a, 't> Parser<'a, 't> {
         ensures tokens { IfOk result (λ r. Passes self.old (redirect_lexemes r) self.new) }
         ensures shorter { OnOk result (length self.new.rest.now ≤ length self.old.rest.now) }
         ensures forward { OnOk result (GoesForward self.old self.new) }
-        ensures reads { (x : Redirect) (more : List Lexeme) →
+        ensures reads { (hidden : ℕ) (x : Redirect) (more : List Lexeme) →
             Stops more →
-            Reads self.old (redirect_lexemes x) more result self.new }
-        ensures reads_seen { (hidden : ℕ) (x : Redirect) (more : List Lexeme) →
-            Stops more →
-            ReadsSeen hidden self.old (redirect_lexemes x) more result self.new }
+            Reads hidden self.old (redirect_lexemes x) more result self.new }
         ensures beyond { GoesBeyond 0 self.old result self.new }
         ensures stuck { IfErr result (IsStuckAt self.new) }
     {
@@ -261,33 +225,24 @@ impl<'a, 't> Parser<'a, 't> {
 
     /// What stands behind the word of a receiving operation.
     #[tactic(auto, using(std::proofs::lemmas::List::append_assoc))]
-    fn received(&mut self, alloc: Global, left: u32) -> Result<Received, Stuck>
+    fn received(&mut self, alloc: Global) -> Result<Received, Stuck>
         ensures tokens { IfOk result (λ r.
             ahead self.old.rest.now
             ≡ template_part r.template ++ (from_lexemes r.sender
             ++ (redirect_lexemes r.redirect ++ ahead self.new.rest.now))) }
         ensures shorter { OnOk result (length self.new.rest.now ≤ length self.old.rest.now) }
         ensures forward { OnOk result (GoesForward self.old self.new) }
-        ensures nested { IfOk result (λ r. part_depth r.template ≤ left) }
         ensures grammatical { IfOk result (λ r. IsTrue (is_template_part r.template)) }
-        ensures reads { (t : Option MessageTemplate) (s : Option ComponentName) (d : Redirect)
-            (more : List Lexeme) →
-            IsTrue (is_template_part t) →
-            part_depth t ≤ left →
-            Stops more →
-            Reads self.old (template_part t ++ (from_lexemes s ++ redirect_lexemes d)) more result
-            self.new }
-        ensures reads_seen { (hidden : ℕ) (t : Option MessageTemplate)
+        ensures reads { (hidden : ℕ) (t : Option MessageTemplate)
             (s : Option ComponentName) (d : Redirect) (more : List Lexeme) →
             IsTrue (is_template_part t) →
-            part_depth t ≤ left →
             Stops more →
-            ReadsSeen hidden self.old (template_part t ++ (from_lexemes s ++ redirect_lexemes d))
+            Reads hidden self.old (template_part t ++ (from_lexemes s ++ redirect_lexemes d))
             more result self.new }
         ensures beyond { GoesBeyond 0 self.old result self.new }
         ensures stuck { IfErr result (IsStuckAt self.new) }
     {
-        let template = self.template_part(alloc, left)?;
+        let template = self.template_part(alloc)?;
         let sender = self.from_part(alloc)?;
         let redirect = self.redirect(alloc)?;
         Ok(Received {
@@ -299,22 +254,15 @@ impl<'a, 't> Parser<'a, 't> {
 
     /// A receiving operation.
     #[tactic(auto, using(std::proofs::lemmas::List::append_assoc), unfolding(crate::specs::Statements::receive_lexemes, crate::specs::Statements::received_lexemes))]
-    pub fn receive(&mut self, alloc: Global, left: u32) -> Result<Receive, Stuck>
+    pub fn receive(&mut self, alloc: Global) -> Result<Receive, Stuck>
         ensures tokens { IfOk result (λ r. Passes self.old (receive_lexemes r) self.new) }
         ensures shorter { OnOk result (length self.new.rest.now < length self.old.rest.now) }
         ensures forward { OnOk result (GoesForward self.old self.new) }
-        ensures nested { IfOk result (λ r. receive_depth r ≤ left) }
         ensures grammatical { IfOk result (λ r. IsTrue (is_template_part r.template)) }
-        ensures reads { (x : Receive) (more : List Lexeme) →
+        ensures reads { (hidden : ℕ) (x : Receive) (more : List Lexeme) →
             IsTrue (is_template_part x.template) →
-            receive_depth x ≤ left →
             Stops more →
-            Reads self.old (receive_lexemes x) more result self.new }
-        ensures reads_seen { (hidden : ℕ) (x : Receive) (more : List Lexeme) →
-            IsTrue (is_template_part x.template) →
-            receive_depth x ≤ left →
-            Stops more →
-            ReadsSeen hidden self.old (receive_lexemes x) more result self.new }
+            Reads hidden self.old (receive_lexemes x) more result self.new }
         ensures beyond { GoesBeyond 0 self.old result self.new }
         ensures beyond_name { is_name_in (token_at self.old.rest.now 0) ≡ true →
             GoesBeyond 1 self.old result self.new }
@@ -326,9 +274,9 @@ impl<'a, 't> Parser<'a, 't> {
         let port = self.name(alloc)?;
         self.symbol(Symbol::Dot)?;
         if self.has_word(Word::Check) {
-            let inner = self.open(Symbol::LeftParen, left)?;
+            self.symbol(Symbol::LeftParen)?;
             self.word(Word::Receive)?;
-            let received = self.received(alloc, inner)?;
+            let received = self.received(alloc)?;
             self.symbol(Symbol::RightParen)?;
             return Ok(Receive {
                 port,
@@ -339,7 +287,7 @@ impl<'a, 't> Parser<'a, 't> {
             });
         }
         if self.has_word(Word::Trigger) {
-            let received = self.received(alloc, left)?;
+            let received = self.received(alloc)?;
             return Ok(Receive {
                 port,
                 kind: ReceiveKind::Trigger,
@@ -349,7 +297,7 @@ impl<'a, 't> Parser<'a, 't> {
             });
         }
         self.word(Word::Receive)?;
-        let received = self.received(alloc, left)?;
+        let received = self.received(alloc)?;
         Ok(Receive {
             port,
             kind: ReceiveKind::Receive,
@@ -365,10 +313,8 @@ impl<'a, 't> Parser<'a, 't> {
             ahead self.old.rest.now ≡ port_operation_lexeme o ∷ ahead self.new.rest.now) }
         ensures shorter { OnOk result (length self.new.rest.now < length self.old.rest.now) }
         ensures forward { OnOk result (GoesForward self.old self.new) }
-        ensures reads { (x : PortOperation) (more : List Lexeme) →
-            Reads self.old (port_operation_lexeme x ∷ []) more result self.new }
-        ensures reads_seen { (hidden : ℕ) (x : PortOperation) (more : List Lexeme) →
-            ReadsSeen hidden self.old (port_operation_lexeme x ∷ []) more result self.new }
+        ensures reads { (hidden : ℕ) (x : PortOperation) (more : List Lexeme) →
+            Reads hidden self.old (port_operation_lexeme x ∷ []) more result self.new }
         ensures place { IfErr result (IsWrongBehind 0 self.old) }
         ensures stuck { IfErr result (IsStuckAt self.new) }
     {
@@ -388,10 +334,8 @@ impl<'a, 't> Parser<'a, 't> {
         ensures tokens { IfOk result (λ c. Passes self.old (control_lexemes c) self.new) }
         ensures shorter { OnOk result (length self.new.rest.now < length self.old.rest.now) }
         ensures forward { OnOk result (GoesForward self.old self.new) }
-        ensures reads { (x : Control) (more : List Lexeme) →
-            Reads self.old (control_lexemes x) more result self.new }
-        ensures reads_seen { (hidden : ℕ) (x : Control) (more : List Lexeme) →
-            ReadsSeen hidden self.old (control_lexemes x) more result self.new }
+        ensures reads { (hidden : ℕ) (x : Control) (more : List Lexeme) →
+            Reads hidden self.old (control_lexemes x) more result self.new }
         ensures beyond { GoesBeyond 0 self.old result self.new }
         ensures beyond_name { is_name_in (token_at self.old.rest.now 0) ≡ true →
             GoesBeyond 1 self.old result self.new }
@@ -416,10 +360,8 @@ impl<'a, 't> Parser<'a, 't> {
         ensures tokens { IfOk result (λ o. Passes self.old (all_ports_lexemes o) self.new) }
         ensures shorter { OnOk result (length self.new.rest.now < length self.old.rest.now) }
         ensures forward { OnOk result (GoesForward self.old self.new) }
-        ensures reads { (x : PortOperation) (more : List Lexeme) →
-            Reads self.old (all_ports_lexemes x) more result self.new }
-        ensures reads_seen { (hidden : ℕ) (x : PortOperation) (more : List Lexeme) →
-            ReadsSeen hidden self.old (all_ports_lexemes x) more result self.new }
+        ensures reads { (hidden : ℕ) (x : PortOperation) (more : List Lexeme) →
+            Reads hidden self.old (all_ports_lexemes x) more result self.new }
         ensures beyond { GoesBeyond 0 self.old result self.new }
         ensures beyond_all { token_at self.old.rest.now 0 ≡ Some (word Word.All) →
             GoesBeyond 1 self.old result self.new }

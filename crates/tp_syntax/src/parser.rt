@@ -1,23 +1,23 @@
 //! From a text to its module.
-ghost use Rattle.std.specs.Prelude.{◌≡◌, ◌+◌, ◌≤◌, IfErr, IfOk, OnOk, length};
+ghost use Rattle.std.specs.Prelude.{◌≡◌, ◌+◌, ◌≤◌, ◌⊎◌, IfErr, IfOk, OnOk, length, map};
 ghost use Rattle.tp_token.specs.Cut.{newlines};
 ghost use Rattle.tp_token.specs.Fault.{IsMemory};
+ghost use Rattle.tp_token.specs.Lexeme.{placed_lexeme};
 ghost use Rattle.tp_syntax.specs.Definitions.{IsReadAs};
-ghost use Rattle.tp_syntax.specs.Faults.{IsFaultOf, input_of};
+ghost use Rattle.tp_syntax.specs.Faults.{fault_in};
 ghost use Rattle.tp_syntax.specs.Grammar.{IsGrammatical};
 ghost use Rattle.tp_syntax.specs.Lines.{HasLines};
 ghost use Rattle.tp_syntax.specs.Nesting.{module_depth};
 ghost use Rattle.tp_syntax.specs.Refusals.{HasTokens, IsUnread};
-ghost use Rattle.tp_syntax.specs.Stuck.{IsForMemory, standing};
+ghost use Rattle.tp_syntax.specs.Stuck.{IsForMemory, left_where_stuck};
 
 use crate::cursor::Parser;
-use crate::faults::{first_fault, most_brackets};
+use crate::faults::{Front, front_of};
 use crate::stuck::Stuck;
 use std::alloc::Global;
 use tp_refusal::memory::Memory;
 use tp_token::fault::ScriptFault;
 use tp_token::lexer::lex;
-use tp_token::token::Placed;
 use tp_tree::tree::Module;
 
 /// The module that the text spells (clause `read`), where each line that it notes is that of the
@@ -44,31 +44,31 @@ pub fn parse(alloc: Global, text: &[u8]) -> Result<Module, ScriptFault>
 {
     let tokens = lex(alloc, text)?;
     let last_line = last_line(text);
+    let front = front_of(tokens);
     let mut parser = Parser {
-        rest: &tokens,
+        rest: &front.tokens,
         last_line,
     };
-    match parser.module(alloc, most_brackets()) {
+    match parser.module(alloc) {
         Ok(module) => {
-            if parser.rest.is_empty() {
+            if parser.rest.is_empty() && front.beyond.is_none() {
                 return Ok(module);
             }
-            Err(first_fault(&tokens, parser.rest.len(), last_line))
+            Err(front.fault(parser.rest.len(), last_line))
         }
-        Err(stuck) => Err(fault_of(stuck, &tokens, last_line)),
+        Err(stuck) => Err(fault_of(stuck, &front, last_line)),
     }
 }
 
-/// The fault of the text, in whose tokens the parser is stuck.
-fn fault_of(stuck: Stuck, tokens: &[Placed], last_line: u32) -> ScriptFault
-    ensures place { IsFaultOf (input_of tokens.now last_line) (standing stuck (length tokens.now))
-        result }
+/// The fault of the text, in the front of which the parser is stuck.
+fn fault_of(stuck: Stuck, front: &Front, last_line: u32) -> ScriptFault
+    ensures place { IsForMemory stuck ⊎ (result ≡ fault_in
+        (map placed_lexeme front.now.tokens.items) front.now.beyond (left_where_stuck stuck) last_line) }
     ensures memory { IsForMemory stuck → IsMemory result }
-    ensures other { IsMemory result → IsForMemory stuck }
 {
     match stuck {
-        Stuck::Next(left) => first_fault(tokens, left, last_line),
-        Stuck::Passed(behind) => first_fault(tokens, behind.saturating_add(1), last_line),
+        Stuck::Next(left) => front.fault(left, last_line),
+        Stuck::Passed(behind) => front.fault(behind.saturating_add(1), last_line),
         Stuck::Memory => ScriptFault::Memory(Memory),
     }
 }

@@ -8,10 +8,10 @@ ghost use Rattle.tp_syntax.specs.Passing.{Passes};
 ghost use Rattle.tp_syntax.specs.Values.{int_lexemes};
 ghost use Rattle.tp_syntax.specs.Statements.{step_lexemes, turns_lexemes, verdict_lexeme, set_verdict_lexemes, variable_lexemes, variables_lexemes};
 ghost use Rattle.tp_syntax.specs.Grammar.{is_64_bit, variable_part};
-ghost use Rattle.tp_syntax.specs.Reading.{AllStand, IsPlaced, Reads, first};
+ghost use Rattle.tp_syntax.specs.Reading.{AllStand, IsPlaced, first};
 ghost use Rattle.tp_syntax.specs.Standing.{GoesOver, HasPassed};
 ghost use Rattle.tp_syntax.specs.Stuck.{IsForMemory, IsStuckAt, IsWrongBehind, GoesBeyond};
-ghost use Rattle.tp_syntax.specs.HiddenTokens.{CouldBe, IsStuckInHidden, ReadsSeen};
+ghost use Rattle.tp_syntax.specs.HiddenTokens.{CouldBe, IsStuckInHidden, Reads};
 
 use crate::cursor::Parser;
 use crate::stuck::Stuck;
@@ -27,10 +27,8 @@ impl<'a, 't> Parser<'a, 't> {
             ahead self.old.rest.now ≡ verdict_lexeme v ∷ ahead self.new.rest.now) }
         ensures shorter { OnOk result (length self.new.rest.now < length self.old.rest.now) }
         ensures forward { OnOk result (GoesForward self.old self.new) }
-        ensures reads { (x : VerdictName) (more : List Lexeme) →
-            Reads self.old (verdict_lexeme x ∷ []) more result self.new }
-        ensures reads_seen { (hidden : ℕ) (x : VerdictName) (more : List Lexeme) →
-            ReadsSeen hidden self.old (verdict_lexeme x ∷ []) more result self.new }
+        ensures reads { (hidden : ℕ) (x : VerdictName) (more : List Lexeme) →
+            Reads hidden self.old (verdict_lexeme x ∷ []) more result self.new }
         ensures place { IfErr result (IsWrongBehind 0 self.old) }
         ensures stuck { IfErr result (IsStuckAt self.new) }
     {
@@ -47,22 +45,17 @@ impl<'a, 't> Parser<'a, 't> {
 
     /// A `setverdict`.
     #[tactic(auto, unfolding(crate::specs::Statements::set_verdict_lexemes))]
-    pub fn set_verdict(&mut self, left: u32) -> Result<VerdictName, Stuck>
+    pub fn set_verdict(&mut self) -> Result<VerdictName, Stuck>
         ensures tokens { IfOk result (λ v. Passes self.old (set_verdict_lexemes v) self.new) }
         ensures shorter { OnOk result (length self.new.rest.now < length self.old.rest.now) }
         ensures forward { OnOk result (GoesForward self.old self.new) }
-        ensures nested { OnOk result (1 ≤ left) }
-        ensures reads { (x : VerdictName) (more : List Lexeme) →
-            0 < left →
-            Reads self.old (set_verdict_lexemes x) more result self.new }
-        ensures reads_seen { (hidden : ℕ) (x : VerdictName) (more : List Lexeme) →
-            0 < left →
-            ReadsSeen hidden self.old (set_verdict_lexemes x) more result self.new }
+        ensures reads { (hidden : ℕ) (x : VerdictName) (more : List Lexeme) →
+            Reads hidden self.old (set_verdict_lexemes x) more result self.new }
         ensures beyond { GoesBeyond 0 self.old result self.new }
         ensures stuck { IfErr result (IsStuckAt self.new) }
     {
         self.word(Word::Setverdict)?;
-        self.open(Symbol::LeftParen, left)?;
+        self.symbol(Symbol::LeftParen)?;
         let verdict = self.verdict()?;
         self.symbol(Symbol::RightParen)?;
         Ok(verdict)
@@ -76,12 +69,9 @@ impl<'a, 't> Parser<'a, 't> {
         ensures three { OnOk result (length self.new.rest.now + 3 ≤ length self.old.rest.now) }
         ensures lines { IfOk result (λ v. PassesLines self.old (variable_notes v) self.new) }
         ensures grammatical { IfOk result (λ v. HasPassed (variable_part v) self.new) }
-        ensures reads { (x : Variable) (more : List Lexeme) →
+        ensures reads { (hidden : ℕ) (x : Variable) (more : List Lexeme) →
             IsPlaced (variable_part x) more →
-            Reads self.old (variable_lexemes x) more result self.new }
-        ensures reads_seen { (hidden : ℕ) (x : Variable) (more : List Lexeme) →
-            IsPlaced (variable_part x) more →
-            ReadsSeen hidden self.old (variable_lexemes x) more result self.new }
+            Reads hidden self.old (variable_lexemes x) more result self.new }
         ensures beyond { GoesBeyond 0 self.old result self.new }
         ensures beyond_var { token_at self.old.rest.now 0 ≡ Some (word Word.Var) →
             GoesBeyond 1 self.old result self.new }
@@ -115,14 +105,10 @@ impl<'a, 't> Parser<'a, 't> {
             PassesLines self.old (noted_in_order (map variable_notes v.items)) self.new) }
         ensures grammatical { IfOk result (λ v.
             GoesOver self.old (map variable_part v.items) self.new) }
-        ensures reads { (xs : List Variable) (more : List Lexeme) →
+        ensures reads { (hidden : ℕ) (xs : List Variable) (more : List Lexeme) →
             AllStand (map variable_part xs) more →
             first more ≢ Some (word Word.Var) →
-            Reads self.old (variables_lexemes xs) more result self.new }
-        ensures reads_seen { (hidden : ℕ) (xs : List Variable) (more : List Lexeme) →
-            AllStand (map variable_part xs) more →
-            first more ≢ Some (word Word.Var) →
-            ReadsSeen hidden self.old (variables_lexemes xs) more result self.new }
+            Reads hidden self.old (variables_lexemes xs) more result self.new }
         ensures beyond { GoesBeyond 0 self.old result self.new }
         ensures beyond_var { token_at self.old.rest.now 0 ≡ Some (word Word.Var) →
             GoesBeyond 1 self.old result self.new }
@@ -148,18 +134,13 @@ impl<'a, 't> Parser<'a, 't> {
     /// A counted `for` without its block. Stuck also where its four names aren't one name (the
     /// line of the first that differs).
     #[tactic(auto, using(std::proofs::lemmas::List::append_assoc), unfolding(crate::specs::Statements::for_lexemes))]
-    pub fn turns(&mut self, alloc: Global, left: u32) -> Result<Turns, Stuck>
+    pub fn turns(&mut self, alloc: Global) -> Result<Turns, Stuck>
         ensures tokens { IfOk result (λ x.
             ahead self.old.rest.now ≡ turns_lexemes x (ahead self.new.rest.now)) }
         ensures shorter { OnOk result (length self.new.rest.now < length self.old.rest.now) }
         ensures forward { OnOk result (GoesForward self.old self.new) }
-        ensures nested { OnOk result (1 ≤ left) }
-        ensures reads { (x : Turns) (more : List Lexeme) →
-            IsTrue (is_64_bit x.first) → IsTrue (is_64_bit x.bound) → 0 < left →
-            ahead self.old.rest.now ≡ turns_lexemes x more →
-            MatchResult result (λ _. ahead self.new.rest.now ≡ more) IsForMemory }
-        ensures reads_seen { (hidden : ℕ) (x : Turns) (more : List Lexeme) →
-            IsTrue (is_64_bit x.first) → IsTrue (is_64_bit x.bound) → 0 < left →
+        ensures reads { (hidden : ℕ) (x : Turns) (more : List Lexeme) →
+            IsTrue (is_64_bit x.first) → IsTrue (is_64_bit x.bound) →
             CouldBe hidden self.old.rest.now (turns_lexemes x more) →
             MatchResult result (λ _. CouldBe hidden self.new.rest.now more)
             (IsStuckInHidden hidden) }
@@ -169,7 +150,7 @@ impl<'a, 't> Parser<'a, 't> {
         ensures stuck { IfErr result (IsStuckAt self.new) }
     {
         self.word(Word::For)?;
-        self.open(Symbol::LeftParen, left)?;
+        self.symbol(Symbol::LeftParen)?;
         self.word(Word::Var)?;
         self.word(Word::Integer)?;
         let name = self.name(alloc)?;
@@ -188,12 +169,7 @@ impl<'a, 't> Parser<'a, 't> {
             ≡ step_lexemes (string_bytes variable.now) (int_lexemes z) (ahead self.new.rest.now)) }
         ensures shorter { OnOk result (length self.new.rest.now < length self.old.rest.now) }
         ensures forward { OnOk result (GoesForward self.old self.new) }
-        ensures reads { (z : ℤ) (more : List Lexeme) →
-            IsTrue (is_64_bit z) →
-            ahead self.old.rest.now
-            ≡ step_lexemes (string_bytes variable.now) (int_lexemes z) more →
-            MatchResult result (λ _. ahead self.new.rest.now ≡ more) IsForMemory }
-        ensures reads_seen { (hidden : ℕ) (z : ℤ) (more : List Lexeme) →
+        ensures reads { (hidden : ℕ) (z : ℤ) (more : List Lexeme) →
             IsTrue (is_64_bit z) →
             CouldBe hidden self.old.rest.now
             (step_lexemes (string_bytes variable.now) (int_lexemes z) more) →
@@ -223,10 +199,8 @@ impl<'a, 't> Parser<'a, 't> {
             (ahead self.old.rest.now ≡ number 1 ∷ ahead self.new.rest.now) }
         ensures shorter { OnOk result (length self.new.rest.now < length self.old.rest.now) }
         ensures forward { OnOk result (GoesForward self.old self.new) }
-        ensures reads { (more : List Lexeme) →
-            Reads self.old (number 1 ∷ []) more result self.new }
-        ensures reads_seen { (hidden : ℕ) (more : List Lexeme) →
-            ReadsSeen hidden self.old (number 1 ∷ []) more result self.new }
+        ensures reads { (hidden : ℕ) (more : List Lexeme) →
+            Reads hidden self.old (number 1 ∷ []) more result self.new }
         ensures place { IfErr result (IsWrongBehind 0 self.old) }
         ensures stuck { IfErr result (IsStuckAt self.new) }
     {
@@ -238,22 +212,15 @@ impl<'a, 't> Parser<'a, 't> {
     }
 
     /// `[else]`
-    pub fn else_mark(&mut self, left: u32) -> Result<(), Stuck>
+    pub fn else_mark(&mut self) -> Result<(), Stuck>
         ensures tokens { OnOk result
             (ahead self.old.rest.now
             ≡ symbol Symbol.LeftBracket ∷ word Word.Else ∷ symbol Symbol.RightBracket
             ∷ ahead self.new.rest.now) }
         ensures shorter { OnOk result (length self.new.rest.now < length self.old.rest.now) }
         ensures forward { OnOk result (GoesForward self.old self.new) }
-        ensures nested { OnOk result (1 ≤ left) }
-        ensures reads { (more : List Lexeme) →
-            0 < left →
-            Reads self.old
-            (symbol Symbol.LeftBracket ∷ word Word.Else ∷ symbol Symbol.RightBracket ∷ [])
-            more result self.new }
-        ensures reads_seen { (hidden : ℕ) (more : List Lexeme) →
-            0 < left →
-            ReadsSeen hidden self.old
+        ensures reads { (hidden : ℕ) (more : List Lexeme) →
+            Reads hidden self.old
             (symbol Symbol.LeftBracket ∷ word Word.Else ∷ symbol Symbol.RightBracket ∷ [])
             more result self.new }
         ensures beyond { GoesBeyond 0 self.old result self.new }
@@ -261,7 +228,7 @@ impl<'a, 't> Parser<'a, 't> {
             GoesBeyond 1 self.old result self.new }
         ensures stuck { IfErr result (IsStuckAt self.new) }
     {
-        self.open(Symbol::LeftBracket, left)?;
+        self.symbol(Symbol::LeftBracket)?;
         self.word(Word::Else)?;
         self.symbol(Symbol::RightBracket)?;
         Ok(())

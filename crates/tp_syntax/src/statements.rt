@@ -1,5 +1,5 @@
 //! Statements: `alt`, `for`, blocks, and what stands in them.
-ghost use Rattle.std.specs.Prelude.{◌↔◌, ◌++◌, max, ◌≢◌, true, false, List, Option, Some, ◌≡◌, ◌+◌, ◌<◌, ◌≤◌, ◌∷◌, IsTrue, length, IfOk, OnOk, IfErr, ℕ, [], None, ◌⊎◌};
+ghost use Rattle.std.specs.Prelude.{◌↔◌, ◌++◌, ◌≢◌, true, false, List, Option, Some, ◌≡◌, ◌<◌, ◌≤◌, ◌∷◌, IsTrue, length, IfOk, OnOk, IfErr, ℕ, [], None, ◌⊎◌};
 ghost use Rattle.std.specs.Bool.{OnFalse};
 ghost use Rattle.tp_event.specs.declared.operation.PortOperation.{PortOperation};
 ghost use Rattle.tp_event.specs.declared.operation.ReceiveKind.{ReceiveKind};
@@ -11,11 +11,10 @@ ghost use Rattle.tp_syntax.specs.Passing.{Passes};
 ghost use Rattle.tp_syntax.specs.Sequences.{braced};
 ghost use Rattle.tp_syntax.specs.Statements.{port_operation_lexeme, action_lexemes, branch_lexemes, body_lexemes, counted_lexemes, otherwise_lexemes, statement_lexemes, statements_lexemes, branches_lexemes};
 ghost use Rattle.tp_syntax.specs.Grammar.{action_part, are_parts, body_part, branch_part, branches_parts, counted_part, has_one, otherwise_parts, statement_part, statements_parts};
-ghost use Rattle.tp_syntax.specs.Nesting.{action_depth, body_depth, branch_depth, branches_depth, counted_depth, otherwise_depth, statement_depth, statements_depth};
-ghost use Rattle.tp_syntax.specs.Reading.{AllStand, IsEndOf, IsEndedOr, IsPlaced, Reads, Stops, first, is_branch_ahead, is_end_ahead, receive_word};
+ghost use Rattle.tp_syntax.specs.Reading.{AllStand, IsEndOf, IsEndedOr, IsPlaced, Stops, first, is_branch_ahead, is_end_ahead, receive_word};
 ghost use Rattle.tp_syntax.specs.Standing.{GoesOn, GoesOver, HasPassed};
 ghost use Rattle.tp_syntax.specs.Stuck.{IsStuckAt, GoesBeyond};
-ghost use Rattle.tp_syntax.specs.HiddenTokens.{IsCutAt, ReadsSeen, ReadsSeenOr};
+ghost use Rattle.tp_syntax.specs.HiddenTokens.{IsCutAt, Reads, ReadsOr};
 
 use crate::cursor::Parser;
 use crate::stuck::Stuck;
@@ -110,23 +109,17 @@ impl<'a, 't> Parser<'a, 't> {
             || is_case && self.is_word_at(0, Word::All) && self.is_word_at(1, Word::Component)
     }
 
-    /// A statement, in which so many brackets may be opened.
+    /// A statement.
     #[cycle(statement)]
-    #[tactic(auto, using(crate::proofs::StatementTokens::statement_rules, crate::proofs::NestingEquations::statement_nesting))]
-    fn statement(&mut self, alloc: Global, left: u32) -> Result<Statement, Stuck>
+    #[tactic(auto, using(crate::proofs::StatementTokens::statement_rules))]
+    fn statement(&mut self, alloc: Global) -> Result<Statement, Stuck>
         ensures tokens { IfOk result (λ s. Passes self.old (statement_lexemes s) self.new) }
         ensures shorter { OnOk result (length self.new.rest.now < length self.old.rest.now) }
         ensures lines { IfOk result (λ s. PassesLines self.old (statement_notes s) self.new) }
-        ensures nested { IfOk result (λ s. statement_depth s ≤ left) }
         ensures grammatical { IfOk result (λ s. HasPassed (statement_part s) self.new) }
-        ensures reads { (x : Statement) (more : List Lexeme) →
+        ensures reads { (hidden : ℕ) (x : Statement) (more : List Lexeme) →
             IsPlaced (statement_part x) more →
-            statement_depth x ≤ left →
-            Reads self.old (statement_lexemes x) more result self.new }
-        ensures reads_seen { (hidden : ℕ) (x : Statement) (more : List Lexeme) →
-            IsPlaced (statement_part x) more →
-            statement_depth x ≤ left →
-            ReadsSeen hidden self.old (statement_lexemes x) more result self.new }
+            Reads hidden self.old (statement_lexemes x) more result self.new }
         ensures beyond { GoesBeyond 0 self.old result self.new }
         ensures beyond_name { is_name_in (token_at self.old.rest.now 0) ≡ true →
             GoesBeyond 1 self.old result self.new }
@@ -142,7 +135,7 @@ impl<'a, 't> Parser<'a, 't> {
         ensures stuck { IfErr result (IsStuckAt self.new) }
     {
         let line = self.line();
-        let action = self.action(alloc, left)?;
+        let action = self.action(alloc)?;
         let has_semicolon = self.end(ends_in_block(&action))?;
         Ok(Statement {
             line,
@@ -153,23 +146,16 @@ impl<'a, 't> Parser<'a, 't> {
 
     /// What a statement does.
     #[cycle(statement)]
-    #[tactic(auto, using(crate::proofs::StatementTokens::statement_rules, crate::proofs::NestingEquations::statement_nesting))]
-    fn action(&mut self, alloc: Global, left: u32) -> Result<Action, Stuck>
+    #[tactic(auto, using(crate::proofs::StatementTokens::statement_rules))]
+    fn action(&mut self, alloc: Global) -> Result<Action, Stuck>
         ensures tokens { IfOk result (λ a. Passes self.old (action_lexemes a) self.new) }
         ensures shorter { OnOk result (length self.new.rest.now < length self.old.rest.now) }
         ensures lines { IfOk result (λ a. PassesLines self.old (action_notes a) self.new) }
-        ensures nested { IfOk result (λ a. action_depth a ≤ left) }
         ensures grammatical { IfOk result (λ a. IsTrue (action_part a).is_right) }
-        ensures reads { (x : Action) (more : List Lexeme) →
+        ensures reads { (hidden : ℕ) (x : Action) (more : List Lexeme) →
             IsTrue (action_part x).is_right →
-            action_depth x ≤ left →
             IsEndedOr (action_part x).is_ended (Stops more) →
-            Reads self.old (action_lexemes x) more result self.new }
-        ensures reads_seen { (hidden : ℕ) (x : Action) (more : List Lexeme) →
-            IsTrue (action_part x).is_right →
-            action_depth x ≤ left →
-            IsEndedOr (action_part x).is_ended (Stops more) →
-            ReadsSeen hidden self.old (action_lexemes x) more result self.new }
+            Reads hidden self.old (action_lexemes x) more result self.new }
         ensures beyond { GoesBeyond 0 self.old result self.new }
         ensures beyond_name { is_name_in (token_at self.old.rest.now 0) ≡ true →
             GoesBeyond 1 self.old result self.new }
@@ -186,11 +172,11 @@ impl<'a, 't> Parser<'a, 't> {
     {
         match self.beginning() {
             Beginning::Send => {
-                let send = self.send(alloc, left)?;
+                let send = self.send(alloc)?;
                 Ok(Action::Send(send))
             }
             Beginning::Receive => {
-                let receive = self.receive(alloc, left)?;
+                let receive = self.receive(alloc)?;
                 Ok(Action::Receive(receive))
             }
             Beginning::Control => {
@@ -202,12 +188,12 @@ impl<'a, 't> Parser<'a, 't> {
                 Ok(Action::AllPorts(operation))
             }
             Beginning::SetVerdict => {
-                let verdict = self.set_verdict(left)?;
+                let verdict = self.set_verdict()?;
                 Ok(Action::SetVerdict(verdict))
             }
-            Beginning::Alt => self.alt(alloc, left),
+            Beginning::Alt => self.alt(alloc),
             Beginning::For => {
-                let counted = self.counted(alloc, left)?;
+                let counted = self.counted(alloc)?;
                 Ok(Action::For(counted))
             }
         }
@@ -215,34 +201,26 @@ impl<'a, 't> Parser<'a, 't> {
 
     /// An `alt`. Stuck also where it has no branch, or one behind `[else]`.
     #[cycle(statement)]
-    #[tactic(auto, using(crate::proofs::StatementTokens::statement_rules, crate::proofs::NestingEquations::statement_nesting))]
-    fn alt(&mut self, alloc: Global, left: u32) -> Result<Action, Stuck>
+    #[tactic(auto, using(crate::proofs::StatementTokens::statement_rules))]
+    fn alt(&mut self, alloc: Global) -> Result<Action, Stuck>
         ensures tokens { IfOk result (λ a. Passes self.old (action_lexemes a) self.new) }
         ensures shorter { OnOk result (length self.new.rest.now < length self.old.rest.now) }
         ensures lines { IfOk result (λ a. PassesLines self.old (action_notes a) self.new) }
-        ensures nested { IfOk result (λ a. action_depth a ≤ left) }
         ensures grammatical { IfOk result (λ a. IsTrue (action_part a).is_right) }
-        ensures reads { (xs : List Branch) (x : Option ElseBranch) (more : List Lexeme) →
-            IsTrue (has_one (branches_parts xs ++ otherwise_parts x)) →
-            IsTrue (are_parts (branches_parts xs ++ otherwise_parts x)) →
-            max (branches_depth xs) (otherwise_depth x) + 1 ≤ left →
-            Reads self.old (word Word.Alt ∷ braced (branches_lexemes xs ++ otherwise_lexemes x))
-            more result self.new }
-        ensures reads_seen { (hidden : ℕ) (xs : List Branch) (x : Option ElseBranch)
+        ensures reads { (hidden : ℕ) (xs : List Branch) (x : Option ElseBranch)
             (more : List Lexeme) →
             IsTrue (has_one (branches_parts xs ++ otherwise_parts x)) →
             IsTrue (are_parts (branches_parts xs ++ otherwise_parts x)) →
-            max (branches_depth xs) (otherwise_depth x) + 1 ≤ left →
-            ReadsSeen hidden self.old
+            Reads hidden self.old
             (word Word.Alt ∷ braced (branches_lexemes xs ++ otherwise_lexemes x)) more result
             self.new }
         ensures beyond { GoesBeyond 0 self.old result self.new }
         ensures stuck { IfErr result (IsStuckAt self.new) }
     {
         self.word(Word::Alt)?;
-        let inner = self.open(Symbol::LeftBrace, left)?;
-        let branches = self.branches(alloc, inner)?;
-        let otherwise = self.otherwise(alloc, inner)?;
+        self.symbol(Symbol::LeftBrace)?;
+        let branches = self.branches(alloc)?;
+        let otherwise = self.otherwise(alloc)?;
         if branches.is_empty() && otherwise.is_none() {
             return Err(Stuck::Next(self.rest.len()));
         }
@@ -252,23 +230,16 @@ impl<'a, 't> Parser<'a, 't> {
 
     /// The branches that come next, without `[else]`.
     #[cycle(statement)]
-    fn branches(&mut self, alloc: Global, left: u32) -> Result<Vec<Branch>, Stuck>
+    fn branches(&mut self, alloc: Global) -> Result<Vec<Branch>, Stuck>
         ensures tokens { IfOk result (λ v. Passes self.old (branches_lexemes v.items) self.new) }
         ensures shorter { OnOk result (length self.new.rest.now ≤ length self.old.rest.now) }
         ensures lines { IfOk result (λ v. PassesLines self.old (branches_notes v.items) self.new) }
-        ensures nested { IfOk result (λ v. branches_depth v.items ≤ left) }
         ensures grammatical { IfOk result (λ v.
             GoesOver self.old (branches_parts v.items) self.new) }
-        ensures reads { (xs : List Branch) (more : List Lexeme) →
+        ensures reads { (hidden : ℕ) (xs : List Branch) (more : List Lexeme) →
             AllStand (branches_parts xs) more →
-            branches_depth xs ≤ left →
             is_branch_ahead more ≡ false →
-            Reads self.old (branches_lexemes xs) more result self.new }
-        ensures reads_seen { (hidden : ℕ) (xs : List Branch) (more : List Lexeme) →
-            AllStand (branches_parts xs) more →
-            branches_depth xs ≤ left →
-            is_branch_ahead more ≡ false →
-            ReadsSeenOr hidden self.old (branches_lexemes xs) more result self.new
+            ReadsOr hidden self.old (branches_lexemes xs) more result self.new
             (IsCutAt (symbol Symbol.LeftBracket) hidden self.new.rest.now) }
         ensures beyond { GoesBeyond 0 self.old result self.new }
         ensures none { IfOk result (λ v. v.items ≡ [] → self.new ≡ self.old) }
@@ -276,7 +247,7 @@ impl<'a, 't> Parser<'a, 't> {
     {
         let mut branches = Vec::new(alloc);
         'more: while self.is_branch() {
-            let branch = self.branch(alloc, left)?;
+            let branch = self.branch(alloc)?;
             branches.push(branch)?;
         }
         Ok(branches)
@@ -293,31 +264,25 @@ impl<'a, 't> Parser<'a, 't> {
 
     /// A branch behind a receiving operation.
     #[cycle(statement)]
-    #[tactic(auto, using(crate::proofs::StatementTokens::statement_rules, crate::proofs::NestingEquations::statement_nesting))]
-    fn branch(&mut self, alloc: Global, left: u32) -> Result<Branch, Stuck>
+    #[tactic(auto, using(crate::proofs::StatementTokens::statement_rules))]
+    fn branch(&mut self, alloc: Global) -> Result<Branch, Stuck>
         ensures tokens { IfOk result (λ b. Passes self.old (branch_lexemes b) self.new) }
         ensures shorter { OnOk result (length self.new.rest.now < length self.old.rest.now) }
         ensures lines { IfOk result (λ b. PassesLines self.old (branch_notes b) self.new) }
-        ensures nested { IfOk result (λ b. branch_depth b ≤ left) }
         ensures grammatical { IfOk result (λ b. HasPassed (branch_part b) self.new) }
-        ensures reads { (x : Branch) (more : List Lexeme) →
+        ensures reads { (hidden : ℕ) (x : Branch) (more : List Lexeme) →
             IsPlaced (branch_part x) more →
-            branch_depth x ≤ left →
-            Reads self.old (branch_lexemes x) more result self.new }
-        ensures reads_seen { (hidden : ℕ) (x : Branch) (more : List Lexeme) →
-            IsPlaced (branch_part x) more →
-            branch_depth x ≤ left →
-            ReadsSeen hidden self.old (branch_lexemes x) more result self.new }
+            Reads hidden self.old (branch_lexemes x) more result self.new }
         ensures beyond { GoesBeyond 0 self.old result self.new }
         ensures beyond_bracket { token_at self.old.rest.now 0 ≡ Some (symbol Symbol.LeftBracket) →
             GoesBeyond 1 self.old result self.new }
         ensures stuck { IfErr result (IsStuckAt self.new) }
     {
         let line = self.line();
-        self.open(Symbol::LeftBracket, left)?;
+        self.symbol(Symbol::LeftBracket)?;
         self.symbol(Symbol::RightBracket)?;
-        let receive = self.receive(alloc, left)?;
-        let body = self.body(alloc, left)?;
+        let receive = self.receive(alloc)?;
+        let body = self.body(alloc)?;
         let has_semicolon = self.end(is_block(&body))?;
         Ok(Branch {
             line,
@@ -329,54 +294,40 @@ impl<'a, 't> Parser<'a, 't> {
 
     /// The block of a branch, if it is there.
     #[cycle(statement)]
-    #[tactic(auto, using(crate::proofs::StatementTokens::statement_rules, crate::proofs::NestingEquations::statement_nesting))]
-    fn body(&mut self, alloc: Global, left: u32) -> Result<BranchBody, Stuck>
+    #[tactic(auto, using(crate::proofs::StatementTokens::statement_rules))]
+    fn body(&mut self, alloc: Global) -> Result<BranchBody, Stuck>
         ensures tokens { IfOk result (λ b. Passes self.old (body_lexemes b) self.new) }
         ensures shorter { OnOk result (length self.new.rest.now ≤ length self.old.rest.now) }
         ensures lines { IfOk result (λ b. PassesLines self.old (body_notes b) self.new) }
-        ensures nested { IfOk result (λ b. body_depth b ≤ left) }
         ensures grammatical { IfOk result (λ b. IsTrue (body_part b).is_right) }
         ensures braced { IfOk result (λ b. token_at self.old.rest.now 0
             ≡ Some (symbol Symbol.LeftBrace) → IsTrue (body_part b).is_ended) }
-        ensures reads { (x : BranchBody) (more : List Lexeme) →
+        ensures reads { (hidden : ℕ) (x : BranchBody) (more : List Lexeme) →
             IsTrue (body_part x).is_right →
-            body_depth x ≤ left →
             IsEndedOr (body_part x).is_ended (first more ≢ Some (symbol Symbol.LeftBrace)) →
-            Reads self.old (body_lexemes x) more result self.new }
-        ensures reads_seen { (hidden : ℕ) (x : BranchBody) (more : List Lexeme) →
-            IsTrue (body_part x).is_right →
-            body_depth x ≤ left →
-            IsEndedOr (body_part x).is_ended (first more ≢ Some (symbol Symbol.LeftBrace)) →
-            ReadsSeen hidden self.old (body_lexemes x) more result self.new }
+            Reads hidden self.old (body_lexemes x) more result self.new }
         ensures beyond { GoesBeyond 0 self.old result self.new }
         ensures stuck { IfErr result (IsStuckAt self.new) }
     {
         if !self.is_symbol_at(0, Symbol::LeftBrace) {
             return Ok(BranchBody::Nothing);
         }
-        let block = self.block(alloc, left)?;
+        let block = self.block(alloc)?;
         Ok(BranchBody::Block(block))
     }
 
     /// The branch `[else]`, if it comes next.
     #[cycle(statement)]
-    #[tactic(auto, using(crate::proofs::StatementTokens::statement_rules, crate::proofs::NestingEquations::statement_nesting))]
-    fn otherwise(&mut self, alloc: Global, left: u32) -> Result<Option<ElseBranch>, Stuck>
+    #[tactic(auto, using(crate::proofs::StatementTokens::statement_rules))]
+    fn otherwise(&mut self, alloc: Global) -> Result<Option<ElseBranch>, Stuck>
         ensures tokens { IfOk result (λ e. Passes self.old (otherwise_lexemes e) self.new) }
         ensures shorter { OnOk result (length self.new.rest.now ≤ length self.old.rest.now) }
         ensures lines { IfOk result (λ e. PassesLines self.old (otherwise_notes e) self.new) }
-        ensures nested { IfOk result (λ e. otherwise_depth e ≤ left) }
         ensures grammatical { IfOk result (λ e. GoesOver self.old (otherwise_parts e) self.new) }
-        ensures reads { (x : Option ElseBranch) (more : List Lexeme) →
+        ensures reads { (hidden : ℕ) (x : Option ElseBranch) (more : List Lexeme) →
             AllStand (otherwise_parts x) more →
-            otherwise_depth x ≤ left →
             first more ≡ Some (symbol Symbol.RightBrace) →
-            Reads self.old (otherwise_lexemes x) more result self.new }
-        ensures reads_seen { (hidden : ℕ) (x : Option ElseBranch) (more : List Lexeme) →
-            AllStand (otherwise_parts x) more →
-            otherwise_depth x ≤ left →
-            first more ≡ Some (symbol Symbol.RightBrace) →
-            ReadsSeen hidden self.old (otherwise_lexemes x) more result self.new }
+            Reads hidden self.old (otherwise_lexemes x) more result self.new }
         ensures beyond { GoesBeyond 0 self.old result self.new }
         ensures beyond_bracket { token_at self.old.rest.now 0 ≡ Some (symbol Symbol.LeftBracket) →
             GoesBeyond 1 self.old result self.new }
@@ -387,8 +338,8 @@ impl<'a, 't> Parser<'a, 't> {
             return Ok(None);
         }
         let line = self.line();
-        self.else_mark(left)?;
-        let block = self.block(alloc, left)?;
+        self.else_mark()?;
+        let block = self.block(alloc)?;
         let has_semicolon = self.end(true)?;
         Ok(Some(ElseBranch {
             line,
@@ -399,82 +350,58 @@ impl<'a, 't> Parser<'a, 't> {
 
     /// A counted `for`.
     #[cycle(statement)]
-    #[tactic(auto, using(crate::proofs::StatementTokens::statement_rules, crate::proofs::NestingEquations::statement_nesting))]
-    fn counted(&mut self, alloc: Global, left: u32) -> Result<Counted, Stuck>
+    #[tactic(auto, using(crate::proofs::StatementTokens::statement_rules))]
+    fn counted(&mut self, alloc: Global) -> Result<Counted, Stuck>
         ensures tokens { IfOk result (λ f. Passes self.old (counted_lexemes f) self.new) }
         ensures shorter { OnOk result (length self.new.rest.now < length self.old.rest.now) }
         ensures lines { IfOk result (λ f. PassesLines self.old (counted_notes f) self.new) }
-        ensures nested { IfOk result (λ f. counted_depth f ≤ left) }
         ensures grammatical { IfOk result (λ f. IsTrue (counted_part f).is_right) }
-        ensures reads { (x : Counted) (more : List Lexeme) →
+        ensures reads { (hidden : ℕ) (x : Counted) (more : List Lexeme) →
             IsTrue (counted_part x).is_right →
-            counted_depth x ≤ left →
-            Reads self.old (counted_lexemes x) more result self.new }
-        ensures reads_seen { (hidden : ℕ) (x : Counted) (more : List Lexeme) →
-            IsTrue (counted_part x).is_right →
-            counted_depth x ≤ left →
-            ReadsSeen hidden self.old (counted_lexemes x) more result self.new }
+            Reads hidden self.old (counted_lexemes x) more result self.new }
         ensures beyond { GoesBeyond 0 self.old result self.new }
         ensures stuck { IfErr result (IsStuckAt self.new) }
     {
-        let turns = self.turns(alloc, left)?;
-        let block = self.block(alloc, left)?;
+        let turns = self.turns(alloc)?;
+        let block = self.block(alloc)?;
         Ok(Counted { turns, block })
     }
 
-    /// A block, in which so many brackets may be opened, its own among them.
+    /// A block.
     #[cycle(statement)]
-    #[tactic(auto, using(crate::proofs::StatementTokens::statement_rules, crate::proofs::NestingEquations::statement_nesting))]
-    fn block(&mut self, alloc: Global, left: u32) -> Result<Vec<Statement>, Stuck>
+    #[tactic(auto, using(crate::proofs::StatementTokens::statement_rules))]
+    fn block(&mut self, alloc: Global) -> Result<Vec<Statement>, Stuck>
         ensures tokens { IfOk result (λ v.
             Passes self.old (braced (statements_lexemes v.items)) self.new) }
         ensures shorter { OnOk result (length self.new.rest.now < length self.old.rest.now) }
         ensures lines { IfOk result (λ v.
             PassesLines self.old (noted_braced (statements_notes v.items)) self.new) }
-        ensures nested { IfOk result (λ v. statements_depth v.items + 1 ≤ left) }
         ensures grammatical { IfOk result (λ v. IsTrue (are_parts (statements_parts v.items))) }
-        ensures reads { (xs : List Statement) (more : List Lexeme) →
+        ensures reads { (hidden : ℕ) (xs : List Statement) (more : List Lexeme) →
             IsTrue (are_parts (statements_parts xs)) →
-            statements_depth xs + 1 ≤ left →
-            Reads self.old (braced (statements_lexemes xs)) more result self.new }
-        ensures reads_seen { (hidden : ℕ) (xs : List Statement) (more : List Lexeme) →
-            IsTrue (are_parts (statements_parts xs)) →
-            statements_depth xs + 1 ≤ left →
-            ReadsSeen hidden self.old (braced (statements_lexemes xs)) more result self.new }
+            Reads hidden self.old (braced (statements_lexemes xs)) more result self.new }
         ensures beyond { GoesBeyond 0 self.old result self.new }
         ensures stuck { IfErr result (IsStuckAt self.new) }
     {
-        let inner = self.open(Symbol::LeftBrace, left)?;
-        let statements = self.statements(alloc, inner, false)?;
+        self.symbol(Symbol::LeftBrace)?;
+        let statements = self.statements(alloc, false)?;
         self.symbol(Symbol::RightBrace)?;
         Ok(statements)
     }
 
     /// The statements up to the end of a block, or of the body of a test case.
     #[cycle(statement)]
-    pub fn statements(
-        &mut self,
-        alloc: Global,
-        left: u32,
-        is_case: bool,
-    ) -> Result<Vec<Statement>, Stuck>
+    pub fn statements(&mut self, alloc: Global, is_case: bool) -> Result<Vec<Statement>, Stuck>
         ensures tokens { IfOk result (λ v. Passes self.old (statements_lexemes v.items) self.new) }
         ensures shorter { OnOk result (length self.new.rest.now ≤ length self.old.rest.now) }
         ensures lines { IfOk result (λ v.
             PassesLines self.old (statements_notes v.items) self.new) }
-        ensures nested { IfOk result (λ v. statements_depth v.items ≤ left) }
         ensures grammatical { IfOk result (λ v.
             GoesOver self.old (statements_parts v.items) self.new) }
-        ensures reads { (xs : List Statement) (more : List Lexeme) →
+        ensures reads { (hidden : ℕ) (xs : List Statement) (more : List Lexeme) →
             AllStand (statements_parts xs) more →
-            statements_depth xs ≤ left →
             is_end_ahead is_case more ≡ true →
-            Reads self.old (statements_lexemes xs) more result self.new }
-        ensures reads_seen { (hidden : ℕ) (xs : List Statement) (more : List Lexeme) →
-            AllStand (statements_parts xs) more →
-            statements_depth xs ≤ left →
-            is_end_ahead is_case more ≡ true →
-            ReadsSeenOr hidden self.old (statements_lexemes xs) more result self.new
+            ReadsOr hidden self.old (statements_lexemes xs) more result self.new
             ((is_case ≡ true) × IsCutAt (word Word.All) hidden self.new.rest.now) }
         ensures beyond { GoesBeyond 0 self.old result self.new }
         ensures beyond_name { is_name_in (token_at self.old.rest.now 0) ≡ true →
@@ -490,7 +417,7 @@ impl<'a, 't> Parser<'a, 't> {
     {
         let mut statements = Vec::new(alloc);
         'more: while !self.is_end(is_case) {
-            let statement = self.statement(alloc, left)?;
+            let statement = self.statement(alloc)?;
             statements.push(statement)?;
         }
         Ok(statements)

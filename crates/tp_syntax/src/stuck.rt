@@ -8,7 +8,7 @@ use std::alloc::{AllocError, AllocFailed};
 #[derive(Clone, Copy)]
 pub(crate) enum Stuck {
     /// So many tokens are left, and the first of them, or the end of the text, can't stand where it
-    /// does. Or the token before them is beyond the limits.
+    /// does. Or the token before them is a number that is too great.
     Next(usize),
     /// The token just passed can't stand where it does, and so many are left behind it.
     Passed(usize),

@@ -4,13 +4,12 @@ ghost use Rattle.std.specs.List.{list_all};
 ghost use Rattle.tp_token.specs.Lexeme.{Lexeme, symbol, text, word};
 ghost use Rattle.tp_syntax.specs.Ahead.{ahead, token_at};
 ghost use Rattle.tp_syntax.specs.Forward.{GoesForward};
-ghost use Rattle.tp_syntax.specs.HiddenTokens.{ReadsSeen};
+ghost use Rattle.tp_syntax.specs.HiddenTokens.{Reads};
 ghost use Rattle.tp_syntax.specs.Passing.{Passes};
 ghost use Rattle.tp_syntax.specs.Sequences.{by_commas, parenthesised};
 ghost use Rattle.tp_syntax.specs.Templates.{low_lexemes, high_lexemes, template_lexemes, template_field_lexemes, message_template_lexemes};
 ghost use Rattle.tp_syntax.specs.Grammar.{each, is_bound, is_plain, is_template, is_template_field, one_and_each};
-ghost use Rattle.tp_syntax.specs.Nesting.{deepest, template_depth, template_field_depth};
-ghost use Rattle.tp_syntax.specs.Reading.{Reads, Stops, IsRange, IsField};
+ghost use Rattle.tp_syntax.specs.Reading.{Stops, IsRange, IsField};
 ghost use Rattle.tp_syntax.specs.Stuck.{IsStuckAt, IsStuckBehind, integer_stands, leads_on, GoesBeyond};
 
 use crate::cursor::Parser;
@@ -41,25 +40,19 @@ fn is_pattern(characters: &[u8]) -> bool
 impl<'a, 't> Parser<'a, 't> {
     /// What a message has to match.
     #[tactic(auto, using(std::proofs::lemmas::List::append_assoc))]
-    pub fn message_template(&mut self, alloc: Global, left: u32) -> Result<MessageTemplate, Stuck>
+    pub fn message_template(&mut self, alloc: Global) -> Result<MessageTemplate, Stuck>
         ensures tokens { IfOk result (λ m. Passes self.old (message_template_lexemes m) self.new) }
         ensures shorter { OnOk result (length self.new.rest.now < length self.old.rest.now) }
         ensures forward { OnOk result (GoesForward self.old self.new) }
-        ensures nested { IfOk result (λ m. template_depth m.template ≤ left) }
         ensures grammatical { IfOk result (λ m. IsTrue (is_template m.template)) }
-        ensures reads { (x : MessageTemplate) (more : List Lexeme) →
+        ensures reads { (hidden : ℕ) (x : MessageTemplate) (more : List Lexeme) →
             IsTrue (is_template x.template) →
-            template_depth x.template ≤ left →
-            Reads self.old (message_template_lexemes x) more result self.new }
-        ensures reads_seen { (hidden : ℕ) (x : MessageTemplate) (more : List Lexeme) →
-            IsTrue (is_template x.template) →
-            template_depth x.template ≤ left →
-            ReadsSeen hidden self.old (message_template_lexemes x) more result self.new }
+            Reads hidden self.old (message_template_lexemes x) more result self.new }
         ensures stuck { IfErr result (IsStuckAt self.new) }
     {
         let type_name = self.type_name(alloc)?;
         self.symbol(Symbol::Colon)?;
-        let template = self.template(alloc, left)?;
+        let template = self.template(alloc)?;
         Ok(MessageTemplate {
             type_name,
             template,
@@ -79,12 +72,9 @@ impl<'a, 't> Parser<'a, 't> {
         ensures tokens { IfOk result (λ b. Passes self.old (low_lexemes b) self.new) }
         ensures shorter { OnOk result (length self.new.rest.now < length self.old.rest.now) }
         ensures forward { OnOk result (GoesForward self.old self.new) }
-        ensures reads { (x : Option ℤ) (more : List Lexeme) →
+        ensures reads { (hidden : ℕ) (x : Option ℤ) (more : List Lexeme) →
             IsTrue (is_bound x) →
-            Reads self.old (low_lexemes x) more result self.new }
-        ensures reads_seen { (hidden : ℕ) (x : Option ℤ) (more : List Lexeme) →
-            IsTrue (is_bound x) →
-            ReadsSeen hidden self.old (low_lexemes x) more result self.new }
+            Reads hidden self.old (low_lexemes x) more result self.new }
         ensures two { token_at self.old.rest.now 0 ≡ Some (symbol Symbol.Minus) →
             OnOk result (length self.new.rest.now + 2 ≤ length self.old.rest.now) }
         ensures within { IfOk result (λ b. IsTrue (is_bound b)) }
@@ -104,12 +94,9 @@ impl<'a, 't> Parser<'a, 't> {
         ensures tokens { IfOk result (λ b. Passes self.old (high_lexemes b) self.new) }
         ensures shorter { OnOk result (length self.new.rest.now < length self.old.rest.now) }
         ensures forward { OnOk result (GoesForward self.old self.new) }
-        ensures reads { (x : Option ℤ) (more : List Lexeme) →
+        ensures reads { (hidden : ℕ) (x : Option ℤ) (more : List Lexeme) →
             IsTrue (is_bound x) →
-            Reads self.old (high_lexemes x) more result self.new }
-        ensures reads_seen { (hidden : ℕ) (x : Option ℤ) (more : List Lexeme) →
-            IsTrue (is_bound x) →
-            ReadsSeen hidden self.old (high_lexemes x) more result self.new }
+            Reads hidden self.old (high_lexemes x) more result self.new }
         ensures within { IfOk result (λ b. IsTrue (is_bound b)) }
         ensures stuck { IfErr result (IsStuckAt self.new) }
     {
@@ -133,21 +120,17 @@ impl<'a, 't> Parser<'a, 't> {
 
     /// The characters of a text behind `pattern`. Stuck where another token comes next, or none,
     /// or the text holds one of `\ [ ] { } ( ) | # +` or a quote.
-    #[tactic(auto, using(crate::proofs::TemplateTokens::template_rules, crate::proofs::NestingEquations::template_nesting))]
+    #[tactic(auto, using(crate::proofs::TemplateTokens::template_rules))]
     fn pattern(&mut self, alloc: Global) -> Result<Template, Stuck>
         ensures tokens { IfOk result (λ t.
             word Word.Pattern ∷ ahead self.old.rest.now
             ≡ template_lexemes t ++ ahead self.new.rest.now) }
         ensures shorter { OnOk result (length self.new.rest.now < length self.old.rest.now) }
         ensures forward { OnOk result (GoesForward self.old self.new) }
-        ensures nested { IfOk result (λ t. template_depth t ≡ 0) }
         ensures grammatical { IfOk result (λ t. IsTrue (is_template t)) }
-        ensures reads { (cs : List ℕ) (more : List Lexeme) →
+        ensures reads { (hidden : ℕ) (cs : List ℕ) (more : List Lexeme) →
             IsTrue (list_all is_plain cs) →
-            Reads self.old (text cs ∷ []) more result self.new }
-        ensures reads_seen { (hidden : ℕ) (cs : List ℕ) (more : List Lexeme) →
-            IsTrue (list_all is_plain cs) →
-            ReadsSeen hidden self.old (text cs ∷ []) more result self.new }
+            Reads hidden self.old (text cs ∷ []) more result self.new }
         ensures place { IfErr result (IsStuckBehind 0 self.old) }
         ensures stuck { IfErr result (IsStuckAt self.new) }
     {
@@ -161,23 +144,17 @@ impl<'a, 't> Parser<'a, 't> {
         }
     }
 
-    /// A template, in which so many brackets may be opened.
+    /// A template.
     #[cycle(template)]
-    #[tactic(auto, using(crate::proofs::TemplateTokens::template_rules, crate::proofs::NestingEquations::template_nesting))]
-    pub fn template(&mut self, alloc: Global, left: u32) -> Result<Template, Stuck>
+    #[tactic(auto, using(crate::proofs::TemplateTokens::template_rules))]
+    pub fn template(&mut self, alloc: Global) -> Result<Template, Stuck>
         ensures tokens { IfOk result (λ t. Passes self.old (template_lexemes t) self.new) }
         ensures shorter { OnOk result (length self.new.rest.now < length self.old.rest.now) }
         ensures forward { OnOk result (GoesForward self.old self.new) }
-        ensures nested { IfOk result (λ t. template_depth t ≤ left) }
         ensures grammatical { IfOk result (λ t. IsTrue (is_template t)) }
-        ensures reads { (x : Template) (more : List Lexeme) →
+        ensures reads { (hidden : ℕ) (x : Template) (more : List Lexeme) →
             IsTrue (is_template x) →
-            template_depth x ≤ left →
-            Reads self.old (template_lexemes x) more result self.new }
-        ensures reads_seen { (hidden : ℕ) (x : Template) (more : List Lexeme) →
-            IsTrue (is_template x) →
-            template_depth x ≤ left →
-            ReadsSeen hidden self.old (template_lexemes x) more result self.new }
+            Reads hidden self.old (template_lexemes x) more result self.new }
         ensures place { leads_on (token_at self.old.rest.now 0) ≡ false →
             IfErr result (IsStuckBehind
             (integer_stands (token_at self.old.rest.now 0) (token_at self.old.rest.now 1))
@@ -206,52 +183,34 @@ impl<'a, 't> Parser<'a, 't> {
             }
             Token::Symbol(Symbol::Question) => Ok(Template::Any),
             Token::Symbol(Symbol::Star) => Ok(Template::AnyOrNone),
-            Token::Symbol(Symbol::LeftParen) => {
-                let inner = self.below(left)?;
-                self.alternatives(alloc, inner)
-            }
-            Token::Word(Word::Complement) => self.complement(alloc, left),
+            Token::Symbol(Symbol::LeftParen) => self.alternatives(alloc),
+            Token::Word(Word::Complement) => self.complement(alloc),
             Token::Word(Word::Pattern) => self.pattern(alloc),
-            Token::Symbol(Symbol::LeftBrace) => {
-                let inner = self.below(left)?;
-                self.template_entries(alloc, inner)
-            }
+            Token::Symbol(Symbol::LeftBrace) => self.template_entries(alloc),
             _ => Err(Stuck::Passed(self.rest.len())),
         }
     }
 
     /// What stands behind the `(` of a template, and its `)`.
     #[cycle(template)]
-    #[tactic(auto, using(crate::proofs::TemplateTokens::template_rules, crate::proofs::NestingEquations::template_nesting))]
-    fn alternatives(&mut self, alloc: Global, left: u32) -> Result<Template, Stuck>
+    #[tactic(auto, using(crate::proofs::TemplateTokens::template_rules))]
+    fn alternatives(&mut self, alloc: Global) -> Result<Template, Stuck>
         ensures tokens { IfOk result (λ t.
             symbol Symbol.LeftParen ∷ ahead self.old.rest.now
             ≡ template_lexemes t ++ ahead self.new.rest.now) }
         ensures shorter { OnOk result (length self.new.rest.now < length self.old.rest.now) }
         ensures forward { OnOk result (GoesForward self.old self.new) }
-        ensures nested { IfOk result (λ t. template_depth t ≤ left + 1) }
         ensures grammatical { IfOk result (λ t. IsTrue (is_template t)) }
-        ensures reads_range { (low : Option ℤ) (high : Option ℤ) (more : List Lexeme) →
-            IsTrue (is_bound low) →
-            IsTrue (is_bound high) →
-            Reads self.old ((low_lexemes low ++ symbol Symbol.DotDot ∷ high_lexemes high)
-            ++ symbol Symbol.RightParen ∷ []) more result self.new }
-        ensures range_seen { (hidden : ℕ) (low : Option ℤ) (high : Option ℤ)
+        ensures reads_range { (hidden : ℕ) (low : Option ℤ) (high : Option ℤ)
             (more : List Lexeme) →
             IsTrue (is_bound low) →
             IsTrue (is_bound high) →
-            ReadsSeen hidden self.old
+            Reads hidden self.old
             ((low_lexemes low ++ symbol Symbol.DotDot ∷ high_lexemes high)
             ++ symbol Symbol.RightParen ∷ []) more result self.new }
-        ensures reads_list { (xs : List Template) (more : List Lexeme) →
+        ensures reads_list { (hidden : ℕ) (xs : List Template) (more : List Lexeme) →
             IsTrue (one_and_each (map is_template xs)) →
-            deepest (map template_depth xs) ≤ left →
-            Reads self.old (by_commas (map template_lexemes xs) ++ symbol Symbol.RightParen ∷ [])
-            more result self.new }
-        ensures list_seen { (hidden : ℕ) (xs : List Template) (more : List Lexeme) →
-            IsTrue (one_and_each (map is_template xs)) →
-            deepest (map template_depth xs) ≤ left →
-            ReadsSeen hidden self.old
+            Reads hidden self.old
             (by_commas (map template_lexemes xs) ++ symbol Symbol.RightParen ∷ []) more result
             self.new }
         ensures stuck { IfErr result (IsStuckAt self.new) }
@@ -263,73 +222,52 @@ impl<'a, 't> Parser<'a, 't> {
             self.symbol(Symbol::RightParen)?;
             return Ok(Template::Range(low, high));
         }
-        let templates = self.templates(alloc, left)?;
+        let templates = self.templates(alloc)?;
         self.symbol(Symbol::RightParen)?;
         Ok(Template::OneOf(templates))
     }
 
     /// What stands behind `complement`.
     #[cycle(template)]
-    #[tactic(auto, using(crate::proofs::TemplateTokens::template_rules, crate::proofs::NestingEquations::template_nesting))]
-    fn complement(&mut self, alloc: Global, left: u32) -> Result<Template, Stuck>
+    #[tactic(auto, using(crate::proofs::TemplateTokens::template_rules))]
+    fn complement(&mut self, alloc: Global) -> Result<Template, Stuck>
         ensures tokens { IfOk result (λ t.
             word Word.Complement ∷ ahead self.old.rest.now
             ≡ template_lexemes t ++ ahead self.new.rest.now) }
         ensures shorter { OnOk result (length self.new.rest.now < length self.old.rest.now) }
         ensures forward { OnOk result (GoesForward self.old self.new) }
-        ensures nested { IfOk result (λ t. template_depth t ≤ left) }
         ensures grammatical { IfOk result (λ t. IsTrue (is_template t)) }
-        ensures reads { (xs : List Template) (more : List Lexeme) →
+        ensures reads { (hidden : ℕ) (xs : List Template) (more : List Lexeme) →
             IsTrue (one_and_each (map is_template xs)) →
-            deepest (map template_depth xs) + 1 ≤ left →
-            Reads self.old (parenthesised (by_commas (map template_lexemes xs))) more result
-            self.new }
-        ensures reads_seen { (hidden : ℕ) (xs : List Template) (more : List Lexeme) →
-            IsTrue (one_and_each (map is_template xs)) →
-            deepest (map template_depth xs) + 1 ≤ left →
-            ReadsSeen hidden self.old (parenthesised (by_commas (map template_lexemes xs))) more
+            Reads hidden self.old (parenthesised (by_commas (map template_lexemes xs))) more
             result self.new }
         ensures beyond { GoesBeyond 0 self.old result self.new }
         ensures stuck { IfErr result (IsStuckAt self.new) }
     {
-        let inner = self.open(Symbol::LeftParen, left)?;
-        let templates = self.templates(alloc, inner)?;
+        self.symbol(Symbol::LeftParen)?;
+        let templates = self.templates(alloc)?;
         self.symbol(Symbol::RightParen)?;
         Ok(Template::Complement(templates))
     }
 
     /// What stands behind the `{` of a template, and its `}`.
     #[cycle(template)]
-    #[tactic(auto, using(crate::proofs::TemplateTokens::template_rules, crate::proofs::NestingEquations::template_nesting))]
-    fn template_entries(&mut self, alloc: Global, left: u32) -> Result<Template, Stuck>
+    #[tactic(auto, using(crate::proofs::TemplateTokens::template_rules))]
+    fn template_entries(&mut self, alloc: Global) -> Result<Template, Stuck>
         ensures tokens { IfOk result (λ t.
             symbol Symbol.LeftBrace ∷ ahead self.old.rest.now
             ≡ template_lexemes t ++ ahead self.new.rest.now) }
         ensures shorter { OnOk result (length self.new.rest.now < length self.old.rest.now) }
         ensures forward { OnOk result (GoesForward self.old self.new) }
-        ensures nested { IfOk result (λ t. template_depth t ≤ left + 1) }
         ensures grammatical { IfOk result (λ t. IsTrue (is_template t)) }
-        ensures reads_list { (xs : List Template) (more : List Lexeme) →
+        ensures reads_list { (hidden : ℕ) (xs : List Template) (more : List Lexeme) →
             IsTrue (each (map is_template xs)) →
-            deepest (map template_depth xs) ≤ left →
-            Reads self.old (by_commas (map template_lexemes xs) ++ symbol Symbol.RightBrace ∷ [])
-            more result self.new }
-        ensures list_seen { (hidden : ℕ) (xs : List Template) (more : List Lexeme) →
-            IsTrue (each (map is_template xs)) →
-            deepest (map template_depth xs) ≤ left →
-            ReadsSeen hidden self.old
+            Reads hidden self.old
             (by_commas (map template_lexemes xs) ++ symbol Symbol.RightBrace ∷ []) more result
             self.new }
-        ensures reads_record { (xs : List TemplateField) (more : List Lexeme) →
+        ensures reads_record { (hidden : ℕ) (xs : List TemplateField) (more : List Lexeme) →
             IsTrue (one_and_each (map is_template_field xs)) →
-            deepest (map template_field_depth xs) ≤ left →
-            Reads self.old
-            (by_commas (map template_field_lexemes xs) ++ symbol Symbol.RightBrace ∷ []) more result
-            self.new }
-        ensures record_seen { (hidden : ℕ) (xs : List TemplateField) (more : List Lexeme) →
-            IsTrue (one_and_each (map is_template_field xs)) →
-            deepest (map template_field_depth xs) ≤ left →
-            ReadsSeen hidden self.old
+            Reads hidden self.old
             (by_commas (map template_field_lexemes xs) ++ symbol Symbol.RightBrace ∷ []) more result
             self.new }
         ensures stuck { IfErr result (IsStuckAt self.new) }
@@ -338,41 +276,34 @@ impl<'a, 't> Parser<'a, 't> {
             return Ok(Template::List(Vec::new(alloc)));
         }
         if self.is_field() {
-            let fields = self.template_fields(alloc, left)?;
+            let fields = self.template_fields(alloc)?;
             self.symbol(Symbol::RightBrace)?;
             return Ok(Template::Record(fields));
         }
-        let templates = self.templates(alloc, left)?;
+        let templates = self.templates(alloc)?;
         self.symbol(Symbol::RightBrace)?;
         Ok(Template::List(templates))
     }
 
     /// Templates with a `,` between them.
     #[cycle(template)]
-    fn templates(&mut self, alloc: Global, left: u32) -> Result<Vec<Template>, Stuck>
+    fn templates(&mut self, alloc: Global) -> Result<Vec<Template>, Stuck>
         ensures tokens { IfOk result (λ v.
             Passes self.old (by_commas (map template_lexemes v.items)) self.new) }
         ensures shorter { OnOk result (length self.new.rest.now < length self.old.rest.now) }
         ensures forward { OnOk result (GoesForward self.old self.new) }
-        ensures nested { IfOk result (λ v. deepest (map template_depth v.items) ≤ left) }
         ensures grammatical { IfOk result (λ v. IsTrue (one_and_each (map is_template v.items))) }
-        ensures reads { (xs : List Template) (more : List Lexeme) →
+        ensures reads { (hidden : ℕ) (xs : List Template) (more : List Lexeme) →
             IsTrue (one_and_each (map is_template xs)) →
-            deepest (map template_depth xs) ≤ left →
             Stops more →
-            Reads self.old (by_commas (map template_lexemes xs)) more result self.new }
-        ensures reads_seen { (hidden : ℕ) (xs : List Template) (more : List Lexeme) →
-            IsTrue (one_and_each (map is_template xs)) →
-            deepest (map template_depth xs) ≤ left →
-            Stops more →
-            ReadsSeen hidden self.old (by_commas (map template_lexemes xs)) more result self.new }
+            Reads hidden self.old (by_commas (map template_lexemes xs)) more result self.new }
         ensures stuck { IfErr result (IsStuckAt self.new) }
     {
         let mut templates = Vec::new(alloc);
-        let first = self.template(alloc, left)?;
+        let first = self.template(alloc)?;
         templates.push(first)?;
         'more: while self.has_symbol(Symbol::Comma) {
-            let next = self.template(alloc, left)?;
+            let next = self.template(alloc)?;
             templates.push(next)?;
         }
         Ok(templates)
@@ -380,33 +311,26 @@ impl<'a, 't> Parser<'a, 't> {
 
     /// Fields with a `,` between them.
     #[cycle(template)]
-    fn template_fields(&mut self, alloc: Global, left: u32) -> Result<Vec<TemplateField>, Stuck>
+    fn template_fields(&mut self, alloc: Global) -> Result<Vec<TemplateField>, Stuck>
         ensures tokens { IfOk result (λ v.
             Passes self.old (by_commas (map template_field_lexemes v.items)) self.new) }
         ensures shorter { OnOk result (length self.new.rest.now < length self.old.rest.now) }
         ensures forward { OnOk result (GoesForward self.old self.new) }
-        ensures nested { IfOk result (λ v. deepest (map template_field_depth v.items) ≤ left) }
         ensures grammatical { IfOk result (λ v.
             IsTrue (one_and_each (map is_template_field v.items))) }
-        ensures reads { (xs : List TemplateField) (more : List Lexeme) →
+        ensures reads { (hidden : ℕ) (xs : List TemplateField) (more : List Lexeme) →
             IsTrue (one_and_each (map is_template_field xs)) →
-            deepest (map template_field_depth xs) ≤ left →
             Stops more →
-            Reads self.old (by_commas (map template_field_lexemes xs)) more result self.new }
-        ensures reads_seen { (hidden : ℕ) (xs : List TemplateField) (more : List Lexeme) →
-            IsTrue (one_and_each (map is_template_field xs)) →
-            deepest (map template_field_depth xs) ≤ left →
-            Stops more →
-            ReadsSeen hidden self.old (by_commas (map template_field_lexemes xs)) more result
+            Reads hidden self.old (by_commas (map template_field_lexemes xs)) more result
             self.new }
         ensures beyond { IsField self.old.rest.now → GoesBeyond 2 self.old result self.new }
         ensures stuck { IfErr result (IsStuckAt self.new) }
     {
         let mut fields = Vec::new(alloc);
-        let first = self.template_field(alloc, left)?;
+        let first = self.template_field(alloc)?;
         fields.push(first)?;
         'more: while self.has_symbol(Symbol::Comma) {
-            let next = self.template_field(alloc, left)?;
+            let next = self.template_field(alloc)?;
             fields.push(next)?;
         }
         Ok(fields)
@@ -414,27 +338,21 @@ impl<'a, 't> Parser<'a, 't> {
 
     /// A field.
     #[cycle(template)]
-    #[tactic(auto, using(crate::proofs::TemplateTokens::template_rules, crate::proofs::NestingEquations::template_nesting))]
-    fn template_field(&mut self, alloc: Global, left: u32) -> Result<TemplateField, Stuck>
+    #[tactic(auto, using(crate::proofs::TemplateTokens::template_rules))]
+    fn template_field(&mut self, alloc: Global) -> Result<TemplateField, Stuck>
         ensures tokens { IfOk result (λ f. Passes self.old (template_field_lexemes f) self.new) }
         ensures shorter { OnOk result (length self.new.rest.now < length self.old.rest.now) }
         ensures forward { OnOk result (GoesForward self.old self.new) }
-        ensures nested { IfOk result (λ f. template_field_depth f ≤ left) }
         ensures grammatical { IfOk result (λ f. IsTrue (is_template_field f)) }
-        ensures reads { (x : TemplateField) (more : List Lexeme) →
+        ensures reads { (hidden : ℕ) (x : TemplateField) (more : List Lexeme) →
             IsTrue (is_template_field x) →
-            template_field_depth x ≤ left →
-            Reads self.old (template_field_lexemes x) more result self.new }
-        ensures reads_seen { (hidden : ℕ) (x : TemplateField) (more : List Lexeme) →
-            IsTrue (is_template_field x) →
-            template_field_depth x ≤ left →
-            ReadsSeen hidden self.old (template_field_lexemes x) more result self.new }
+            Reads hidden self.old (template_field_lexemes x) more result self.new }
         ensures beyond { IsField self.old.rest.now → GoesBeyond 2 self.old result self.new }
         ensures stuck { IfErr result (IsStuckAt self.new) }
     {
         let name = self.name(alloc)?;
         self.symbol(Symbol::Assign)?;
-        let template = self.template(alloc, left)?;
+        let template = self.template(alloc)?;
         Ok(TemplateField { name, template })
     }
 }

@@ -9,10 +9,10 @@ ghost use Rattle.tp_syntax.specs.Nesting.{defined_depth};
 ghost use Rattle.tp_syntax.specs.Forward.{GoesForward, PassesLines};
 ghost use Rattle.tp_syntax.specs.Lines.{noted_in_order, setup_notes, start_notes, test_case_notes};
 ghost use Rattle.tp_syntax.specs.Passing.{Passes};
-ghost use Rattle.tp_syntax.specs.Reading.{AllStand, IsPlaced, BeginsSetup, IsStart, MaybeName, Reads, first, is_setup_ahead, is_start_ahead};
+ghost use Rattle.tp_syntax.specs.Reading.{AllStand, IsPlaced, BeginsSetup, IsStart, MaybeName, first, is_setup_ahead, is_start_ahead};
 ghost use Rattle.tp_syntax.specs.Standing.{GoesOn, GoesOver, HasPassed};
 ghost use Rattle.tp_syntax.specs.Stuck.{IsStuckAt, IsStuckBehind, GoesBeyond, IsForMemory};
-ghost use Rattle.tp_syntax.specs.HiddenTokens.{IsCutCreation, IsCutStart, ReadsSeen, ReadsSeenOr};
+ghost use Rattle.tp_syntax.specs.HiddenTokens.{IsCutCreation, IsCutStart, Reads, ReadsOr};
 
 use crate::cursor::Parser;
 use crate::stuck::Stuck;
@@ -31,10 +31,8 @@ impl<'a, 't> Parser<'a, 't> {
             ahead self.old.rest.now ≡ end_component_lexeme x ∷ ahead self.new.rest.now) }
         ensures shorter { OnOk result (length self.new.rest.now < length self.old.rest.now) }
         ensures forward { OnOk result (GoesForward self.old self.new) }
-        ensures reads { (x : EndComponent) (more : List Lexeme) →
-            Reads self.old (end_component_lexeme x ∷ []) more result self.new }
-        ensures reads_seen { (hidden : ℕ) (x : EndComponent) (more : List Lexeme) →
-            ReadsSeen hidden self.old (end_component_lexeme x ∷ []) more result self.new }
+        ensures reads { (hidden : ℕ) (x : EndComponent) (more : List Lexeme) →
+            Reads hidden self.old (end_component_lexeme x ∷ []) more result self.new }
         ensures place { IfErr result (IsStuckBehind 0 self.old) }
         ensures stuck { IfErr result (IsStuckAt self.new) }
     {
@@ -57,10 +55,8 @@ impl<'a, 't> Parser<'a, 't> {
         ensures tokens { IfOk result (λ x. Passes self.old (end_point_lexemes x) self.new) }
         ensures shorter { OnOk result (length self.new.rest.now < length self.old.rest.now) }
         ensures forward { OnOk result (GoesForward self.old self.new) }
-        ensures reads { (x : PairEnd) (more : List Lexeme) →
-            Reads self.old (end_point_lexemes x) more result self.new }
-        ensures reads_seen { (hidden : ℕ) (x : PairEnd) (more : List Lexeme) →
-            ReadsSeen hidden self.old (end_point_lexemes x) more result self.new }
+        ensures reads { (hidden : ℕ) (x : PairEnd) (more : List Lexeme) →
+            Reads hidden self.old (end_point_lexemes x) more result self.new }
         ensures beyond { GoesBeyond 0 self.old result self.new }
         ensures stuck { IfErr result (IsStuckAt self.new) }
     {
@@ -76,10 +72,8 @@ impl<'a, 't> Parser<'a, 't> {
         ensures tokens { IfOk result (λ x. Passes self.old (ends_lexemes x.0 x.1) self.new) }
         ensures shorter { OnOk result (length self.new.rest.now < length self.old.rest.now) }
         ensures forward { OnOk result (GoesForward self.old self.new) }
-        ensures reads { (x : PairEnd) (y : PairEnd) (more : List Lexeme) →
-            Reads self.old (ends_lexemes x y) more result self.new }
-        ensures reads_seen { (hidden : ℕ) (x : PairEnd) (y : PairEnd) (more : List Lexeme) →
-            ReadsSeen hidden self.old (ends_lexemes x y) more result self.new }
+        ensures reads { (hidden : ℕ) (x : PairEnd) (y : PairEnd) (more : List Lexeme) →
+            Reads hidden self.old (ends_lexemes x y) more result self.new }
         ensures beyond { GoesBeyond 0 self.old result self.new }
         ensures stuck { IfErr result (IsStuckAt self.new) }
     {
@@ -97,10 +91,8 @@ impl<'a, 't> Parser<'a, 't> {
         ensures tokens { IfOk result (λ x. Passes self.old (setup_action_lexemes x) self.new) }
         ensures shorter { OnOk result (length self.new.rest.now < length self.old.rest.now) }
         ensures forward { OnOk result (GoesForward self.old self.new) }
-        ensures reads { (x : Creation) (more : List Lexeme) →
-            Reads self.old (setup_action_lexemes (SetupAction.Create x)) more result self.new }
-        ensures reads_seen { (hidden : ℕ) (x : Creation) (more : List Lexeme) →
-            ReadsSeen hidden self.old (setup_action_lexemes (SetupAction.Create x)) more result
+        ensures reads { (hidden : ℕ) (x : Creation) (more : List Lexeme) →
+            Reads hidden self.old (setup_action_lexemes (SetupAction.Create x)) more result
             self.new }
         ensures beyond { GoesBeyond 0 self.old result self.new }
         ensures beyond_var { token_at self.old.rest.now 0 ≡ Some (word Word.Var) →
@@ -134,10 +126,8 @@ impl<'a, 't> Parser<'a, 't> {
         ensures tokens { IfOk result (λ x. Passes self.old (setup_action_lexemes x) self.new) }
         ensures shorter { OnOk result (length self.new.rest.now < length self.old.rest.now) }
         ensures forward { OnOk result (GoesForward self.old self.new) }
-        ensures reads { (x : SetupAction) (more : List Lexeme) →
-            Reads self.old (setup_action_lexemes x) more result self.new }
-        ensures reads_seen { (hidden : ℕ) (x : SetupAction) (more : List Lexeme) →
-            ReadsSeen hidden self.old (setup_action_lexemes x) more result self.new }
+        ensures reads { (hidden : ℕ) (x : SetupAction) (more : List Lexeme) →
+            Reads hidden self.old (setup_action_lexemes x) more result self.new }
         ensures beyond { GoesBeyond 0 self.old result self.new }
         ensures beyond_var { token_at self.old.rest.now 0 ≡ Some (word Word.Var) →
             GoesBeyond 1 self.old result self.new }
@@ -168,12 +158,9 @@ impl<'a, 't> Parser<'a, 't> {
         ensures shorter { OnOk result (length self.new.rest.now < length self.old.rest.now) }
         ensures lines { IfOk result (λ x. PassesLines self.old (setup_notes x) self.new) }
         ensures grammatical { IfOk result (λ x. HasPassed (setup_part x) self.new) }
-        ensures reads { (x : SetupStatement) (more : List Lexeme) →
+        ensures reads { (hidden : ℕ) (x : SetupStatement) (more : List Lexeme) →
             IsPlaced (setup_part x) more →
-            Reads self.old (setup_lexemes x) more result self.new }
-        ensures reads_seen { (hidden : ℕ) (x : SetupStatement) (more : List Lexeme) →
-            IsPlaced (setup_part x) more →
-            ReadsSeen hidden self.old (setup_lexemes x) more result self.new }
+            Reads hidden self.old (setup_lexemes x) more result self.new }
         ensures beyond { GoesBeyond 0 self.old result self.new }
         ensures beyond_var { token_at self.old.rest.now 0 ≡ Some (word Word.Var) →
             GoesBeyond 1 self.old result self.new }
@@ -217,14 +204,10 @@ impl<'a, 't> Parser<'a, 't> {
             PassesLines self.old (noted_in_order (map setup_notes x.items)) self.new) }
         ensures grammatical { IfOk result (λ x.
             GoesOver self.old (map setup_part x.items) self.new) }
-        ensures reads { (xs : List SetupStatement) (more : List Lexeme) →
+        ensures reads { (hidden : ℕ) (xs : List SetupStatement) (more : List Lexeme) →
             AllStand (map setup_part xs) more →
             is_setup_ahead more ≡ false →
-            Reads self.old (setups_lexemes xs) more result self.new }
-        ensures reads_seen { (hidden : ℕ) (xs : List SetupStatement) (more : List Lexeme) →
-            AllStand (map setup_part xs) more →
-            is_setup_ahead more ≡ false →
-            ReadsSeenOr hidden self.old (setups_lexemes xs) more result self.new
+            ReadsOr hidden self.old (setups_lexemes xs) more result self.new
             (IsCutCreation hidden self.new.rest.now) }
         ensures beyond { GoesBeyond 0 self.old result self.new }
         ensures stuck { IfErr result (IsStuckAt self.new) }
@@ -242,12 +225,9 @@ impl<'a, 't> Parser<'a, 't> {
         ensures tokens { IfOk result (λ x. Passes self.old (arguments_lexemes x.items) self.new) }
         ensures shorter { OnOk result (length self.new.rest.now ≤ length self.old.rest.now) }
         ensures forward { OnOk result (GoesForward self.old self.new) }
-        ensures reads { (xs : List ComponentName) (more : List Lexeme) →
+        ensures reads { (hidden : ℕ) (xs : List ComponentName) (more : List Lexeme) →
             first more ≡ Some (symbol Symbol.RightParen) →
-            Reads self.old (arguments_lexemes xs) more result self.new }
-        ensures reads_seen { (hidden : ℕ) (xs : List ComponentName) (more : List Lexeme) →
-            first more ≡ Some (symbol Symbol.RightParen) →
-            ReadsSeen hidden self.old (arguments_lexemes xs) more result self.new }
+            Reads hidden self.old (arguments_lexemes xs) more result self.new }
         ensures beyond { GoesBeyond 0 self.old result self.new }
         ensures stuck { IfErr result (IsStuckAt self.new) }
     {
@@ -271,12 +251,9 @@ impl<'a, 't> Parser<'a, 't> {
         ensures shorter { OnOk result (length self.new.rest.now < length self.old.rest.now) }
         ensures lines { IfOk result (λ x. PassesLines self.old (start_notes x) self.new) }
         ensures grammatical { IfOk result (λ x. HasPassed (start_part x) self.new) }
-        ensures reads { (x : ComponentStart) (more : List Lexeme) →
+        ensures reads { (hidden : ℕ) (x : ComponentStart) (more : List Lexeme) →
             IsPlaced (start_part x) more →
-            Reads self.old (start_lexemes x) more result self.new }
-        ensures reads_seen { (hidden : ℕ) (x : ComponentStart) (more : List Lexeme) →
-            IsPlaced (start_part x) more →
-            ReadsSeen hidden self.old (start_lexemes x) more result self.new }
+            Reads hidden self.old (start_lexemes x) more result self.new }
         ensures beyond { GoesBeyond 0 self.old result self.new }
         ensures beyond_name { is_name_in (token_at self.old.rest.now 0) ≡ true →
             GoesBeyond 1 self.old result self.new }
@@ -328,14 +305,10 @@ impl<'a, 't> Parser<'a, 't> {
             PassesLines self.old (noted_in_order (map start_notes x.items)) self.new) }
         ensures grammatical { IfOk result (λ x.
             GoesOver self.old (map start_part x.items) self.new) }
-        ensures reads { (xs : List ComponentStart) (more : List Lexeme) →
+        ensures reads { (hidden : ℕ) (xs : List ComponentStart) (more : List Lexeme) →
             AllStand (map start_part xs) more →
             is_start_ahead more ≡ false →
-            Reads self.old (starts_lexemes xs) more result self.new }
-        ensures reads_seen { (hidden : ℕ) (xs : List ComponentStart) (more : List Lexeme) →
-            AllStand (map start_part xs) more →
-            is_start_ahead more ≡ false →
-            ReadsSeenOr hidden self.old (starts_lexemes xs) more result self.new
+            ReadsOr hidden self.old (starts_lexemes xs) more result self.new
             (IsCutStart hidden self.new.rest.now) }
         ensures beyond { GoesBeyond 0 self.old result self.new }
         ensures none { is_name_in (token_at self.old.rest.now 0) ≡ false →
@@ -356,14 +329,10 @@ impl<'a, 't> Parser<'a, 't> {
         ensures shorter { OnOk result (length self.new.rest.now ≤ length self.old.rest.now) }
         ensures forward { OnOk result (GoesForward self.old self.new) }
         ensures grammatical { IfOk result (λ x. GoesOver self.old (all_done_parts x) self.new) }
-        ensures reads { (x : Option AllDone) (more : List Lexeme) →
+        ensures reads { (hidden : ℕ) (x : Option AllDone) (more : List Lexeme) →
             AllStand (all_done_parts x) more →
             first more ≡ Some (symbol Symbol.RightBrace) →
-            Reads self.old (all_done_lexemes x) more result self.new }
-        ensures reads_seen { (hidden : ℕ) (x : Option AllDone) (more : List Lexeme) →
-            AllStand (all_done_parts x) more →
-            first more ≡ Some (symbol Symbol.RightBrace) →
-            ReadsSeen hidden self.old (all_done_lexemes x) more result self.new }
+            Reads hidden self.old (all_done_lexemes x) more result self.new }
         ensures beyond { GoesBeyond 0 self.old result self.new }
         ensures beyond_all { token_at self.old.rest.now 0 ≡ Some (word Word.All) →
             GoesBeyond 1 self.old result self.new }
@@ -385,12 +354,9 @@ impl<'a, 't> Parser<'a, 't> {
         ensures tokens { IfOk result (λ x. Passes self.old (system_lexemes x) self.new) }
         ensures shorter { OnOk result (length self.new.rest.now ≤ length self.old.rest.now) }
         ensures forward { OnOk result (GoesForward self.old self.new) }
-        ensures reads { (x : MaybeName) (more : List Lexeme) →
+        ensures reads { (hidden : ℕ) (x : MaybeName) (more : List Lexeme) →
             first more ≢ Some (word Word.System) →
-            Reads self.old (system_lexemes x) more result self.new }
-        ensures reads_seen { (hidden : ℕ) (x : MaybeName) (more : List Lexeme) →
-            first more ≢ Some (word Word.System) →
-            ReadsSeen hidden self.old (system_lexemes x) more result self.new }
+            Reads hidden self.old (system_lexemes x) more result self.new }
         ensures beyond { GoesBeyond 0 self.old result self.new }
         ensures stuck { IfErr result (IsStuckAt self.new) }
     {
@@ -403,21 +369,15 @@ impl<'a, 't> Parser<'a, 't> {
 
     /// A test case.
     #[tactic(auto, using(std::proofs::lemmas::List::append_assoc), unfolding(crate::specs::Definitions::test_case_lexemes, crate::specs::Definitions::behaviour_lexemes))]
-    pub fn test_case(&mut self, alloc: Global, left: u32) -> Result<TestCase, Stuck>
+    pub fn test_case(&mut self, alloc: Global) -> Result<TestCase, Stuck>
         ensures tokens { IfOk result (λ x. Passes self.old (test_case_lexemes x) self.new) }
         ensures shorter { OnOk result (length self.new.rest.now + 2 ≤ length self.old.rest.now) }
         ensures lines { IfOk result (λ x. PassesLines self.old (test_case_notes x) self.new) }
-        ensures nested { IfOk result (λ x. defined_depth (Defined.TestCase x) ≤ left) }
         ensures grammatical { IfOk result (λ x.
             IsTrue (defined_part (Defined.TestCase x)).is_right) }
-        ensures reads { (x : TestCase) (more : List Lexeme) →
+        ensures reads { (hidden : ℕ) (x : TestCase) (more : List Lexeme) →
             IsTrue (defined_part (Defined.TestCase x)).is_right →
-            defined_depth (Defined.TestCase x) ≤ left →
-            Reads self.old (test_case_lexemes x) more result self.new }
-        ensures reads_seen { (hidden : ℕ) (x : TestCase) (more : List Lexeme) →
-            IsTrue (defined_part (Defined.TestCase x)).is_right →
-            defined_depth (Defined.TestCase x) ≤ left →
-            ReadsSeen hidden self.old (test_case_lexemes x) more result self.new }
+            Reads hidden self.old (test_case_lexemes x) more result self.new }
         ensures beyond { GoesBeyond 0 self.old result self.new }
         ensures stuck { IfErr result (IsStuckAt self.new) }
     {
@@ -429,11 +389,11 @@ impl<'a, 't> Parser<'a, 't> {
         self.word(Word::On)?;
         let runs_on = self.name(alloc)?;
         let system = self.system(alloc)?;
-        let inner = self.open(Symbol::LeftBrace, left)?;
+        self.symbol(Symbol::LeftBrace)?;
         let setups = self.setups(alloc)?;
         let starts = self.starts(alloc)?;
         let variables = self.variables(alloc)?;
-        let statements = self.statements(alloc, inner, true)?;
+        let statements = self.statements(alloc, true)?;
         let all_done = self.all_done()?;
         self.symbol(Symbol::RightBrace)?;
         Ok(TestCase {

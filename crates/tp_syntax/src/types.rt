@@ -8,10 +8,10 @@ ghost use Rattle.tp_syntax.specs.Nesting.{defined_depth};
 ghost use Rattle.tp_syntax.specs.Forward.{GoesForward, PassesLines};
 ghost use Rattle.tp_syntax.specs.Lines.{noted_in_order, noted_by_commas, declared_name_notes, field_type_notes, record_type_notes, port_declaration_notes, component_type_notes, defined_notes};
 ghost use Rattle.tp_syntax.specs.Passing.{Passes};
-ghost use Rattle.tp_syntax.specs.Reading.{AllStand, IsPlaced, Reads, Stops, first, is_type};
+ghost use Rattle.tp_syntax.specs.Reading.{AllStand, IsPlaced, Stops, first, is_type};
 ghost use Rattle.tp_syntax.specs.Standing.{GoesOver, HasPassed};
 ghost use Rattle.tp_syntax.specs.Stuck.{IsStuckAt, IsStuckBehind, IsWrongBehind, GoesBeyond};
-ghost use Rattle.tp_syntax.specs.HiddenTokens.{ReadsSeen};
+ghost use Rattle.tp_syntax.specs.HiddenTokens.{Reads};
 
 use crate::cursor::Parser;
 use crate::stuck::Stuck;
@@ -30,10 +30,8 @@ impl<'a, 't> Parser<'a, 't> {
         ensures tokens { IfOk result (λ x. Passes self.old (declared_name_lexemes x) self.new) }
         ensures shorter { OnOk result (length self.new.rest.now < length self.old.rest.now) }
         ensures lines { IfOk result (λ x. PassesLines self.old (declared_name_notes x) self.new) }
-        ensures reads { (spelling : List ℕ) (more : List Lexeme) →
-            Reads self.old (name spelling ∷ []) more result self.new }
-        ensures reads_seen { (hidden : ℕ) (spelling : List ℕ) (more : List Lexeme) →
-            ReadsSeen hidden self.old (name spelling ∷ []) more result self.new }
+        ensures reads { (hidden : ℕ) (spelling : List ℕ) (more : List Lexeme) →
+            Reads hidden self.old (name spelling ∷ []) more result self.new }
         ensures place { IfErr result (IsStuckBehind 0 self.old) }
         ensures stuck { IfErr result (IsStuckAt self.new) }
     {
@@ -48,10 +46,8 @@ impl<'a, 't> Parser<'a, 't> {
         ensures tokens { IfOk result (λ x. Passes self.old (field_type_lexemes x) self.new) }
         ensures shorter { OnOk result (length self.new.rest.now < length self.old.rest.now) }
         ensures lines { IfOk result (λ x. PassesLines self.old (field_type_notes x) self.new) }
-        ensures reads { (x : FieldType) (more : List Lexeme) →
-            Reads self.old (field_type_lexemes x) more result self.new }
-        ensures reads_seen { (hidden : ℕ) (x : FieldType) (more : List Lexeme) →
-            ReadsSeen hidden self.old (field_type_lexemes x) more result self.new }
+        ensures reads { (hidden : ℕ) (x : FieldType) (more : List Lexeme) →
+            Reads hidden self.old (field_type_lexemes x) more result self.new }
         ensures beyond { GoesBeyond 0 self.old result self.new }
         ensures stuck { IfErr result (IsStuckAt self.new) }
     {
@@ -66,12 +62,9 @@ impl<'a, 't> Parser<'a, 't> {
         ensures shorter { OnOk result (length self.new.rest.now ≤ length self.old.rest.now) }
         ensures lines { IfOk result (λ x.
             PassesLines self.old (noted_by_commas (map field_type_notes x.items)) self.new) }
-        ensures reads { (xs : List FieldType) (more : List Lexeme) →
+        ensures reads { (hidden : ℕ) (xs : List FieldType) (more : List Lexeme) →
             first more ≡ Some (symbol Symbol.RightBrace) →
-            Reads self.old (field_types_lexemes xs) more result self.new }
-        ensures reads_seen { (hidden : ℕ) (xs : List FieldType) (more : List Lexeme) →
-            first more ≡ Some (symbol Symbol.RightBrace) →
-            ReadsSeen hidden self.old (field_types_lexemes xs) more result self.new }
+            Reads hidden self.old (field_types_lexemes xs) more result self.new }
         ensures beyond { GoesBeyond 0 self.old result self.new }
         ensures stuck { IfErr result (IsStuckAt self.new) }
     {
@@ -94,10 +87,8 @@ impl<'a, 't> Parser<'a, 't> {
         ensures tokens { IfOk result (λ x. Passes self.old (record_type_lexemes x) self.new) }
         ensures shorter { OnOk result (length self.new.rest.now + 2 ≤ length self.old.rest.now) }
         ensures lines { IfOk result (λ x. PassesLines self.old (record_type_notes x) self.new) }
-        ensures reads { (x : RecordType) (more : List Lexeme) →
-            Reads self.old (record_type_lexemes x) more result self.new }
-        ensures reads_seen { (hidden : ℕ) (x : RecordType) (more : List Lexeme) →
-            ReadsSeen hidden self.old (record_type_lexemes x) more result self.new }
+        ensures reads { (hidden : ℕ) (x : RecordType) (more : List Lexeme) →
+            Reads hidden self.old (record_type_lexemes x) more result self.new }
         ensures beyond { GoesBeyond 0 self.old result self.new }
         ensures beyond_type { token_at self.old.rest.now 0 ≡ Some (word Word.Type) →
             GoesBeyond 1 self.old result self.new }
@@ -121,10 +112,8 @@ impl<'a, 't> Parser<'a, 't> {
         ensures tokens { IfOk result (λ x. Passes self.old (list_type_lexemes x) self.new) }
         ensures shorter { OnOk result (length self.new.rest.now + 2 ≤ length self.old.rest.now) }
         ensures forward { OnOk result (GoesForward self.old self.new) }
-        ensures reads { (x : ListType) (more : List Lexeme) →
-            Reads self.old (list_type_lexemes x) more result self.new }
-        ensures reads_seen { (hidden : ℕ) (x : ListType) (more : List Lexeme) →
-            ReadsSeen hidden self.old (list_type_lexemes x) more result self.new }
+        ensures reads { (hidden : ℕ) (x : ListType) (more : List Lexeme) →
+            Reads hidden self.old (list_type_lexemes x) more result self.new }
         ensures beyond { GoesBeyond 0 self.old result self.new }
         ensures beyond_type { token_at self.old.rest.now 0 ≡ Some (word Word.Type) →
             GoesBeyond 1 self.old result self.new }
@@ -147,10 +136,8 @@ impl<'a, 't> Parser<'a, 't> {
             ahead self.old.rest.now ≡ way_lexeme x ∷ ahead self.new.rest.now) }
         ensures shorter { OnOk result (length self.new.rest.now < length self.old.rest.now) }
         ensures forward { OnOk result (GoesForward self.old self.new) }
-        ensures reads { (x : Way) (more : List Lexeme) →
-            Reads self.old (way_lexeme x ∷ []) more result self.new }
-        ensures reads_seen { (hidden : ℕ) (x : Way) (more : List Lexeme) →
-            ReadsSeen hidden self.old (way_lexeme x ∷ []) more result self.new }
+        ensures reads { (hidden : ℕ) (x : Way) (more : List Lexeme) →
+            Reads hidden self.old (way_lexeme x ∷ []) more result self.new }
         ensures place { IfErr result (IsWrongBehind 0 self.old) }
         ensures stuck { IfErr result (IsStuckAt self.new) }
     {
@@ -169,14 +156,10 @@ impl<'a, 't> Parser<'a, 't> {
         ensures shorter { OnOk result (length self.new.rest.now < length self.old.rest.now) }
         ensures forward { OnOk result (GoesForward self.old self.new) }
         ensures grammatical { IfOk result (λ x. IsTrue (has_one x.items)) }
-        ensures reads { (xs : List TypeName) (more : List Lexeme) →
+        ensures reads { (hidden : ℕ) (xs : List TypeName) (more : List Lexeme) →
             IsTrue (has_one xs) →
             Stops more →
-            Reads self.old (types_lexemes xs) more result self.new }
-        ensures reads_seen { (hidden : ℕ) (xs : List TypeName) (more : List Lexeme) →
-            IsTrue (has_one xs) →
-            Stops more →
-            ReadsSeen hidden self.old (types_lexemes xs) more result self.new }
+            Reads hidden self.old (types_lexemes xs) more result self.new }
         ensures beyond { GoesBeyond 0 self.old result self.new }
         ensures stuck { IfErr result (IsStuckAt self.new) }
     {
@@ -197,12 +180,9 @@ impl<'a, 't> Parser<'a, 't> {
         ensures shorter { OnOk result (length self.new.rest.now < length self.old.rest.now) }
         ensures forward { OnOk result (GoesForward self.old self.new) }
         ensures grammatical { IfOk result (λ x. HasPassed (direction_part x) self.new) }
-        ensures reads { (x : Direction) (more : List Lexeme) →
+        ensures reads { (hidden : ℕ) (x : Direction) (more : List Lexeme) →
             IsPlaced (direction_part x) more →
-            Reads self.old (direction_lexemes x) more result self.new }
-        ensures reads_seen { (hidden : ℕ) (x : Direction) (more : List Lexeme) →
-            IsPlaced (direction_part x) more →
-            ReadsSeen hidden self.old (direction_lexemes x) more result self.new }
+            Reads hidden self.old (direction_lexemes x) more result self.new }
         ensures beyond { GoesBeyond 0 self.old result self.new }
         ensures stuck { IfErr result (IsStuckAt self.new) }
     {
@@ -223,14 +203,10 @@ impl<'a, 't> Parser<'a, 't> {
         ensures forward { OnOk result (GoesForward self.old self.new) }
         ensures grammatical { IfOk result (λ x.
             GoesOver self.old (map direction_part x.items) self.new) }
-        ensures reads { (xs : List Direction) (more : List Lexeme) →
+        ensures reads { (hidden : ℕ) (xs : List Direction) (more : List Lexeme) →
             AllStand (map direction_part xs) more →
             first more ≡ Some (symbol Symbol.RightBrace) →
-            Reads self.old (directions_lexemes xs) more result self.new }
-        ensures reads_seen { (hidden : ℕ) (xs : List Direction) (more : List Lexeme) →
-            AllStand (map direction_part xs) more →
-            first more ≡ Some (symbol Symbol.RightBrace) →
-            ReadsSeen hidden self.old (directions_lexemes xs) more result self.new }
+            Reads hidden self.old (directions_lexemes xs) more result self.new }
         ensures beyond { GoesBeyond 0 self.old result self.new }
         ensures none { IfOk result (λ x. x.items ≡ [] → self.new ≡ self.old) }
         ensures stuck { IfErr result (IsStuckAt self.new) }
@@ -250,12 +226,9 @@ impl<'a, 't> Parser<'a, 't> {
         ensures shorter { OnOk result (length self.new.rest.now + 2 ≤ length self.old.rest.now) }
         ensures forward { OnOk result (GoesForward self.old self.new) }
         ensures grammatical { IfOk result (λ x. IsTrue (defined_part (Defined.Port x)).is_right) }
-        ensures reads { (x : PortType) (more : List Lexeme) →
+        ensures reads { (hidden : ℕ) (x : PortType) (more : List Lexeme) →
             IsTrue (defined_part (Defined.Port x)).is_right →
-            Reads self.old (port_type_lexemes x) more result self.new }
-        ensures reads_seen { (hidden : ℕ) (x : PortType) (more : List Lexeme) →
-            IsTrue (defined_part (Defined.Port x)).is_right →
-            ReadsSeen hidden self.old (port_type_lexemes x) more result self.new }
+            Reads hidden self.old (port_type_lexemes x) more result self.new }
         ensures beyond { GoesBeyond 0 self.old result self.new }
         ensures beyond_type { token_at self.old.rest.now 0 ≡ Some (word Word.Type) →
             GoesBeyond 1 self.old result self.new }
@@ -282,14 +255,10 @@ impl<'a, 't> Parser<'a, 't> {
         ensures lines { IfOk result (λ x.
             PassesLines self.old (noted_by_commas (map declared_name_notes x.items)) self.new) }
         ensures grammatical { IfOk result (λ x. IsTrue (has_one x.items)) }
-        ensures reads { (xs : List DeclaredName) (more : List Lexeme) →
+        ensures reads { (hidden : ℕ) (xs : List DeclaredName) (more : List Lexeme) →
             IsTrue (has_one xs) →
             Stops more →
-            Reads self.old (declared_names_lexemes xs) more result self.new }
-        ensures reads_seen { (hidden : ℕ) (xs : List DeclaredName) (more : List Lexeme) →
-            IsTrue (has_one xs) →
-            Stops more →
-            ReadsSeen hidden self.old (declared_names_lexemes xs) more result self.new }
+            Reads hidden self.old (declared_names_lexemes xs) more result self.new }
         ensures beyond { GoesBeyond 0 self.old result self.new }
         ensures stuck { IfErr result (IsStuckAt self.new) }
     {
@@ -311,12 +280,9 @@ impl<'a, 't> Parser<'a, 't> {
         ensures lines { IfOk result (λ x.
             PassesLines self.old (port_declaration_notes x) self.new) }
         ensures grammatical { IfOk result (λ x. HasPassed (port_declaration_part x) self.new) }
-        ensures reads { (x : PortDeclaration) (more : List Lexeme) →
+        ensures reads { (hidden : ℕ) (x : PortDeclaration) (more : List Lexeme) →
             IsPlaced (port_declaration_part x) more →
-            Reads self.old (port_declaration_lexemes x) more result self.new }
-        ensures reads_seen { (hidden : ℕ) (x : PortDeclaration) (more : List Lexeme) →
-            IsPlaced (port_declaration_part x) more →
-            ReadsSeen hidden self.old (port_declaration_lexemes x) more result self.new }
+            Reads hidden self.old (port_declaration_lexemes x) more result self.new }
         ensures beyond { GoesBeyond 0 self.old result self.new }
         ensures stuck { IfErr result (IsStuckAt self.new) }
     {
@@ -340,14 +306,10 @@ impl<'a, 't> Parser<'a, 't> {
             PassesLines self.old (noted_in_order (map port_declaration_notes x.items)) self.new) }
         ensures grammatical { IfOk result (λ x.
             GoesOver self.old (map port_declaration_part x.items) self.new) }
-        ensures reads { (xs : List PortDeclaration) (more : List Lexeme) →
+        ensures reads { (hidden : ℕ) (xs : List PortDeclaration) (more : List Lexeme) →
             AllStand (map port_declaration_part xs) more →
             first more ≡ Some (symbol Symbol.RightBrace) →
-            Reads self.old (port_declarations_lexemes xs) more result self.new }
-        ensures reads_seen { (hidden : ℕ) (xs : List PortDeclaration) (more : List Lexeme) →
-            AllStand (map port_declaration_part xs) more →
-            first more ≡ Some (symbol Symbol.RightBrace) →
-            ReadsSeen hidden self.old (port_declarations_lexemes xs) more result self.new }
+            Reads hidden self.old (port_declarations_lexemes xs) more result self.new }
         ensures beyond { GoesBeyond 0 self.old result self.new }
         ensures stuck { IfErr result (IsStuckAt self.new) }
     {
@@ -367,12 +329,9 @@ impl<'a, 't> Parser<'a, 't> {
         ensures lines { IfOk result (λ x. PassesLines self.old (component_type_notes x) self.new) }
         ensures grammatical { IfOk result (λ x.
             IsTrue (defined_part (Defined.Component x)).is_right) }
-        ensures reads { (x : ComponentType) (more : List Lexeme) →
+        ensures reads { (hidden : ℕ) (x : ComponentType) (more : List Lexeme) →
             IsTrue (defined_part (Defined.Component x)).is_right →
-            Reads self.old (component_type_lexemes x) more result self.new }
-        ensures reads_seen { (hidden : ℕ) (x : ComponentType) (more : List Lexeme) →
-            IsTrue (defined_part (Defined.Component x)).is_right →
-            ReadsSeen hidden self.old (component_type_lexemes x) more result self.new }
+            Reads hidden self.old (component_type_lexemes x) more result self.new }
         ensures beyond { GoesBeyond 0 self.old result self.new }
         ensures beyond_type { token_at self.old.rest.now 0 ≡ Some (word Word.Type) →
             GoesBeyond 1 self.old result self.new }
@@ -393,16 +352,11 @@ impl<'a, 't> Parser<'a, 't> {
         ensures tokens { IfOk result (λ x. Passes self.old (defined_lexemes x) self.new) }
         ensures shorter { OnOk result (length self.new.rest.now + 2 ≤ length self.old.rest.now) }
         ensures lines { IfOk result (λ x. PassesLines self.old (defined_notes x) self.new) }
-        ensures nested { IfOk result (λ x. defined_depth x ≡ 0) }
         ensures grammatical { IfOk result (λ x. IsTrue (defined_part x).is_right) }
-        ensures reads { (x : Defined) (more : List Lexeme) →
+        ensures reads { (hidden : ℕ) (x : Defined) (more : List Lexeme) →
             IsTrue (is_type x) →
             IsTrue (defined_part x).is_right →
-            Reads self.old (defined_lexemes x) more result self.new }
-        ensures reads_seen { (hidden : ℕ) (x : Defined) (more : List Lexeme) →
-            IsTrue (is_type x) →
-            IsTrue (defined_part x).is_right →
-            ReadsSeen hidden self.old (defined_lexemes x) more result self.new }
+            Reads hidden self.old (defined_lexemes x) more result self.new }
         ensures beyond { GoesBeyond 0 self.old result self.new }
         ensures stuck { IfErr result (IsStuckAt self.new) }
     {

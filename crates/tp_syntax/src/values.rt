@@ -3,14 +3,13 @@ ghost use Rattle.std.specs.Prelude.{ℤ, List, MatchResult, [], OnErr, ◌≡◌
 ghost use Rattle.tp_token.specs.Lexeme.{Lexeme, name, symbol};
 ghost use Rattle.tp_syntax.specs.Ahead.{ahead, is_name_in, lexemes_from, token_at};
 ghost use Rattle.tp_syntax.specs.Forward.{GoesForward};
-ghost use Rattle.tp_syntax.specs.HiddenTokens.{CouldBe, CouldBeBehind, IsStuckInHidden, ReadsSeen};
+ghost use Rattle.tp_syntax.specs.HiddenTokens.{CouldBe, CouldBeBehind, IsStuckInHidden, Reads};
 ghost use Rattle.tp_syntax.specs.Passing.{Passes};
 ghost use Rattle.tp_syntax.specs.Sequences.{by_commas};
 ghost use Rattle.tp_syntax.specs.Values.{int_lexemes, type_lexemes, value_lexemes, value_field_lexemes, message_lexemes};
 ghost use Rattle.tp_syntax.specs.Grammar.{each, is_64_bit, is_value, is_value_field, one_and_each};
-ghost use Rattle.tp_syntax.specs.Nesting.{deepest, value_depth, value_field_depth};
-ghost use Rattle.tp_syntax.specs.Reading.{Reads, Stops, IsField};
-ghost use Rattle.tp_syntax.specs.Stuck.{IsForMemory, IsStuckAt, IsStuckBehind, IsWrongBehind, integer_stands, number_stands, GoesBeyond};
+ghost use Rattle.tp_syntax.specs.Reading.{Stops, IsField};
+ghost use Rattle.tp_syntax.specs.Stuck.{IsStuckAt, IsStuckBehind, IsWrongBehind, integer_stands, number_stands, GoesBeyond};
 
 use crate::cursor::Parser;
 use crate::faults::GREATEST;
@@ -22,7 +21,7 @@ use tp_tree::message::{Message, TypeName, Value, ValueField};
 
 impl<'a, 't> Parser<'a, 't> {
     /// The integer that a number is. The parser is stuck behind it where it is 9223372036854775808,
-    /// which needs a `-` before it.
+    /// which needs a `-` before it; so no number of a [`Front`](crate::faults::Front) is.
     pub fn positive(&self, number: u64) -> Result<i64, Stuck>
         ensures value { IfOk result (λ z. z ≡ pos number) }
         ensures within { IfOk result (λ z. IsTrue (is_64_bit z)) }
@@ -43,11 +42,7 @@ impl<'a, 't> Parser<'a, 't> {
             ≡ int_lexemes z ++ ahead self.new.rest.now) }
         ensures shorter { OnOk result (length self.new.rest.now + 1 ≡ length self.old.rest.now) }
         ensures forward { OnOk result (GoesForward self.old self.new) }
-        ensures reads { (z : ℤ) (more : List Lexeme) →
-            int_lexemes z ++ more ≡ lexemes_from (symbol Symbol.Minus) self.old.rest.now →
-            IsTrue (is_64_bit z) →
-            MatchResult result (λ _. ahead self.new.rest.now ≡ more) IsForMemory }
-        ensures reads_seen { (hidden : ℕ) (z : ℤ) (more : List Lexeme) →
+        ensures reads { (hidden : ℕ) (z : ℤ) (more : List Lexeme) →
             IsTrue (is_64_bit z) →
             CouldBeBehind (symbol Symbol.Minus ∷ []) hidden self.old.rest.now
             (int_lexemes z ++ more) →
@@ -72,12 +67,9 @@ impl<'a, 't> Parser<'a, 't> {
         ensures tokens { IfOk result (λ z. Passes self.old (int_lexemes z) self.new) }
         ensures shorter { OnOk result (length self.new.rest.now < length self.old.rest.now) }
         ensures forward { OnOk result (GoesForward self.old self.new) }
-        ensures reads { (z : ℤ) (more : List Lexeme) →
+        ensures reads { (hidden : ℕ) (z : ℤ) (more : List Lexeme) →
             IsTrue (is_64_bit z) →
-            Reads self.old (int_lexemes z) more result self.new }
-        ensures reads_seen { (hidden : ℕ) (z : ℤ) (more : List Lexeme) →
-            IsTrue (is_64_bit z) →
-            ReadsSeen hidden self.old (int_lexemes z) more result self.new }
+            Reads hidden self.old (int_lexemes z) more result self.new }
         ensures two { token_at self.old.rest.now 0 ≡ Some (symbol Symbol.Minus) →
             OnOk result (length self.new.rest.now + 2 ≤ length self.old.rest.now) }
         ensures within { IfOk result (λ z. IsTrue (is_64_bit z)) }
@@ -99,10 +91,8 @@ impl<'a, 't> Parser<'a, 't> {
         ensures tokens { IfOk result (λ t. Passes self.old (type_lexemes t) self.new) }
         ensures shorter { OnOk result (length self.new.rest.now < length self.old.rest.now) }
         ensures forward { OnOk result (GoesForward self.old self.new) }
-        ensures reads { (x : TypeName) (more : List Lexeme) →
-            Reads self.old (type_lexemes x) more result self.new }
-        ensures reads_seen { (hidden : ℕ) (x : TypeName) (more : List Lexeme) →
-            ReadsSeen hidden self.old (type_lexemes x) more result self.new }
+        ensures reads { (hidden : ℕ) (x : TypeName) (more : List Lexeme) →
+            Reads hidden self.old (type_lexemes x) more result self.new }
         ensures place { IfErr result (IsStuckBehind 0 self.old) }
         ensures beyond_name { is_name_in (token_at self.old.rest.now 0) ≡ true →
             GoesBeyond 1 self.old result self.new }
@@ -123,45 +113,33 @@ impl<'a, 't> Parser<'a, 't> {
 
     /// A message.
     #[tactic(auto, using(std::proofs::lemmas::List::append_assoc))]
-    pub fn message(&mut self, alloc: Global, left: u32) -> Result<Message, Stuck>
+    pub fn message(&mut self, alloc: Global) -> Result<Message, Stuck>
         ensures tokens { IfOk result (λ m. Passes self.old (message_lexemes m) self.new) }
         ensures shorter { OnOk result (length self.new.rest.now < length self.old.rest.now) }
         ensures forward { OnOk result (GoesForward self.old self.new) }
-        ensures nested { IfOk result (λ m. value_depth m.value ≤ left) }
         ensures grammatical { IfOk result (λ m. IsTrue (is_value m.value)) }
-        ensures reads { (x : Message) (more : List Lexeme) →
+        ensures reads { (hidden : ℕ) (x : Message) (more : List Lexeme) →
             IsTrue (is_value x.value) →
-            value_depth x.value ≤ left →
-            Reads self.old (message_lexemes x) more result self.new }
-        ensures reads_seen { (hidden : ℕ) (x : Message) (more : List Lexeme) →
-            IsTrue (is_value x.value) →
-            value_depth x.value ≤ left →
-            ReadsSeen hidden self.old (message_lexemes x) more result self.new }
+            Reads hidden self.old (message_lexemes x) more result self.new }
         ensures stuck { IfErr result (IsStuckAt self.new) }
     {
         let type_name = self.type_name(alloc)?;
         self.symbol(Symbol::Colon)?;
-        let value = self.value(alloc, left)?;
+        let value = self.value(alloc)?;
         Ok(Message { type_name, value })
     }
 
-    /// A value, in which so many brackets may be opened.
+    /// A value.
     #[cycle(value)]
-    #[tactic(auto, using(crate::proofs::ValueTokens::value_rules, crate::proofs::NestingEquations::value_nesting))]
-    pub fn value(&mut self, alloc: Global, left: u32) -> Result<Value, Stuck>
+    #[tactic(auto, using(crate::proofs::ValueTokens::value_rules))]
+    pub fn value(&mut self, alloc: Global) -> Result<Value, Stuck>
         ensures tokens { IfOk result (λ v. Passes self.old (value_lexemes v) self.new) }
         ensures shorter { OnOk result (length self.new.rest.now < length self.old.rest.now) }
         ensures forward { OnOk result (GoesForward self.old self.new) }
-        ensures nested { IfOk result (λ v. value_depth v ≤ left) }
         ensures grammatical { IfOk result (λ v. IsTrue (is_value v)) }
-        ensures reads { (x : Value) (more : List Lexeme) →
+        ensures reads { (hidden : ℕ) (x : Value) (more : List Lexeme) →
             IsTrue (is_value x) →
-            value_depth x ≤ left →
-            Reads self.old (value_lexemes x) more result self.new }
-        ensures reads_seen { (hidden : ℕ) (x : Value) (more : List Lexeme) →
-            IsTrue (is_value x) →
-            value_depth x ≤ left →
-            ReadsSeen hidden self.old (value_lexemes x) more result self.new }
+            Reads hidden self.old (value_lexemes x) more result self.new }
         ensures place { token_at self.old.rest.now 0 ≢ Some (symbol Symbol.LeftBrace) →
             IfErr result (IsStuckBehind
             (integer_stands (token_at self.old.rest.now 0) (token_at self.old.rest.now 1))
@@ -188,45 +166,29 @@ impl<'a, 't> Parser<'a, 't> {
                 let name = String::from_str(alloc, spelling)?;
                 Ok(Value::Name(name))
             }
-            Token::Symbol(Symbol::LeftBrace) => {
-                let inner = self.below(left)?;
-                self.value_entries(alloc, inner)
-            }
+            Token::Symbol(Symbol::LeftBrace) => self.value_entries(alloc),
             _ => Err(Stuck::Passed(self.rest.len())),
         }
     }
 
     /// What stands behind the `{` of a value, and its `}`.
     #[cycle(value)]
-    #[tactic(auto, using(crate::proofs::ValueTokens::value_rules, crate::proofs::NestingEquations::value_nesting, crate::proofs::ReadSequenceGrowth::braced_read))]
-    pub fn value_entries(&mut self, alloc: Global, left: u32) -> Result<Value, Stuck>
+    #[tactic(auto, using(crate::proofs::ValueTokens::value_rules, crate::proofs::ReadSequenceGrowth::braced_read))]
+    pub fn value_entries(&mut self, alloc: Global) -> Result<Value, Stuck>
         ensures tokens { IfOk result (λ v.
             symbol Symbol.LeftBrace ∷ ahead self.old.rest.now
             ≡ value_lexemes v ++ ahead self.new.rest.now) }
         ensures shorter { OnOk result (length self.new.rest.now < length self.old.rest.now) }
         ensures forward { OnOk result (GoesForward self.old self.new) }
-        ensures nested { IfOk result (λ v. value_depth v ≤ left + 1) }
         ensures grammatical { IfOk result (λ v. IsTrue (is_value v)) }
-        ensures reads_list { (xs : List Value) (more : List Lexeme) →
+        ensures reads_list { (hidden : ℕ) (xs : List Value) (more : List Lexeme) →
             IsTrue (each (map is_value xs)) →
-            deepest (map value_depth xs) ≤ left →
-            Reads self.old (by_commas (map value_lexemes xs) ++ symbol Symbol.RightBrace ∷ [])
-            more result self.new }
-        ensures list_seen { (hidden : ℕ) (xs : List Value) (more : List Lexeme) →
-            IsTrue (each (map is_value xs)) →
-            deepest (map value_depth xs) ≤ left →
-            ReadsSeen hidden self.old
+            Reads hidden self.old
             (by_commas (map value_lexemes xs) ++ symbol Symbol.RightBrace ∷ []) more result
             self.new }
-        ensures reads_record { (xs : List ValueField) (more : List Lexeme) →
+        ensures reads_record { (hidden : ℕ) (xs : List ValueField) (more : List Lexeme) →
             IsTrue (one_and_each (map is_value_field xs)) →
-            deepest (map value_field_depth xs) ≤ left →
-            Reads self.old (by_commas (map value_field_lexemes xs) ++ symbol Symbol.RightBrace ∷ [])
-            more result self.new }
-        ensures record_seen { (hidden : ℕ) (xs : List ValueField) (more : List Lexeme) →
-            IsTrue (one_and_each (map is_value_field xs)) →
-            deepest (map value_field_depth xs) ≤ left →
-            ReadsSeen hidden self.old
+            Reads hidden self.old
             (by_commas (map value_field_lexemes xs) ++ symbol Symbol.RightBrace ∷ []) more result
             self.new }
         ensures stuck { IfErr result (IsStuckAt self.new) }
@@ -235,41 +197,34 @@ impl<'a, 't> Parser<'a, 't> {
             return Ok(Value::List(Vec::new(alloc)));
         }
         if self.is_field() {
-            let fields = self.value_fields(alloc, left)?;
+            let fields = self.value_fields(alloc)?;
             self.symbol(Symbol::RightBrace)?;
             return Ok(Value::Record(fields));
         }
-        let values = self.values(alloc, left)?;
+        let values = self.values(alloc)?;
         self.symbol(Symbol::RightBrace)?;
         Ok(Value::List(values))
     }
 
     /// Values with a `,` between them.
     #[cycle(value)]
-    pub fn values(&mut self, alloc: Global, left: u32) -> Result<Vec<Value>, Stuck>
+    pub fn values(&mut self, alloc: Global) -> Result<Vec<Value>, Stuck>
         ensures tokens { IfOk result (λ v.
             Passes self.old (by_commas (map value_lexemes v.items)) self.new) }
         ensures shorter { OnOk result (length self.new.rest.now < length self.old.rest.now) }
         ensures forward { OnOk result (GoesForward self.old self.new) }
-        ensures nested { IfOk result (λ v. deepest (map value_depth v.items) ≤ left) }
         ensures grammatical { IfOk result (λ v. IsTrue (one_and_each (map is_value v.items))) }
-        ensures reads { (xs : List Value) (more : List Lexeme) →
+        ensures reads { (hidden : ℕ) (xs : List Value) (more : List Lexeme) →
             IsTrue (one_and_each (map is_value xs)) →
-            deepest (map value_depth xs) ≤ left →
             Stops more →
-            Reads self.old (by_commas (map value_lexemes xs)) more result self.new }
-        ensures reads_seen { (hidden : ℕ) (xs : List Value) (more : List Lexeme) →
-            IsTrue (one_and_each (map is_value xs)) →
-            deepest (map value_depth xs) ≤ left →
-            Stops more →
-            ReadsSeen hidden self.old (by_commas (map value_lexemes xs)) more result self.new }
+            Reads hidden self.old (by_commas (map value_lexemes xs)) more result self.new }
         ensures stuck { IfErr result (IsStuckAt self.new) }
     {
         let mut values = Vec::new(alloc);
-        let first = self.value(alloc, left)?;
+        let first = self.value(alloc)?;
         values.push(first)?;
         'more: while self.has_symbol(Symbol::Comma) {
-            let next = self.value(alloc, left)?;
+            let next = self.value(alloc)?;
             values.push(next)?;
         }
         Ok(values)
@@ -277,33 +232,26 @@ impl<'a, 't> Parser<'a, 't> {
 
     /// Fields with a `,` between them.
     #[cycle(value)]
-    pub fn value_fields(&mut self, alloc: Global, left: u32) -> Result<Vec<ValueField>, Stuck>
+    pub fn value_fields(&mut self, alloc: Global) -> Result<Vec<ValueField>, Stuck>
         ensures tokens { IfOk result (λ v.
             Passes self.old (by_commas (map value_field_lexemes v.items)) self.new) }
         ensures shorter { OnOk result (length self.new.rest.now < length self.old.rest.now) }
         ensures forward { OnOk result (GoesForward self.old self.new) }
-        ensures nested { IfOk result (λ v. deepest (map value_field_depth v.items) ≤ left) }
         ensures grammatical { IfOk result (λ v.
             IsTrue (one_and_each (map is_value_field v.items))) }
-        ensures reads { (xs : List ValueField) (more : List Lexeme) →
+        ensures reads { (hidden : ℕ) (xs : List ValueField) (more : List Lexeme) →
             IsTrue (one_and_each (map is_value_field xs)) →
-            deepest (map value_field_depth xs) ≤ left →
             Stops more →
-            Reads self.old (by_commas (map value_field_lexemes xs)) more result self.new }
-        ensures reads_seen { (hidden : ℕ) (xs : List ValueField) (more : List Lexeme) →
-            IsTrue (one_and_each (map is_value_field xs)) →
-            deepest (map value_field_depth xs) ≤ left →
-            Stops more →
-            ReadsSeen hidden self.old (by_commas (map value_field_lexemes xs)) more result
+            Reads hidden self.old (by_commas (map value_field_lexemes xs)) more result
             self.new }
         ensures beyond { IsField self.old.rest.now → GoesBeyond 2 self.old result self.new }
         ensures stuck { IfErr result (IsStuckAt self.new) }
     {
         let mut fields = Vec::new(alloc);
-        let first = self.value_field(alloc, left)?;
+        let first = self.value_field(alloc)?;
         fields.push(first)?;
         'more: while self.has_symbol(Symbol::Comma) {
-            let next = self.value_field(alloc, left)?;
+            let next = self.value_field(alloc)?;
             fields.push(next)?;
         }
         Ok(fields)
@@ -311,27 +259,21 @@ impl<'a, 't> Parser<'a, 't> {
 
     /// A field.
     #[cycle(value)]
-    #[tactic(auto, using(crate::proofs::ValueTokens::value_rules, crate::proofs::NestingEquations::value_nesting))]
-    pub fn value_field(&mut self, alloc: Global, left: u32) -> Result<ValueField, Stuck>
+    #[tactic(auto, using(crate::proofs::ValueTokens::value_rules))]
+    pub fn value_field(&mut self, alloc: Global) -> Result<ValueField, Stuck>
         ensures tokens { IfOk result (λ f. Passes self.old (value_field_lexemes f) self.new) }
         ensures shorter { OnOk result (length self.new.rest.now < length self.old.rest.now) }
         ensures forward { OnOk result (GoesForward self.old self.new) }
-        ensures nested { IfOk result (λ f. value_field_depth f ≤ left) }
         ensures grammatical { IfOk result (λ f. IsTrue (is_value_field f)) }
-        ensures reads { (x : ValueField) (more : List Lexeme) →
+        ensures reads { (hidden : ℕ) (x : ValueField) (more : List Lexeme) →
             IsTrue (is_value_field x) →
-            value_field_depth x ≤ left →
-            Reads self.old (value_field_lexemes x) more result self.new }
-        ensures reads_seen { (hidden : ℕ) (x : ValueField) (more : List Lexeme) →
-            IsTrue (is_value_field x) →
-            value_field_depth x ≤ left →
-            ReadsSeen hidden self.old (value_field_lexemes x) more result self.new }
+            Reads hidden self.old (value_field_lexemes x) more result self.new }
         ensures beyond { IsField self.old.rest.now → GoesBeyond 2 self.old result self.new }
         ensures stuck { IfErr result (IsStuckAt self.new) }
     {
         let name = self.name(alloc)?;
         self.symbol(Symbol::Assign)?;
-        let value = self.value(alloc, left)?;
+        let value = self.value(alloc)?;
         Ok(ValueField { name, value })
     }
 }

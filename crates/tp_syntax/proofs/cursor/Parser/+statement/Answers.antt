@@ -1,26 +1,26 @@
 -- One more statement or branch is read behind the others; a `for` and an `[else]` have their block.
-use Rattle.std.proofs.Common.{◌≡◌, inr, Some, ◌<◌, ◌&&◌, not, length, inl, refl, List, ◌∷◌, ◌++◌, append_assoc, ap, sym, ◌∙◌, arith, subst, rules, ◌≤◌, [], string_bytes, true}
+use Rattle.std.proofs.Common.{◌≡◌, inr, Some, ◌<◌, ◌&&◌, not, length, inl, refl, List, ◌∷◌, ◌++◌, append_assoc, ap, sym, ◌∙◌, arith, subst, rules, [], string_bytes, true}
 use Rattle.tp_token.specs.declared.word.Word.TheVariants as w
-use Rattle.tp_token.specs.declared.token.Symbol.TheVariants.{Dot, LeftBracket, RightBracket, LeftBrace, RightBrace}
+use Rattle.tp_token.specs.declared.token.Symbol.TheVariants.{Dot, LeftBracket, RightBracket, RightBrace}
 use Rattle.tp_token.specs.Lexeme.{Lexeme, word, symbol}
 use Rattle.tp_syntax.specs.Sequences.{braced, end_lexemes}
-use Rattle.tp_syntax.specs.Statements.{statement_lexemes, branch_lexemes, branches_lexemes, counted_lexemes, statements_lexemes, turns_lexemes, receive_lexemes, otherwise_lexemes, send_lexemes, control_lexemes, all_ports_lexemes, set_verdict_lexemes}
+use Rattle.tp_syntax.specs.Statements.{statement_lexemes, branch_lexemes, statements_lexemes, turns_lexemes, receive_lexemes, otherwise_lexemes, send_lexemes, control_lexemes, all_ports_lexemes, set_verdict_lexemes}
+use Rattle.tp_syntax.proofs.TokensBeyond.{stuck_hidden}
 use Rattle.tp_syntax.proofs.StatementTokens.{counted_made, else_branch_made, for_append}
 use Rattle.tp_syntax.proofs.ReadSequenceGrowth.{push_read_all}
-use Rattle.tp_syntax.specs.Nesting.{branch_depth, statement_depth, statements_depth, branches_depth, otherwise_depth}
-use Rattle.tp_syntax.proofs.NestingEquations.{counted_depth_made, else_branch_depth_made, push_nests}
 use Rattle.std.proofs.lemmas.Bool.{and_from, false≢true, iff_false}
 use Rattle.tp_syntax.specs.Grammar.{are_parts, body_part, branch_part, branches_parts, has_one, is_64_bit, is_template_part, otherwise_parts, statement_part, statements_parts}
 use Rattle.tp_syntax.proofs.GrammarEquations as grammar
 use Rattle.tp_syntax.proofs.PassedPartGrowth.{between_one, between_parts, between_push, between_then, bracket_goes_on, between_none}
 use Rattle.tp_syntax.proofs.AltHasOneBranch.{alt_of_branches, alt_of_else}
 use Rattle.std.proofs.lemmas.Grind.{common_steps}
-use Rattle.tp_syntax.proofs.FirstTokensAhead.{handed, end_at, branch_first, first_is}
-use Rattle.tp_syntax.proofs.PartsLeftToRead.{RemainAll, all_next, all_last, all_deep, parts_stand}
-use Rattle.tp_syntax.specs.Reading.{is_branch_ahead, MayStandBefore, may_end_before}
-use Rattle.tp_syntax.proofs.StatementParts.{branch_at, body_next, body_none, no_otherwise, otherwise_next, branches_stand, otherwise_stands, otherwise_no_branch, alt_read, zero_length, Says}
-use Rattle.tp_syntax.proofs.RightStatementsAhead.{action_given, alt_given, branch_ends, branch_given, counted_given, statement_ends, statement_given}
-use Rattle.tp_syntax.proofs.StatementReading.{statement_begins, statement_goes, branch_begins, action_no_zero}
+use Rattle.tp_syntax.proofs.FirstTokensAhead.{raw}
+use Rattle.tp_syntax.proofs.FirstTokensStand.{memory_alone, own_could}
+use Rattle.tp_syntax.proofs.PartsLeftToRead.{all_any, parts_stand}
+use Rattle.tp_syntax.specs.Reading.{MayStandBefore, may_end_before}
+use Rattle.tp_syntax.proofs.StatementParts.{branches_stand, otherwise_stands, otherwise_no_branch, zero_length, Says}
+use Rattle.tp_syntax.proofs.RightStatementsAhead.{alt_given, branch_given, counted_given, statement_given}
+use Rattle.tp_syntax.proofs.StatementReading.{statement_begins, branch_begins, action_no_zero}
 use Rattle.tp_tree.specs.declared.tree.Statement.{out-Statement}
 use Rattle.tp_tree.specs.declared.tree.Branch.{out-Branch}
 use Rattle.tp_tree.specs.declared.tree.Counted.{out-Counted}
@@ -36,7 +36,7 @@ use Rattle.tp_syntax.specs.HiddenTokens.{AllHidden, CouldBe}
 use Rattle.tp_syntax.specs.Stuck.{StandAtLeast}
 use Rattle.tp_syntax.proofs.FirstTokensSeen.{handed_as, handed_seen, hidden_could, hidden_place, hidden_result, same_could}
 use Rattle.tp_syntax.proofs.PartsInOrderSeen.{all_seen, none_left_seen}
-use Rattle.tp_syntax.proofs.StandingTokens.{loop_ends, loop_passes, loop_stands, read_as, stands_hidden}
+use Rattle.tp_syntax.proofs.StandingTokens.{loop_ends, loop_passes, loop_stands, read_as}
 use Rattle.tp_syntax.proofs.StatementsSeen.{alt_hidden, body_next_seen, body_none_seen, branch_end_seen, branch_ends_seen, branch_unseen, end_unseen, name_no_end, no_items, no_otherwise_seen, not_some, one_more, otherwise_next_seen, statement_end_seen, statement_ends_seen}
 use Rattle.tp_syntax.proofs.BeginningsSeen.{action_seen, other_way, port_passed, port_stuck}
 use Rattle.tp_syntax.proofs.cursor.Parser.+statement.Goals as goal
@@ -44,15 +44,12 @@ use Rattle.tp_syntax.proofs.cursor.Parser.+statement.Goals.{alt-else-is_empty-vi
 
 pub statements-more-preserved : goal.statements-more-preserved
 statements-more-preserved t c = record {
-  reads = λ xs more stand deep ends e.
-      let n = all_next statement_lexemes statement_part (λ x. statement_depth x ≤ c.args.left) more _ (c.more.invariant.reads xs more stand deep ends e) statement_begins (λ same. false≢true (c.more-test.ensures.end.1 (end_at _ more _ same ends))) in
-      subst (RemainAll statement_lexemes statement_part (λ x. statement_depth x ≤ c.args.left) more) (sym (c.in_ok-statement.ensures.reads n.0 n.2 n.3 n.1 n.4)) n.5;
-  seen = λ hidden xs more stand deep ends could.
-      elim (all_seen statement_lexemes statement_part (λ x. statement_depth x ≤ c.args.left) hidden more _
-      (c.more.invariant.seen hidden xs more stand deep ends could) statement_begins) [
-        | inl n ↦ (n.2, n.3, n.4, c.in_ok-statement.ensures.reads_seen hidden n.0 _ n.5 n.1 n.6)
+  seen = λ hidden xs more stand ends could.
+      elim (all_seen statement_lexemes statement_part (λ _. Unit {0}) hidden more _
+      (c.more.invariant.seen hidden xs more stand ends could) statement_begins) [
+        | inl n ↦ (n.2, n.3, n.4, c.in_ok-statement.ensures.reads hidden n.0 _ n.5 n.6)
         | inr next ↦
-            none_left_seen statement_lexemes statement_part (λ x. statement_depth x ≤ c.args.left) hidden more _
+            none_left_seen statement_lexemes statement_part (λ _. Unit {0}) hidden more _
             (elim (end_unseen hidden _ more _ ends (λ is. false≢true (c.more-test.ensures.end.1 is)) next) [
               | inl h ↦ omega (arith, c.in_ok-statement.ensures.shorter)
               | inr cut ↦ omega (arith, cut.1, c.in_ok-statement.ensures.beyond_all cut.0)
@@ -75,12 +72,11 @@ statements-more-preserved t c = record {
       (subst (λ (p : Parser). token_at p.rest.now 1 ≡ Some (symbol Dot)) (sym same) dot)
       (subst (λ (p : Parser). token_at p.rest.now 2 ≡ Some (word w.Start)) (sym same) start))
       (omega (arith, c.in_ok-statement.ensures.shorter));
-  nested = rw c.in_ok-push.ensures.items
-      (push_nests statement_depth c.more.statements.items c.in_ok-statement.statement c.args.left c.more.invariant.nested c.in_ok-statement.ensures.nested);
   tokens = rw c.in_ok-push.ensures.items
       (push_read_all statement_lexemes c.more.statements.items c.in_ok-statement.statement _ _ _ c.more.invariant.tokens c.in_ok-statement.ensures.tokens);
   grammatical = rw c.in_ok-push.ensures.items
-      (between_push statement_part c.more.statements.items c.in_ok-statement.statement _ _ _ c.more.invariant.grammatical c.more-test.ensures.goes_on c.in_ok-statement.ensures.grammatical);
+      (between_push statement_part c.more.statements.items c.in_ok-statement.statement _ _ _ c.more.invariant.grammatical
+      c.more-test.ensures.goes_on c.in_ok-statement.ensures.grammatical);
   shorter = omega (arith, c.more.invariant.shorter, c.in_ok-statement.ensures.shorter);
   lines = rw c.in_ok-push.ensures.items
       (passes_push statement_notes c.more.statements.items c.in_ok-statement.statement c.more.invariant.lines c.in_ok-statement.ensures.lines);
@@ -88,22 +84,17 @@ statements-more-preserved t c = record {
 
 pub branches-more-preserved : goal.branches-more-preserved
 branches-more-preserved t c = record {
-  reads = λ xs more stand deep other e.
-      let n = all_next branch_lexemes branch_part (λ x. branch_depth x ≤ c.args.left) more _ (c.more.invariant.reads xs more stand deep other e) branch_begins (λ same. let both = c.more-test.ensures.0 refl in false≢true (sym other ∙ ap is_branch_ahead (sym same) ∙ branch_first _ both.0 both.1)) in
-      subst (RemainAll branch_lexemes branch_part (λ x. branch_depth x ≤ c.args.left) more) (sym (c.in_ok-branch.ensures.reads n.0 n.2 n.3 n.1 n.4)) n.5;
-  seen = λ hidden xs more stand deep other could.
-      elim (all_seen branch_lexemes branch_part (λ x. branch_depth x ≤ c.args.left) hidden more _
-      (c.more.invariant.seen hidden xs more stand deep other could) branch_begins) [
-        | inl n ↦ (n.2, n.3, n.4, c.in_ok-branch.ensures.reads_seen hidden n.0 _ n.5 n.1 n.6)
+  seen = λ hidden xs more stand other could.
+      elim (all_seen branch_lexemes branch_part (λ _. Unit {0}) hidden more _
+      (c.more.invariant.seen hidden xs more stand other could) branch_begins) [
+        | inl n ↦ (n.2, n.3, n.4, c.in_ok-branch.ensures.reads hidden n.0 _ n.5 n.6)
         | inr next ↦
             let at = c.more-test.ensures.0 refl in
             let seen = branch_unseen hidden more c.more.self.rest.now at other next in
-            none_left_seen branch_lexemes branch_part (λ x. branch_depth x ≤ c.args.left) hidden more _
+            none_left_seen branch_lexemes branch_part (λ _. Unit {0}) hidden more _
             (omega (arith, c.in_ok-branch.ensures.beyond_bracket at.0))
       ];
   none = rw c.in_ok-push.ensures.items (λ empty. absurd (one_more _ _ empty));
-  nested = rw c.in_ok-push.ensures.items
-      (push_nests branch_depth c.more.branches.items c.in_ok-branch.branch c.args.left c.more.invariant.nested c.in_ok-branch.ensures.nested);
   tokens = rw c.in_ok-push.ensures.items
       (push_read_all branch_lexemes c.more.branches.items c.in_ok-branch.branch _ _ _ c.more.invariant.tokens c.in_ok-branch.ensures.tokens);
   grammatical = rw c.in_ok-push.ensures.items
@@ -125,12 +116,6 @@ otherwise-returns-clause-tokens t c =
     rw else_branch_made (c.in_ok-else_mark.ensures.tokens ∙ ap (λ (ts : List Lexeme). symbol LeftBracket ∷ word w.Else ∷ symbol RightBracket ∷ ts)
     (c.in_ok-block.ensures.tokens ∙ ap (λ (ts : List Lexeme). block ++ ts) c.in_ok-has_semicolon.ensures.tokens
     ∙ sym (append_assoc block (end_lexemes c.in_ok-has_semicolon.has_semicolon) _)))
-
-pub counted-returns-clause-nested : goal.counted-returns-clause-nested
-counted-returns-clause-nested t c = rw counted_depth_made c.in_ok-block.ensures.nested
-
-pub otherwise-returns-clause-nested : goal.otherwise-returns-clause-nested
-otherwise-returns-clause-nested t c = rw else_branch_depth_made c.in_ok-block.ensures.nested
 
 pub statement-returns-clause-grammatical : goal.statement-returns-clause-grammatical
 statement-returns-clause-grammatical t c =
@@ -201,10 +186,8 @@ alt-returns-clause-grammatical t c =
 pub statements-more-init : goal.statements-more-init
 statements-more-init t c = record {
   tokens = first_of (search rules, grind (arith, common_steps));
-  nested = first_of (search rules, grind (arith, common_steps));
   grammatical = rw c.new-statements.ensures.items (between_none _);
-  reads = λ xs more stand deep ends e. (xs, all_deep statement_depth c.args.left xs deep, stand, e);
-  seen = λ hidden xs more stand deep ends could. (xs, all_deep statement_depth c.args.left xs deep, stand, could);
+  seen = λ hidden xs more stand ends could. (xs, all_any xs, stand, could);
   beyond_name = λ is. inl refl;
   beyond_dot = λ is dot. inl refl;
   beyond_start = λ is dot start. inl refl;
@@ -212,387 +195,20 @@ statements-more-init t c = record {
   lines = rw c.new-statements.ensures.items (passes_none _);
 }
 
-pub statements-returns-in_err-statement-clause-reads : goal.statements-returns-in_err-statement-clause-reads
-statements-returns-in_err-statement-clause-reads t c =
-    λ xs more stand deep ends e.
-    let n = all_next statement_lexemes statement_part (λ x. statement_depth x ≤ c.args.left) more _ (c.more.invariant.reads xs more stand deep ends e) statement_begins (λ same. false≢true (c.more-test.ensures.end.1 (end_at _ more _ same ends))) in
-    handed c.from_residual.result _ _ c.from_residual.ensures.1 (c.in_err-statement.ensures.reads n.0 n.2 n.3 n.1 n.4)
-
-pub statements-returns-clause-reads : goal.statements-returns-clause-reads
-statements-returns-clause-reads t c =
-    λ xs more stand deep ends e. all_last statement_lexemes statement_part (λ x. statement_depth x ≤ c.args.left) more _ (c.more.invariant.reads xs more stand deep ends e) (λ y r same. statement_goes _ y r _ same (c.more-test.ensures.end.0 refl))
-
 pub branches-more-init : goal.branches-more-init
 branches-more-init t c = record {
   tokens = first_of (search rules, grind (arith, common_steps));
-  nested = first_of (search rules, grind (arith, common_steps));
   grammatical = rw c.new-branches.ensures.items (between_none _);
-  reads = λ xs more stand deep other e. (xs, all_deep branch_depth c.args.left xs deep, stand, e);
-  seen = λ hidden xs more stand deep other could. (xs, all_deep branch_depth c.args.left xs deep, stand, could);
+  seen = λ hidden xs more stand other could. (xs, all_any xs, stand, could);
   none = λ empty. refl;
   shorter = first_of (search rules, grind (arith, common_steps));
   lines = rw c.new-branches.ensures.items (passes_none _);
 }
 
-pub branches-returns-in_err-branch-clause-reads : goal.branches-returns-in_err-branch-clause-reads
-branches-returns-in_err-branch-clause-reads t c =
-    λ xs more stand deep other e.
-    let n = all_next branch_lexemes branch_part (λ x. branch_depth x ≤ c.args.left) more _ (c.more.invariant.reads xs more stand deep other e) branch_begins (λ same. let both = c.more-test.ensures.0 refl in false≢true (sym other ∙ ap is_branch_ahead (sym same) ∙ branch_first _ both.0 both.1)) in
-    handed c.from_residual.result _ _ c.from_residual.ensures.1 (c.in_err-branch.ensures.reads n.0 n.2 n.3 n.1 n.4)
-
-pub branches-returns-clause-reads : goal.branches-returns-clause-reads
-branches-returns-clause-reads t c =
-    λ xs more stand deep other e. all_last branch_lexemes branch_part (λ x. branch_depth x ≤ c.args.left) more _ (c.more.invariant.reads xs more stand deep other e) (λ y r same. false≢true (c.more-test.ensures.1 (branch_at y r _ same)))
-
-pub statement-returns-in_err-action-clause-reads : goal.statement-returns-in_err-action-clause-reads
-statement-returns-in_err-action-clause-reads t c =
-    λ x more placed deep e.
-    let g = statement_given c.args.left x more _ placed deep e in
-    handed c.from_residual.result _ _ c.from_residual.ensures.1 (c.in_err-action.ensures.reads (out-Statement x).action _ g.right g.fits g.ends g.read)
-
-pub statement-returns-in_err-has_semicolon-clause-reads : goal.statement-returns-in_err-has_semicolon-clause-reads
-statement-returns-in_err-has_semicolon-clause-reads t c =
-    λ x more placed deep e.
-    let g = statement_given c.args.left x more _ placed deep e in
-    let e1 = c.in_ok-action.ensures.reads (out-Statement x).action _ g.right g.fits g.ends g.read in
-    let ended = statement_ends c.args.left x more _ _ c.in_ok-action.action _ g c.in_ok-action.ensures.tokens e1 c.ends_in_block.ensures in
-    handed c.from_residual-in_err-has_semicolon.result _ _ c.from_residual-in_err-has_semicolon.ensures.1 (c.in_err-has_semicolon.ensures.reads (out-Statement x).has_semicolon more ended e1)
-
-pub statement-returns-clause-reads : goal.statement-returns-clause-reads
-statement-returns-clause-reads t c =
-    λ x more placed deep e.
-    let g = statement_given c.args.left x more _ placed deep e in
-    let e1 = c.in_ok-action.ensures.reads (out-Statement x).action _ g.right g.fits g.ends g.read in
-    let ended = statement_ends c.args.left x more _ _ c.in_ok-action.action _ g c.in_ok-action.ensures.tokens e1 c.ends_in_block.ensures in
-    c.in_ok-has_semicolon.ensures.reads (out-Statement x).has_semicolon more ended e1
-
-pub branch-returns-in_err-open-clause-reads : goal.branch-returns-in_err-open-clause-reads
-branch-returns-in_err-open-clause-reads t c =
-    λ x more placed deep e.
-    let g = branch_given c.args.left x more _ placed deep e in
-    handed c.from_residual.result _ _ c.from_residual.ensures.1 (c.in_err-open.ensures.reads _ g.room g.read)
-
-pub branch-returns-in_err-symbol-clause-reads : goal.branch-returns-in_err-symbol-clause-reads
-branch-returns-in_err-symbol-clause-reads t c =
-    λ x more placed deep e.
-    let g = branch_given c.args.left x more _ placed deep e in
-    let e1 = c.in_ok-open.ensures.reads _ g.room g.read in
-    handed c.from_residual-in_err-symbol.result _ _ c.from_residual-in_err-symbol.ensures.1 (c.in_err-symbol.ensures.reads _ e1)
-
-pub branch-returns-in_err-receive-clause-reads : goal.branch-returns-in_err-receive-clause-reads
-branch-returns-in_err-receive-clause-reads t c =
-    λ x more placed deep e.
-    let g = branch_given c.args.left x more _ placed deep e in
-    let e1 = c.in_ok-open.ensures.reads _ g.room g.read in
-    let e2 = c.in_ok-symbol.ensures.reads _ e1 in
-    handed c.from_residual-in_err-receive.result _ _ c.from_residual-in_err-receive.ensures.1 (c.in_err-receive.ensures.reads (out-Branch x).receive _ g.right g.fits g.stops e2)
-
-pub branch-returns-in_err-body-clause-reads : goal.branch-returns-in_err-body-clause-reads
-branch-returns-in_err-body-clause-reads t c =
-    λ x more placed deep e.
-    let g = branch_given c.args.left x more _ placed deep e in
-    let e1 = c.in_ok-open.ensures.reads _ g.room g.read in
-    let e2 = c.in_ok-symbol.ensures.reads _ e1 in
-    let e3 = c.in_ok-receive.ensures.reads (out-Branch x).receive _ g.right g.fits g.stops e2 in
-    handed c.from_residual-in_err-body.result _ _ c.from_residual-in_err-body.ensures.1 (c.in_err-body.ensures.reads (out-Branch x).body _ g.body_right g.body_fits g.body_ends e3)
-
-pub branch-returns-in_err-has_semicolon-clause-reads : goal.branch-returns-in_err-has_semicolon-clause-reads
-branch-returns-in_err-has_semicolon-clause-reads t c =
-    λ x more placed deep e.
-    let g = branch_given c.args.left x more _ placed deep e in
-    let e1 = c.in_ok-open.ensures.reads _ g.room g.read in
-    let e2 = c.in_ok-symbol.ensures.reads _ e1 in
-    let e3 = c.in_ok-receive.ensures.reads (out-Branch x).receive _ g.right g.fits g.stops e2 in
-    let e4 = c.in_ok-body.ensures.reads (out-Branch x).body _ g.body_right g.body_fits g.body_ends e3 in
-    let ended = branch_ends c.args.left x more _ _ _ c.in_ok-body.body _ g e3 c.in_ok-body.ensures.tokens e4 c.is_block.ensures in
-    handed c.from_residual-in_err-has_semicolon.result _ _ c.from_residual-in_err-has_semicolon.ensures.1 (c.in_err-has_semicolon.ensures.reads (out-Branch x).has_semicolon more ended e4)
-
-pub branch-returns-clause-reads : goal.branch-returns-clause-reads
-branch-returns-clause-reads t c =
-    λ x more placed deep e.
-    let g = branch_given c.args.left x more _ placed deep e in
-    let e1 = c.in_ok-open.ensures.reads _ g.room g.read in
-    let e2 = c.in_ok-symbol.ensures.reads _ e1 in
-    let e3 = c.in_ok-receive.ensures.reads (out-Branch x).receive _ g.right g.fits g.stops e2 in
-    let e4 = c.in_ok-body.ensures.reads (out-Branch x).body _ g.body_right g.body_fits g.body_ends e3 in
-    let ended = branch_ends c.args.left x more _ _ _ c.in_ok-body.body _ g e3 c.in_ok-body.ensures.tokens e4 c.is_block.ensures in
-    c.in_ok-has_semicolon.ensures.reads (out-Branch x).has_semicolon more ended e4
-
-pub body-returns-then-not-is_symbol_at-clause-reads : goal.body-returns-then-not-is_symbol_at-clause-reads
-body-returns-then-not-is_symbol_at-clause-reads t c =
-    λ x more right deep ends e.
-    body_none x more _ e (iff_false c.is_symbol_at.ensures c.if-not-is_symbol_at.true)
-
-pub body-returns-in_err-block-clause-reads : goal.body-returns-in_err-block-clause-reads
-body-returns-in_err-block-clause-reads t c =
-    λ x more right deep ends e.
-    let at = c.is_symbol_at.ensures.0 c.if-not-is_symbol_at.false in
-    let b = body_next c.args.left x more _ right deep ends e at (first_is _ (symbol LeftBrace) at refl) in
-    handed c.from_residual.result _ _ c.from_residual.ensures.1 (c.in_err-block.ensures.reads b.0 more b.1 b.2 b.3)
-
-pub body-returns-clause-reads : goal.body-returns-clause-reads
-body-returns-clause-reads t c =
-    λ x more right deep ends e.
-    let at = c.is_symbol_at.ensures.0 c.if-not-is_symbol_at.false in
-    let b = body_next c.args.left x more _ right deep ends e at (first_is _ (symbol LeftBrace) at refl) in
-    c.in_ok-block.ensures.reads b.0 more b.1 b.2 b.3
-
-pub block-returns-in_err-inner-clause-reads : goal.block-returns-in_err-inner-clause-reads
-block-returns-in_err-inner-clause-reads t c =
-    λ xs more right deep e.
-    let room : 0 < c.args.left = omega arith in
-    handed c.from_residual.result _ _ c.from_residual.ensures.1 (c.in_err-inner.ensures.reads _ room e)
-
-pub block-returns-in_err-statements-clause-reads : goal.block-returns-in_err-statements-clause-reads
-block-returns-in_err-statements-clause-reads t c =
-    λ xs more right deep e.
-    let room : 0 < c.args.left = omega arith in
-    let e1 = c.in_ok-inner.ensures.reads _ room e ∙ append_assoc (statements_lexemes xs) (symbol RightBrace ∷ []) more in
-    let fits : statements_depth xs ≤ c.in_ok-inner.inner = omega (arith, c.in_ok-inner.ensures.inner) in
-    handed c.from_residual-in_err-statements.result _ _ c.from_residual-in_err-statements.ensures.1 (c.in_err-statements.ensures.reads xs (symbol RightBrace ∷ more) (parts_stand (statements_parts xs) (symbol RightBrace ∷ more) right refl) fits refl e1)
-
-pub block-returns-in_err-symbol-clause-reads : goal.block-returns-in_err-symbol-clause-reads
-block-returns-in_err-symbol-clause-reads t c =
-    λ xs more right deep e.
-    let room : 0 < c.args.left = omega arith in
-    let e1 = c.in_ok-inner.ensures.reads _ room e ∙ append_assoc (statements_lexemes xs) (symbol RightBrace ∷ []) more in
-    let fits : statements_depth xs ≤ c.in_ok-inner.inner = omega (arith, c.in_ok-inner.ensures.inner) in
-    let e2 = c.in_ok-statements.ensures.reads xs (symbol RightBrace ∷ more) (parts_stand (statements_parts xs) (symbol RightBrace ∷ more) right refl) fits refl e1 in
-    handed c.from_residual-in_err-symbol.result _ _ c.from_residual-in_err-symbol.ensures.1 (c.in_err-symbol.ensures.reads more e2)
-
-pub block-returns-clause-reads : goal.block-returns-clause-reads
-block-returns-clause-reads t c =
-    λ xs more right deep e.
-    let room : 0 < c.args.left = omega arith in
-    let e1 = c.in_ok-inner.ensures.reads _ room e ∙ append_assoc (statements_lexemes xs) (symbol RightBrace ∷ []) more in
-    let fits : statements_depth xs ≤ c.in_ok-inner.inner = omega (arith, c.in_ok-inner.ensures.inner) in
-    let e2 = c.in_ok-statements.ensures.reads xs (symbol RightBrace ∷ more) (parts_stand (statements_parts xs) (symbol RightBrace ∷ more) right refl) fits refl e1 in
-    c.in_ok-symbol.ensures.reads more e2
-
-pub otherwise-returns-then-not-is_symbol_at-clause-reads : goal.otherwise-returns-then-not-is_symbol_at-clause-reads
-otherwise-returns-then-not-is_symbol_at-clause-reads t c =
-    λ x more stand deep brace e.
-    no_otherwise x more _ e (iff_false c.is_symbol_at.ensures c.if-not-is_symbol_at.true)
-
-pub otherwise-returns-in_err-else_mark-clause-reads : goal.otherwise-returns-in_err-else_mark-clause-reads
-otherwise-returns-in_err-else_mark-clause-reads t c =
-    λ x more stand deep brace e.
-    let b = otherwise_next c.args.left x more _ stand deep brace e (c.is_symbol_at.ensures.0 c.if-not-is_symbol_at.false) in
-    let room : 0 < c.args.left = omega (arith, b.3) in
-    handed c.from_residual.result _ _ c.from_residual.ensures.1 (c.in_err-else_mark.ensures.reads _ room b.4)
-
-pub otherwise-returns-in_err-block-clause-reads : goal.otherwise-returns-in_err-block-clause-reads
-otherwise-returns-in_err-block-clause-reads t c =
-    λ x more stand deep brace e.
-    let b = otherwise_next c.args.left x more _ stand deep brace e (c.is_symbol_at.ensures.0 c.if-not-is_symbol_at.false) in
-    let room : 0 < c.args.left = omega (arith, b.3) in
-    let e1 = c.in_ok-else_mark.ensures.reads _ room b.4 in
-    handed c.from_residual-in_err-block.result _ _ c.from_residual-in_err-block.ensures.1 (c.in_err-block.ensures.reads b.0 _ b.2 b.3 e1)
-
-pub otherwise-returns-in_err-has_semicolon-clause-reads : goal.otherwise-returns-in_err-has_semicolon-clause-reads
-otherwise-returns-in_err-has_semicolon-clause-reads t c =
-    λ x more stand deep brace e.
-    let b = otherwise_next c.args.left x more _ stand deep brace e (c.is_symbol_at.ensures.0 c.if-not-is_symbol_at.false) in
-    let room : 0 < c.args.left = omega (arith, b.3) in
-    let e1 = c.in_ok-else_mark.ensures.reads _ room b.4 in
-    let e2 = c.in_ok-block.ensures.reads b.0 _ b.2 b.3 e1 in
-    let stands : MayStandBefore true more = ap (may_end_before true) brace in
-    handed c.from_residual-in_err-has_semicolon.result _ _ c.from_residual-in_err-has_semicolon.ensures.1 (c.in_err-has_semicolon.ensures.reads b.1 more stands e2)
-
-pub otherwise-returns-clause-reads : goal.otherwise-returns-clause-reads
-otherwise-returns-clause-reads t c =
-    λ x more stand deep brace e.
-    let b = otherwise_next c.args.left x more _ stand deep brace e (c.is_symbol_at.ensures.0 c.if-not-is_symbol_at.false) in
-    let room : 0 < c.args.left = omega (arith, b.3) in
-    let e1 = c.in_ok-else_mark.ensures.reads _ room b.4 in
-    let e2 = c.in_ok-block.ensures.reads b.0 _ b.2 b.3 e1 in
-    let stands : MayStandBefore true more = ap (may_end_before true) brace in
-    c.in_ok-has_semicolon.ensures.reads b.1 more stands e2
-
-pub counted-returns-in_err-turns-clause-reads : goal.counted-returns-in_err-turns-clause-reads
-counted-returns-in_err-turns-clause-reads t c =
-    λ x more right deep e.
-    let g = counted_given c.args.left x more _ right deep e in
-    handed c.from_residual.result _ _ c.from_residual.ensures.1 (c.in_err-turns.ensures.reads (out-Counted x).turns _ g.first_right g.bound_right g.room g.read)
-
-pub counted-returns-in_err-block-clause-reads : goal.counted-returns-in_err-block-clause-reads
-counted-returns-in_err-block-clause-reads t c =
-    λ x more right deep e.
-    let g = counted_given c.args.left x more _ right deep e in
-    let e1 = c.in_ok-turns.ensures.reads (out-Counted x).turns _ g.first_right g.bound_right g.room g.read in
-    handed c.from_residual-in_err-block.result _ _ c.from_residual-in_err-block.ensures.1 (c.in_err-block.ensures.reads (out-Counted x).block.items more g.right g.fits e1)
-
-pub counted-returns-clause-reads : goal.counted-returns-clause-reads
-counted-returns-clause-reads t c =
-    λ x more right deep e.
-    let g = counted_given c.args.left x more _ right deep e in
-    let e1 = c.in_ok-turns.ensures.reads (out-Counted x).turns _ g.first_right g.bound_right g.room g.read in
-    c.in_ok-block.ensures.reads (out-Counted x).block.items more g.right g.fits e1
-
-pub alt-returns-in_err-word-clause-reads : goal.alt-returns-in_err-word-clause-reads
-alt-returns-in_err-word-clause-reads t c =
-    λ xs x more some right deep e.
-    handed c.from_residual.result _ _ c.from_residual.ensures.1 (c.in_err-word.ensures.reads _ e)
-
-pub alt-returns-in_err-inner-clause-reads : goal.alt-returns-in_err-inner-clause-reads
-alt-returns-in_err-inner-clause-reads t c =
-    λ xs x more some right deep e.
-    let e1 = c.in_ok-word.ensures.reads _ e in
-    let room : 0 < c.args.left = omega arith in
-    handed c.from_residual-in_err-inner.result _ _ c.from_residual-in_err-inner.ensures.1 (c.in_err-inner.ensures.reads _ room e1)
-
-pub alt-returns-in_err-branches-clause-reads : goal.alt-returns-in_err-branches-clause-reads
-alt-returns-in_err-branches-clause-reads t c =
-    λ xs x more some right deep e.
-    let e1 = c.in_ok-word.ensures.reads _ e in
-    let room : 0 < c.args.left = omega arith in
-    let e2 = alt_given xs x more _ (c.in_ok-inner.ensures.reads _ room e1) in
-    let branches_fit : branches_depth xs ≤ c.in_ok-inner.inner = omega (arith, c.in_ok-inner.ensures.inner) in
-    let otherwise_fits : otherwise_depth x ≤ c.in_ok-inner.inner = omega (arith, c.in_ok-inner.ensures.inner) in
-    handed c.from_residual-in_err-branches.result _ _ c.from_residual-in_err-branches.ensures.1 (c.in_err-branches.ensures.reads xs (otherwise_lexemes x ++ symbol RightBrace ∷ more) (branches_stand xs x more right) branches_fit (otherwise_no_branch x more) e2)
-
-pub alt-returns-in_err-otherwise-clause-reads : goal.alt-returns-in_err-otherwise-clause-reads
-alt-returns-in_err-otherwise-clause-reads t c =
-    λ xs x more some right deep e.
-    let e1 = c.in_ok-word.ensures.reads _ e in
-    let room : 0 < c.args.left = omega arith in
-    let e2 = alt_given xs x more _ (c.in_ok-inner.ensures.reads _ room e1) in
-    let branches_fit : branches_depth xs ≤ c.in_ok-inner.inner = omega (arith, c.in_ok-inner.ensures.inner) in
-    let otherwise_fits : otherwise_depth x ≤ c.in_ok-inner.inner = omega (arith, c.in_ok-inner.ensures.inner) in
-    let e3 = c.in_ok-branches.ensures.reads xs (otherwise_lexemes x ++ symbol RightBrace ∷ more) (branches_stand xs x more right) branches_fit (otherwise_no_branch x more) e2 in
-    handed c.from_residual-in_err-otherwise.result _ _ c.from_residual-in_err-otherwise.ensures.1 (c.in_err-otherwise.ensures.reads x (symbol RightBrace ∷ more) (otherwise_stands xs x more right) otherwise_fits refl e3)
-
-pub alt-returns-then-is_none-clause-reads : goal.alt-returns-then-is_none-clause-reads
-alt-returns-then-is_none-clause-reads t c =
-    λ xs x more some right deep e.
-    let e1 = c.in_ok-word.ensures.reads _ e in
-    let room : 0 < c.args.left = omega arith in
-    let e2 = alt_given xs x more _ (c.in_ok-inner.ensures.reads _ room e1) in
-    let branches_fit : branches_depth xs ≤ c.in_ok-inner.inner = omega (arith, c.in_ok-inner.ensures.inner) in
-    let otherwise_fits : otherwise_depth x ≤ c.in_ok-inner.inner = omega (arith, c.in_ok-inner.ensures.inner) in
-    let e3 = c.in_ok-branches.ensures.reads xs (otherwise_lexemes x ++ symbol RightBrace ∷ more) (branches_stand xs x more right) branches_fit (otherwise_no_branch x more) e2 in
-    let e4 = c.in_ok-otherwise.ensures.reads x (symbol RightBrace ∷ more) (otherwise_stands xs x more right) otherwise_fits refl e3 in
-    absurd (alt_read xs x c.in_ok-branches.branches.items c.in_ok-otherwise.otherwise more _ _ _ some
-    (omega (arith, c.in_ok-branches.branches.ok.0, zero_length _ (sym c.is_empty.ensures ∙ c.if-is_empty.true))) (c.is_none.ensures ∙ ap not c.if-is_none.true) e2 c.in_ok-branches.ensures.tokens c.in_ok-otherwise.ensures.tokens e4)
-
-pub alt-returns-in_err-symbol-clause-reads : goal.alt-returns-in_err-symbol-clause-reads
-alt-returns-in_err-symbol-clause-reads t c =
-    λ xs x more some right deep e.
-    let e1 = c.in_ok-word.ensures.reads _ e in
-    let room : 0 < c.args.left = omega arith in
-    let e2 = alt_given xs x more _ (c.in_ok-inner.ensures.reads _ room e1) in
-    let branches_fit : branches_depth xs ≤ c.in_ok-inner.inner = omega (arith, c.in_ok-inner.ensures.inner) in
-    let otherwise_fits : otherwise_depth x ≤ c.in_ok-inner.inner = omega (arith, c.in_ok-inner.ensures.inner) in
-    let e3 = c.in_ok-branches.ensures.reads xs (otherwise_lexemes x ++ symbol RightBrace ∷ more) (branches_stand xs x more right) branches_fit (otherwise_no_branch x more) e2 in
-    let e4 = c.in_ok-otherwise.ensures.reads x (symbol RightBrace ∷ more) (otherwise_stands xs x more right) otherwise_fits refl e3 in
-    handed c.from_residual-in_err-symbol.result _ _ c.from_residual-in_err-symbol.ensures.1 (c.in_err-symbol.ensures.reads more e4)
-
-pub alt-returns-clause-reads : goal.alt-returns-clause-reads
-alt-returns-clause-reads t c =
-    λ xs x more some right deep e.
-    let e1 = c.in_ok-word.ensures.reads _ e in
-    let room : 0 < c.args.left = omega arith in
-    let e2 = alt_given xs x more _ (c.in_ok-inner.ensures.reads _ room e1) in
-    let branches_fit : branches_depth xs ≤ c.in_ok-inner.inner = omega (arith, c.in_ok-inner.ensures.inner) in
-    let otherwise_fits : otherwise_depth x ≤ c.in_ok-inner.inner = omega (arith, c.in_ok-inner.ensures.inner) in
-    let e3 = c.in_ok-branches.ensures.reads xs (otherwise_lexemes x ++ symbol RightBrace ∷ more) (branches_stand xs x more right) branches_fit (otherwise_no_branch x more) e2 in
-    let e4 = c.in_ok-otherwise.ensures.reads x (symbol RightBrace ∷ more) (otherwise_stands xs x more right) otherwise_fits refl e3 in
-    c.in_ok-symbol.ensures.reads more e4
-
-pub action-returns-in_err-send-in-Send-clause-reads : goal.action-returns-in_err-send-in-Send-clause-reads
-action-returns-in_err-send-in-Send-clause-reads t c =
-    λ x more right deep ends e.
-    let says : Says c.args.self.now.rest.now c.beginning.result = record { alt = c.beginning.ensures.alt; for_loop = c.beginning.ensures.for_loop; set_verdict = c.beginning.ensures.set_verdict; all_ports = c.beginning.ensures.all_ports; send = c.beginning.ensures.send; receive = c.beginning.ensures.receive; control = c.beginning.ensures.control } in
-    let b = action_given c.args.left x more _ c.beginning.result _ says c.in-Send.is right deep ends e in
-    handed c.from_residual.result _ _ c.from_residual.ensures.1 (c.in_err-send-in-Send.ensures.reads b.0 more b.1.0 b.1.1 b.1.2 b.2)
-
-pub action-returns-in_ok-send-in-Send-clause-reads : goal.action-returns-in_ok-send-in-Send-clause-reads
-action-returns-in_ok-send-in-Send-clause-reads t c =
-    λ x more right deep ends e.
-    let says : Says c.args.self.now.rest.now c.beginning.result = record { alt = c.beginning.ensures.alt; for_loop = c.beginning.ensures.for_loop; set_verdict = c.beginning.ensures.set_verdict; all_ports = c.beginning.ensures.all_ports; send = c.beginning.ensures.send; receive = c.beginning.ensures.receive; control = c.beginning.ensures.control } in
-    let b = action_given c.args.left x more _ c.beginning.result _ says c.in-Send.is right deep ends e in
-    c.in_ok-send-in-Send.ensures.reads b.0 more b.1.0 b.1.1 b.1.2 b.2
-
-pub action-returns-in_err-receive-in-Receive-clause-reads : goal.action-returns-in_err-receive-in-Receive-clause-reads
-action-returns-in_err-receive-in-Receive-clause-reads t c =
-    λ x more right deep ends e.
-    let says : Says c.args.self.now.rest.now c.beginning.result = record { alt = c.beginning.ensures.alt; for_loop = c.beginning.ensures.for_loop; set_verdict = c.beginning.ensures.set_verdict; all_ports = c.beginning.ensures.all_ports; send = c.beginning.ensures.send; receive = c.beginning.ensures.receive; control = c.beginning.ensures.control } in
-    let b = action_given c.args.left x more _ c.beginning.result _ says c.in-Receive.is right deep ends e in
-    handed c.from_residual-in_err-receive-in-Receive.result _ _ c.from_residual-in_err-receive-in-Receive.ensures.1 (c.in_err-receive-in-Receive.ensures.reads b.0 more b.1.0 b.1.1 b.1.2 b.2)
-
-pub action-returns-in_ok-receive-in-Receive-clause-reads : goal.action-returns-in_ok-receive-in-Receive-clause-reads
-action-returns-in_ok-receive-in-Receive-clause-reads t c =
-    λ x more right deep ends e.
-    let says : Says c.args.self.now.rest.now c.beginning.result = record { alt = c.beginning.ensures.alt; for_loop = c.beginning.ensures.for_loop; set_verdict = c.beginning.ensures.set_verdict; all_ports = c.beginning.ensures.all_ports; send = c.beginning.ensures.send; receive = c.beginning.ensures.receive; control = c.beginning.ensures.control } in
-    let b = action_given c.args.left x more _ c.beginning.result _ says c.in-Receive.is right deep ends e in
-    c.in_ok-receive-in-Receive.ensures.reads b.0 more b.1.0 b.1.1 b.1.2 b.2
-
-pub action-returns-in_err-control-in-Control-clause-reads : goal.action-returns-in_err-control-in-Control-clause-reads
-action-returns-in_err-control-in-Control-clause-reads t c =
-    λ x more right deep ends e.
-    let says : Says c.args.self.now.rest.now c.beginning.result = record { alt = c.beginning.ensures.alt; for_loop = c.beginning.ensures.for_loop; set_verdict = c.beginning.ensures.set_verdict; all_ports = c.beginning.ensures.all_ports; send = c.beginning.ensures.send; receive = c.beginning.ensures.receive; control = c.beginning.ensures.control } in
-    let b = action_given c.args.left x more _ c.beginning.result _ says c.in-Control.is right deep ends e in
-    handed c.from_residual-in_err-control-in-Control.result _ _ c.from_residual-in_err-control-in-Control.ensures.1 (c.in_err-control-in-Control.ensures.reads b.0 more b.1)
-
-pub action-returns-in_ok-control-in-Control-clause-reads : goal.action-returns-in_ok-control-in-Control-clause-reads
-action-returns-in_ok-control-in-Control-clause-reads t c =
-    λ x more right deep ends e.
-    let says : Says c.args.self.now.rest.now c.beginning.result = record { alt = c.beginning.ensures.alt; for_loop = c.beginning.ensures.for_loop; set_verdict = c.beginning.ensures.set_verdict; all_ports = c.beginning.ensures.all_ports; send = c.beginning.ensures.send; receive = c.beginning.ensures.receive; control = c.beginning.ensures.control } in
-    let b = action_given c.args.left x more _ c.beginning.result _ says c.in-Control.is right deep ends e in
-    c.in_ok-control-in-Control.ensures.reads b.0 more b.1
-
-pub action-returns-in_err-operation-in-AllPorts-clause-reads : goal.action-returns-in_err-operation-in-AllPorts-clause-reads
-action-returns-in_err-operation-in-AllPorts-clause-reads t c =
-    λ x more right deep ends e.
-    let says : Says c.args.self.now.rest.now c.beginning.result = record { alt = c.beginning.ensures.alt; for_loop = c.beginning.ensures.for_loop; set_verdict = c.beginning.ensures.set_verdict; all_ports = c.beginning.ensures.all_ports; send = c.beginning.ensures.send; receive = c.beginning.ensures.receive; control = c.beginning.ensures.control } in
-    let b = action_given c.args.left x more _ c.beginning.result _ says c.in-AllPorts.is right deep ends e in
-    handed c.from_residual-in_err-operation-in-AllPorts.result _ _ c.from_residual-in_err-operation-in-AllPorts.ensures.1 (c.in_err-operation-in-AllPorts.ensures.reads b.0 more b.1)
-
-pub action-returns-in_ok-operation-in-AllPorts-clause-reads : goal.action-returns-in_ok-operation-in-AllPorts-clause-reads
-action-returns-in_ok-operation-in-AllPorts-clause-reads t c =
-    λ x more right deep ends e.
-    let says : Says c.args.self.now.rest.now c.beginning.result = record { alt = c.beginning.ensures.alt; for_loop = c.beginning.ensures.for_loop; set_verdict = c.beginning.ensures.set_verdict; all_ports = c.beginning.ensures.all_ports; send = c.beginning.ensures.send; receive = c.beginning.ensures.receive; control = c.beginning.ensures.control } in
-    let b = action_given c.args.left x more _ c.beginning.result _ says c.in-AllPorts.is right deep ends e in
-    c.in_ok-operation-in-AllPorts.ensures.reads b.0 more b.1
-
-pub action-returns-in_err-verdict-in-SetVerdict-clause-reads : goal.action-returns-in_err-verdict-in-SetVerdict-clause-reads
-action-returns-in_err-verdict-in-SetVerdict-clause-reads t c =
-    λ x more right deep ends e.
-    let says : Says c.args.self.now.rest.now c.beginning.result = record { alt = c.beginning.ensures.alt; for_loop = c.beginning.ensures.for_loop; set_verdict = c.beginning.ensures.set_verdict; all_ports = c.beginning.ensures.all_ports; send = c.beginning.ensures.send; receive = c.beginning.ensures.receive; control = c.beginning.ensures.control } in
-    let b = action_given c.args.left x more _ c.beginning.result _ says c.in-SetVerdict.is right deep ends e in
-    handed c.from_residual-in_err-verdict-in-SetVerdict.result _ _ c.from_residual-in_err-verdict-in-SetVerdict.ensures.1 (c.in_err-verdict-in-SetVerdict.ensures.reads b.0 more b.1 b.2)
-
-pub action-returns-in_ok-verdict-in-SetVerdict-clause-reads : goal.action-returns-in_ok-verdict-in-SetVerdict-clause-reads
-action-returns-in_ok-verdict-in-SetVerdict-clause-reads t c =
-    λ x more right deep ends e.
-    let says : Says c.args.self.now.rest.now c.beginning.result = record { alt = c.beginning.ensures.alt; for_loop = c.beginning.ensures.for_loop; set_verdict = c.beginning.ensures.set_verdict; all_ports = c.beginning.ensures.all_ports; send = c.beginning.ensures.send; receive = c.beginning.ensures.receive; control = c.beginning.ensures.control } in
-    let b = action_given c.args.left x more _ c.beginning.result _ says c.in-SetVerdict.is right deep ends e in
-    c.in_ok-verdict-in-SetVerdict.ensures.reads b.0 more b.1 b.2
-
-pub action-returns-in_err-counted-in-For-clause-reads : goal.action-returns-in_err-counted-in-For-clause-reads
-action-returns-in_err-counted-in-For-clause-reads t c =
-    λ x more right deep ends e.
-    let says : Says c.args.self.now.rest.now c.beginning.result = record { alt = c.beginning.ensures.alt; for_loop = c.beginning.ensures.for_loop; set_verdict = c.beginning.ensures.set_verdict; all_ports = c.beginning.ensures.all_ports; send = c.beginning.ensures.send; receive = c.beginning.ensures.receive; control = c.beginning.ensures.control } in
-    let b = action_given c.args.left x more _ c.beginning.result _ says c.in-For.is right deep ends e in
-    handed c.from_residual-in_err-counted-in-For.result _ _ c.from_residual-in_err-counted-in-For.ensures.1 (c.in_err-counted-in-For.ensures.reads b.0 more b.1.0 b.1.1 b.2)
-
-pub action-returns-in_ok-counted-in-For-clause-reads : goal.action-returns-in_ok-counted-in-For-clause-reads
-action-returns-in_ok-counted-in-For-clause-reads t c =
-    λ x more right deep ends e.
-    let says : Says c.args.self.now.rest.now c.beginning.result = record { alt = c.beginning.ensures.alt; for_loop = c.beginning.ensures.for_loop; set_verdict = c.beginning.ensures.set_verdict; all_ports = c.beginning.ensures.all_ports; send = c.beginning.ensures.send; receive = c.beginning.ensures.receive; control = c.beginning.ensures.control } in
-    let b = action_given c.args.left x more _ c.beginning.result _ says c.in-For.is right deep ends e in
-    c.in_ok-counted-in-For.ensures.reads b.0 more b.1.0 b.1.1 b.2
-
-pub action-returns-in-Alt-clause-reads : goal.action-returns-in-Alt-clause-reads
-action-returns-in-Alt-clause-reads t c =
-    λ x more right deep ends e.
-    let says : Says c.args.self.now.rest.now c.beginning.result = record { alt = c.beginning.ensures.alt; for_loop = c.beginning.ensures.for_loop; set_verdict = c.beginning.ensures.set_verdict; all_ports = c.beginning.ensures.all_ports; send = c.beginning.ensures.send; receive = c.beginning.ensures.receive; control = c.beginning.ensures.control } in
-    let b = action_given c.args.left x more _ c.beginning.result _ says c.in-Alt.is right deep ends e in
-    c.alt.ensures.reads b.0 b.1 more b.2.0 b.2.1 b.2.2 b.3
-
 pub statement-returns-clause-lines : goal.statement-returns-clause-lines
 statement-returns-clause-lines t c =
-    let body = passes_then c.in_ok-action.ensures.lines (passes_unnoted (end_lexemes c.in_ok-has_semicolon.has_semicolon) c.in_ok-has_semicolon.ensures.forward c.in_ok-has_semicolon.ensures.tokens) in
+    let body = passes_then c.in_ok-action.ensures.lines (passes_unnoted
+    (end_lexemes c.in_ok-has_semicolon.has_semicolon) c.in_ok-has_semicolon.ensures.forward c.in_ok-has_semicolon.ensures.tokens) in
     rw notes.statement_out (passes_at _ _ body c.line-line.ensures (ap starts_zero c.in_ok-action.ensures.tokens ∙ action_no_zero c.in_ok-action.action _))
 
 pub action-returns-in_ok-send-in-Send-clause-lines : goal.action-returns-in_ok-send-in-Send-clause-lines
@@ -601,32 +217,41 @@ action-returns-in_ok-send-in-Send-clause-lines t c =
 
 pub action-returns-in_ok-receive-in-Receive-clause-lines : goal.action-returns-in_ok-receive-in-Receive-clause-lines
 action-returns-in_ok-receive-in-Receive-clause-lines t c =
-    rw notes.action_receive (passes_unnoted (receive_lexemes c.in_ok-receive-in-Receive.receive) c.in_ok-receive-in-Receive.ensures.forward c.in_ok-receive-in-Receive.ensures.tokens)
+    rw notes.action_receive (passes_unnoted
+    (receive_lexemes c.in_ok-receive-in-Receive.receive) c.in_ok-receive-in-Receive.ensures.forward c.in_ok-receive-in-Receive.ensures.tokens)
 
 pub action-returns-in_ok-control-in-Control-clause-lines : goal.action-returns-in_ok-control-in-Control-clause-lines
 action-returns-in_ok-control-in-Control-clause-lines t c =
-    rw notes.action_control (passes_unnoted (control_lexemes c.in_ok-control-in-Control.control) c.in_ok-control-in-Control.ensures.forward c.in_ok-control-in-Control.ensures.tokens)
+    rw notes.action_control (passes_unnoted
+    (control_lexemes c.in_ok-control-in-Control.control) c.in_ok-control-in-Control.ensures.forward c.in_ok-control-in-Control.ensures.tokens)
 
 pub action-returns-in_ok-operation-in-AllPorts-clause-lines : goal.action-returns-in_ok-operation-in-AllPorts-clause-lines
 action-returns-in_ok-operation-in-AllPorts-clause-lines t c =
-    rw notes.action_all_ports (passes_unnoted (all_ports_lexemes c.in_ok-operation-in-AllPorts.operation) c.in_ok-operation-in-AllPorts.ensures.forward c.in_ok-operation-in-AllPorts.ensures.tokens)
+    rw notes.action_all_ports (passes_unnoted
+    (all_ports_lexemes c.in_ok-operation-in-AllPorts.operation) c.in_ok-operation-in-AllPorts.ensures.forward c.in_ok-operation-in-AllPorts.ensures.tokens)
 
 pub action-returns-in_ok-verdict-in-SetVerdict-clause-lines : goal.action-returns-in_ok-verdict-in-SetVerdict-clause-lines
 action-returns-in_ok-verdict-in-SetVerdict-clause-lines t c =
-    rw notes.action_set_verdict (passes_unnoted (set_verdict_lexemes c.in_ok-verdict-in-SetVerdict.verdict) c.in_ok-verdict-in-SetVerdict.ensures.forward c.in_ok-verdict-in-SetVerdict.ensures.tokens)
+    rw notes.action_set_verdict (passes_unnoted
+    (set_verdict_lexemes c.in_ok-verdict-in-SetVerdict.verdict) c.in_ok-verdict-in-SetVerdict.ensures.forward c.in_ok-verdict-in-SetVerdict.ensures.tokens)
 
 pub action-returns-in_ok-counted-in-For-clause-lines : goal.action-returns-in_ok-counted-in-For-clause-lines
 action-returns-in_ok-counted-in-For-clause-lines t c = rw notes.action_for c.in_ok-counted-in-For.ensures.lines
 
 pub alt-returns-clause-lines : goal.alt-returns-clause-lines
 alt-returns-clause-lines t c =
-    let body = passes_next c.in_ok-word.ensures.forward c.in_ok-word.ensures.tokens (passes_next c.in_ok-inner.ensures.forward c.in_ok-inner.ensures.tokens (passes_then (passes_then c.in_ok-branches.ensures.lines c.in_ok-otherwise.ensures.lines) (passes_one c.in_ok-symbol.ensures.forward c.in_ok-symbol.ensures.tokens))) in
+    let body = passes_next c.in_ok-word.ensures.forward c.in_ok-word.ensures.tokens (passes_next c.in_ok-symbol.ensures.forward c.in_ok-symbol.ensures.tokens
+    (passes_then (passes_then c.in_ok-branches.ensures.lines c.in_ok-otherwise.ensures.lines)
+    (passes_one c.in_ok-symbol-2.ensures.forward c.in_ok-symbol-2.ensures.tokens))) in
     rw notes.action_alt body
 
 pub branch-returns-clause-lines : goal.branch-returns-clause-lines
 branch-returns-clause-lines t c =
-    let body = passes_next c.in_ok-open.ensures.forward c.in_ok-open.ensures.tokens (passes_next c.in_ok-symbol.ensures.forward c.in_ok-symbol.ensures.tokens (passes_then (passes_unnoted (receive_lexemes c.in_ok-receive.receive) c.in_ok-receive.ensures.forward c.in_ok-receive.ensures.tokens) (passes_then c.in_ok-body.ensures.lines (passes_unnoted (end_lexemes c.in_ok-has_semicolon.has_semicolon) c.in_ok-has_semicolon.ensures.forward c.in_ok-has_semicolon.ensures.tokens)))) in
-    rw notes.branch_out (passes_at _ _ body c.line-line.ensures (ap starts_zero c.in_ok-open.ensures.tokens))
+    let body = passes_next c.in_ok-symbol.ensures.forward c.in_ok-symbol.ensures.tokens (passes_next c.in_ok-symbol-2.ensures.forward c.in_ok-symbol-2.ensures.tokens
+    (passes_then (passes_unnoted (receive_lexemes c.in_ok-receive.receive) c.in_ok-receive.ensures.forward c.in_ok-receive.ensures.tokens)
+    (passes_then c.in_ok-body.ensures.lines (passes_unnoted
+    (end_lexemes c.in_ok-has_semicolon.has_semicolon) c.in_ok-has_semicolon.ensures.forward c.in_ok-has_semicolon.ensures.tokens)))) in
+    rw notes.branch_out (passes_at _ _ body c.line-line.ensures (ap starts_zero c.in_ok-symbol.ensures.tokens))
 
 pub body-returns-then-not-is_symbol_at-clause-lines : goal.body-returns-then-not-is_symbol_at-clause-lines
 body-returns-then-not-is_symbol_at-clause-lines t c = rw notes.body_nothing (passes_none _)
@@ -639,7 +264,10 @@ otherwise-returns-then-not-is_symbol_at-clause-lines t c = passes_none _
 
 pub otherwise-returns-clause-lines : goal.otherwise-returns-clause-lines
 otherwise-returns-clause-lines t c =
-    let body = passes_then (passes_unnoted (symbol LeftBracket ∷ word w.Else ∷ symbol RightBracket ∷ []) c.in_ok-else_mark.ensures.forward c.in_ok-else_mark.ensures.tokens) (passes_then c.in_ok-block.ensures.lines (passes_unnoted (end_lexemes c.in_ok-has_semicolon.has_semicolon) c.in_ok-has_semicolon.ensures.forward c.in_ok-has_semicolon.ensures.tokens)) in
+    let body = passes_then (passes_unnoted
+    (symbol LeftBracket ∷ word w.Else ∷ symbol RightBracket ∷ []) c.in_ok-else_mark.ensures.forward c.in_ok-else_mark.ensures.tokens)
+    (passes_then c.in_ok-block.ensures.lines (passes_unnoted
+    (end_lexemes c.in_ok-has_semicolon.has_semicolon) c.in_ok-has_semicolon.ensures.forward c.in_ok-has_semicolon.ensures.tokens)) in
     rw notes.else_branch_made (passes_at _ _ body c.line-line.ensures (ap starts_zero c.in_ok-else_mark.ensures.tokens))
 
 pub counted-returns-clause-lines : goal.counted-returns-clause-lines
@@ -652,27 +280,28 @@ counted-returns-clause-lines t c =
 
 pub block-returns-clause-lines : goal.block-returns-clause-lines
 block-returns-clause-lines t c =
-    passes_next c.in_ok-inner.ensures.forward c.in_ok-inner.ensures.tokens (passes_then c.in_ok-statements.ensures.lines (passes_one c.in_ok-symbol.ensures.forward c.in_ok-symbol.ensures.tokens))
+    passes_next c.in_ok-symbol.ensures.forward c.in_ok-symbol.ensures.tokens (passes_then c.in_ok-statements.ensures.lines
+    (passes_one c.in_ok-symbol-2.ensures.forward c.in_ok-symbol-2.ensures.tokens))
 
-pub statements-returns-in_err-statement-clause-reads_seen : goal.statements-returns-in_err-statement-clause-reads_seen
-statements-returns-in_err-statement-clause-reads_seen t c =
-    λ hidden xs more stand deep ends could.
+pub statements-returns-in_err-statement-clause-reads : goal.statements-returns-in_err-statement-clause-reads
+statements-returns-in_err-statement-clause-reads t c =
+    λ hidden xs more stand ends could.
     handed_seen hidden c.from_residual.result _ _ c.from_residual.ensures.1
-    (elim (all_seen statement_lexemes statement_part (λ x. statement_depth x ≤ c.args.left) hidden more _
-    (c.more.invariant.seen hidden xs more stand deep ends could) statement_begins) [
-      | inl n ↦ c.in_err-statement.ensures.reads_seen hidden n.0 _ n.5 n.1 n.6
+    (elim (all_seen statement_lexemes statement_part (λ _. Unit {0}) hidden more _
+    (c.more.invariant.seen hidden xs more stand ends could) statement_begins) [
+      | inl n ↦ c.in_err-statement.ensures.reads hidden n.0 _ n.5 n.6
       | inr next ↦
           elim (end_unseen hidden _ more _ ends (λ is. false≢true (c.more-test.ensures.end.1 is)) next) [
-            | inl h ↦ stands_hidden hidden 0 c.more.self _ (omega arith) c.in_err-statement.ensures.beyond
-            | inr cut ↦ stands_hidden hidden 1 c.more.self _ cut.1 (c.in_err-statement.ensures.beyond_all cut.0)
+            | inl h ↦ stuck_hidden hidden 0 c.more.self _ (omega arith) c.in_err-statement.ensures.beyond
+            | inr cut ↦ stuck_hidden hidden 1 c.more.self _ cut.1 (c.in_err-statement.ensures.beyond_all cut.0)
           ]
     ])
 
-pub statements-returns-clause-reads_seen : goal.statements-returns-clause-reads_seen
-statements-returns-clause-reads_seen t c =
-    λ hidden xs more stand deep ends could.
-    elim (all_seen statement_lexemes statement_part (λ x. statement_depth x ≤ c.args.left) hidden more _
-    (c.more.invariant.seen hidden xs more stand deep ends could) statement_begins) [
+pub statements-returns-clause-reads : goal.statements-returns-clause-reads
+statements-returns-clause-reads t c =
+    λ hidden xs more stand ends could.
+    elim (all_seen statement_lexemes statement_part (λ _. Unit {0}) hidden more _
+    (c.more.invariant.seen hidden xs more stand ends could) statement_begins) [
       | inl n ↦
           elim (statement_end_seen hidden _ n.0 _ _ (c.more-test.ensures.end.0 refl) n.6) [
             | inl h ↦ inl (hidden_could h)
@@ -727,23 +356,23 @@ statements-returns-clause-beyond_start t c =
     (λ same. name_no_end _ c.more.self.rest.now (subst (λ (p : Parser). is_name_in (token_at p.rest.now 0) ≡ true) (sym same) is)
     (c.more-test.ensures.end.0 refl))
 
-pub branches-returns-in_err-branch-clause-reads_seen : goal.branches-returns-in_err-branch-clause-reads_seen
-branches-returns-in_err-branch-clause-reads_seen t c =
-    λ hidden xs more stand deep other could.
+pub branches-returns-in_err-branch-clause-reads : goal.branches-returns-in_err-branch-clause-reads
+branches-returns-in_err-branch-clause-reads t c =
+    λ hidden xs more stand other could.
     handed_seen hidden c.from_residual.result _ _ c.from_residual.ensures.1
-    (elim (all_seen branch_lexemes branch_part (λ x. branch_depth x ≤ c.args.left) hidden more _
-    (c.more.invariant.seen hidden xs more stand deep other could) branch_begins) [
-      | inl n ↦ c.in_err-branch.ensures.reads_seen hidden n.0 _ n.5 n.1 n.6
+    (elim (all_seen branch_lexemes branch_part (λ _. Unit {0}) hidden more _
+    (c.more.invariant.seen hidden xs more stand other could) branch_begins) [
+      | inl n ↦ c.in_err-branch.ensures.reads hidden n.0 _ n.5 n.6
       | inr next ↦
           let at = c.more-test.ensures.0 refl in
-          stands_hidden hidden 1 c.more.self _ (branch_unseen hidden more _ at other next) (c.in_err-branch.ensures.beyond_bracket at.0)
+          stuck_hidden hidden 1 c.more.self _ (branch_unseen hidden more _ at other next) (c.in_err-branch.ensures.beyond_bracket at.0)
     ])
 
-pub branches-returns-clause-reads_seen : goal.branches-returns-clause-reads_seen
-branches-returns-clause-reads_seen t c =
-    λ hidden xs more stand deep other could.
-    elim (all_seen branch_lexemes branch_part (λ x. branch_depth x ≤ c.args.left) hidden more _
-    (c.more.invariant.seen hidden xs more stand deep other could) branch_begins) [
+pub branches-returns-clause-reads : goal.branches-returns-clause-reads
+branches-returns-clause-reads t c =
+    λ hidden xs more stand other could.
+    elim (all_seen branch_lexemes branch_part (λ _. Unit {0}) hidden more _
+    (c.more.invariant.seen hidden xs more stand other could) branch_begins) [
       | inl n ↦
           elim (branch_end_seen hidden n.0 _ _ (λ at. false≢true (c.more-test.ensures.1 at)) n.6) [
             | inl h ↦ inl (hidden_could h)
@@ -752,308 +381,294 @@ branches-returns-clause-reads_seen t c =
       | inr next ↦ inl next
     ]
 
-pub statement-returns-in_err-action-clause-reads_seen : goal.statement-returns-in_err-action-clause-reads_seen
-statement-returns-in_err-action-clause-reads_seen t c =
-    λ hidden x more placed deep could.
-    let g = statement_given c.args.left x more (statement_lexemes x ++ more) placed deep refl in
+pub statement-returns-in_err-action-clause-reads : goal.statement-returns-in_err-action-clause-reads
+statement-returns-in_err-action-clause-reads t c =
+    λ hidden x more placed could.
+    let g = statement_given x more placed in
     let e0 = read_as g.read could in
-    handed_seen hidden c.from_residual.result _ _ c.from_residual.ensures.1 (c.in_err-action.ensures.reads_seen hidden
-    (out-Statement x).action _ g.right g.fits g.ends e0)
+    handed_seen hidden c.from_residual.result _ _ c.from_residual.ensures.1 (c.in_err-action.ensures.reads hidden
+    (out-Statement x).action _ g.right g.ends e0)
 
-pub statement-returns-in_err-has_semicolon-clause-reads_seen : goal.statement-returns-in_err-has_semicolon-clause-reads_seen
-statement-returns-in_err-has_semicolon-clause-reads_seen t c =
-    λ hidden x more placed deep could.
-    let g = statement_given c.args.left x more (statement_lexemes x ++ more) placed deep refl in
+pub statement-returns-in_err-has_semicolon-clause-reads : goal.statement-returns-in_err-has_semicolon-clause-reads
+statement-returns-in_err-has_semicolon-clause-reads t c =
+    λ hidden x more placed could.
+    let g = statement_given x more placed in
     let e0 = read_as g.read could in
-    let e1 = c.in_ok-action.ensures.reads_seen hidden (out-Statement x).action _ g.right g.fits g.ends e0 in
+    let e1 = c.in_ok-action.ensures.reads hidden (out-Statement x).action _ g.right g.ends e0 in
     handed_seen hidden c.from_residual-in_err-has_semicolon.result _ _ c.from_residual-in_err-has_semicolon.ensures.1
-    (elim (statement_ends_seen hidden c.args.left x more _ _ c.in_ok-action.action _ _ g c.in_ok-action.ensures.tokens e0 c.ends_in_block.ensures) [
+    (elim (statement_ends_seen hidden x more _ c.in_ok-action.action _ _ g c.in_ok-action.ensures.tokens e0 c.ends_in_block.ensures) [
       | inl h ↦ hidden_place hidden c.action.new.self _ c.in_err-has_semicolon.ensures.place (omega (arith, c.in_ok-action.ensures.shorter))
-      | inr ended ↦ c.in_err-has_semicolon.ensures.reads_seen hidden (out-Statement x).has_semicolon more ended e1
+      | inr ended ↦ c.in_err-has_semicolon.ensures.reads hidden (out-Statement x).has_semicolon more ended e1
     ])
 
-pub statement-returns-clause-reads_seen : goal.statement-returns-clause-reads_seen
-statement-returns-clause-reads_seen t c =
-    λ hidden x more placed deep could.
-    let g = statement_given c.args.left x more (statement_lexemes x ++ more) placed deep refl in
+pub statement-returns-clause-reads : goal.statement-returns-clause-reads
+statement-returns-clause-reads t c =
+    λ hidden x more placed could.
+    let g = statement_given x more placed in
     let e0 = read_as g.read could in
-    let e1 = c.in_ok-action.ensures.reads_seen hidden (out-Statement x).action _ g.right g.fits g.ends e0 in
-    elim (statement_ends_seen hidden c.args.left x more _ _ c.in_ok-action.action _ _ g c.in_ok-action.ensures.tokens e0 c.ends_in_block.ensures) [
+    let e1 = c.in_ok-action.ensures.reads hidden (out-Statement x).action _ g.right g.ends e0 in
+    elim (statement_ends_seen hidden x more _ c.in_ok-action.action _ _ g c.in_ok-action.ensures.tokens e0 c.ends_in_block.ensures) [
       | inl h ↦ hidden_could (omega (arith, c.in_ok-action.ensures.shorter, c.in_ok-has_semicolon.ensures.shorter))
-      | inr ended ↦ c.in_ok-has_semicolon.ensures.reads_seen hidden (out-Statement x).has_semicolon more ended e1
+      | inr ended ↦ c.in_ok-has_semicolon.ensures.reads hidden (out-Statement x).has_semicolon more ended e1
     ]
 
-pub branch-returns-in_err-open-clause-reads_seen : goal.branch-returns-in_err-open-clause-reads_seen
-branch-returns-in_err-open-clause-reads_seen t c =
-    λ hidden x more placed deep could.
-    let g = branch_given c.args.left x more (branch_lexemes x ++ more) placed deep refl in
+pub branch-returns-in_err-symbol-clause-reads : goal.branch-returns-in_err-symbol-clause-reads
+branch-returns-in_err-symbol-clause-reads t c =
+    λ hidden x more placed could.
+    let g = branch_given x more placed in
     let e0 = read_as g.read could in
-    handed_seen hidden c.from_residual.result _ _ c.from_residual.ensures.1 (c.in_err-open.ensures.reads_seen hidden _ g.room e0)
+    handed_seen hidden c.from_residual.result _ _ c.from_residual.ensures.1 (c.in_err-symbol.ensures.reads hidden _ e0)
 
-pub branch-returns-in_err-symbol-clause-reads_seen : goal.branch-returns-in_err-symbol-clause-reads_seen
-branch-returns-in_err-symbol-clause-reads_seen t c =
-    λ hidden x more placed deep could.
-    let g = branch_given c.args.left x more (branch_lexemes x ++ more) placed deep refl in
-    let e0 = read_as g.read could in
-    let e1 = c.in_ok-open.ensures.reads_seen hidden _ g.room e0 in
-    handed_seen hidden c.from_residual-in_err-symbol.result _ _ c.from_residual-in_err-symbol.ensures.1 (c.in_err-symbol.ensures.reads_seen hidden _ e1)
+pub branch-returns-in_err-symbol-clause-beyond_bracket : goal.branch-returns-in_err-symbol-clause-beyond_bracket
+branch-returns-in_err-symbol-clause-beyond_bracket t c =
+    λ at.
+    let a = raw c.args.self.now.rest.now (symbol LeftBracket) at refl in
+    handed_as (StandAtLeast 1 c.args.self.now) c.from_residual.result _ _ c.from_residual.ensures.1
+    (memory_alone 1 c.args.self.now _ (c.in_err-symbol.ensures.reads 0 _ (own_could 0 _ _ a.1)))
 
-pub branch-returns-in_err-receive-clause-reads_seen : goal.branch-returns-in_err-receive-clause-reads_seen
-branch-returns-in_err-receive-clause-reads_seen t c =
-    λ hidden x more placed deep could.
-    let g = branch_given c.args.left x more (branch_lexemes x ++ more) placed deep refl in
+pub branch-returns-in_err-symbol-2-clause-reads : goal.branch-returns-in_err-symbol-2-clause-reads
+branch-returns-in_err-symbol-2-clause-reads t c =
+    λ hidden x more placed could.
+    let g = branch_given x more placed in
     let e0 = read_as g.read could in
-    let e1 = c.in_ok-open.ensures.reads_seen hidden _ g.room e0 in
-    let e2 = c.in_ok-symbol.ensures.reads_seen hidden _ e1 in
+    let e1 = c.in_ok-symbol.ensures.reads hidden _ e0 in
+    handed_seen hidden c.from_residual-in_err-symbol-2.result _ _ c.from_residual-in_err-symbol-2.ensures.1 (c.in_err-symbol-2.ensures.reads hidden _ e1)
+
+pub branch-returns-in_err-receive-clause-reads : goal.branch-returns-in_err-receive-clause-reads
+branch-returns-in_err-receive-clause-reads t c =
+    λ hidden x more placed could.
+    let g = branch_given x more placed in
+    let e0 = read_as g.read could in
+    let e1 = c.in_ok-symbol.ensures.reads hidden _ e0 in
+    let e2 = c.in_ok-symbol-2.ensures.reads hidden _ e1 in
     handed_seen hidden c.from_residual-in_err-receive.result _ _ c.from_residual-in_err-receive.ensures.1
-    (c.in_err-receive.ensures.reads_seen hidden (out-Branch x).receive _ g.right g.fits g.stops e2)
+    (c.in_err-receive.ensures.reads hidden (out-Branch x).receive _ g.right g.stops e2)
 
-pub branch-returns-in_err-body-clause-reads_seen : goal.branch-returns-in_err-body-clause-reads_seen
-branch-returns-in_err-body-clause-reads_seen t c =
-    λ hidden x more placed deep could.
-    let g = branch_given c.args.left x more (branch_lexemes x ++ more) placed deep refl in
+pub branch-returns-in_err-body-clause-reads : goal.branch-returns-in_err-body-clause-reads
+branch-returns-in_err-body-clause-reads t c =
+    λ hidden x more placed could.
+    let g = branch_given x more placed in
     let e0 = read_as g.read could in
-    let e1 = c.in_ok-open.ensures.reads_seen hidden _ g.room e0 in
-    let e2 = c.in_ok-symbol.ensures.reads_seen hidden _ e1 in
-    let e3 = c.in_ok-receive.ensures.reads_seen hidden (out-Branch x).receive _ g.right g.fits g.stops e2 in
+    let e1 = c.in_ok-symbol.ensures.reads hidden _ e0 in
+    let e2 = c.in_ok-symbol-2.ensures.reads hidden _ e1 in
+    let e3 = c.in_ok-receive.ensures.reads hidden (out-Branch x).receive _ g.right g.stops e2 in
     handed_seen hidden c.from_residual-in_err-body.result _ _ c.from_residual-in_err-body.ensures.1
-    (c.in_err-body.ensures.reads_seen hidden (out-Branch x).body _ g.body_right g.body_fits g.body_ends e3)
+    (c.in_err-body.ensures.reads hidden (out-Branch x).body _ g.body_right g.body_ends e3)
 
-pub branch-returns-in_err-has_semicolon-clause-reads_seen : goal.branch-returns-in_err-has_semicolon-clause-reads_seen
-branch-returns-in_err-has_semicolon-clause-reads_seen t c =
-    λ hidden x more placed deep could.
-    let g = branch_given c.args.left x more (branch_lexemes x ++ more) placed deep refl in
+pub branch-returns-in_err-has_semicolon-clause-reads : goal.branch-returns-in_err-has_semicolon-clause-reads
+branch-returns-in_err-has_semicolon-clause-reads t c =
+    λ hidden x more placed could.
+    let g = branch_given x more placed in
     let e0 = read_as g.read could in
-    let e1 = c.in_ok-open.ensures.reads_seen hidden _ g.room e0 in
-    let e2 = c.in_ok-symbol.ensures.reads_seen hidden _ e1 in
-    let e3 = c.in_ok-receive.ensures.reads_seen hidden (out-Branch x).receive _ g.right g.fits g.stops e2 in
-    let e4 = c.in_ok-body.ensures.reads_seen hidden (out-Branch x).body _ g.body_right g.body_fits g.body_ends e3 in
+    let e1 = c.in_ok-symbol.ensures.reads hidden _ e0 in
+    let e2 = c.in_ok-symbol-2.ensures.reads hidden _ e1 in
+    let e3 = c.in_ok-receive.ensures.reads hidden (out-Branch x).receive _ g.right g.stops e2 in
+    let e4 = c.in_ok-body.ensures.reads hidden (out-Branch x).body _ g.body_right g.body_ends e3 in
     handed_seen hidden c.from_residual-in_err-has_semicolon.result _ _ c.from_residual-in_err-has_semicolon.ensures.1
-    (elim (branch_ends_seen hidden c.args.left x more _ _ c.in_ok-body.body _ _ g c.in_ok-body.ensures.tokens c.in_ok-body.ensures.braced e3
+    (elim (branch_ends_seen hidden x more _ c.in_ok-body.body _ _ g c.in_ok-body.ensures.tokens c.in_ok-body.ensures.braced e3
     c.is_block.ensures) [
       | inl h ↦ hidden_place hidden c.body.new.self _ c.in_err-has_semicolon.ensures.place (omega (arith, c.in_ok-body.ensures.shorter))
-      | inr ended ↦ c.in_err-has_semicolon.ensures.reads_seen hidden (out-Branch x).has_semicolon more ended e4
+      | inr ended ↦ c.in_err-has_semicolon.ensures.reads hidden (out-Branch x).has_semicolon more ended e4
     ])
 
-pub branch-returns-clause-reads_seen : goal.branch-returns-clause-reads_seen
-branch-returns-clause-reads_seen t c =
-    λ hidden x more placed deep could.
-    let g = branch_given c.args.left x more (branch_lexemes x ++ more) placed deep refl in
+pub branch-returns-clause-reads : goal.branch-returns-clause-reads
+branch-returns-clause-reads t c =
+    λ hidden x more placed could.
+    let g = branch_given x more placed in
     let e0 = read_as g.read could in
-    let e1 = c.in_ok-open.ensures.reads_seen hidden _ g.room e0 in
-    let e2 = c.in_ok-symbol.ensures.reads_seen hidden _ e1 in
-    let e3 = c.in_ok-receive.ensures.reads_seen hidden (out-Branch x).receive _ g.right g.fits g.stops e2 in
-    let e4 = c.in_ok-body.ensures.reads_seen hidden (out-Branch x).body _ g.body_right g.body_fits g.body_ends e3 in
-    elim (branch_ends_seen hidden c.args.left x more _ _ c.in_ok-body.body _ _ g c.in_ok-body.ensures.tokens c.in_ok-body.ensures.braced e3
+    let e1 = c.in_ok-symbol.ensures.reads hidden _ e0 in
+    let e2 = c.in_ok-symbol-2.ensures.reads hidden _ e1 in
+    let e3 = c.in_ok-receive.ensures.reads hidden (out-Branch x).receive _ g.right g.stops e2 in
+    let e4 = c.in_ok-body.ensures.reads hidden (out-Branch x).body _ g.body_right g.body_ends e3 in
+    elim (branch_ends_seen hidden x more _ c.in_ok-body.body _ _ g c.in_ok-body.ensures.tokens c.in_ok-body.ensures.braced e3
     c.is_block.ensures) [
       | inl h ↦ hidden_could (omega (arith, c.in_ok-body.ensures.shorter, c.in_ok-has_semicolon.ensures.shorter))
-      | inr ended ↦ c.in_ok-has_semicolon.ensures.reads_seen hidden (out-Branch x).has_semicolon more ended e4
+      | inr ended ↦ c.in_ok-has_semicolon.ensures.reads hidden (out-Branch x).has_semicolon more ended e4
     ]
 
-pub body-returns-then-not-is_symbol_at-clause-reads_seen : goal.body-returns-then-not-is_symbol_at-clause-reads_seen
-body-returns-then-not-is_symbol_at-clause-reads_seen t c =
-    λ hidden x more right deep ends could.
+pub body-returns-then-not-is_symbol_at-clause-reads : goal.body-returns-then-not-is_symbol_at-clause-reads
+body-returns-then-not-is_symbol_at-clause-reads t c =
+    λ hidden x more right ends could.
     body_none_seen hidden x more _ could (iff_false c.is_symbol_at.ensures c.if-not-is_symbol_at.true)
 
-pub body-returns-in_err-block-clause-reads_seen : goal.body-returns-in_err-block-clause-reads_seen
-body-returns-in_err-block-clause-reads_seen t c =
-    λ hidden x more right deep ends could.
+pub body-returns-in_err-block-clause-reads : goal.body-returns-in_err-block-clause-reads
+body-returns-in_err-block-clause-reads t c =
+    λ hidden x more right ends could.
     let at = c.is_symbol_at.ensures.0 c.if-not-is_symbol_at.false in
     handed_seen hidden c.from_residual.result _ _ c.from_residual.ensures.1
-    (elim (body_next_seen hidden c.args.left x more _ right deep ends at could) [
-      | inl h ↦ stands_hidden hidden 0 c.args.self.now _ (omega arith) c.in_err-block.ensures.beyond
-      | inr b ↦ c.in_err-block.ensures.reads_seen hidden b.0 more b.1 b.2 b.3
+    (elim (body_next_seen hidden x more _ right ends at could) [
+      | inl h ↦ stuck_hidden hidden 0 c.args.self.now _ (omega arith) c.in_err-block.ensures.beyond
+      | inr b ↦ c.in_err-block.ensures.reads hidden b.0 more b.1 b.2
     ])
 
-pub body-returns-clause-reads_seen : goal.body-returns-clause-reads_seen
-body-returns-clause-reads_seen t c =
-    λ hidden x more right deep ends could.
+pub body-returns-clause-reads : goal.body-returns-clause-reads
+body-returns-clause-reads t c =
+    λ hidden x more right ends could.
     let at = c.is_symbol_at.ensures.0 c.if-not-is_symbol_at.false in
-    elim (body_next_seen hidden c.args.left x more _ right deep ends at could) [
+    elim (body_next_seen hidden x more _ right ends at could) [
       | inl h ↦ hidden_could (omega (arith, c.in_ok-block.ensures.shorter))
-      | inr b ↦ c.in_ok-block.ensures.reads_seen hidden b.0 more b.1 b.2 b.3
+      | inr b ↦ c.in_ok-block.ensures.reads hidden b.0 more b.1 b.2
     ]
 
 pub body-returns-clause-braced : goal.body-returns-clause-braced
 body-returns-clause-braced t c =
     λ at. rw grammar.body_block refl
 
-pub otherwise-returns-then-not-is_symbol_at-clause-reads_seen : goal.otherwise-returns-then-not-is_symbol_at-clause-reads_seen
-otherwise-returns-then-not-is_symbol_at-clause-reads_seen t c =
-    λ hidden x more stand deep brace could.
+pub otherwise-returns-then-not-is_symbol_at-clause-reads : goal.otherwise-returns-then-not-is_symbol_at-clause-reads
+otherwise-returns-then-not-is_symbol_at-clause-reads t c =
+    λ hidden x more stand brace could.
     no_otherwise_seen hidden x more _ could (iff_false c.is_symbol_at.ensures c.if-not-is_symbol_at.true)
 
-pub otherwise-returns-in_err-else_mark-clause-reads_seen : goal.otherwise-returns-in_err-else_mark-clause-reads_seen
-otherwise-returns-in_err-else_mark-clause-reads_seen t c =
-    λ hidden x more stand deep brace could.
+pub otherwise-returns-in_err-else_mark-clause-reads : goal.otherwise-returns-in_err-else_mark-clause-reads
+otherwise-returns-in_err-else_mark-clause-reads t c =
+    λ hidden x more stand brace could.
     let at = c.is_symbol_at.ensures.0 c.if-not-is_symbol_at.false in
     handed_seen hidden c.from_residual.result _ _ c.from_residual.ensures.1
-    (elim (otherwise_next_seen hidden c.args.left x more _ stand deep brace at could) [
-      | inl h ↦ stands_hidden hidden 0 c.args.self.now _ (omega arith) c.in_err-else_mark.ensures.beyond
-      | inr b ↦
-          let room : 0 < c.args.left = omega (arith, b.3) in
-          c.in_err-else_mark.ensures.reads_seen hidden _ room b.4
+    (elim (otherwise_next_seen hidden x more _ stand brace at could) [
+      | inl h ↦ stuck_hidden hidden 0 c.args.self.now _ (omega arith) c.in_err-else_mark.ensures.beyond
+      | inr b ↦ c.in_err-else_mark.ensures.reads hidden _ b.3
     ])
 
-pub otherwise-returns-in_err-block-clause-reads_seen : goal.otherwise-returns-in_err-block-clause-reads_seen
-otherwise-returns-in_err-block-clause-reads_seen t c =
-    λ hidden x more stand deep brace could.
+pub otherwise-returns-in_err-block-clause-reads : goal.otherwise-returns-in_err-block-clause-reads
+otherwise-returns-in_err-block-clause-reads t c =
+    λ hidden x more stand brace could.
     let at = c.is_symbol_at.ensures.0 c.if-not-is_symbol_at.false in
     handed_seen hidden c.from_residual-in_err-block.result _ _ c.from_residual-in_err-block.ensures.1
-    (elim (otherwise_next_seen hidden c.args.left x more _ stand deep brace at could) [
-      | inl h ↦ stands_hidden hidden 0 c.else_mark.new.self _ (omega (arith, c.in_ok-else_mark.ensures.shorter)) c.in_err-block.ensures.beyond
+    (elim (otherwise_next_seen hidden x more _ stand brace at could) [
+      | inl h ↦ stuck_hidden hidden 0 c.else_mark.new.self _ (omega (arith, c.in_ok-else_mark.ensures.shorter)) c.in_err-block.ensures.beyond
       | inr b ↦
-          let room : 0 < c.args.left = omega (arith, b.3) in
-          let e1 = c.in_ok-else_mark.ensures.reads_seen hidden _ room b.4 in
-          c.in_err-block.ensures.reads_seen hidden b.0 _ b.2 b.3 e1
+          let e1 = c.in_ok-else_mark.ensures.reads hidden _ b.3 in
+          c.in_err-block.ensures.reads hidden b.0 _ b.2 e1
     ])
 
-pub otherwise-returns-in_err-has_semicolon-clause-reads_seen : goal.otherwise-returns-in_err-has_semicolon-clause-reads_seen
-otherwise-returns-in_err-has_semicolon-clause-reads_seen t c =
-    λ hidden x more stand deep brace could.
+pub otherwise-returns-in_err-has_semicolon-clause-reads : goal.otherwise-returns-in_err-has_semicolon-clause-reads
+otherwise-returns-in_err-has_semicolon-clause-reads t c =
+    λ hidden x more stand brace could.
     let at = c.is_symbol_at.ensures.0 c.if-not-is_symbol_at.false in
     handed_seen hidden c.from_residual-in_err-has_semicolon.result _ _ c.from_residual-in_err-has_semicolon.ensures.1
-    (elim (otherwise_next_seen hidden c.args.left x more _ stand deep brace at could) [
+    (elim (otherwise_next_seen hidden x more _ stand brace at could) [
       | inl h ↦ hidden_place hidden c.block.new.self _ c.in_err-has_semicolon.ensures.place
           (omega (arith, c.in_ok-else_mark.ensures.shorter, c.in_ok-block.ensures.shorter))
       | inr b ↦
-          let room : 0 < c.args.left = omega (arith, b.3) in
-          let e1 = c.in_ok-else_mark.ensures.reads_seen hidden _ room b.4 in
-          let e2 = c.in_ok-block.ensures.reads_seen hidden b.0 _ b.2 b.3 e1 in
+          let e1 = c.in_ok-else_mark.ensures.reads hidden _ b.3 in
+          let e2 = c.in_ok-block.ensures.reads hidden b.0 _ b.2 e1 in
           let stands : MayStandBefore true more = ap (may_end_before true) brace in
-          c.in_err-has_semicolon.ensures.reads_seen hidden b.1 more stands e2
+          c.in_err-has_semicolon.ensures.reads hidden b.1 more stands e2
     ])
 
-pub otherwise-returns-clause-reads_seen : goal.otherwise-returns-clause-reads_seen
-otherwise-returns-clause-reads_seen t c =
-    λ hidden x more stand deep brace could.
+pub otherwise-returns-clause-reads : goal.otherwise-returns-clause-reads
+otherwise-returns-clause-reads t c =
+    λ hidden x more stand brace could.
     let at = c.is_symbol_at.ensures.0 c.if-not-is_symbol_at.false in
-    elim (otherwise_next_seen hidden c.args.left x more _ stand deep brace at could) [
+    elim (otherwise_next_seen hidden x more _ stand brace at could) [
       | inl h ↦ hidden_could (omega (arith, c.in_ok-else_mark.ensures.shorter, c.in_ok-block.ensures.shorter, c.in_ok-has_semicolon.ensures.shorter))
       | inr b ↦
-          let room : 0 < c.args.left = omega (arith, b.3) in
-          let e1 = c.in_ok-else_mark.ensures.reads_seen hidden _ room b.4 in
-          let e2 = c.in_ok-block.ensures.reads_seen hidden b.0 _ b.2 b.3 e1 in
+          let e1 = c.in_ok-else_mark.ensures.reads hidden _ b.3 in
+          let e2 = c.in_ok-block.ensures.reads hidden b.0 _ b.2 e1 in
           let stands : MayStandBefore true more = ap (may_end_before true) brace in
-          c.in_ok-has_semicolon.ensures.reads_seen hidden b.1 more stands e2
+          c.in_ok-has_semicolon.ensures.reads hidden b.1 more stands e2
     ]
 
-pub counted-returns-in_err-turns-clause-reads_seen : goal.counted-returns-in_err-turns-clause-reads_seen
-counted-returns-in_err-turns-clause-reads_seen t c =
-    λ hidden x more right deep could.
-    let g = counted_given c.args.left x more (counted_lexemes x ++ more) right deep refl in
+pub counted-returns-in_err-turns-clause-reads : goal.counted-returns-in_err-turns-clause-reads
+counted-returns-in_err-turns-clause-reads t c =
+    λ hidden x more right could.
+    let g = counted_given x more right in
     let e0 = read_as g.read could in
-    handed_seen hidden c.from_residual.result _ _ c.from_residual.ensures.1 (c.in_err-turns.ensures.reads_seen hidden
-    (out-Counted x).turns _ g.first_right g.bound_right g.room e0)
+    handed_seen hidden c.from_residual.result _ _ c.from_residual.ensures.1 (c.in_err-turns.ensures.reads hidden
+    (out-Counted x).turns _ g.first_right g.bound_right e0)
 
-pub counted-returns-in_err-block-clause-reads_seen : goal.counted-returns-in_err-block-clause-reads_seen
-counted-returns-in_err-block-clause-reads_seen t c =
-    λ hidden x more right deep could.
-    let g = counted_given c.args.left x more (counted_lexemes x ++ more) right deep refl in
+pub counted-returns-in_err-block-clause-reads : goal.counted-returns-in_err-block-clause-reads
+counted-returns-in_err-block-clause-reads t c =
+    λ hidden x more right could.
+    let g = counted_given x more right in
     let e0 = read_as g.read could in
-    let e1 = c.in_ok-turns.ensures.reads_seen hidden (out-Counted x).turns _ g.first_right g.bound_right g.room e0 in
+    let e1 = c.in_ok-turns.ensures.reads hidden (out-Counted x).turns _ g.first_right g.bound_right e0 in
     handed_seen hidden c.from_residual-in_err-block.result _ _ c.from_residual-in_err-block.ensures.1
-    (c.in_err-block.ensures.reads_seen hidden (out-Counted x).block.items more g.right g.fits e1)
+    (c.in_err-block.ensures.reads hidden (out-Counted x).block.items more g.right e1)
 
-pub counted-returns-clause-reads_seen : goal.counted-returns-clause-reads_seen
-counted-returns-clause-reads_seen t c =
-    λ hidden x more right deep could.
-    let g = counted_given c.args.left x more (counted_lexemes x ++ more) right deep refl in
+pub counted-returns-clause-reads : goal.counted-returns-clause-reads
+counted-returns-clause-reads t c =
+    λ hidden x more right could.
+    let g = counted_given x more right in
     let e0 = read_as g.read could in
-    let e1 = c.in_ok-turns.ensures.reads_seen hidden (out-Counted x).turns _ g.first_right g.bound_right g.room e0 in
-    c.in_ok-block.ensures.reads_seen hidden (out-Counted x).block.items more g.right g.fits e1
+    let e1 = c.in_ok-turns.ensures.reads hidden (out-Counted x).turns _ g.first_right g.bound_right e0 in
+    c.in_ok-block.ensures.reads hidden (out-Counted x).block.items more g.right e1
 
-pub block-returns-in_err-inner-clause-reads_seen : goal.block-returns-in_err-inner-clause-reads_seen
-block-returns-in_err-inner-clause-reads_seen t c =
-    λ hidden xs more right deep could.
-    let room : 0 < c.args.left = omega arith in
-    handed_seen hidden c.from_residual.result _ _ c.from_residual.ensures.1 (c.in_err-inner.ensures.reads_seen hidden _ room could)
+pub block-returns-in_err-symbol-clause-reads : goal.block-returns-in_err-symbol-clause-reads
+block-returns-in_err-symbol-clause-reads t c =
+    λ hidden xs more right could.
+    handed_seen hidden c.from_residual.result _ _ c.from_residual.ensures.1 (c.in_err-symbol.ensures.reads hidden _ could)
 
-pub block-returns-in_err-statements-clause-reads_seen : goal.block-returns-in_err-statements-clause-reads_seen
-block-returns-in_err-statements-clause-reads_seen t c =
-    λ hidden xs more right deep could.
-    let room : 0 < c.args.left = omega arith in
-    let e1 = read_as (append_assoc (statements_lexemes xs) (symbol RightBrace ∷ []) more) (c.in_ok-inner.ensures.reads_seen hidden _ room could) in
-    let fits : statements_depth xs ≤ c.in_ok-inner.inner = omega (arith, c.in_ok-inner.ensures.inner) in
+pub block-returns-in_err-statements-clause-reads : goal.block-returns-in_err-statements-clause-reads
+block-returns-in_err-statements-clause-reads t c =
+    λ hidden xs more right could.
+    let e1 = read_as (append_assoc (statements_lexemes xs) (symbol RightBrace ∷ []) more) (c.in_ok-symbol.ensures.reads hidden _ could) in
     handed_seen hidden c.from_residual-in_err-statements.result _ _ c.from_residual-in_err-statements.ensures.1
-    (c.in_err-statements.ensures.reads_seen hidden xs (symbol RightBrace ∷ more)
-    (parts_stand (statements_parts xs) (symbol RightBrace ∷ more) right refl) fits refl e1)
+    (c.in_err-statements.ensures.reads hidden xs (symbol RightBrace ∷ more)
+    (parts_stand (statements_parts xs) (symbol RightBrace ∷ more) right refl) refl e1)
 
-pub block-returns-in_err-symbol-clause-reads_seen : goal.block-returns-in_err-symbol-clause-reads_seen
-block-returns-in_err-symbol-clause-reads_seen t c =
-    λ hidden xs more right deep could.
-    let room : 0 < c.args.left = omega arith in
-    let e1 = read_as (append_assoc (statements_lexemes xs) (symbol RightBrace ∷ []) more) (c.in_ok-inner.ensures.reads_seen hidden _ room could) in
-    let fits : statements_depth xs ≤ c.in_ok-inner.inner = omega (arith, c.in_ok-inner.ensures.inner) in
+pub block-returns-in_err-symbol-2-clause-reads : goal.block-returns-in_err-symbol-2-clause-reads
+block-returns-in_err-symbol-2-clause-reads t c =
+    λ hidden xs more right could.
+    let e1 = read_as (append_assoc (statements_lexemes xs) (symbol RightBrace ∷ []) more) (c.in_ok-symbol.ensures.reads hidden _ could) in
     let e2 : CouldBe hidden c.statements.new.self.rest.now (symbol RightBrace ∷ more) =
-    elim (c.in_ok-statements.ensures.reads_seen hidden xs (symbol RightBrace ∷ more)
-    (parts_stand (statements_parts xs) (symbol RightBrace ∷ more) right refl) fits refl e1) [ inl read ↦ read | inr cut ↦ absurd (false≢true cut.0) ] in
-    handed_seen hidden c.from_residual-in_err-symbol.result _ _ c.from_residual-in_err-symbol.ensures.1 (c.in_err-symbol.ensures.reads_seen hidden more e2)
+    elim (c.in_ok-statements.ensures.reads hidden xs (symbol RightBrace ∷ more)
+    (parts_stand (statements_parts xs) (symbol RightBrace ∷ more) right refl) refl e1) [ inl read ↦ read | inr cut ↦ absurd (false≢true cut.0) ] in
+    handed_seen hidden c.from_residual-in_err-symbol-2.result _ _ c.from_residual-in_err-symbol-2.ensures.1 (c.in_err-symbol-2.ensures.reads hidden more e2)
 
-pub block-returns-clause-reads_seen : goal.block-returns-clause-reads_seen
-block-returns-clause-reads_seen t c =
-    λ hidden xs more right deep could.
-    let room : 0 < c.args.left = omega arith in
-    let e1 = read_as (append_assoc (statements_lexemes xs) (symbol RightBrace ∷ []) more) (c.in_ok-inner.ensures.reads_seen hidden _ room could) in
-    let fits : statements_depth xs ≤ c.in_ok-inner.inner = omega (arith, c.in_ok-inner.ensures.inner) in
+pub block-returns-clause-reads : goal.block-returns-clause-reads
+block-returns-clause-reads t c =
+    λ hidden xs more right could.
+    let e1 = read_as (append_assoc (statements_lexemes xs) (symbol RightBrace ∷ []) more) (c.in_ok-symbol.ensures.reads hidden _ could) in
     let e2 : CouldBe hidden c.statements.new.self.rest.now (symbol RightBrace ∷ more) =
-    elim (c.in_ok-statements.ensures.reads_seen hidden xs (symbol RightBrace ∷ more)
-    (parts_stand (statements_parts xs) (symbol RightBrace ∷ more) right refl) fits refl e1) [ inl read ↦ read | inr cut ↦ absurd (false≢true cut.0) ] in
-    c.in_ok-symbol.ensures.reads_seen hidden more e2
+    elim (c.in_ok-statements.ensures.reads hidden xs (symbol RightBrace ∷ more)
+    (parts_stand (statements_parts xs) (symbol RightBrace ∷ more) right refl) refl e1) [ inl read ↦ read | inr cut ↦ absurd (false≢true cut.0) ] in
+    c.in_ok-symbol-2.ensures.reads hidden more e2
 
-pub alt-returns-in_err-word-clause-reads_seen : goal.alt-returns-in_err-word-clause-reads_seen
-alt-returns-in_err-word-clause-reads_seen t c =
-    λ hidden xs x more some right deep could.
-    handed_seen hidden c.from_residual.result _ _ c.from_residual.ensures.1 (c.in_err-word.ensures.reads_seen hidden _ could)
+pub alt-returns-in_err-word-clause-reads : goal.alt-returns-in_err-word-clause-reads
+alt-returns-in_err-word-clause-reads t c =
+    λ hidden xs x more some right could.
+    handed_seen hidden c.from_residual.result _ _ c.from_residual.ensures.1 (c.in_err-word.ensures.reads hidden _ could)
 
-pub alt-returns-in_err-inner-clause-reads_seen : goal.alt-returns-in_err-inner-clause-reads_seen
-alt-returns-in_err-inner-clause-reads_seen t c =
-    λ hidden xs x more some right deep could.
-    let e1 = c.in_ok-word.ensures.reads_seen hidden _ could in
-    let room : 0 < c.args.left = omega arith in
-    handed_seen hidden c.from_residual-in_err-inner.result _ _ c.from_residual-in_err-inner.ensures.1 (c.in_err-inner.ensures.reads_seen hidden _ room e1)
+pub alt-returns-in_err-symbol-clause-reads : goal.alt-returns-in_err-symbol-clause-reads
+alt-returns-in_err-symbol-clause-reads t c =
+    λ hidden xs x more some right could.
+    let e1 = c.in_ok-word.ensures.reads hidden _ could in
+    handed_seen hidden c.from_residual-in_err-symbol.result _ _ c.from_residual-in_err-symbol.ensures.1 (c.in_err-symbol.ensures.reads hidden _ e1)
 
-pub alt-returns-in_err-branches-clause-reads_seen : goal.alt-returns-in_err-branches-clause-reads_seen
-alt-returns-in_err-branches-clause-reads_seen t c =
-    λ hidden xs x more some right deep could.
-    let e1 = c.in_ok-word.ensures.reads_seen hidden _ could in
-    let room : 0 < c.args.left = omega arith in
-    let e2 = read_as (alt_given xs x more (((branches_lexemes xs ++ otherwise_lexemes x) ++ symbol RightBrace ∷ []) ++ more) refl)
-    (c.in_ok-inner.ensures.reads_seen hidden _ room e1) in
-    let branches_fit : branches_depth xs ≤ c.in_ok-inner.inner = omega (arith, c.in_ok-inner.ensures.inner) in
+pub alt-returns-in_err-branches-clause-reads : goal.alt-returns-in_err-branches-clause-reads
+alt-returns-in_err-branches-clause-reads t c =
+    λ hidden xs x more some right could.
+    let e1 = c.in_ok-word.ensures.reads hidden _ could in
+    let e2 = read_as (alt_given xs x more)
+    (c.in_ok-symbol.ensures.reads hidden _ e1) in
     handed_seen hidden c.from_residual-in_err-branches.result _ _ c.from_residual-in_err-branches.ensures.1
-    (c.in_err-branches.ensures.reads_seen hidden xs (otherwise_lexemes x ++ symbol RightBrace ∷ more) (branches_stand xs x more right) branches_fit
+    (c.in_err-branches.ensures.reads hidden xs (otherwise_lexemes x ++ symbol RightBrace ∷ more) (branches_stand xs x more right)
     (otherwise_no_branch x more) e2)
 
-pub alt-returns-in_err-otherwise-clause-reads_seen : goal.alt-returns-in_err-otherwise-clause-reads_seen
-alt-returns-in_err-otherwise-clause-reads_seen t c =
-    λ hidden xs x more some right deep could.
-    let e1 = c.in_ok-word.ensures.reads_seen hidden _ could in
-    let room : 0 < c.args.left = omega arith in
-    let e2 = read_as (alt_given xs x more (((branches_lexemes xs ++ otherwise_lexemes x) ++ symbol RightBrace ∷ []) ++ more) refl)
-    (c.in_ok-inner.ensures.reads_seen hidden _ room e1) in
-    let branches_fit : branches_depth xs ≤ c.in_ok-inner.inner = omega (arith, c.in_ok-inner.ensures.inner) in
-    let otherwise_fits : otherwise_depth x ≤ c.in_ok-inner.inner = omega (arith, c.in_ok-inner.ensures.inner) in
+pub alt-returns-in_err-otherwise-clause-reads : goal.alt-returns-in_err-otherwise-clause-reads
+alt-returns-in_err-otherwise-clause-reads t c =
+    λ hidden xs x more some right could.
+    let e1 = c.in_ok-word.ensures.reads hidden _ could in
+    let e2 = read_as (alt_given xs x more)
+    (c.in_ok-symbol.ensures.reads hidden _ e1) in
     handed_seen hidden c.from_residual-in_err-otherwise.result _ _ c.from_residual-in_err-otherwise.ensures.1
-    (elim (c.in_ok-branches.ensures.reads_seen hidden xs (otherwise_lexemes x ++ symbol RightBrace ∷ more) (branches_stand xs x more right) branches_fit
+    (elim (c.in_ok-branches.ensures.reads hidden xs (otherwise_lexemes x ++ symbol RightBrace ∷ more) (branches_stand xs x more right)
     (otherwise_no_branch x more) e2) [
-      | inl e3 ↦ c.in_err-otherwise.ensures.reads_seen hidden x (symbol RightBrace ∷ more) (otherwise_stands xs x more right) otherwise_fits refl e3
-      | inr cut ↦ stands_hidden hidden 1 c.branches.new.self _ cut.1 (c.in_err-otherwise.ensures.beyond_bracket cut.0)
+      | inl e3 ↦ c.in_err-otherwise.ensures.reads hidden x (symbol RightBrace ∷ more) (otherwise_stands xs x more right) refl e3
+      | inr cut ↦ stuck_hidden hidden 1 c.branches.new.self _ cut.1 (c.in_err-otherwise.ensures.beyond_bracket cut.0)
     ])
 
-pub alt-returns-then-is_none-clause-reads_seen : goal.alt-returns-then-is_none-clause-reads_seen
-alt-returns-then-is_none-clause-reads_seen t c =
-    λ hidden xs x more some right deep could.
-    let e1 = c.in_ok-word.ensures.reads_seen hidden _ could in
-    let room : 0 < c.args.left = omega arith in
-    let e2 = read_as (alt_given xs x more (((branches_lexemes xs ++ otherwise_lexemes x) ++ symbol RightBrace ∷ []) ++ more) refl)
-    (c.in_ok-inner.ensures.reads_seen hidden _ room e1) in
-    let branches_fit : branches_depth xs ≤ c.in_ok-inner.inner = omega (arith, c.in_ok-inner.ensures.inner) in
-    let otherwise_fits : otherwise_depth x ≤ c.in_ok-inner.inner = omega (arith, c.in_ok-inner.ensures.inner) in
+pub alt-returns-then-is_none-clause-reads : goal.alt-returns-then-is_none-clause-reads
+alt-returns-then-is_none-clause-reads t c =
+    λ hidden xs x more some right could.
+    let e1 = c.in_ok-word.ensures.reads hidden _ could in
+    let e2 = read_as (alt_given xs x more)
+    (c.in_ok-symbol.ensures.reads hidden _ e1) in
     let e4 : CouldBe hidden c.otherwise.new.self.rest.now (symbol RightBrace ∷ more) =
-    elim (c.in_ok-branches.ensures.reads_seen hidden xs (otherwise_lexemes x ++ symbol RightBrace ∷ more) (branches_stand xs x more right) branches_fit
+    elim (c.in_ok-branches.ensures.reads hidden xs (otherwise_lexemes x ++ symbol RightBrace ∷ more) (branches_stand xs x more right)
     (otherwise_no_branch x more) e2) [
-      | inl e3 ↦ c.in_ok-otherwise.ensures.reads_seen hidden x (symbol RightBrace ∷ more) (otherwise_stands xs x more right) otherwise_fits refl e3
+      | inl e3 ↦ c.in_ok-otherwise.ensures.reads hidden x (symbol RightBrace ∷ more) (otherwise_stands xs x more right) refl e3
       | inr cut ↦ hidden_could (omega (arith, cut.1, c.in_ok-otherwise.ensures.beyond_bracket cut.0))
     ] in
     let no_branch = no_items c.in_ok-branches.branches.items (omega (
@@ -1064,62 +679,60 @@ alt-returns-then-is_none-clause-reads_seen t c =
     )) in
     let no_else = not_some c.in_ok-otherwise.otherwise (c.is_none.ensures ∙ ap not c.if-is_none.true) in
     let same = c.in_ok-otherwise.ensures.none no_else ∙ c.in_ok-branches.ensures.none no_branch in
-    let h : AllHidden hidden c.«open».new.self.rest.now = alt_hidden hidden xs x more c.«open».new.self.rest.now some e2 (same_could (sym same) e4) in
+    let h : AllHidden hidden c.symbol.new.self.rest.now = alt_hidden hidden xs x more c.symbol.new.self.rest.now some e2 (same_could (sym same) e4) in
     omega (arith, ap (λ (p : Parser). length p.rest.now) same)
 
-pub alt-returns-in_err-symbol-clause-reads_seen : goal.alt-returns-in_err-symbol-clause-reads_seen
-alt-returns-in_err-symbol-clause-reads_seen t c =
-    λ hidden xs x more some right deep could.
-    let e1 = c.in_ok-word.ensures.reads_seen hidden _ could in
-    let room : 0 < c.args.left = omega arith in
-    let e2 = read_as (alt_given xs x more (((branches_lexemes xs ++ otherwise_lexemes x) ++ symbol RightBrace ∷ []) ++ more) refl)
-    (c.in_ok-inner.ensures.reads_seen hidden _ room e1) in
-    let branches_fit : branches_depth xs ≤ c.in_ok-inner.inner = omega (arith, c.in_ok-inner.ensures.inner) in
-    let otherwise_fits : otherwise_depth x ≤ c.in_ok-inner.inner = omega (arith, c.in_ok-inner.ensures.inner) in
+pub alt-returns-in_err-symbol-2-clause-reads : goal.alt-returns-in_err-symbol-2-clause-reads
+alt-returns-in_err-symbol-2-clause-reads t c =
+    λ hidden xs x more some right could.
+    let e1 = c.in_ok-word.ensures.reads hidden _ could in
+    let e2 = read_as (alt_given xs x more)
+    (c.in_ok-symbol.ensures.reads hidden _ e1) in
     let e4 : CouldBe hidden c.otherwise.new.self.rest.now (symbol RightBrace ∷ more) =
-    elim (c.in_ok-branches.ensures.reads_seen hidden xs (otherwise_lexemes x ++ symbol RightBrace ∷ more) (branches_stand xs x more right) branches_fit
+    elim (c.in_ok-branches.ensures.reads hidden xs (otherwise_lexemes x ++ symbol RightBrace ∷ more) (branches_stand xs x more right)
     (otherwise_no_branch x more) e2) [
-      | inl e3 ↦ c.in_ok-otherwise.ensures.reads_seen hidden x (symbol RightBrace ∷ more) (otherwise_stands xs x more right) otherwise_fits refl e3
+      | inl e3 ↦ c.in_ok-otherwise.ensures.reads hidden x (symbol RightBrace ∷ more) (otherwise_stands xs x more right) refl e3
       | inr cut ↦ hidden_could (omega (arith, cut.1, c.in_ok-otherwise.ensures.beyond_bracket cut.0))
     ] in
-    handed_seen hidden c.from_residual-in_err-symbol.result _ _ c.from_residual-in_err-symbol.ensures.1 (c.in_err-symbol.ensures.reads_seen hidden more e4)
+    handed_seen hidden c.from_residual-in_err-symbol-2.result _ _ c.from_residual-in_err-symbol-2.ensures.1 (c.in_err-symbol-2.ensures.reads hidden more e4)
 
-pub alt-returns-clause-reads_seen : goal.alt-returns-clause-reads_seen
-alt-returns-clause-reads_seen t c =
-    λ hidden xs x more some right deep could.
-    let e1 = c.in_ok-word.ensures.reads_seen hidden _ could in
-    let room : 0 < c.args.left = omega arith in
-    let e2 = read_as (alt_given xs x more (((branches_lexemes xs ++ otherwise_lexemes x) ++ symbol RightBrace ∷ []) ++ more) refl)
-    (c.in_ok-inner.ensures.reads_seen hidden _ room e1) in
-    let branches_fit : branches_depth xs ≤ c.in_ok-inner.inner = omega (arith, c.in_ok-inner.ensures.inner) in
-    let otherwise_fits : otherwise_depth x ≤ c.in_ok-inner.inner = omega (arith, c.in_ok-inner.ensures.inner) in
+pub alt-returns-clause-reads : goal.alt-returns-clause-reads
+alt-returns-clause-reads t c =
+    λ hidden xs x more some right could.
+    let e1 = c.in_ok-word.ensures.reads hidden _ could in
+    let e2 = read_as (alt_given xs x more)
+    (c.in_ok-symbol.ensures.reads hidden _ e1) in
     let e4 : CouldBe hidden c.otherwise.new.self.rest.now (symbol RightBrace ∷ more) =
-    elim (c.in_ok-branches.ensures.reads_seen hidden xs (otherwise_lexemes x ++ symbol RightBrace ∷ more) (branches_stand xs x more right) branches_fit
+    elim (c.in_ok-branches.ensures.reads hidden xs (otherwise_lexemes x ++ symbol RightBrace ∷ more) (branches_stand xs x more right)
     (otherwise_no_branch x more) e2) [
-      | inl e3 ↦ c.in_ok-otherwise.ensures.reads_seen hidden x (symbol RightBrace ∷ more) (otherwise_stands xs x more right) otherwise_fits refl e3
+      | inl e3 ↦ c.in_ok-otherwise.ensures.reads hidden x (symbol RightBrace ∷ more) (otherwise_stands xs x more right) refl e3
       | inr cut ↦ hidden_could (omega (arith, cut.1, c.in_ok-otherwise.ensures.beyond_bracket cut.0))
     ] in
-    c.in_ok-symbol.ensures.reads_seen hidden more e4
+    c.in_ok-symbol-2.ensures.reads hidden more e4
 
-pub action-returns-in_err-send-in-Send-clause-reads_seen : goal.action-returns-in_err-send-in-Send-clause-reads_seen
-action-returns-in_err-send-in-Send-clause-reads_seen t c =
-    λ hidden x more right deep ends could.
-    let says : Says c.args.self.now.rest.now c.beginning.result = record { alt = c.beginning.ensures.alt; for_loop = c.beginning.ensures.for_loop; set_verdict = c.beginning.ensures.set_verdict; all_ports = c.beginning.ensures.all_ports; send = c.beginning.ensures.send; receive = c.beginning.ensures.receive; control = c.beginning.ensures.control } in
+pub action-returns-in_err-send-in-Send-clause-reads : goal.action-returns-in_err-send-in-Send-clause-reads
+action-returns-in_err-send-in-Send-clause-reads t c =
+    λ hidden x more right ends could.
+    let told = c.beginning.ensures in
+    let says : Says c.args.self.now.rest.now c.beginning.result =
+    record { alt = told.alt; for_loop = told.for_loop; set_verdict = told.set_verdict; all_ports = told.all_ports; send = told.send; receive = told.receive; control = told.control } in
     handed_seen hidden c.from_residual.result _ _ c.from_residual.ensures.1
-    (elim (action_seen hidden c.args.left x more _ c.beginning.result begins.Send says c.beginning.ensures.of_port c.in-Send.is right deep ends could) [
+    (elim (action_seen hidden x more _ c.beginning.result begins.Send says c.beginning.ensures.of_port c.in-Send.is right ends could) [
       | inl untold ↦ port_stuck hidden c.args.self.now _ untold c.in_err-send-in-Send.ensures.beyond c.in_err-send-in-Send.ensures.beyond_name
           c.in_err-send-in-Send.ensures.beyond_dot
-      | inr b ↦ c.in_err-send-in-Send.ensures.reads_seen hidden b.0 more b.1.0 b.1.1 b.1.2 b.2
+      | inr b ↦ c.in_err-send-in-Send.ensures.reads hidden b.0 more b.1.0 b.1.1 b.2
     ])
 
-pub action-returns-in_ok-send-in-Send-clause-reads_seen : goal.action-returns-in_ok-send-in-Send-clause-reads_seen
-action-returns-in_ok-send-in-Send-clause-reads_seen t c =
-    λ hidden x more right deep ends could.
-    let says : Says c.args.self.now.rest.now c.beginning.result = record { alt = c.beginning.ensures.alt; for_loop = c.beginning.ensures.for_loop; set_verdict = c.beginning.ensures.set_verdict; all_ports = c.beginning.ensures.all_ports; send = c.beginning.ensures.send; receive = c.beginning.ensures.receive; control = c.beginning.ensures.control } in
-    elim (action_seen hidden c.args.left x more _ c.beginning.result begins.Send says c.beginning.ensures.of_port c.in-Send.is right deep ends could) [
+pub action-returns-in_ok-send-in-Send-clause-reads : goal.action-returns-in_ok-send-in-Send-clause-reads
+action-returns-in_ok-send-in-Send-clause-reads t c =
+    λ hidden x more right ends could.
+    let told = c.beginning.ensures in
+    let says : Says c.args.self.now.rest.now c.beginning.result =
+    record { alt = told.alt; for_loop = told.for_loop; set_verdict = told.set_verdict; all_ports = told.all_ports; send = told.send; receive = told.receive; control = told.control } in
+    elim (action_seen hidden x more _ c.beginning.result begins.Send says c.beginning.ensures.of_port c.in-Send.is right ends could) [
       | inl untold ↦ port_passed hidden c.args.self.now.rest.now _ more untold (omega
           (arith, c.in_ok-send-in-Send.ensures.shorter)) c.in_ok-send-in-Send.ensures.beyond_name c.in_ok-send-in-Send.ensures.beyond_dot
-      | inr b ↦ c.in_ok-send-in-Send.ensures.reads_seen hidden b.0 more b.1.0 b.1.1 b.1.2 b.2
+      | inr b ↦ c.in_ok-send-in-Send.ensures.reads hidden b.0 more b.1.0 b.1.1 b.2
     ]
 
 pub action-returns-in_err-send-in-Send-clause-beyond_start : goal.action-returns-in_err-send-in-Send-clause-beyond_start
@@ -1130,25 +743,29 @@ pub action-returns-in_ok-send-in-Send-clause-beyond_start : goal.action-returns-
 action-returns-in_ok-send-in-Send-clause-beyond_start t c =
     λ is dot start. absurd (other_way _ begins.Control begins.Send (c.beginning.ensures.control port_operation.Start is start) c.in-Send.is (λ same. cc same))
 
-pub action-returns-in_err-receive-in-Receive-clause-reads_seen : goal.action-returns-in_err-receive-in-Receive-clause-reads_seen
-action-returns-in_err-receive-in-Receive-clause-reads_seen t c =
-    λ hidden x more right deep ends could.
-    let says : Says c.args.self.now.rest.now c.beginning.result = record { alt = c.beginning.ensures.alt; for_loop = c.beginning.ensures.for_loop; set_verdict = c.beginning.ensures.set_verdict; all_ports = c.beginning.ensures.all_ports; send = c.beginning.ensures.send; receive = c.beginning.ensures.receive; control = c.beginning.ensures.control } in
+pub action-returns-in_err-receive-in-Receive-clause-reads : goal.action-returns-in_err-receive-in-Receive-clause-reads
+action-returns-in_err-receive-in-Receive-clause-reads t c =
+    λ hidden x more right ends could.
+    let told = c.beginning.ensures in
+    let says : Says c.args.self.now.rest.now c.beginning.result =
+    record { alt = told.alt; for_loop = told.for_loop; set_verdict = told.set_verdict; all_ports = told.all_ports; send = told.send; receive = told.receive; control = told.control } in
     handed_seen hidden c.from_residual-in_err-receive-in-Receive.result _ _ c.from_residual-in_err-receive-in-Receive.ensures.1
-    (elim (action_seen hidden c.args.left x more _ c.beginning.result begins.Receive says c.beginning.ensures.of_port c.in-Receive.is right deep ends could) [
+    (elim (action_seen hidden x more _ c.beginning.result begins.Receive says c.beginning.ensures.of_port c.in-Receive.is right ends could) [
       | inl untold ↦ port_stuck hidden c.args.self.now _ untold c.in_err-receive-in-Receive.ensures.beyond c.in_err-receive-in-Receive.ensures.beyond_name
           c.in_err-receive-in-Receive.ensures.beyond_dot
-      | inr b ↦ c.in_err-receive-in-Receive.ensures.reads_seen hidden b.0 more b.1.0 b.1.1 b.1.2 b.2
+      | inr b ↦ c.in_err-receive-in-Receive.ensures.reads hidden b.0 more b.1.0 b.1.1 b.2
     ])
 
-pub action-returns-in_ok-receive-in-Receive-clause-reads_seen : goal.action-returns-in_ok-receive-in-Receive-clause-reads_seen
-action-returns-in_ok-receive-in-Receive-clause-reads_seen t c =
-    λ hidden x more right deep ends could.
-    let says : Says c.args.self.now.rest.now c.beginning.result = record { alt = c.beginning.ensures.alt; for_loop = c.beginning.ensures.for_loop; set_verdict = c.beginning.ensures.set_verdict; all_ports = c.beginning.ensures.all_ports; send = c.beginning.ensures.send; receive = c.beginning.ensures.receive; control = c.beginning.ensures.control } in
-    elim (action_seen hidden c.args.left x more _ c.beginning.result begins.Receive says c.beginning.ensures.of_port c.in-Receive.is right deep ends could) [
+pub action-returns-in_ok-receive-in-Receive-clause-reads : goal.action-returns-in_ok-receive-in-Receive-clause-reads
+action-returns-in_ok-receive-in-Receive-clause-reads t c =
+    λ hidden x more right ends could.
+    let told = c.beginning.ensures in
+    let says : Says c.args.self.now.rest.now c.beginning.result =
+    record { alt = told.alt; for_loop = told.for_loop; set_verdict = told.set_verdict; all_ports = told.all_ports; send = told.send; receive = told.receive; control = told.control } in
+    elim (action_seen hidden x more _ c.beginning.result begins.Receive says c.beginning.ensures.of_port c.in-Receive.is right ends could) [
       | inl untold ↦ port_passed hidden c.args.self.now.rest.now _ more untold (omega
           (arith, c.in_ok-receive-in-Receive.ensures.shorter)) c.in_ok-receive-in-Receive.ensures.beyond_name c.in_ok-receive-in-Receive.ensures.beyond_dot
-      | inr b ↦ c.in_ok-receive-in-Receive.ensures.reads_seen hidden b.0 more b.1.0 b.1.1 b.1.2 b.2
+      | inr b ↦ c.in_ok-receive-in-Receive.ensures.reads hidden b.0 more b.1.0 b.1.1 b.2
     ]
 
 pub action-returns-in_err-receive-in-Receive-clause-beyond_start : goal.action-returns-in_err-receive-in-Receive-clause-beyond_start
@@ -1161,94 +778,112 @@ action-returns-in_ok-receive-in-Receive-clause-beyond_start t c =
     λ is dot start. absurd (other_way _ begins.Control begins.Receive (c.beginning.ensures.control port_operation.Start is start) c.in-Receive.is
     (λ same. cc same))
 
-pub action-returns-in_err-control-in-Control-clause-reads_seen : goal.action-returns-in_err-control-in-Control-clause-reads_seen
-action-returns-in_err-control-in-Control-clause-reads_seen t c =
-    λ hidden x more right deep ends could.
-    let says : Says c.args.self.now.rest.now c.beginning.result = record { alt = c.beginning.ensures.alt; for_loop = c.beginning.ensures.for_loop; set_verdict = c.beginning.ensures.set_verdict; all_ports = c.beginning.ensures.all_ports; send = c.beginning.ensures.send; receive = c.beginning.ensures.receive; control = c.beginning.ensures.control } in
+pub action-returns-in_err-control-in-Control-clause-reads : goal.action-returns-in_err-control-in-Control-clause-reads
+action-returns-in_err-control-in-Control-clause-reads t c =
+    λ hidden x more right ends could.
+    let told = c.beginning.ensures in
+    let says : Says c.args.self.now.rest.now c.beginning.result =
+    record { alt = told.alt; for_loop = told.for_loop; set_verdict = told.set_verdict; all_ports = told.all_ports; send = told.send; receive = told.receive; control = told.control } in
     handed_seen hidden c.from_residual-in_err-control-in-Control.result _ _ c.from_residual-in_err-control-in-Control.ensures.1
-    (elim (action_seen hidden c.args.left x more _ c.beginning.result begins.Control says c.beginning.ensures.of_port c.in-Control.is right deep ends could) [
+    (elim (action_seen hidden x more _ c.beginning.result begins.Control says c.beginning.ensures.of_port c.in-Control.is right ends could) [
       | inl untold ↦ port_stuck hidden c.args.self.now _ untold c.in_err-control-in-Control.ensures.beyond c.in_err-control-in-Control.ensures.beyond_name
           c.in_err-control-in-Control.ensures.beyond_dot
-      | inr b ↦ c.in_err-control-in-Control.ensures.reads_seen hidden b.0 more b.1
+      | inr b ↦ c.in_err-control-in-Control.ensures.reads hidden b.0 more b.1
     ])
 
-pub action-returns-in_ok-control-in-Control-clause-reads_seen : goal.action-returns-in_ok-control-in-Control-clause-reads_seen
-action-returns-in_ok-control-in-Control-clause-reads_seen t c =
-    λ hidden x more right deep ends could.
-    let says : Says c.args.self.now.rest.now c.beginning.result = record { alt = c.beginning.ensures.alt; for_loop = c.beginning.ensures.for_loop; set_verdict = c.beginning.ensures.set_verdict; all_ports = c.beginning.ensures.all_ports; send = c.beginning.ensures.send; receive = c.beginning.ensures.receive; control = c.beginning.ensures.control } in
-    elim (action_seen hidden c.args.left x more _ c.beginning.result begins.Control says c.beginning.ensures.of_port c.in-Control.is right deep ends could) [
+pub action-returns-in_ok-control-in-Control-clause-reads : goal.action-returns-in_ok-control-in-Control-clause-reads
+action-returns-in_ok-control-in-Control-clause-reads t c =
+    λ hidden x more right ends could.
+    let told = c.beginning.ensures in
+    let says : Says c.args.self.now.rest.now c.beginning.result =
+    record { alt = told.alt; for_loop = told.for_loop; set_verdict = told.set_verdict; all_ports = told.all_ports; send = told.send; receive = told.receive; control = told.control } in
+    elim (action_seen hidden x more _ c.beginning.result begins.Control says c.beginning.ensures.of_port c.in-Control.is right ends could) [
       | inl untold ↦ port_passed hidden c.args.self.now.rest.now _ more untold (omega
           (arith, c.in_ok-control-in-Control.ensures.shorter)) c.in_ok-control-in-Control.ensures.beyond_name c.in_ok-control-in-Control.ensures.beyond_dot
-      | inr b ↦ c.in_ok-control-in-Control.ensures.reads_seen hidden b.0 more b.1
+      | inr b ↦ c.in_ok-control-in-Control.ensures.reads hidden b.0 more b.1
     ]
 
-pub action-returns-in_err-operation-in-AllPorts-clause-reads_seen : goal.action-returns-in_err-operation-in-AllPorts-clause-reads_seen
-action-returns-in_err-operation-in-AllPorts-clause-reads_seen t c =
-    λ hidden x more right deep ends could.
-    let says : Says c.args.self.now.rest.now c.beginning.result = record { alt = c.beginning.ensures.alt; for_loop = c.beginning.ensures.for_loop; set_verdict = c.beginning.ensures.set_verdict; all_ports = c.beginning.ensures.all_ports; send = c.beginning.ensures.send; receive = c.beginning.ensures.receive; control = c.beginning.ensures.control } in
+pub action-returns-in_err-operation-in-AllPorts-clause-reads : goal.action-returns-in_err-operation-in-AllPorts-clause-reads
+action-returns-in_err-operation-in-AllPorts-clause-reads t c =
+    λ hidden x more right ends could.
+    let told = c.beginning.ensures in
+    let says : Says c.args.self.now.rest.now c.beginning.result =
+    record { alt = told.alt; for_loop = told.for_loop; set_verdict = told.set_verdict; all_ports = told.all_ports; send = told.send; receive = told.receive; control = told.control } in
     handed_seen hidden c.from_residual-in_err-operation-in-AllPorts.result _ _ c.from_residual-in_err-operation-in-AllPorts.ensures.1
-    (elim (action_seen hidden c.args.left x more _ c.beginning.result begins.AllPorts says c.beginning.ensures.of_port c.in-AllPorts.is right deep ends could) [
+    (elim (action_seen hidden x more _ c.beginning.result begins.AllPorts says c.beginning.ensures.of_port c.in-AllPorts.is right ends could) [
       | inl untold ↦ let h : AllHidden hidden c.args.self.now.rest.now = untold in
-          stands_hidden hidden 0 c.args.self.now _ (omega arith) c.in_err-operation-in-AllPorts.ensures.beyond
-      | inr b ↦ c.in_err-operation-in-AllPorts.ensures.reads_seen hidden b.0 more b.1
+          stuck_hidden hidden 0 c.args.self.now _ (omega arith) c.in_err-operation-in-AllPorts.ensures.beyond
+      | inr b ↦ c.in_err-operation-in-AllPorts.ensures.reads hidden b.0 more b.1
     ])
 
-pub action-returns-in_ok-operation-in-AllPorts-clause-reads_seen : goal.action-returns-in_ok-operation-in-AllPorts-clause-reads_seen
-action-returns-in_ok-operation-in-AllPorts-clause-reads_seen t c =
-    λ hidden x more right deep ends could.
-    let says : Says c.args.self.now.rest.now c.beginning.result = record { alt = c.beginning.ensures.alt; for_loop = c.beginning.ensures.for_loop; set_verdict = c.beginning.ensures.set_verdict; all_ports = c.beginning.ensures.all_ports; send = c.beginning.ensures.send; receive = c.beginning.ensures.receive; control = c.beginning.ensures.control } in
-    elim (action_seen hidden c.args.left x more _ c.beginning.result begins.AllPorts says c.beginning.ensures.of_port c.in-AllPorts.is right deep ends could) [
+pub action-returns-in_ok-operation-in-AllPorts-clause-reads : goal.action-returns-in_ok-operation-in-AllPorts-clause-reads
+action-returns-in_ok-operation-in-AllPorts-clause-reads t c =
+    λ hidden x more right ends could.
+    let told = c.beginning.ensures in
+    let says : Says c.args.self.now.rest.now c.beginning.result =
+    record { alt = told.alt; for_loop = told.for_loop; set_verdict = told.set_verdict; all_ports = told.all_ports; send = told.send; receive = told.receive; control = told.control } in
+    elim (action_seen hidden x more _ c.beginning.result begins.AllPorts says c.beginning.ensures.of_port c.in-AllPorts.is right ends could) [
       | inl untold ↦ let h : AllHidden hidden c.args.self.now.rest.now = untold in hidden_could (omega (arith, c.in_ok-operation-in-AllPorts.ensures.shorter))
-      | inr b ↦ c.in_ok-operation-in-AllPorts.ensures.reads_seen hidden b.0 more b.1
+      | inr b ↦ c.in_ok-operation-in-AllPorts.ensures.reads hidden b.0 more b.1
     ]
 
-pub action-returns-in_err-verdict-in-SetVerdict-clause-reads_seen : goal.action-returns-in_err-verdict-in-SetVerdict-clause-reads_seen
-action-returns-in_err-verdict-in-SetVerdict-clause-reads_seen t c =
-    λ hidden x more right deep ends could.
-    let says : Says c.args.self.now.rest.now c.beginning.result = record { alt = c.beginning.ensures.alt; for_loop = c.beginning.ensures.for_loop; set_verdict = c.beginning.ensures.set_verdict; all_ports = c.beginning.ensures.all_ports; send = c.beginning.ensures.send; receive = c.beginning.ensures.receive; control = c.beginning.ensures.control } in
+pub action-returns-in_err-verdict-in-SetVerdict-clause-reads : goal.action-returns-in_err-verdict-in-SetVerdict-clause-reads
+action-returns-in_err-verdict-in-SetVerdict-clause-reads t c =
+    λ hidden x more right ends could.
+    let told = c.beginning.ensures in
+    let says : Says c.args.self.now.rest.now c.beginning.result =
+    record { alt = told.alt; for_loop = told.for_loop; set_verdict = told.set_verdict; all_ports = told.all_ports; send = told.send; receive = told.receive; control = told.control } in
     handed_seen hidden c.from_residual-in_err-verdict-in-SetVerdict.result _ _ c.from_residual-in_err-verdict-in-SetVerdict.ensures.1
-    (elim (action_seen hidden c.args.left x more _ c.beginning.result begins.SetVerdict says c.beginning.ensures.of_port c.in-SetVerdict.is right deep ends
+    (elim (action_seen hidden x more _ c.beginning.result begins.SetVerdict says c.beginning.ensures.of_port c.in-SetVerdict.is right ends
     could) [
       | inl untold ↦ let h : AllHidden hidden c.args.self.now.rest.now = untold in
-          stands_hidden hidden 0 c.args.self.now _ (omega arith) c.in_err-verdict-in-SetVerdict.ensures.beyond
-      | inr b ↦ c.in_err-verdict-in-SetVerdict.ensures.reads_seen hidden b.0 more b.1 b.2
+          stuck_hidden hidden 0 c.args.self.now _ (omega arith) c.in_err-verdict-in-SetVerdict.ensures.beyond
+      | inr b ↦ c.in_err-verdict-in-SetVerdict.ensures.reads hidden b.0 more b.1
     ])
 
-pub action-returns-in_ok-verdict-in-SetVerdict-clause-reads_seen : goal.action-returns-in_ok-verdict-in-SetVerdict-clause-reads_seen
-action-returns-in_ok-verdict-in-SetVerdict-clause-reads_seen t c =
-    λ hidden x more right deep ends could.
-    let says : Says c.args.self.now.rest.now c.beginning.result = record { alt = c.beginning.ensures.alt; for_loop = c.beginning.ensures.for_loop; set_verdict = c.beginning.ensures.set_verdict; all_ports = c.beginning.ensures.all_ports; send = c.beginning.ensures.send; receive = c.beginning.ensures.receive; control = c.beginning.ensures.control } in
-    elim (action_seen hidden c.args.left x more _ c.beginning.result begins.SetVerdict says c.beginning.ensures.of_port c.in-SetVerdict.is right deep ends
+pub action-returns-in_ok-verdict-in-SetVerdict-clause-reads : goal.action-returns-in_ok-verdict-in-SetVerdict-clause-reads
+action-returns-in_ok-verdict-in-SetVerdict-clause-reads t c =
+    λ hidden x more right ends could.
+    let told = c.beginning.ensures in
+    let says : Says c.args.self.now.rest.now c.beginning.result =
+    record { alt = told.alt; for_loop = told.for_loop; set_verdict = told.set_verdict; all_ports = told.all_ports; send = told.send; receive = told.receive; control = told.control } in
+    elim (action_seen hidden x more _ c.beginning.result begins.SetVerdict says c.beginning.ensures.of_port c.in-SetVerdict.is right ends
     could) [
       | inl untold ↦ let h : AllHidden hidden c.args.self.now.rest.now = untold in hidden_could (omega (arith, c.in_ok-verdict-in-SetVerdict.ensures.shorter))
-      | inr b ↦ c.in_ok-verdict-in-SetVerdict.ensures.reads_seen hidden b.0 more b.1 b.2
+      | inr b ↦ c.in_ok-verdict-in-SetVerdict.ensures.reads hidden b.0 more b.1
     ]
 
-pub action-returns-in_err-counted-in-For-clause-reads_seen : goal.action-returns-in_err-counted-in-For-clause-reads_seen
-action-returns-in_err-counted-in-For-clause-reads_seen t c =
-    λ hidden x more right deep ends could.
-    let says : Says c.args.self.now.rest.now c.beginning.result = record { alt = c.beginning.ensures.alt; for_loop = c.beginning.ensures.for_loop; set_verdict = c.beginning.ensures.set_verdict; all_ports = c.beginning.ensures.all_ports; send = c.beginning.ensures.send; receive = c.beginning.ensures.receive; control = c.beginning.ensures.control } in
+pub action-returns-in_err-counted-in-For-clause-reads : goal.action-returns-in_err-counted-in-For-clause-reads
+action-returns-in_err-counted-in-For-clause-reads t c =
+    λ hidden x more right ends could.
+    let told = c.beginning.ensures in
+    let says : Says c.args.self.now.rest.now c.beginning.result =
+    record { alt = told.alt; for_loop = told.for_loop; set_verdict = told.set_verdict; all_ports = told.all_ports; send = told.send; receive = told.receive; control = told.control } in
     handed_seen hidden c.from_residual-in_err-counted-in-For.result _ _ c.from_residual-in_err-counted-in-For.ensures.1
-    (elim (action_seen hidden c.args.left x more _ c.beginning.result begins.For says c.beginning.ensures.of_port c.in-For.is right deep ends could) [
+    (elim (action_seen hidden x more _ c.beginning.result begins.For says c.beginning.ensures.of_port c.in-For.is right ends could) [
       | inl untold ↦ let h : AllHidden hidden c.args.self.now.rest.now = untold in
-          stands_hidden hidden 0 c.args.self.now _ (omega arith) c.in_err-counted-in-For.ensures.beyond
-      | inr b ↦ c.in_err-counted-in-For.ensures.reads_seen hidden b.0 more b.1.0 b.1.1 b.2
+          stuck_hidden hidden 0 c.args.self.now _ (omega arith) c.in_err-counted-in-For.ensures.beyond
+      | inr b ↦ c.in_err-counted-in-For.ensures.reads hidden b.0 more b.1 b.2
     ])
 
-pub action-returns-in_ok-counted-in-For-clause-reads_seen : goal.action-returns-in_ok-counted-in-For-clause-reads_seen
-action-returns-in_ok-counted-in-For-clause-reads_seen t c =
-    λ hidden x more right deep ends could.
-    let says : Says c.args.self.now.rest.now c.beginning.result = record { alt = c.beginning.ensures.alt; for_loop = c.beginning.ensures.for_loop; set_verdict = c.beginning.ensures.set_verdict; all_ports = c.beginning.ensures.all_ports; send = c.beginning.ensures.send; receive = c.beginning.ensures.receive; control = c.beginning.ensures.control } in
-    elim (action_seen hidden c.args.left x more _ c.beginning.result begins.For says c.beginning.ensures.of_port c.in-For.is right deep ends could) [
+pub action-returns-in_ok-counted-in-For-clause-reads : goal.action-returns-in_ok-counted-in-For-clause-reads
+action-returns-in_ok-counted-in-For-clause-reads t c =
+    λ hidden x more right ends could.
+    let told = c.beginning.ensures in
+    let says : Says c.args.self.now.rest.now c.beginning.result =
+    record { alt = told.alt; for_loop = told.for_loop; set_verdict = told.set_verdict; all_ports = told.all_ports; send = told.send; receive = told.receive; control = told.control } in
+    elim (action_seen hidden x more _ c.beginning.result begins.For says c.beginning.ensures.of_port c.in-For.is right ends could) [
       | inl untold ↦ let h : AllHidden hidden c.args.self.now.rest.now = untold in hidden_could (omega (arith, c.in_ok-counted-in-For.ensures.shorter))
-      | inr b ↦ c.in_ok-counted-in-For.ensures.reads_seen hidden b.0 more b.1.0 b.1.1 b.2
+      | inr b ↦ c.in_ok-counted-in-For.ensures.reads hidden b.0 more b.1 b.2
     ]
 
-pub action-returns-in-Alt-clause-reads_seen : goal.action-returns-in-Alt-clause-reads_seen
-action-returns-in-Alt-clause-reads_seen t c =
-    λ hidden x more right deep ends could.
-    let says : Says c.args.self.now.rest.now c.beginning.result = record { alt = c.beginning.ensures.alt; for_loop = c.beginning.ensures.for_loop; set_verdict = c.beginning.ensures.set_verdict; all_ports = c.beginning.ensures.all_ports; send = c.beginning.ensures.send; receive = c.beginning.ensures.receive; control = c.beginning.ensures.control } in
-    elim (action_seen hidden c.args.left x more _ c.beginning.result begins.Alt says c.beginning.ensures.of_port c.in-Alt.is right deep ends could) [
+pub action-returns-in-Alt-clause-reads : goal.action-returns-in-Alt-clause-reads
+action-returns-in-Alt-clause-reads t c =
+    λ hidden x more right ends could.
+    let told = c.beginning.ensures in
+    let says : Says c.args.self.now.rest.now c.beginning.result =
+    record { alt = told.alt; for_loop = told.for_loop; set_verdict = told.set_verdict; all_ports = told.all_ports; send = told.send; receive = told.receive; control = told.control } in
+    elim (action_seen hidden x more _ c.beginning.result begins.Alt says c.beginning.ensures.of_port c.in-Alt.is right ends could) [
       | inl untold ↦ hidden_result hidden c.args.self.now c.alt.new.self c.alt.result more untold c.alt.ensures.beyond
-      | inr b ↦ c.alt.ensures.reads_seen hidden b.0 b.1 more b.2.0 b.2.1 b.2.2 b.3
+      | inr b ↦ c.alt.ensures.reads hidden b.0 b.1 more b.2.0 b.2.1 b.3
     ]

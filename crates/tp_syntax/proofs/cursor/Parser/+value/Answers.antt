@@ -1,45 +1,35 @@
 -- One more value or field of a value is read behind its comma.
-use Rattle.std.proofs.Common.{◌+◌, ◌-◌, pos, length, List, ◌∙◌, map, refl, arith, length-append, sym, subst, rules, ◌≡◌, ◌≤◌, true, inl, inr, ap, append_assoc, [], ◌∷◌}
+use Rattle.std.proofs.Common.{◌+◌, ◌-◌, pos, length, List, ◌∙◌, map, refl, arith, length-append, sym, subst, rules, ◌≡◌, true, inl, inr, ap, [], ◌∷◌}
 use Rattle.tp_syntax.specs.Values.{value_lexemes, value_field_lexemes}
 use Rattle.tp_syntax.proofs.ReadSequenceGrowth.{push_read}
-use Rattle.tp_syntax.specs.Nesting.{value_depth, value_field_depth}
-use Rattle.tp_syntax.proofs.NestingEquations.{push_nests, value_field_depth_out}
 use Rattle.tp_syntax.specs.Grammar.{is_value, is_value_field}
 use Rattle.tp_syntax.proofs.GrammarEquations.{value_int, value_bool, value_text, value_name, value_list, value_record, value_field_out}
 use Rattle.tp_syntax.proofs.PassedPartGrowth.{each_of_one, push_right}
 use Rattle.std.proofs.lemmas.Grind.{common_steps}
-use Rattle.tp_syntax.proofs.FirstTokensAhead.{handed, same_ahead}
-use Rattle.tp_syntax.proofs.PartsLeftToRead.{Remain, comma_first, comma_next, comma_last, one_right, one_of, none_of, some_of}
+use Rattle.tp_syntax.proofs.PartsLeftToRead.{one_right, one_of}
 use Rattle.std.proofs.lemmas.Bool.{iff_false}
 use Rattle.tp_token.specs.declared.token.Token.TheVariants as token
 use Rattle.tp_token.specs.declared.word.Word.TheVariants as w
-use Rattle.tp_token.specs.Lexeme.{name, word, number, text, symbol, lexeme_of}
-use Rattle.tp_token.specs.declared.token.Token.{Token}
+use Rattle.tp_token.specs.Lexeme.{symbol}
 use Rattle.tp_token.specs.declared.token.Symbol.TheVariants.{Minus, LeftBrace, RightBrace}
 use Rattle.tp_syntax.specs.declared.cursor.Parser.{Parser}
-use Rattle.tp_syntax.specs.Ahead.{ahead, lexemes, lexemes_from}
+use Rattle.tp_syntax.specs.Ahead.{lexemes}
 use Rattle.tp_syntax.specs.Sequences.{by_commas}
-use Rattle.tp_syntax.specs.Reading.{first}
-use Rattle.tp_syntax.proofs.BracedFieldsOrList.{list_no_field, field_at, each_one, too_great}
-use Rattle.tp_syntax.proofs.ValueReading.{value_behind, value_minus, value_some, value_token, is_value_token, value_no_brace, value_field_no_brace, value_named, value_field_starts, value_field_opens}
+use Rattle.tp_syntax.proofs.ValueReading.{value_some, value_no_brace, value_field_no_brace, value_field_opens}
 use Rattle.tp_tree.specs.declared.message.ValueField.{out-ValueField}
 use Rattle.tp_tree.specs.declared.message.Value.TheVariants as v
 use Rattle.tp_token.specs.Lexeme.{Lexeme}
 use Rattle.tp_syntax.specs.Ahead.{token_at}
 use Rattle.tp_syntax.specs.HiddenTokens.{AllHidden, CouldBe}
 use Rattle.tp_syntax.specs.Stuck.{StandAtLeast}
-use Rattle.tp_syntax.proofs.FirstTokensSeen.{ahead_stands, handed_as, handed_seen, hidden_behind, hidden_beyond, hidden_could, hidden_place, memory_stands, none_could, same_could, token_first}
+use Rattle.tp_syntax.proofs.FirstTokensStand.{memory_alone, own_could}
+use Rattle.tp_syntax.proofs.FirstTokensSeen.{ahead_stands, handed_as, handed_seen, hidden_behind, hidden_beyond, hidden_could, hidden_place, none_could, same_could, token_first}
 use Rattle.tp_syntax.proofs.PartsLeftSeen.{closed_seen, field_ahead, first_part_seen, last_part_seen, next_part_seen, some_item, unbraced_seen}
-use Rattle.tp_syntax.proofs.ValuesSeen.{list_some, list_unseen, name_deep, name_right, record_unseen, value_braced, value_full, value_other, value_signed, value_too_great, value_whole, zero_deep, zero_right}
+use Rattle.tp_syntax.proofs.ValuesSeen.{list_some, list_unseen, name_right, record_unseen, value_braced, value_other, value_signed, value_too_great, value_whole, zero_right}
 use Rattle.tp_syntax.proofs.cursor.Parser.+value.Goals as goal
 
 pub values-more-preserved : goal.values-more-preserved
 values-more-preserved t c = record {
-  reads = λ xs more right deep stops e.
-      let n = comma_next value_lexemes (λ x. (is_value x ≡ true) × (value_depth x ≤ c.args.left)) more _ _ (c.more.invariant.reads xs more right deep stops e) c.more-test.ensures.yes stops in
-      subst (Remain value_lexemes (λ x. (is_value x ≡ true) × (value_depth x ≤ c.args.left)) more) (sym (c.in_ok-next.ensures.reads n.0 n.2 n.1.0 n.1.1 n.3)) n.4;
-  nested = rw c.in_ok-push-2.ensures.items
-      (push_nests value_depth c.more.values.items c.in_ok-next.next c.args.left c.more.invariant.nested c.in_ok-next.ensures.nested);
   tokens = rw c.in_ok-push-2.ensures.items
       (push_read value_lexemes c.more.values.items c.in_ok-next.next _ _ _ _
       c.more.invariant.some c.more.invariant.tokens c.more-test.ensures.yes c.in_ok-next.ensures.tokens);
@@ -48,19 +38,14 @@ values-more-preserved t c = record {
   some = rw c.in_ok-push-2.ensures.items (simp length-append (omega arith));
   shorter = omega (arith, c.more.invariant.shorter, c.more-test.ensures.shorter, c.in_ok-next.ensures.shorter);
   forward = λ all tail. c.in_ok-next.ensures.forward all (c.more-test.ensures.forward all (c.more.invariant.forward all tail));
-  seen = λ hidden xs more right deep stops could.
-      let y = some_item is_value value_depth c.args.left c.more.values.items c.more.invariant.some c.more.invariant.grammatical c.more.invariant.nested in
-      let n = next_part_seen value_lexemes (λ x. (is_value x ≡ true) × (value_depth x ≤ c.args.left)) hidden more _ _ y.0 (y.1, y.2) (c.more.invariant.seen hidden xs more right deep stops could) c.more-test.ensures.passed stops in
-      (n.2, n.3, c.in_ok-next.ensures.reads_seen hidden n.0 _ n.1.0 n.1.1 n.4);
+  seen = λ hidden xs more right stops could.
+      let y = some_item is_value c.more.values.items c.more.invariant.some c.more.invariant.grammatical in
+      let n = next_part_seen value_lexemes (λ x. is_value x ≡ true) hidden more _ _ y.0 y.1 (c.more.invariant.seen hidden xs more right stops could) c.more-test.ensures.passed stops in
+      (n.2, n.3, c.in_ok-next.ensures.reads hidden n.0 _ n.1 n.4);
 }
 
 pub value_fields-more-preserved : goal.value_fields-more-preserved
 value_fields-more-preserved t c = record {
-  reads = λ xs more right deep stops e.
-      let n = comma_next value_field_lexemes (λ x. (is_value_field x ≡ true) × (value_field_depth x ≤ c.args.left)) more _ _ (c.more.invariant.reads xs more right deep stops e) c.more-test.ensures.yes stops in
-      subst (Remain value_field_lexemes (λ x. (is_value_field x ≡ true) × (value_field_depth x ≤ c.args.left)) more) (sym (c.in_ok-next.ensures.reads n.0 n.2 n.1.0 n.1.1 n.3)) n.4;
-  nested = rw c.in_ok-push-2.ensures.items
-      (push_nests value_field_depth c.more.fields.items c.in_ok-next.next c.args.left c.more.invariant.nested c.in_ok-next.ensures.nested);
   tokens = rw c.in_ok-push-2.ensures.items
       (push_read value_field_lexemes c.more.fields.items c.in_ok-next.next _ _ _ _
       c.more.invariant.some c.more.invariant.tokens c.more-test.ensures.yes c.in_ok-next.ensures.tokens);
@@ -69,10 +54,10 @@ value_fields-more-preserved t c = record {
   some = rw c.in_ok-push-2.ensures.items (simp length-append (omega arith));
   shorter = omega (arith, c.more.invariant.shorter, c.more-test.ensures.shorter, c.in_ok-next.ensures.shorter);
   forward = λ all tail. c.in_ok-next.ensures.forward all (c.more-test.ensures.forward all (c.more.invariant.forward all tail));
-  seen = λ hidden xs more right deep stops could.
-      let y = some_item is_value_field value_field_depth c.args.left c.more.fields.items c.more.invariant.some c.more.invariant.grammatical c.more.invariant.nested in
-      let n = next_part_seen value_field_lexemes (λ x. (is_value_field x ≡ true) × (value_field_depth x ≤ c.args.left)) hidden more _ _ y.0 (y.1, y.2) (c.more.invariant.seen hidden xs more right deep stops could) c.more-test.ensures.passed stops in
-      (n.2, n.3, c.in_ok-next.ensures.reads_seen hidden n.0 _ n.1.0 n.1.1 n.4);
+  seen = λ hidden xs more right stops could.
+      let y = some_item is_value_field c.more.fields.items c.more.invariant.some c.more.invariant.grammatical in
+      let n = next_part_seen value_field_lexemes (λ x. is_value_field x ≡ true) hidden more _ _ y.0 y.1 (c.more.invariant.seen hidden xs more right stops could) c.more-test.ensures.passed stops in
+      (n.2, n.3, c.in_ok-next.ensures.reads hidden n.0 _ n.1 n.4);
   beyond = λ field. omega (arith, c.more.invariant.beyond field, c.more-test.ensures.shorter, c.in_ok-next.ensures.shorter);
 }
 
@@ -109,252 +94,65 @@ value_field-returns-clause-grammatical t c = value_field_out _ ∙ c.in_ok-value
 pub values-more-init : goal.values-more-init
 values-more-init t c = record {
   tokens = first_of (search rules, grind (arith, common_steps));
-  nested = first_of (search rules, grind (arith, common_steps));
   grammatical = first_of (search rules, grind (arith, common_steps));
   some = first_of (search rules, grind (arith, common_steps));
-  reads = λ xs more right deep stops e.
-      let n = comma_first value_lexemes (λ x. (is_value x ≡ true) × (value_depth x ≤ c.args.left)) xs more _ (one_right is_value value_depth c.args.left xs right deep) (one_of is_value xs right) e in
-      subst (Remain value_lexemes (λ x. (is_value x ≡ true) × (value_depth x ≤ c.args.left)) more) (sym (c.in_ok-first.ensures.reads n.0 n.2 n.1.0 n.1.1 n.3)) n.4;
   shorter = first_of (search rules, grind (arith, common_steps));
   forward = λ all tail. c.in_ok-first.ensures.forward all tail;
-  seen = λ hidden xs more right deep stops could.
-      let n = first_part_seen value_lexemes (λ x. (is_value x ≡ true) × (value_depth x ≤ c.args.left)) hidden xs more _ (one_right is_value value_depth c.args.left xs right deep) (one_of is_value xs right) could in
-      (n.2, n.3, c.in_ok-first.ensures.reads_seen hidden n.0 _ n.1.0 n.1.1 n.4);
+  seen = λ hidden xs more right stops could.
+      let n = first_part_seen value_lexemes (λ x. is_value x ≡ true) hidden xs more _ (one_right is_value xs right) (one_of is_value xs right) could in
+      (n.2, n.3, c.in_ok-first.ensures.reads hidden n.0 _ n.1 n.4);
 }
-
-pub values-returns-in_err-first-clause-reads : goal.values-returns-in_err-first-clause-reads
-values-returns-in_err-first-clause-reads t c =
-    λ xs more right deep stops e.
-    let n = comma_first value_lexemes (λ x. (is_value x ≡ true) × (value_depth x ≤ c.args.left)) xs more _ (one_right is_value value_depth c.args.left xs right deep) (one_of is_value xs right) e in
-    handed c.from_residual.result _ _ c.from_residual.ensures.1 (c.in_err-first.ensures.reads n.0 n.2 n.1.0 n.1.1 n.3)
-
-pub values-returns-in_err-next-clause-reads : goal.values-returns-in_err-next-clause-reads
-values-returns-in_err-next-clause-reads t c =
-    λ xs more right deep stops e.
-    let n = comma_next value_lexemes (λ x. (is_value x ≡ true) × (value_depth x ≤ c.args.left)) more _ _ (c.more.invariant.reads xs more right deep stops e) c.more-test.ensures.yes stops in
-    handed c.from_residual-in_err-next.result _ _ c.from_residual-in_err-next.ensures.1 (c.in_err-next.ensures.reads n.0 n.2 n.1.0 n.1.1 n.3)
-
-pub values-returns-clause-reads : goal.values-returns-clause-reads
-values-returns-clause-reads t c =
-    λ xs more right deep stops e.
-    same_ahead c.more-test.ensures.no (comma_last value_lexemes (λ x. (is_value x ≡ true) × (value_depth x ≤ c.args.left)) more _ (c.more.invariant.reads xs more right deep stops e) c.more-test.ensures.other)
 
 pub value_fields-more-init : goal.value_fields-more-init
 value_fields-more-init t c = record {
   tokens = first_of (search rules, grind (arith, common_steps));
-  nested = first_of (search rules, grind (arith, common_steps));
   grammatical = first_of (search rules, grind (arith, common_steps));
   some = first_of (search rules, grind (arith, common_steps));
-  reads = λ xs more right deep stops e.
-      let n = comma_first value_field_lexemes (λ x. (is_value_field x ≡ true) × (value_field_depth x ≤ c.args.left)) xs more _ (one_right is_value_field value_field_depth c.args.left xs right deep) (one_of is_value_field xs right) e in
-      subst (Remain value_field_lexemes (λ x. (is_value_field x ≡ true) × (value_field_depth x ≤ c.args.left)) more) (sym (c.in_ok-first.ensures.reads n.0 n.2 n.1.0 n.1.1 n.3)) n.4;
   shorter = first_of (search rules, grind (arith, common_steps));
   forward = λ all tail. c.in_ok-first.ensures.forward all tail;
-  seen = λ hidden xs more right deep stops could.
-      let n = first_part_seen value_field_lexemes (λ x. (is_value_field x ≡ true) × (value_field_depth x ≤ c.args.left)) hidden xs more _ (one_right is_value_field value_field_depth c.args.left xs right deep) (one_of is_value_field xs right) could in
-      (n.2, n.3, c.in_ok-first.ensures.reads_seen hidden n.0 _ n.1.0 n.1.1 n.4);
+  seen = λ hidden xs more right stops could.
+      let n = first_part_seen value_field_lexemes (λ x. is_value_field x ≡ true) hidden xs more _ (one_right is_value_field xs right) (one_of is_value_field xs right) could in
+      (n.2, n.3, c.in_ok-first.ensures.reads hidden n.0 _ n.1 n.4);
   beyond = λ field. c.in_ok-first.ensures.beyond field;
 }
 
+pub values-returns-in_err-first-clause-reads : goal.values-returns-in_err-first-clause-reads
+values-returns-in_err-first-clause-reads t c =
+    λ hidden xs more right stops could.
+    let n = first_part_seen value_lexemes (λ x. is_value x ≡ true) hidden xs more _ (one_right is_value xs right) (one_of is_value xs right) could in
+    handed_seen hidden c.from_residual.result _ _ c.from_residual.ensures.1 (c.in_err-first.ensures.reads hidden n.0 _ n.1 n.4)
+
+pub values-returns-in_err-next-clause-reads : goal.values-returns-in_err-next-clause-reads
+values-returns-in_err-next-clause-reads t c =
+    λ hidden xs more right stops could.
+    let y = some_item is_value c.more.values.items c.more.invariant.some c.more.invariant.grammatical in
+    let n = next_part_seen value_lexemes (λ x. is_value x ≡ true) hidden more _ _ y.0 y.1 (c.more.invariant.seen hidden xs more right stops could) c.more-test.ensures.passed stops in
+    handed_seen hidden c.from_residual-in_err-next.result _ _ c.from_residual-in_err-next.ensures.1 (c.in_err-next.ensures.reads hidden n.0 _ n.1 n.4)
+
+pub values-returns-clause-reads : goal.values-returns-clause-reads
+values-returns-clause-reads t c =
+    λ hidden xs more right stops could.
+    same_could c.more-test.ensures.no
+    (last_part_seen value_lexemes (λ x. is_value x ≡ true) hidden more _ (c.more.invariant.seen hidden xs more right stops could) c.more-test.ensures.absent)
+
 pub value_fields-returns-in_err-first-clause-reads : goal.value_fields-returns-in_err-first-clause-reads
 value_fields-returns-in_err-first-clause-reads t c =
-    λ xs more right deep stops e.
-    let n = comma_first value_field_lexemes (λ x. (is_value_field x ≡ true) × (value_field_depth x ≤ c.args.left)) xs more _ (one_right is_value_field value_field_depth c.args.left xs right deep) (one_of is_value_field xs right) e in
-    handed c.from_residual.result _ _ c.from_residual.ensures.1 (c.in_err-first.ensures.reads n.0 n.2 n.1.0 n.1.1 n.3)
+    λ hidden xs more right stops could.
+    let n = first_part_seen value_field_lexemes (λ x. is_value_field x ≡ true) hidden xs more _ (one_right is_value_field xs right) (one_of is_value_field xs right) could in
+    handed_seen hidden c.from_residual.result _ _ c.from_residual.ensures.1 (c.in_err-first.ensures.reads hidden n.0 _ n.1 n.4)
 
 pub value_fields-returns-in_err-next-clause-reads : goal.value_fields-returns-in_err-next-clause-reads
 value_fields-returns-in_err-next-clause-reads t c =
-    λ xs more right deep stops e.
-    let n = comma_next value_field_lexemes (λ x. (is_value_field x ≡ true) × (value_field_depth x ≤ c.args.left)) more _ _ (c.more.invariant.reads xs more right deep stops e) c.more-test.ensures.yes stops in
-    handed c.from_residual-in_err-next.result _ _ c.from_residual-in_err-next.ensures.1 (c.in_err-next.ensures.reads n.0 n.2 n.1.0 n.1.1 n.3)
+    λ hidden xs more right stops could.
+    let y = some_item is_value_field c.more.fields.items c.more.invariant.some c.more.invariant.grammatical in
+    let n = next_part_seen value_field_lexemes (λ x. is_value_field x ≡ true) hidden more _ _ y.0 y.1 (c.more.invariant.seen hidden xs more right stops could) c.more-test.ensures.passed stops in
+    handed_seen hidden c.from_residual-in_err-next.result _ _ c.from_residual-in_err-next.ensures.1 (c.in_err-next.ensures.reads hidden n.0 _ n.1 n.4)
 
 pub value_fields-returns-clause-reads : goal.value_fields-returns-clause-reads
 value_fields-returns-clause-reads t c =
-    λ xs more right deep stops e.
-    same_ahead c.more-test.ensures.no (comma_last value_field_lexemes (λ x. (is_value_field x ≡ true) × (value_field_depth x ≤ c.args.left)) more _ (c.more.invariant.reads xs more right deep stops e) c.more-test.ensures.other)
-
-pub value-returns-in_err-placed-clause-reads : goal.value-returns-in_err-placed-clause-reads
-value-returns-in_err-placed-clause-reads t c =
-    λ x more right deep e.
-    absurd (value_some x more (sym e ∙ ap ahead c.in_err-placed.ensures.last))
-
-pub value-returns-in_err-value-in-Symbol-Minus-clause-reads : goal.value-returns-in_err-value-in-Symbol-Minus-clause-reads
-value-returns-in_err-value-in-Symbol-Minus-clause-reads t c =
-    λ x more right deep e.
-    let m = value_minus x more (lexemes c.take.new.self.rest.now) right (sym (sym e ∙ c.in_ok-placed.ensures.tokens ∙ ap (λ (k : Token). lexemes_from (lexeme_of k) c.take.new.self.rest.now) (let first_token : c.in_ok-placed.placed.now.token ≡ token.Symbol Minus = first_of (search rules, grind arith) in first_token))) in
-    handed c.from_residual-in_err-value-in-Symbol-Minus.result _ _ c.from_residual-in_err-value-in-Symbol-Minus.ensures.1 (c.in_err-value-in-Symbol-Minus.ensures.reads m.0 more m.2 m.1)
-
-pub value-returns-in_ok-value-in-Symbol-Minus-clause-reads : goal.value-returns-in_ok-value-in-Symbol-Minus-clause-reads
-value-returns-in_ok-value-in-Symbol-Minus-clause-reads t c =
-    λ x more right deep e.
-    let m = value_minus x more (lexemes c.take.new.self.rest.now) right (sym (sym e ∙ c.in_ok-placed.ensures.tokens ∙ ap (λ (k : Token). lexemes_from (lexeme_of k) c.take.new.self.rest.now) (let first_token : c.in_ok-placed.placed.now.token ≡ token.Symbol Minus = first_of (search rules, grind arith) in first_token))) in
-    c.in_ok-value-in-Symbol-Minus.ensures.reads m.0 more m.2 m.1
-
-pub value-returns-in_err-value-in-Number-clause-reads : goal.value-returns-in_err-value-in-Number-clause-reads
-value-returns-in_err-value-in-Number-clause-reads t c =
-    λ x more right deep e.
-    let b = value_behind c.args.left x more (number c.in-Number.n) _ right deep (sym e ∙ c.in_ok-placed.ensures.tokens ∙ ap (λ (k : Token). lexemes_from (lexeme_of k) c.take.new.self.rest.now) (c.in-Number.is)) in
-    absurd (too_great c.in-Number.n c.in_err-value-in-Number.ensures.greatest b.0)
-
-pub value-returns-in_ok-value-in-Number-clause-reads : goal.value-returns-in_ok-value-in-Number-clause-reads
-value-returns-in_ok-value-in-Number-clause-reads t c =
-    λ x more right deep e.
-    let b = value_behind c.args.left x more (number c.in-Number.n) _ right deep (sym e ∙ c.in_ok-placed.ensures.tokens ∙ ap (λ (k : Token). lexemes_from (lexeme_of k) c.take.new.self.rest.now) (c.in-Number.is)) in
-    b.1
-
-pub value-returns-in-Word-True-clause-reads : goal.value-returns-in-Word-True-clause-reads
-value-returns-in-Word-True-clause-reads t c =
-    λ x more right deep e.
-    let b = value_behind c.args.left x more (word w.True) _ right deep (sym e ∙ c.in_ok-placed.ensures.tokens ∙ ap (λ (k : Token). lexemes_from (lexeme_of k) c.take.new.self.rest.now) (let first_token : c.in_ok-placed.placed.now.token ≡ token.Word w.True = first_of (search rules, grind arith) in first_token)) in
-    b
-
-pub value-returns-in-Word-False-clause-reads : goal.value-returns-in-Word-False-clause-reads
-value-returns-in-Word-False-clause-reads t c =
-    λ x more right deep e.
-    let b = value_behind c.args.left x more (word w.False) _ right deep (sym e ∙ c.in_ok-placed.ensures.tokens ∙ ap (λ (k : Token). lexemes_from (lexeme_of k) c.take.new.self.rest.now) (let first_token : c.in_ok-placed.placed.now.token ≡ token.Word w.False = first_of (search rules, grind arith) in first_token)) in
-    b
-
-pub value-returns-in_ok-characters-in-Text-clause-reads : goal.value-returns-in_ok-characters-in-Text-clause-reads
-value-returns-in_ok-characters-in-Text-clause-reads t c =
-    λ x more right deep e.
-    let b = value_behind c.args.left x more (text _) _ right deep (sym e ∙ c.in_ok-placed.ensures.tokens ∙ ap (λ (k : Token). lexemes_from (lexeme_of k) c.take.new.self.rest.now) (c.in-Text.is)) in
-    b
-
-pub value-returns-in_ok-name-in-Name-clause-reads : goal.value-returns-in_ok-name-in-Name-clause-reads
-value-returns-in_ok-name-in-Name-clause-reads t c =
-    λ x more right deep e.
-    let b = value_behind c.args.left x more (name _) _ right deep (sym e ∙ c.in_ok-placed.ensures.tokens ∙ ap (λ (k : Token). lexemes_from (lexeme_of k) c.take.new.self.rest.now) (c.in-Name.is)) in
-    b
-
-pub value-returns-in_err-inner-in-Symbol-LeftBrace-clause-reads : goal.value-returns-in_err-inner-in-Symbol-LeftBrace-clause-reads
-value-returns-in_err-inner-in-Symbol-LeftBrace-clause-reads t c =
-    λ x more right deep e.
-    let b = value_behind c.args.left x more (symbol LeftBrace) _ right deep (sym e ∙ c.in_ok-placed.ensures.tokens ∙ ap (λ (k : Token). lexemes_from (lexeme_of k) c.take.new.self.rest.now) (let first_token : c.in_ok-placed.placed.now.token ≡ token.Symbol LeftBrace = first_of (search rules, grind arith) in first_token)) in
-    absurd (omega (arith, b.1, c.in_err-inner-in-Symbol-LeftBrace.ensures.full))
-
-pub value-returns-in_ok-inner-in-Symbol-LeftBrace-clause-reads : goal.value-returns-in_ok-inner-in-Symbol-LeftBrace-clause-reads
-value-returns-in_ok-inner-in-Symbol-LeftBrace-clause-reads t c =
-    λ x more right deep e.
-    let b = value_behind c.args.left x more (symbol LeftBrace) _ right deep (sym e ∙ c.in_ok-placed.ensures.tokens ∙ ap (λ (k : Token). lexemes_from (lexeme_of k) c.take.new.self.rest.now) (let first_token : c.in_ok-placed.placed.now.token ≡ token.Symbol LeftBrace = first_of (search rules, grind arith) in first_token)) in
-    elim b.2 [
-      | inl l ↦ c.value_entries.ensures.reads_list l.0 more l.1 (omega (arith, l.2, b.1, c.in_ok-inner-in-Symbol-LeftBrace.ensures.value)) l.3
-      | inr l ↦ c.value_entries.ensures.reads_record l.0 more l.1 (omega (arith, l.2, b.1, c.in_ok-inner-in-Symbol-LeftBrace.ensures.value)) l.3
-    ]
-
-pub value-returns-in_default-clause-reads : goal.value-returns-in_default-clause-reads
-value-returns-in_default-clause-reads t c =
-    λ x more right deep e.
-    let known : is_value_token (lexeme_of c.in_ok-placed.placed.now.token) ≡ true = value_token c.args.left x more _ _ right deep (sym e ∙ c.in_ok-placed.ensures.tokens) in
-    first_of (search rules, grind arith)
-
-pub value_entries-returns-then-has_symbol-clause-reads_list : goal.value_entries-returns-then-has_symbol-clause-reads_list
-value_entries-returns-then-has_symbol-clause-reads_list t c =
-    λ xs more right deep e.
-    let same = none_of value_lexemes xs (symbol RightBrace ∷ more) _ (e ∙ append_assoc (by_commas (map value_lexemes xs)) (symbol RightBrace ∷ []) more)
-    (λ y r at. value_no_brace y r (ap first (sym at ∙ c.if-has_symbol.ensures.yes))) in
-    cc (same, c.if-has_symbol.ensures.yes)
-
-pub value_entries-returns-then-has_symbol-clause-reads_record : goal.value_entries-returns-then-has_symbol-clause-reads_record
-value_entries-returns-then-has_symbol-clause-reads_record t c =
-    λ xs more right deep e.
-    let same = none_of value_field_lexemes xs (symbol RightBrace ∷ more) _ (e ∙ append_assoc (by_commas (map value_field_lexemes xs)) (symbol RightBrace ∷ []) more)
-    (λ y r at. value_field_no_brace y r (ap first (sym at ∙ c.if-has_symbol.ensures.yes))) in
-    cc (same, c.if-has_symbol.ensures.yes)
-
-pub value_entries-returns-in_err-fields-clause-reads_list : goal.value_entries-returns-in_err-fields-clause-reads_list
-value_entries-returns-in_err-fields-clause-reads_list t c =
-    λ xs more right deep e.
-    let e0 = same_ahead c.if-has_symbol.ensures.no (e ∙ append_assoc (by_commas (map value_lexemes xs)) (symbol RightBrace ∷ []) more) in
-    absurd (list_no_field value_lexemes value_named xs more _ e0 (c.is_field.ensures.0 c.if-is_field.true))
-
-pub value_entries-returns-in_err-symbol-clause-reads_list : goal.value_entries-returns-in_err-symbol-clause-reads_list
-value_entries-returns-in_err-symbol-clause-reads_list t c =
-    λ xs more right deep e.
-    let e0 = same_ahead c.if-has_symbol.ensures.no (e ∙ append_assoc (by_commas (map value_lexemes xs)) (symbol RightBrace ∷ []) more) in
-    absurd (list_no_field value_lexemes value_named xs more _ e0 (c.is_field.ensures.0 c.if-is_field.true))
-
-pub value_entries-returns-then-is_field-clause-reads_list : goal.value_entries-returns-then-is_field-clause-reads_list
-value_entries-returns-then-is_field-clause-reads_list t c =
-    λ xs more right deep e.
-    let e0 = same_ahead c.if-has_symbol.ensures.no (e ∙ append_assoc (by_commas (map value_lexemes xs)) (symbol RightBrace ∷ []) more) in
-    absurd (list_no_field value_lexemes value_named xs more _ e0 (c.is_field.ensures.0 c.if-is_field.true))
-
-pub value_entries-returns-in_err-values-clause-reads_list : goal.value_entries-returns-in_err-values-clause-reads_list
-value_entries-returns-in_err-values-clause-reads_list t c =
-    λ xs more right deep e.
-    let e0 = same_ahead c.if-has_symbol.ensures.no (e ∙ append_assoc (by_commas (map value_lexemes xs)) (symbol RightBrace ∷ []) more) in
-    let some = some_of value_lexemes xs (symbol RightBrace ∷ more) _ e0 (λ same. c.if-has_symbol.ensures.other (ap first (ap (λ (p : Parser). ahead p.rest.now) (sym c.if-has_symbol.ensures.no) ∙ same))) in
-    handed c.from_residual-in_err-values.result _ _ c.from_residual-in_err-values.ensures.1 (c.in_err-values.ensures.reads xs _ (each_one is_value xs some right) deep refl e0)
-
-pub value_entries-returns-in_err-values-clause-reads_record : goal.value_entries-returns-in_err-values-clause-reads_record
-value_entries-returns-in_err-values-clause-reads_record t c =
-    λ xs more right deep e.
-    let e0 = same_ahead c.if-has_symbol.ensures.no (e ∙ append_assoc (by_commas (map value_field_lexemes xs)) (symbol RightBrace ∷ []) more) in
-    absurd (iff_false c.is_field.ensures c.if-is_field.false (field_at value_field_lexemes value_field_starts xs _ _ (one_of is_value_field xs right) e0))
-
-pub value_entries-returns-in_err-symbol-2-clause-reads_record : goal.value_entries-returns-in_err-symbol-2-clause-reads_record
-value_entries-returns-in_err-symbol-2-clause-reads_record t c =
-    λ xs more right deep e.
-    let e0 = same_ahead c.if-has_symbol.ensures.no (e ∙ append_assoc (by_commas (map value_field_lexemes xs)) (symbol RightBrace ∷ []) more) in
-    absurd (iff_false c.is_field.ensures c.if-is_field.false (field_at value_field_lexemes value_field_starts xs _ _ (one_of is_value_field xs right) e0))
-
-pub value_entries-returns-clause-reads_record : goal.value_entries-returns-clause-reads_record
-value_entries-returns-clause-reads_record t c =
-    λ xs more right deep e.
-    let e0 = same_ahead c.if-has_symbol.ensures.no (e ∙ append_assoc (by_commas (map value_field_lexemes xs)) (symbol RightBrace ∷ []) more) in
-    absurd (iff_false c.is_field.ensures c.if-is_field.false (field_at value_field_lexemes value_field_starts xs _ _ (one_of is_value_field xs right) e0))
-
-pub value_field-returns-in_err-value-clause-reads : goal.value_field-returns-in_err-value-clause-reads
-value_field-returns-in_err-value-clause-reads t c =
-    λ x more right deep e.
-    let e1 = c.in_ok-name.ensures.reads _ _ (e ∙ value_field_opens x more) in
-    let e2 = c.in_ok-symbol.ensures.reads _ e1 in
-    handed c.from_residual-in_err-value.result _ _ c.from_residual-in_err-value.ensures.1 (c.in_err-value.ensures.reads (out-ValueField x).value more (sym (value_field_out x) ∙ right) (rw value_field_depth_out at deep) e2)
-
-pub value_field-returns-clause-reads : goal.value_field-returns-clause-reads
-value_field-returns-clause-reads t c =
-    λ x more right deep e.
-    let e1 = c.in_ok-name.ensures.reads _ _ (e ∙ value_field_opens x more) in
-    let e2 = c.in_ok-symbol.ensures.reads _ e1 in
-    c.in_ok-value.ensures.reads (out-ValueField x).value more (sym (value_field_out x) ∙ right) (rw value_field_depth_out at deep) e2
-
-pub values-returns-in_err-first-clause-reads_seen : goal.values-returns-in_err-first-clause-reads_seen
-values-returns-in_err-first-clause-reads_seen t c =
-    λ hidden xs more right deep stops could.
-    let n = first_part_seen value_lexemes (λ x. (is_value x ≡ true) × (value_depth x ≤ c.args.left)) hidden xs more _ (one_right is_value value_depth c.args.left xs right deep) (one_of is_value xs right) could in
-    handed_seen hidden c.from_residual.result _ _ c.from_residual.ensures.1 (c.in_err-first.ensures.reads_seen hidden n.0 _ n.1.0 n.1.1 n.4)
-
-pub values-returns-in_err-next-clause-reads_seen : goal.values-returns-in_err-next-clause-reads_seen
-values-returns-in_err-next-clause-reads_seen t c =
-    λ hidden xs more right deep stops could.
-    let y = some_item is_value value_depth c.args.left c.more.values.items c.more.invariant.some c.more.invariant.grammatical c.more.invariant.nested in
-    let n = next_part_seen value_lexemes (λ x. (is_value x ≡ true) × (value_depth x ≤ c.args.left)) hidden more _ _ y.0 (y.1, y.2) (c.more.invariant.seen hidden xs more right deep stops could) c.more-test.ensures.passed stops in
-    handed_seen hidden c.from_residual-in_err-next.result _ _ c.from_residual-in_err-next.ensures.1 (c.in_err-next.ensures.reads_seen hidden n.0 _ n.1.0 n.1.1 n.4)
-
-pub values-returns-clause-reads_seen : goal.values-returns-clause-reads_seen
-values-returns-clause-reads_seen t c =
-    λ hidden xs more right deep stops could.
+    λ hidden xs more right stops could.
     same_could c.more-test.ensures.no
-    (last_part_seen value_lexemes (λ x. (is_value x ≡ true) × (value_depth x ≤ c.args.left)) hidden more _ (c.more.invariant.seen hidden xs more right deep stops could) c.more-test.ensures.absent)
-
-pub value_fields-returns-in_err-first-clause-reads_seen : goal.value_fields-returns-in_err-first-clause-reads_seen
-value_fields-returns-in_err-first-clause-reads_seen t c =
-    λ hidden xs more right deep stops could.
-    let n = first_part_seen value_field_lexemes (λ x. (is_value_field x ≡ true) × (value_field_depth x ≤ c.args.left)) hidden xs more _ (one_right is_value_field value_field_depth c.args.left xs right deep) (one_of is_value_field xs right) could in
-    handed_seen hidden c.from_residual.result _ _ c.from_residual.ensures.1 (c.in_err-first.ensures.reads_seen hidden n.0 _ n.1.0 n.1.1 n.4)
-
-pub value_fields-returns-in_err-next-clause-reads_seen : goal.value_fields-returns-in_err-next-clause-reads_seen
-value_fields-returns-in_err-next-clause-reads_seen t c =
-    λ hidden xs more right deep stops could.
-    let y = some_item is_value_field value_field_depth c.args.left c.more.fields.items c.more.invariant.some c.more.invariant.grammatical c.more.invariant.nested in
-    let n = next_part_seen value_field_lexemes (λ x. (is_value_field x ≡ true) × (value_field_depth x ≤ c.args.left)) hidden more _ _ y.0 (y.1, y.2) (c.more.invariant.seen hidden xs more right deep stops could) c.more-test.ensures.passed stops in
-    handed_seen hidden c.from_residual-in_err-next.result _ _ c.from_residual-in_err-next.ensures.1 (c.in_err-next.ensures.reads_seen hidden n.0 _ n.1.0 n.1.1 n.4)
-
-pub value_fields-returns-clause-reads_seen : goal.value_fields-returns-clause-reads_seen
-value_fields-returns-clause-reads_seen t c =
-    λ hidden xs more right deep stops could.
-    same_could c.more-test.ensures.no
-    (last_part_seen value_field_lexemes (λ x. (is_value_field x ≡ true) × (value_field_depth x ≤ c.args.left)) hidden more _ (c.more.invariant.seen hidden xs more right deep stops could) c.more-test.ensures.absent)
+    (last_part_seen value_field_lexemes (λ x. is_value_field x ≡ true) hidden more _ (c.more.invariant.seen hidden xs more right stops could) c.more-test.ensures.absent)
 
 pub value_fields-returns-in_err-first-clause-beyond : goal.value_fields-returns-in_err-first-clause-beyond
 value_fields-returns-in_err-first-clause-beyond t c =
@@ -363,243 +161,238 @@ value_fields-returns-in_err-first-clause-beyond t c =
 pub value_fields-returns-in_err-next-clause-beyond : goal.value_fields-returns-in_err-next-clause-beyond
 value_fields-returns-in_err-next-clause-beyond t c =
     λ field.
-    let y = some_item is_value_field value_field_depth c.args.left c.more.fields.items c.more.invariant.some c.more.invariant.grammatical c.more.invariant.nested in
+    let y = some_item is_value_field c.more.fields.items c.more.invariant.some c.more.invariant.grammatical in
     handed_as (StandAtLeast 2 c.args.self.now) c.from_residual-in_err-next.result _ _ c.from_residual-in_err-next.ensures.1
     (ahead_stands 2 c.args.self.now (length c.args.self.now.rest.now - 2) _ (omega (arith, c.more.invariant.beyond field))
-    (c.in_err-next.ensures.reads_seen (length c.args.self.now.rest.now - 2 + 1) y.0 [] y.1 y.2
+    (c.in_err-next.ensures.reads (length c.args.self.now.rest.now - 2 + 1) y.0 [] y.1
     (hidden_could (omega (arith, c.more.invariant.beyond field, c.more-test.ensures.shorter)))))
 
 pub value_fields-returns-clause-beyond : goal.value_fields-returns-clause-beyond
 value_fields-returns-clause-beyond t c =
     λ field. omega (arith, c.more.invariant.beyond field, ap (λ (p : Parser). length p.rest.now) c.more-test.ensures.no)
 
-pub value-returns-in_err-placed-clause-reads_seen : goal.value-returns-in_err-placed-clause-reads_seen
-value-returns-in_err-placed-clause-reads_seen t c =
-    λ hidden x more right deep could.
+pub value-returns-in_err-placed-clause-reads : goal.value-returns-in_err-placed-clause-reads
+value-returns-in_err-placed-clause-reads t c =
+    λ hidden x more right could.
     handed_seen hidden c.from_residual.result _ _ c.from_residual.ensures.1
     (hidden_place hidden c.args.self.now _ c.in_err-placed.ensures.place (none_could hidden _ _ c.in_err-placed.ensures.last could (value_some x more)))
 
-pub value-returns-in_err-value-in-Symbol-Minus-clause-reads_seen : goal.value-returns-in_err-value-in-Symbol-Minus-clause-reads_seen
-value-returns-in_err-value-in-Symbol-Minus-clause-reads_seen t c =
-    λ hidden x more right deep could.
+pub value-returns-in_err-value-in-Symbol-Minus-clause-reads : goal.value-returns-in_err-value-in-Symbol-Minus-clause-reads
+value-returns-in_err-value-in-Symbol-Minus-clause-reads t c =
+    λ hidden x more right could.
     let e = token_first c.args.self.now.rest.now c.take.new.self.rest.now c.in_ok-placed.placed.now (token.Symbol Minus) c.in_ok-placed.ensures.next (let first_token : c.in_ok-placed.placed.now.token ≡ token.Symbol Minus = first_of (search rules, grind arith) in first_token) in
     let m = value_signed hidden x more _ _ e right could in
-    handed_seen hidden c.from_residual-in_err-value-in-Symbol-Minus.result _ _ c.from_residual-in_err-value-in-Symbol-Minus.ensures.1 (c.in_err-value-in-Symbol-Minus.ensures.reads_seen hidden m.0 more m.1 m.2)
+    handed_seen hidden c.from_residual-in_err-value-in-Symbol-Minus.result _ _ c.from_residual-in_err-value-in-Symbol-Minus.ensures.1 (c.in_err-value-in-Symbol-Minus.ensures.reads hidden m.0 more m.1 m.2)
 
-pub value-returns-in_ok-value-in-Symbol-Minus-clause-reads_seen : goal.value-returns-in_ok-value-in-Symbol-Minus-clause-reads_seen
-value-returns-in_ok-value-in-Symbol-Minus-clause-reads_seen t c =
-    λ hidden x more right deep could.
+pub value-returns-in_ok-value-in-Symbol-Minus-clause-reads : goal.value-returns-in_ok-value-in-Symbol-Minus-clause-reads
+value-returns-in_ok-value-in-Symbol-Minus-clause-reads t c =
+    λ hidden x more right could.
     let e = token_first c.args.self.now.rest.now c.take.new.self.rest.now c.in_ok-placed.placed.now (token.Symbol Minus) c.in_ok-placed.ensures.next (let first_token : c.in_ok-placed.placed.now.token ≡ token.Symbol Minus = first_of (search rules, grind arith) in first_token) in
     let m = value_signed hidden x more _ _ e right could in
-    c.in_ok-value-in-Symbol-Minus.ensures.reads_seen hidden m.0 more m.1 m.2
+    c.in_ok-value-in-Symbol-Minus.ensures.reads hidden m.0 more m.1 m.2
 
-pub value-returns-in_err-value-in-Number-clause-reads_seen : goal.value-returns-in_err-value-in-Number-clause-reads_seen
-value-returns-in_err-value-in-Number-clause-reads_seen t c =
-    λ hidden x more right deep could.
+pub value-returns-in_err-value-in-Number-clause-reads : goal.value-returns-in_err-value-in-Number-clause-reads
+value-returns-in_err-value-in-Number-clause-reads t c =
+    λ hidden x more right could.
     let e = token_first c.args.self.now.rest.now c.take.new.self.rest.now c.in_ok-placed.placed.now (token.Number c.in-Number.n) c.in_ok-placed.ensures.next c.in-Number.is in
     handed_seen hidden c.from_residual-in_err-value-in-Number.result _ _ c.from_residual-in_err-value-in-Number.ensures.1
-    (hidden_behind hidden _ _ _ _ e (value_too_great hidden c.args.left c.in-Number.n x more _ _ e c.in_err-value-in-Number.ensures.greatest right deep could) c.in_err-value-in-Number.ensures.behind)
+    (hidden_behind hidden _ _ _ _ e (value_too_great hidden c.in-Number.n x more _ _ e c.in_err-value-in-Number.ensures.greatest right could) c.in_err-value-in-Number.ensures.behind)
 
-pub value-returns-in_ok-value-in-Number-clause-reads_seen : goal.value-returns-in_ok-value-in-Number-clause-reads_seen
-value-returns-in_ok-value-in-Number-clause-reads_seen t c =
-    λ hidden x more right deep could.
+pub value-returns-in_ok-value-in-Number-clause-reads : goal.value-returns-in_ok-value-in-Number-clause-reads
+value-returns-in_ok-value-in-Number-clause-reads t c =
+    λ hidden x more right could.
     let e = token_first c.args.self.now.rest.now c.take.new.self.rest.now c.in_ok-placed.placed.now (token.Number c.in-Number.n) c.in_ok-placed.ensures.next c.in-Number.is in
-    value_whole hidden c.args.left x more _ _ _ e refl right deep could
+    value_whole hidden x more _ _ _ e refl right could
 
-pub value-returns-in-Word-True-clause-reads_seen : goal.value-returns-in-Word-True-clause-reads_seen
-value-returns-in-Word-True-clause-reads_seen t c =
-    λ hidden x more right deep could.
+pub value-returns-in-Word-True-clause-reads : goal.value-returns-in-Word-True-clause-reads
+value-returns-in-Word-True-clause-reads t c =
+    λ hidden x more right could.
     let e = token_first c.args.self.now.rest.now c.take.new.self.rest.now c.in_ok-placed.placed.now (token.Word w.True) c.in_ok-placed.ensures.next (let first_token : c.in_ok-placed.placed.now.token ≡ token.Word w.True = first_of (search rules, grind arith) in first_token) in
-    value_whole hidden c.args.left x more _ _ _ e refl right deep could
+    value_whole hidden x more _ _ _ e refl right could
 
-pub value-returns-in-Word-False-clause-reads_seen : goal.value-returns-in-Word-False-clause-reads_seen
-value-returns-in-Word-False-clause-reads_seen t c =
-    λ hidden x more right deep could.
+pub value-returns-in-Word-False-clause-reads : goal.value-returns-in-Word-False-clause-reads
+value-returns-in-Word-False-clause-reads t c =
+    λ hidden x more right could.
     let e = token_first c.args.self.now.rest.now c.take.new.self.rest.now c.in_ok-placed.placed.now (token.Word w.False) c.in_ok-placed.ensures.next (let first_token : c.in_ok-placed.placed.now.token ≡ token.Word w.False = first_of (search rules, grind arith) in first_token) in
-    value_whole hidden c.args.left x more _ _ _ e refl right deep could
+    value_whole hidden x more _ _ _ e refl right could
 
-pub value-returns-in_ok-characters-in-Text-clause-reads_seen : goal.value-returns-in_ok-characters-in-Text-clause-reads_seen
-value-returns-in_ok-characters-in-Text-clause-reads_seen t c =
-    λ hidden x more right deep could.
+pub value-returns-in_ok-characters-in-Text-clause-reads : goal.value-returns-in_ok-characters-in-Text-clause-reads
+value-returns-in_ok-characters-in-Text-clause-reads t c =
+    λ hidden x more right could.
     let e = token_first c.args.self.now.rest.now c.take.new.self.rest.now c.in_ok-placed.placed.now (token.Text _) c.in_ok-placed.ensures.next c.in-Text.is in
-    value_whole hidden c.args.left x more _ _ _ e refl right deep could
+    value_whole hidden x more _ _ _ e refl right could
 
-pub value-returns-in_ok-name-in-Name-clause-reads_seen : goal.value-returns-in_ok-name-in-Name-clause-reads_seen
-value-returns-in_ok-name-in-Name-clause-reads_seen t c =
-    λ hidden x more right deep could.
+pub value-returns-in_ok-name-in-Name-clause-reads : goal.value-returns-in_ok-name-in-Name-clause-reads
+value-returns-in_ok-name-in-Name-clause-reads t c =
+    λ hidden x more right could.
     let e = token_first c.args.self.now.rest.now c.take.new.self.rest.now c.in_ok-placed.placed.now (token.Name _) c.in_ok-placed.ensures.next c.in-Name.is in
-    value_whole hidden c.args.left x more _ _ _ e refl right deep could
+    value_whole hidden x more _ _ _ e refl right could
 
-pub value-returns-in_err-inner-in-Symbol-LeftBrace-clause-reads_seen : goal.value-returns-in_err-inner-in-Symbol-LeftBrace-clause-reads_seen
-value-returns-in_err-inner-in-Symbol-LeftBrace-clause-reads_seen t c =
-    λ hidden x more right deep could.
+pub value-returns-in-Symbol-LeftBrace-clause-reads : goal.value-returns-in-Symbol-LeftBrace-clause-reads
+value-returns-in-Symbol-LeftBrace-clause-reads t c =
+    λ hidden x more right could.
     let e = token_first c.args.self.now.rest.now c.take.new.self.rest.now c.in_ok-placed.placed.now (token.Symbol LeftBrace) c.in_ok-placed.ensures.next (let first_token : c.in_ok-placed.placed.now.token ≡ token.Symbol LeftBrace = first_of (search rules, grind arith) in first_token) in
-    handed_seen hidden c.from_residual-in_err-inner-in-Symbol-LeftBrace.result _ _ c.from_residual-in_err-inner-in-Symbol-LeftBrace.ensures.1
-    (hidden_behind hidden _ _ _ _ e (value_full hidden c.args.left x more _ _ e c.in_err-inner-in-Symbol-LeftBrace.ensures.full right deep could) c.in_err-inner-in-Symbol-LeftBrace.ensures.behind)
-
-pub value-returns-in_ok-inner-in-Symbol-LeftBrace-clause-reads_seen : goal.value-returns-in_ok-inner-in-Symbol-LeftBrace-clause-reads_seen
-value-returns-in_ok-inner-in-Symbol-LeftBrace-clause-reads_seen t c =
-    λ hidden x more right deep could.
-    let e = token_first c.args.self.now.rest.now c.take.new.self.rest.now c.in_ok-placed.placed.now (token.Symbol LeftBrace) c.in_ok-placed.ensures.next (let first_token : c.in_ok-placed.placed.now.token ≡ token.Symbol LeftBrace = first_of (search rules, grind arith) in first_token) in
-    elim (value_braced hidden c.args.left c.in_ok-inner-in-Symbol-LeftBrace.inner x more _ _ e c.in_ok-inner-in-Symbol-LeftBrace.ensures.value right deep could) [
-      | inl l ↦ c.value_entries.ensures.list_seen hidden l.0 more l.1 l.2 l.3
-      | inr l ↦ c.value_entries.ensures.record_seen hidden l.0 more l.1 l.2 l.3
+    elim (value_braced hidden x more _ _ e right could) [
+      | inl l ↦ c.value_entries.ensures.reads_list hidden l.0 more l.1 l.2
+      | inr l ↦ c.value_entries.ensures.reads_record hidden l.0 more l.1 l.2
     ]
 
-pub value-returns-in_default-clause-reads_seen : goal.value-returns-in_default-clause-reads_seen
-value-returns-in_default-clause-reads_seen t c =
-    λ hidden x more right deep could.
+pub value-returns-in_default-clause-reads : goal.value-returns-in_default-clause-reads
+value-returns-in_default-clause-reads t c =
+    λ hidden x more right could.
     let h : AllHidden hidden c.args.self.now.rest.now =
-    value_other hidden c.args.left x more _ _ _ (ap lexemes c.in_ok-placed.ensures.next) (λ known. first_of (search rules, grind arith)) right deep could in
+    value_other hidden x more _ _ _ (ap lexemes c.in_ok-placed.ensures.next) (λ known. first_of (search rules, grind arith)) right could in
     omega (arith, c.in_ok-placed.ensures.shorter)
 
-pub value_entries-returns-then-has_symbol-clause-list_seen : goal.value_entries-returns-then-has_symbol-clause-list_seen
-value_entries-returns-then-has_symbol-clause-list_seen t c =
-    λ hidden xs more right deep could.
+pub value_entries-returns-then-has_symbol-clause-reads_list : goal.value_entries-returns-then-has_symbol-clause-reads_list
+value_entries-returns-then-has_symbol-clause-reads_list t c =
+    λ hidden xs more right could.
     closed_seen value_lexemes value_no_brace hidden xs more _ _ c.if-has_symbol.ensures.passed could
 
-pub value_entries-returns-then-has_symbol-clause-record_seen : goal.value_entries-returns-then-has_symbol-clause-record_seen
-value_entries-returns-then-has_symbol-clause-record_seen t c =
-    λ hidden xs more right deep could.
+pub value_entries-returns-then-has_symbol-clause-reads_record : goal.value_entries-returns-then-has_symbol-clause-reads_record
+value_entries-returns-then-has_symbol-clause-reads_record t c =
+    λ hidden xs more right could.
     closed_seen value_field_lexemes value_field_no_brace hidden xs more _ _ c.if-has_symbol.ensures.passed could
 
-pub value_entries-returns-in_err-fields-clause-list_seen : goal.value_entries-returns-in_err-fields-clause-list_seen
-value_entries-returns-in_err-fields-clause-list_seen t c =
-    λ hidden xs more right deep could.
+pub value_entries-returns-in_err-fields-clause-reads_list : goal.value_entries-returns-in_err-fields-clause-reads_list
+value_entries-returns-in_err-fields-clause-reads_list t c =
+    λ hidden xs more right could.
     let could0 = same_could c.if-has_symbol.ensures.no could in
     let field = c.is_field.ensures.0 c.if-is_field.true in
     let h = list_unseen hidden xs more c.has_symbol.new.self.rest.now field could0 in
     handed_seen hidden c.from_residual.result _ _ c.from_residual.ensures.1 (hidden_beyond hidden 2 c.has_symbol.new.self _ (omega arith) h (c.in_err-fields.ensures.beyond field))
 
-pub value_entries-returns-in_err-symbol-clause-list_seen : goal.value_entries-returns-in_err-symbol-clause-list_seen
-value_entries-returns-in_err-symbol-clause-list_seen t c =
-    λ hidden xs more right deep could.
+pub value_entries-returns-in_err-symbol-clause-reads_list : goal.value_entries-returns-in_err-symbol-clause-reads_list
+value_entries-returns-in_err-symbol-clause-reads_list t c =
+    λ hidden xs more right could.
     let could0 = same_could c.if-has_symbol.ensures.no could in
     let field = c.is_field.ensures.0 c.if-is_field.true in
     let h = list_unseen hidden xs more c.has_symbol.new.self.rest.now field could0 in
     let far = c.in_ok-fields.ensures.beyond field in
     handed_seen hidden c.from_residual-in_err-symbol.result _ _ c.from_residual-in_err-symbol.ensures.1 (hidden_place hidden c.value_fields.new.self _ c.in_err-symbol.ensures.place (omega arith))
 
-pub value_entries-returns-then-is_field-clause-list_seen : goal.value_entries-returns-then-is_field-clause-list_seen
-value_entries-returns-then-is_field-clause-list_seen t c =
-    λ hidden xs more right deep could.
+pub value_entries-returns-then-is_field-clause-reads_list : goal.value_entries-returns-then-is_field-clause-reads_list
+value_entries-returns-then-is_field-clause-reads_list t c =
+    λ hidden xs more right could.
     let could0 = same_could c.if-has_symbol.ensures.no could in
     let field = c.is_field.ensures.0 c.if-is_field.true in
     let h = list_unseen hidden xs more c.has_symbol.new.self.rest.now field could0 in
     let far = c.in_ok-fields.ensures.beyond field in
     hidden_could (omega (arith, c.in_ok-symbol.ensures.shorter))
 
-pub value_entries-returns-in_err-fields-clause-record_seen : goal.value_entries-returns-in_err-fields-clause-record_seen
-value_entries-returns-in_err-fields-clause-record_seen t c =
-    λ hidden xs more right deep could.
+pub value_entries-returns-in_err-fields-clause-reads_record : goal.value_entries-returns-in_err-fields-clause-reads_record
+value_entries-returns-in_err-fields-clause-reads_record t c =
+    λ hidden xs more right could.
     let could0 = same_could c.if-has_symbol.ensures.no could in
     let e0 = unbraced_seen hidden c.has_symbol.new.self.rest.now (by_commas (map value_field_lexemes xs)) more (symbol RightBrace) could0 in
-    handed_seen hidden c.from_residual.result _ _ c.from_residual.ensures.1 (c.in_err-fields.ensures.reads_seen hidden xs _ right deep refl e0)
+    handed_seen hidden c.from_residual.result _ _ c.from_residual.ensures.1 (c.in_err-fields.ensures.reads hidden xs _ right refl e0)
 
-pub value_entries-returns-in_err-symbol-clause-record_seen : goal.value_entries-returns-in_err-symbol-clause-record_seen
-value_entries-returns-in_err-symbol-clause-record_seen t c =
-    λ hidden xs more right deep could.
+pub value_entries-returns-in_err-symbol-clause-reads_record : goal.value_entries-returns-in_err-symbol-clause-reads_record
+value_entries-returns-in_err-symbol-clause-reads_record t c =
+    λ hidden xs more right could.
     let could0 = same_could c.if-has_symbol.ensures.no could in
     let e0 = unbraced_seen hidden c.has_symbol.new.self.rest.now (by_commas (map value_field_lexemes xs)) more (symbol RightBrace) could0 in
-    handed_seen hidden c.from_residual-in_err-symbol.result _ _ c.from_residual-in_err-symbol.ensures.1 (c.in_err-symbol.ensures.reads_seen hidden more (c.in_ok-fields.ensures.reads_seen hidden xs _ right deep refl e0))
+    handed_seen hidden c.from_residual-in_err-symbol.result _ _ c.from_residual-in_err-symbol.ensures.1 (c.in_err-symbol.ensures.reads hidden more (c.in_ok-fields.ensures.reads hidden xs _ right refl e0))
 
-pub value_entries-returns-then-is_field-clause-record_seen : goal.value_entries-returns-then-is_field-clause-record_seen
-value_entries-returns-then-is_field-clause-record_seen t c =
-    λ hidden xs more right deep could.
+pub value_entries-returns-then-is_field-clause-reads_record : goal.value_entries-returns-then-is_field-clause-reads_record
+value_entries-returns-then-is_field-clause-reads_record t c =
+    λ hidden xs more right could.
     let could0 = same_could c.if-has_symbol.ensures.no could in
     let e0 = unbraced_seen hidden c.has_symbol.new.self.rest.now (by_commas (map value_field_lexemes xs)) more (symbol RightBrace) could0 in
-    c.in_ok-symbol.ensures.reads_seen hidden more (c.in_ok-fields.ensures.reads_seen hidden xs _ right deep refl e0)
+    c.in_ok-symbol.ensures.reads hidden more (c.in_ok-fields.ensures.reads hidden xs _ right refl e0)
 
-pub value_entries-returns-in_err-values-clause-list_seen : goal.value_entries-returns-in_err-values-clause-list_seen
-value_entries-returns-in_err-values-clause-list_seen t c =
-    λ hidden xs more right deep could.
+pub value_entries-returns-in_err-values-clause-reads_list : goal.value_entries-returns-in_err-values-clause-reads_list
+value_entries-returns-in_err-values-clause-reads_list t c =
+    λ hidden xs more right could.
     let could0 = same_could c.if-has_symbol.ensures.no could in
-    let l = list_some hidden c.args.left xs more c.has_symbol.new.self.rest.now right deep
+    let l = list_some hidden xs more c.has_symbol.new.self.rest.now right
     (λ at. c.if-has_symbol.ensures.absent (ap (λ (p : Parser). token_at p.rest.now 0) (sym c.if-has_symbol.ensures.no) ∙ at)) could0 in
-    handed_seen hidden c.from_residual-in_err-values.result _ _ c.from_residual-in_err-values.ensures.1 (c.in_err-values.ensures.reads_seen hidden l.0 _ l.1 l.2 refl l.3)
+    handed_seen hidden c.from_residual-in_err-values.result _ _ c.from_residual-in_err-values.ensures.1 (c.in_err-values.ensures.reads hidden l.0 _ l.1 refl l.2)
 
-pub value_entries-returns-in_err-symbol-2-clause-list_seen : goal.value_entries-returns-in_err-symbol-2-clause-list_seen
-value_entries-returns-in_err-symbol-2-clause-list_seen t c =
-    λ hidden xs more right deep could.
+pub value_entries-returns-in_err-symbol-2-clause-reads_list : goal.value_entries-returns-in_err-symbol-2-clause-reads_list
+value_entries-returns-in_err-symbol-2-clause-reads_list t c =
+    λ hidden xs more right could.
     let could0 = same_could c.if-has_symbol.ensures.no could in
-    let l = list_some hidden c.args.left xs more c.has_symbol.new.self.rest.now right deep
+    let l = list_some hidden xs more c.has_symbol.new.self.rest.now right
     (λ at. c.if-has_symbol.ensures.absent (ap (λ (p : Parser). token_at p.rest.now 0) (sym c.if-has_symbol.ensures.no) ∙ at)) could0 in
-    handed_seen hidden c.from_residual-in_err-symbol-2.result _ _ c.from_residual-in_err-symbol-2.ensures.1 (c.in_err-symbol-2.ensures.reads_seen hidden more (c.in_ok-values.ensures.reads_seen hidden l.0 _ l.1 l.2 refl l.3))
+    handed_seen hidden c.from_residual-in_err-symbol-2.result _ _ c.from_residual-in_err-symbol-2.ensures.1
+    (c.in_err-symbol-2.ensures.reads hidden more (c.in_ok-values.ensures.reads hidden l.0 _ l.1 refl l.2))
 
-pub value_entries-returns-clause-list_seen : goal.value_entries-returns-clause-list_seen
-value_entries-returns-clause-list_seen t c =
-    λ hidden xs more right deep could.
+pub value_entries-returns-clause-reads_list : goal.value_entries-returns-clause-reads_list
+value_entries-returns-clause-reads_list t c =
+    λ hidden xs more right could.
     let could0 = same_could c.if-has_symbol.ensures.no could in
-    let l = list_some hidden c.args.left xs more c.has_symbol.new.self.rest.now right deep
+    let l = list_some hidden xs more c.has_symbol.new.self.rest.now right
     (λ at. c.if-has_symbol.ensures.absent (ap (λ (p : Parser). token_at p.rest.now 0) (sym c.if-has_symbol.ensures.no) ∙ at)) could0 in
-    c.in_ok-symbol-2.ensures.reads_seen hidden more (c.in_ok-values.ensures.reads_seen hidden l.0 _ l.1 l.2 refl l.3)
+    c.in_ok-symbol-2.ensures.reads hidden more (c.in_ok-values.ensures.reads hidden l.0 _ l.1 refl l.2)
 
-pub value_entries-returns-in_err-values-clause-record_seen : goal.value_entries-returns-in_err-values-clause-record_seen
-value_entries-returns-in_err-values-clause-record_seen t c =
-    λ hidden xs more right deep could.
+pub value_entries-returns-in_err-values-clause-reads_record : goal.value_entries-returns-in_err-values-clause-reads_record
+value_entries-returns-in_err-values-clause-reads_record t c =
+    λ hidden xs more right could.
     let could0 = same_could c.if-has_symbol.ensures.no could in
     let r = record_unseen hidden xs more c.has_symbol.new.self.rest.now right (iff_false c.is_field.ensures c.if-is_field.false) could0 in
-    handed_seen hidden c.from_residual-in_err-values.result _ _ c.from_residual-in_err-values.ensures.1 (c.in_err-values.ensures.reads_seen hidden (v.Name r.0 ∷ []) (symbol RightBrace ∷ []) (name_right r.0) (name_deep r.0 c.args.left) refl r.2)
+    handed_seen hidden c.from_residual-in_err-values.result _ _ c.from_residual-in_err-values.ensures.1 (c.in_err-values.ensures.reads hidden (v.Name r.0 ∷ []) (symbol RightBrace ∷ []) (name_right r.0) refl r.2)
 
-pub value_entries-returns-in_err-symbol-2-clause-record_seen : goal.value_entries-returns-in_err-symbol-2-clause-record_seen
-value_entries-returns-in_err-symbol-2-clause-record_seen t c =
-    λ hidden xs more right deep could.
+pub value_entries-returns-in_err-symbol-2-clause-reads_record : goal.value_entries-returns-in_err-symbol-2-clause-reads_record
+value_entries-returns-in_err-symbol-2-clause-reads_record t c =
+    λ hidden xs more right could.
     let could0 = same_could c.if-has_symbol.ensures.no could in
     let r = record_unseen hidden xs more c.has_symbol.new.self.rest.now right (iff_false c.is_field.ensures c.if-is_field.false) could0 in
-    handed_seen hidden c.from_residual-in_err-symbol-2.result _ _ c.from_residual-in_err-symbol-2.ensures.1 (c.in_err-symbol-2.ensures.reads_seen hidden [] (c.in_ok-values.ensures.reads_seen hidden (v.Name r.0 ∷ []) (symbol RightBrace ∷ []) (name_right r.0) (name_deep r.0 c.args.left) refl r.2))
+    handed_seen hidden c.from_residual-in_err-symbol-2.result _ _ c.from_residual-in_err-symbol-2.ensures.1 (c.in_err-symbol-2.ensures.reads hidden [] (c.in_ok-values.ensures.reads hidden (v.Name r.0 ∷ []) (symbol RightBrace ∷ []) (name_right r.0) refl r.2))
 
-pub value_entries-returns-clause-record_seen : goal.value_entries-returns-clause-record_seen
-value_entries-returns-clause-record_seen t c =
-    λ hidden xs more right deep could.
+pub value_entries-returns-clause-reads_record : goal.value_entries-returns-clause-reads_record
+value_entries-returns-clause-reads_record t c =
+    λ hidden xs more right could.
     let could0 = same_could c.if-has_symbol.ensures.no could in
     let r = record_unseen hidden xs more c.has_symbol.new.self.rest.now right (iff_false c.is_field.ensures c.if-is_field.false) could0 in
     hidden_could (omega (arith, r.1, c.in_ok-values.ensures.shorter, c.in_ok-symbol-2.ensures.shorter))
 
-pub value_field-returns-in_err-name-clause-reads_seen : goal.value_field-returns-in_err-name-clause-reads_seen
-value_field-returns-in_err-name-clause-reads_seen t c =
-    λ hidden x more right deep could.
+pub value_field-returns-in_err-name-clause-reads : goal.value_field-returns-in_err-name-clause-reads
+value_field-returns-in_err-name-clause-reads t c =
+    λ hidden x more right could.
     let e0 = subst (λ (ts : List Lexeme). CouldBe hidden c.args.self.now.rest.now ts) (value_field_opens x more) could in
-    handed_seen hidden c.from_residual.result _ _ c.from_residual.ensures.1 (c.in_err-name.ensures.reads_seen hidden _ _ e0)
+    handed_seen hidden c.from_residual.result _ _ c.from_residual.ensures.1 (c.in_err-name.ensures.reads hidden _ _ e0)
 
-pub value_field-returns-in_err-symbol-clause-reads_seen : goal.value_field-returns-in_err-symbol-clause-reads_seen
-value_field-returns-in_err-symbol-clause-reads_seen t c =
-    λ hidden x more right deep could.
+pub value_field-returns-in_err-symbol-clause-reads : goal.value_field-returns-in_err-symbol-clause-reads
+value_field-returns-in_err-symbol-clause-reads t c =
+    λ hidden x more right could.
     let e0 = subst (λ (ts : List Lexeme). CouldBe hidden c.args.self.now.rest.now ts) (value_field_opens x more) could in
-    let e1 = c.in_ok-name.ensures.reads_seen hidden _ _ e0 in
-    handed_seen hidden c.from_residual-in_err-symbol.result _ _ c.from_residual-in_err-symbol.ensures.1 (c.in_err-symbol.ensures.reads_seen hidden _ e1)
+    let e1 = c.in_ok-name.ensures.reads hidden _ _ e0 in
+    handed_seen hidden c.from_residual-in_err-symbol.result _ _ c.from_residual-in_err-symbol.ensures.1 (c.in_err-symbol.ensures.reads hidden _ e1)
 
-pub value_field-returns-in_err-value-clause-reads_seen : goal.value_field-returns-in_err-value-clause-reads_seen
-value_field-returns-in_err-value-clause-reads_seen t c =
-    λ hidden x more right deep could.
+pub value_field-returns-in_err-value-clause-reads : goal.value_field-returns-in_err-value-clause-reads
+value_field-returns-in_err-value-clause-reads t c =
+    λ hidden x more right could.
     let e0 = subst (λ (ts : List Lexeme). CouldBe hidden c.args.self.now.rest.now ts) (value_field_opens x more) could in
-    let e1 = c.in_ok-name.ensures.reads_seen hidden _ _ e0 in
-    let e2 = c.in_ok-symbol.ensures.reads_seen hidden _ e1 in
-    handed_seen hidden c.from_residual-in_err-value.result _ _ c.from_residual-in_err-value.ensures.1 (c.in_err-value.ensures.reads_seen hidden (out-ValueField x).value more (sym (value_field_out x) ∙ right) (rw value_field_depth_out at deep) e2)
+    let e1 = c.in_ok-name.ensures.reads hidden _ _ e0 in
+    let e2 = c.in_ok-symbol.ensures.reads hidden _ e1 in
+    handed_seen hidden c.from_residual-in_err-value.result _ _ c.from_residual-in_err-value.ensures.1 (c.in_err-value.ensures.reads hidden (out-ValueField x).value more (sym (value_field_out x) ∙ right) e2)
 
-pub value_field-returns-clause-reads_seen : goal.value_field-returns-clause-reads_seen
-value_field-returns-clause-reads_seen t c =
-    λ hidden x more right deep could.
+pub value_field-returns-clause-reads : goal.value_field-returns-clause-reads
+value_field-returns-clause-reads t c =
+    λ hidden x more right could.
     let e0 = subst (λ (ts : List Lexeme). CouldBe hidden c.args.self.now.rest.now ts) (value_field_opens x more) could in
-    let e1 = c.in_ok-name.ensures.reads_seen hidden _ _ e0 in
-    let e2 = c.in_ok-symbol.ensures.reads_seen hidden _ e1 in
-    c.in_ok-value.ensures.reads_seen hidden (out-ValueField x).value more (sym (value_field_out x) ∙ right) (rw value_field_depth_out at deep) e2
+    let e1 = c.in_ok-name.ensures.reads hidden _ _ e0 in
+    let e2 = c.in_ok-symbol.ensures.reads hidden _ e1 in
+    c.in_ok-value.ensures.reads hidden (out-ValueField x).value more (sym (value_field_out x) ∙ right) e2
 
 pub value_field-returns-in_err-name-clause-beyond : goal.value_field-returns-in_err-name-clause-beyond
 value_field-returns-in_err-name-clause-beyond t c =
     λ field.
     let n = field_ahead c.args.self.now.rest.now field in
-    handed_as (StandAtLeast 2 c.args.self.now) c.from_residual.result _ _ c.from_residual.ensures.1 (memory_stands 2 c.args.self.now _ (c.in_err-name.ensures.reads n.0 _ n.2))
+    handed_as (StandAtLeast 2 c.args.self.now) c.from_residual.result _ _ c.from_residual.ensures.1
+    (memory_alone 2 c.args.self.now _ (c.in_err-name.ensures.reads 0 n.0 _ (own_could 0 _ _ n.2)))
 
 pub value_field-returns-in_err-symbol-clause-beyond : goal.value_field-returns-in_err-symbol-clause-beyond
 value_field-returns-in_err-symbol-clause-beyond t c =
     λ field.
     let n = field_ahead c.args.self.now.rest.now field in
     handed_as (StandAtLeast 2 c.args.self.now) c.from_residual-in_err-symbol.result _ _ c.from_residual-in_err-symbol.ensures.1
-    (memory_stands 2 c.args.self.now _ (c.in_err-symbol.ensures.reads _ (c.in_ok-name.ensures.reads n.0 _ n.2)))
+    (memory_alone 2 c.args.self.now _ (c.in_err-symbol.ensures.reads 0 _ (c.in_ok-name.ensures.reads 0 n.0 _ (own_could 0 _ _ n.2))))
 
 pub value_field-returns-in_err-value-clause-beyond : goal.value_field-returns-in_err-value-clause-beyond
 value_field-returns-in_err-value-clause-beyond t c =
     λ field.
     handed_as (StandAtLeast 2 c.args.self.now) c.from_residual-in_err-value.result _ _ c.from_residual-in_err-value.ensures.1
     (ahead_stands 2 c.args.self.now (length c.symbol.new.self.rest.now) _ (omega (arith, c.in_ok-name.ensures.shorter, c.in_ok-symbol.ensures.shorter))
-    (c.in_err-value.ensures.reads_seen (length c.symbol.new.self.rest.now + 1) (v.Int (pos 0)) [] zero_right (zero_deep c.args.left) (hidden_could (omega arith))))
+    (c.in_err-value.ensures.reads (length c.symbol.new.self.rest.now + 1) (v.Int (pos 0)) [] zero_right (hidden_could (omega arith))))

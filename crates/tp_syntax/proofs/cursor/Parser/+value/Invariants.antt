@@ -1,14 +1,12 @@
--- The tokens passed are those read so far, no deeper than allowed; a bracket leaves one fewer.
+-- The tokens passed are those read so far.
 use Rattle.std.proofs.Common.{◌≡◌, ℕ, true, ◌+◌, ◌*◌, ◌<◌, ◌≤◌, ◌++◌, length, map, List}
 use Rattle.tp_syntax.specs.Ahead.{ahead}
 use Rattle.tp_syntax.specs.Sequences.{by_commas}
 use Rattle.tp_syntax.specs.Values.{value_lexemes, value_field_lexemes}
 use Rattle.tp_syntax.specs.Grammar.{one_and_each, is_value, is_value_field}
-use Rattle.tp_syntax.specs.Nesting.{deepest, value_depth, value_field_depth}
 use Rattle.tp_token.specs.Lexeme.{Lexeme}
 use Rattle.tp_syntax.specs.Reading.{IsField, Stops}
 use Rattle.tp_syntax.specs.HiddenTokens.{CouldBe}
-use Rattle.tp_syntax.proofs.PartsLeftToRead.{Remain}
 use Rattle.tp_syntax.proofs.PartsLeftSeen.{RemainSeen}
 use Rattle.tp_tree.specs.declared.message.Value.{Value}
 use Rattle.tp_tree.specs.declared.message.ValueField.{ValueField}
@@ -16,30 +14,27 @@ use Rattle.tp_syntax.specs.Forward.{GoesForward}
 use Rattle.tp_syntax.proofs.cursor.Parser.+value.Given as goal
 
 abbrev pub decreases-value : goal.decreases-value
-decreases-value l = 4 * l.left
+decreases-value l = 4 * length l.self.now.rest.now
 
 abbrev pub decreases-value_entries : goal.decreases-value_entries
-decreases-value_entries l = 4 * l.left + 3
+decreases-value_entries l = 4 * length l.self.now.rest.now + 3
 
 abbrev pub decreases-value_fields : goal.decreases-value_fields
-decreases-value_fields l = 4 * l.left + 2
+decreases-value_fields l = 4 * length l.self.now.rest.now + 2
 
 abbrev pub decreases-values : goal.decreases-values
-decreases-values l = 4 * l.left + 1
+decreases-values l = 4 * length l.self.now.rest.now + 1
 
 abbrev pub decreases-value_field : goal.decreases-value_field
-decreases-value_field l = 4 * l.left + 1
+decreases-value_field l = 4 * length l.self.now.rest.now + 1
 
 abbrev pub invariant-values-more : goal.invariant-values-more
 invariant-values-more l = record {
   tokens : ahead l.fn.self.rest.now ≡ by_commas (map value_lexemes l.values.items) ++ ahead l.self.rest.now;
-  nested : deepest (map value_depth l.values.items) ≤ l.left;
   grammatical : one_and_each (map is_value l.values.items) ≡ true;
   some : 0 < length l.values.items;
-  reads : (xs : List Value) (more : List Lexeme) → one_and_each (map is_value xs) ≡ true → deepest (map value_depth xs) ≤ l.left → Stops more → ahead l.fn.self.rest.now ≡ by_commas (map value_lexemes xs) ++ more
-      → Remain value_lexemes (λ x. (is_value x ≡ true) × (value_depth x ≤ l.left)) more (ahead l.self.rest.now);
-  seen : (hidden : ℕ) (xs : List Value) (more : List Lexeme) → one_and_each (map is_value xs) ≡ true → deepest (map value_depth xs) ≤ l.left → Stops more
-      → CouldBe hidden l.fn.self.rest.now (by_commas (map value_lexemes xs) ++ more) → RemainSeen value_lexemes (λ x. (is_value x ≡ true) × (value_depth x ≤ l.left)) hidden more l.self.rest.now;
+  seen : (hidden : ℕ) (xs : List Value) (more : List Lexeme) → one_and_each (map is_value xs) ≡ true → Stops more
+      → CouldBe hidden l.fn.self.rest.now (by_commas (map value_lexemes xs) ++ more) → RemainSeen value_lexemes (λ x. is_value x ≡ true) hidden more l.self.rest.now;
   shorter : length l.self.rest.now < length l.fn.self.rest.now;
   forward : GoesForward l.fn.self l.self;
 }
@@ -50,13 +45,10 @@ decreases-values-more l = length l.self.rest.now
 abbrev pub invariant-value_fields-more : goal.invariant-value_fields-more
 invariant-value_fields-more l = record {
   tokens : ahead l.fn.self.rest.now ≡ by_commas (map value_field_lexemes l.fields.items) ++ ahead l.self.rest.now;
-  nested : deepest (map value_field_depth l.fields.items) ≤ l.left;
   grammatical : one_and_each (map is_value_field l.fields.items) ≡ true;
   some : 0 < length l.fields.items;
-  reads : (xs : List ValueField) (more : List Lexeme) → one_and_each (map is_value_field xs) ≡ true → deepest (map value_field_depth xs) ≤ l.left → Stops more → ahead l.fn.self.rest.now ≡ by_commas (map value_field_lexemes xs) ++ more
-      → Remain value_field_lexemes (λ x. (is_value_field x ≡ true) × (value_field_depth x ≤ l.left)) more (ahead l.self.rest.now);
-  seen : (hidden : ℕ) (xs : List ValueField) (more : List Lexeme) → one_and_each (map is_value_field xs) ≡ true → deepest (map value_field_depth xs) ≤ l.left → Stops more
-      → CouldBe hidden l.fn.self.rest.now (by_commas (map value_field_lexemes xs) ++ more) → RemainSeen value_field_lexemes (λ x. (is_value_field x ≡ true) × (value_field_depth x ≤ l.left)) hidden more l.self.rest.now;
+  seen : (hidden : ℕ) (xs : List ValueField) (more : List Lexeme) → one_and_each (map is_value_field xs) ≡ true → Stops more
+      → CouldBe hidden l.fn.self.rest.now (by_commas (map value_field_lexemes xs) ++ more) → RemainSeen value_field_lexemes (λ x. is_value_field x ≡ true) hidden more l.self.rest.now;
   beyond : IsField l.fn.self.rest.now → 2 + length l.self.rest.now ≤ length l.fn.self.rest.now;
   shorter : length l.self.rest.now < length l.fn.self.rest.now;
   forward : GoesForward l.fn.self l.self;

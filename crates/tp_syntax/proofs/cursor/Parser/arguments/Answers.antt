@@ -1,25 +1,20 @@
 -- One more argument of a start is read behind its comma.
-use Rattle.std.proofs.Common.{arith, length-append, sym, subst, ap, ◌∙◌, rules}
+use Rattle.std.proofs.Common.{arith, length-append, ap, rules}
 use Rattle.tp_syntax.specs.Statements.{component_lexemes}
+use Rattle.tp_syntax.proofs.TokensBeyond.{behind_stands}
 use Rattle.tp_syntax.proofs.ReadSequenceGrowth.{push_read}
 use Rattle.std.proofs.lemmas.Grind.{common_steps}
-use Rattle.tp_syntax.proofs.FirstTokensAhead.{handed, same_ahead, paren_at, paren_first}
-use Rattle.tp_syntax.proofs.PartsLeftToRead.{Remain, comma_first, comma_next, comma_last, all_any, none_of, some_of}
-use Rattle.tp_syntax.specs.Reading.{first, ends_operation}
-use Rattle.tp_syntax.proofs.FirstTokensOfParts.{component_no_paren}
+use Rattle.tp_syntax.specs.Reading.{ends_operation}
 use Rattle.std.proofs.lemmas.Bool.{iff_false}
 use Rattle.tp_tree.specs.declared.tree.ComponentName.TheVariants as component_name
 use Rattle.tp_syntax.specs.Stuck.{StandAtLeast}
 use Rattle.tp_syntax.proofs.FirstTokensSeen.{handed_as, handed_seen, same_could}
 use Rattle.tp_syntax.proofs.PartsLeftSeen.{last_part_seen, next_part_seen}
-use Rattle.tp_syntax.proofs.TestCasesSeen.{argument_first, no_argument, stuck_stands}
+use Rattle.tp_syntax.proofs.TestCasesSeen.{argument_first, no_argument}
 use Rattle.tp_syntax.proofs.cursor.Parser.arguments.Goals as goal
 
 pub more-preserved : goal.more-preserved
 more-preserved c = record {
-  reads = λ xs more close e.
-      let n = comma_next component_lexemes (λ _. Unit {0}) more _ _ (c.more.invariant.reads xs more close e) c.more-test.ensures.yes (ap ends_operation close) in
-      subst (Remain component_lexemes (λ _. Unit {0}) more) (sym (c.in_ok-next.ensures.reads n.0 n.2 n.3)) n.4;
   tokens = rw c.in_ok-push-2.ensures.items
       (push_read component_lexemes c.more.arguments.items c.in_ok-next.next _ _ _ _
       c.more.invariant.some c.more.invariant.tokens c.more-test.ensures.yes c.in_ok-next.ensures.tokens);
@@ -28,71 +23,46 @@ more-preserved c = record {
   forward = λ all tail. c.in_ok-next.ensures.forward all (c.more-test.ensures.forward all (c.more.invariant.forward all tail));
   seen = λ hidden xs more close could.
       let n = next_part_seen component_lexemes (λ _. Unit {0}) hidden more _ _ component_name.Mtc tt (c.more.invariant.seen hidden xs more close could) c.more-test.ensures.passed (ap ends_operation close) in
-      (n.2, n.3, c.in_ok-next.ensures.reads_seen hidden n.0 _ n.4);
+      (n.2, n.3, c.in_ok-next.ensures.reads hidden n.0 _ n.4);
 }
 
 pub more-init : goal.more-init
 more-init c = record {
   tokens = first_of (search rules, grind (arith, common_steps));
   some = first_of (search rules, grind (arith, common_steps));
-  reads = λ xs more close e.
-      let n = comma_first component_lexemes (λ _. Unit {0}) xs more _ (all_any xs) (some_of component_lexemes xs more _ e (λ same. iff_false c.is_symbol_at.ensures c.if-is_symbol_at.false (paren_at _ more same close))) e in
-      subst (Remain component_lexemes (λ _. Unit {0}) more) (sym (c.in_ok-first.ensures.reads n.0 n.2 n.3)) n.4;
   shorter = first_of (search rules, grind (arith, common_steps));
   forward = λ all tail. c.in_ok-first.ensures.forward all tail;
   seen = λ hidden xs more close could.
       let n = argument_first hidden xs more _ close (iff_false c.is_symbol_at.ensures c.if-is_symbol_at.false) could in
-      (n.2, n.3, c.in_ok-first.ensures.reads_seen hidden n.0 _ n.4);
+      (n.2, n.3, c.in_ok-first.ensures.reads hidden n.0 _ n.4);
 }
 
 pub returns-in_err-first-clause-reads : goal.returns-in_err-first-clause-reads
 returns-in_err-first-clause-reads c =
-    λ xs more close e.
-    let n = comma_first component_lexemes (λ _. Unit {0}) xs more _ (all_any xs) (some_of component_lexemes xs more _ e (λ same. iff_false c.is_symbol_at.ensures c.if-is_symbol_at.false (paren_at _ more same close))) e in
-    handed c.from_residual.result _ _ c.from_residual.ensures.1 (c.in_err-first.ensures.reads n.0 n.2 n.3)
+    λ hidden xs more close could.
+    let n = argument_first hidden xs more _ close (iff_false c.is_symbol_at.ensures c.if-is_symbol_at.false) could in
+    handed_seen hidden c.from_residual.result _ _ c.from_residual.ensures.1 (c.in_err-first.ensures.reads hidden n.0 _ n.4)
 
 pub returns-in_err-next-clause-reads : goal.returns-in_err-next-clause-reads
 returns-in_err-next-clause-reads c =
-    λ xs more close e.
-    let n = comma_next component_lexemes (λ _. Unit {0}) more _ _ (c.more.invariant.reads xs more close e) c.more-test.ensures.yes (ap ends_operation close) in
-    handed c.from_residual-in_err-next.result _ _ c.from_residual-in_err-next.ensures.1 (c.in_err-next.ensures.reads n.0 n.2 n.3)
+    λ hidden xs more close could.
+    let n = next_part_seen component_lexemes (λ _. Unit {0}) hidden more _ _ component_name.Mtc tt (c.more.invariant.seen hidden xs more close could) c.more-test.ensures.passed (ap ends_operation close) in
+    handed_seen hidden c.from_residual-in_err-next.result _ _ c.from_residual-in_err-next.ensures.1 (c.in_err-next.ensures.reads hidden n.0 _ n.4)
 
 pub returns-clause-reads : goal.returns-clause-reads
 returns-clause-reads c =
-    λ xs more close e.
-    same_ahead c.more-test.ensures.no (comma_last component_lexemes (λ _. Unit {0}) more _ (c.more.invariant.reads xs more close e) c.more-test.ensures.other)
-
-pub returns-then-is_symbol_at-clause-reads : goal.returns-then-is_symbol_at-clause-reads
-returns-then-is_symbol_at-clause-reads c =
-    λ xs more close e.
-    none_of component_lexemes xs more _ e (λ y r same. component_no_paren y r (ap first (sym same) ∙ paren_first _ (c.is_symbol_at.ensures.0 c.if-is_symbol_at.true)))
-
-pub returns-in_err-first-clause-reads_seen : goal.returns-in_err-first-clause-reads_seen
-returns-in_err-first-clause-reads_seen c =
-    λ hidden xs more close could.
-    let n = argument_first hidden xs more _ close (iff_false c.is_symbol_at.ensures c.if-is_symbol_at.false) could in
-    handed_seen hidden c.from_residual.result _ _ c.from_residual.ensures.1 (c.in_err-first.ensures.reads_seen hidden n.0 _ n.4)
-
-pub returns-in_err-next-clause-reads_seen : goal.returns-in_err-next-clause-reads_seen
-returns-in_err-next-clause-reads_seen c =
-    λ hidden xs more close could.
-    let n = next_part_seen component_lexemes (λ _. Unit {0}) hidden more _ _ component_name.Mtc tt (c.more.invariant.seen hidden xs more close could) c.more-test.ensures.passed (ap ends_operation close) in
-    handed_seen hidden c.from_residual-in_err-next.result _ _ c.from_residual-in_err-next.ensures.1 (c.in_err-next.ensures.reads_seen hidden n.0 _ n.4)
-
-pub returns-clause-reads_seen : goal.returns-clause-reads_seen
-returns-clause-reads_seen c =
     λ hidden xs more close could.
     same_could c.more-test.ensures.no (last_part_seen component_lexemes (λ _. Unit {0}) hidden more _ (c.more.invariant.seen hidden xs more close could) c.more-test.ensures.absent)
 
-pub returns-then-is_symbol_at-clause-reads_seen : goal.returns-then-is_symbol_at-clause-reads_seen
-returns-then-is_symbol_at-clause-reads_seen c = λ hidden xs more close could. no_argument hidden xs more _ (c.is_symbol_at.ensures.0 c.if-is_symbol_at.true) could
+pub returns-then-is_symbol_at-clause-reads : goal.returns-then-is_symbol_at-clause-reads
+returns-then-is_symbol_at-clause-reads c = λ hidden xs more close could. no_argument hidden xs more _ (c.is_symbol_at.ensures.0 c.if-is_symbol_at.true) could
 
 pub returns-in_err-first-clause-beyond : goal.returns-in_err-first-clause-beyond
 returns-in_err-first-clause-beyond c =
     handed_as (StandAtLeast 0 c.args.self.now) c.from_residual.result _ _ c.from_residual.ensures.1
-    (stuck_stands 0 c.args.self.now c.args.self.now _ (omega arith) c.in_err-first.ensures.place)
+    (behind_stands 0 c.args.self.now c.args.self.now _ (omega arith) c.in_err-first.ensures.place)
 
 pub returns-in_err-next-clause-beyond : goal.returns-in_err-next-clause-beyond
 returns-in_err-next-clause-beyond c =
     handed_as (StandAtLeast 0 c.args.self.now) c.from_residual-in_err-next.result _ _ c.from_residual-in_err-next.ensures.1
-    (stuck_stands 0 c.args.self.now c.has_symbol.new.self _ (omega (arith, c.more.invariant.shorter, c.more-test.ensures.shorter)) c.in_err-next.ensures.place)
+    (behind_stands 0 c.args.self.now c.has_symbol.new.self _ (omega (arith, c.more.invariant.shorter, c.more-test.ensures.shorter)) c.in_err-next.ensures.place)

@@ -4,7 +4,6 @@ use Rattle.tp_syntax.specs.Ahead.{ahead}
 use Rattle.tp_syntax.specs.Definitions.{arguments_lexemes}
 use Rattle.tp_token.specs.Lexeme.{Lexeme, symbol}
 use Rattle.tp_syntax.specs.Reading.{first}
-use Rattle.tp_syntax.proofs.PartsLeftToRead.{Remain}
 use Rattle.tp_syntax.proofs.PartsLeftSeen.{RemainSeen}
 use Rattle.tp_syntax.specs.HiddenTokens.{CouldBe}
 use Rattle.tp_tree.specs.declared.tree.ComponentName.{ComponentName}
@@ -17,8 +16,6 @@ abbrev pub invariant-more : goal.invariant-more
 invariant-more l = record {
   tokens : ahead l.fn.self.rest.now ≡ arguments_lexemes l.arguments.items ++ ahead l.self.rest.now;
   some : 0 < length l.arguments.items;
-  reads : (xs : List ComponentName) (more : List Lexeme) → first more ≡ Some (symbol RightParen) → ahead l.fn.self.rest.now ≡ arguments_lexemes xs ++ more
-      → Remain component_lexemes (λ _. Unit {0}) more (ahead l.self.rest.now);
   shorter : length l.self.rest.now < length l.fn.self.rest.now;
   forward : GoesForward l.fn.self l.self;
   seen : (hidden : ℕ) (xs : List ComponentName) (more : List Lexeme) → first more ≡ Some (symbol RightParen) → CouldBe hidden l.fn.self.rest.now (arguments_lexemes xs ++ more)

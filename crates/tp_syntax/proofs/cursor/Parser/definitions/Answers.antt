@@ -1,5 +1,5 @@
--- One more definition is read behind the others, and nests no deeper than allowed.
-use Rattle.std.proofs.Common.{inl, inr, arith, refl, sym, subst, ap, ◌∙◌, rules, ◌≤◌}
+-- One more definition is read behind the others.
+use Rattle.std.proofs.Common.{inl, inr, arith, refl, rules}
 use Rattle.tp_token.specs.declared.token.Symbol.TheVariants.{RightBrace}
 use Rattle.tp_token.specs.Lexeme.{symbol}
 use Rattle.tp_syntax.specs.Definitions.{definition_lexemes}
@@ -7,30 +7,19 @@ use Rattle.tp_syntax.specs.Grammar.{definition_part}
 use Rattle.tp_syntax.proofs.ReadSequenceGrowth.{push_read_all}
 use Rattle.std.proofs.lemmas.Bool.{iff_false}
 use Rattle.tp_syntax.proofs.PassedPartGrowth.{between_push, between_none}
-use Rattle.tp_tree.specs.declared.tree.Definition.{Definition}
-use Rattle.tp_syntax.specs.Nesting.{defined_depth}
-use Rattle.tp_syntax.proofs.NestingEquations.{push_nests}
 use Rattle.std.proofs.lemmas.Grind.{common_steps}
-use Rattle.tp_syntax.proofs.FirstTokensAhead.{handed, brace_at, brace_first}
-use Rattle.tp_syntax.proofs.PartsLeftToRead.{RemainAll, all_next, all_last, no_brace, all_deep}
+use Rattle.tp_syntax.proofs.PartsLeftToRead.{all_any}
 use Rattle.tp_syntax.proofs.FirstTokensOfParts.{definition_begins}
 use Rattle.tp_syntax.proofs.FirstTokensSeen.{handed_seen}
 use Rattle.tp_syntax.proofs.PartsEndSeen.{closed_all_seen, next_or_hidden}
 use Rattle.tp_syntax.proofs.PartsInOrderSeen.{none_left_seen}
 use Rattle.tp_syntax.proofs.TokensBeyond.{hidden_stuck}
-use Rattle.tp_syntax.specs.Reading.{first}
 use Rattle.tp_syntax.specs.Lines.{definition_notes}
 use Rattle.tp_syntax.proofs.LinesOfPassedTokens.{passes_none, passes_push}
 use Rattle.tp_syntax.proofs.cursor.Parser.definitions.Goals as goal
 
 pub more-preserved : goal.more-preserved
 more-preserved c = record {
-  reads = λ xs more stand deep brace e.
-      let n = all_next definition_lexemes definition_part (λ x. defined_depth x.defined ≤ c.args.left) more _ (c.more.invariant.reads xs more stand deep brace e) definition_begins (λ same. iff_false c.is_symbol_at.ensures c.more-test.true (brace_at _ more same brace)) in
-      subst (RemainAll definition_lexemes definition_part (λ x. defined_depth x.defined ≤ c.args.left) more) (sym (c.in_ok-definition.ensures.reads n.0 n.2 n.3 n.1 n.4)) n.5;
-  nested = rw c.in_ok-push.ensures.items
-      (push_nests (λ (x : Definition). defined_depth x.defined) c.more.definitions.items c.in_ok-definition.definition c.args.left
-      c.more.invariant.nested c.in_ok-definition.ensures.nested);
   tokens = rw c.in_ok-push.ensures.items
       (push_read_all definition_lexemes c.more.definitions.items c.in_ok-definition.definition _ _ _ c.more.invariant.tokens c.in_ok-definition.ensures.tokens);
   grammatical = rw c.in_ok-push.ensures.items
@@ -38,44 +27,32 @@ more-preserved c = record {
   shorter = omega (arith, c.more.invariant.shorter, c.in_ok-definition.ensures.shorter);
   lines = rw c.in_ok-push.ensures.items
       (passes_push definition_notes c.more.definitions.items c.in_ok-definition.definition c.more.invariant.lines c.in_ok-definition.ensures.lines);
-  seen = λ hidden xs more stand deep brace could.
-      elim (next_or_hidden definition_lexemes definition_part (λ x. defined_depth x.defined ≤ c.args.left) hidden (symbol RightBrace) more _ refl brace definition_begins (iff_false c.is_symbol_at.ensures c.more-test.true) (c.more.invariant.seen hidden xs more stand deep brace could)) [
-        | inl n ↦ (n.2, n.3, n.4, c.in_ok-definition.ensures.reads_seen hidden n.0 _ n.5 n.1 n.6)
-        | inr h ↦ none_left_seen definition_lexemes definition_part (λ x. defined_depth x.defined ≤ c.args.left) hidden more _ (omega (arith, h, c.in_ok-definition.ensures.shorter))
+  seen = λ hidden xs more stand brace could.
+      elim (next_or_hidden definition_lexemes definition_part (λ _. Unit {0}) hidden (symbol RightBrace) more _ refl brace definition_begins (iff_false c.is_symbol_at.ensures c.more-test.true) (c.more.invariant.seen hidden xs more stand brace could)) [
+        | inl n ↦ (n.2, n.3, n.4, c.in_ok-definition.ensures.reads hidden n.0 _ n.5 n.6)
+        | inr h ↦ none_left_seen definition_lexemes definition_part (λ _. Unit {0}) hidden more _ (omega (arith, h, c.in_ok-definition.ensures.shorter))
       ];
 }
 
 pub more-init : goal.more-init
 more-init c = record {
   tokens = first_of (search rules, grind (arith, common_steps));
-  nested = first_of (search rules, grind (arith, common_steps));
   grammatical = rw c.new-definitions.ensures.items (between_none _);
-  reads = λ xs more stand deep brace e. (xs, all_deep _ c.args.left xs deep, stand, e);
-  seen = λ hidden xs more stand deep brace could. (xs, all_deep _ c.args.left xs deep, stand, could);
+  seen = λ hidden xs more stand brace could. (xs, all_any xs, stand, could);
   shorter = first_of (search rules, grind (arith, common_steps));
   lines = rw c.new-definitions.ensures.items (passes_none _);
 }
 
 pub returns-in_err-definition-clause-reads : goal.returns-in_err-definition-clause-reads
 returns-in_err-definition-clause-reads c =
-    λ xs more stand deep brace e.
-    let n = all_next definition_lexemes definition_part (λ x. defined_depth x.defined ≤ c.args.left) more _ (c.more.invariant.reads xs more stand deep brace e) definition_begins (λ same. iff_false c.is_symbol_at.ensures c.more-test.true (brace_at _ more same brace)) in
-    handed c.from_residual.result _ _ c.from_residual.ensures.1 (c.in_err-definition.ensures.reads n.0 n.2 n.3 n.1 n.4)
-
-pub returns-clause-reads : goal.returns-clause-reads
-returns-clause-reads c =
-    λ xs more stand deep brace e. all_last definition_lexemes definition_part (λ x. defined_depth x.defined ≤ c.args.left) more _ (c.more.invariant.reads xs more stand deep brace e) (λ y r same. no_brace _ (definition_begins y r) (ap first (sym same) ∙ brace_first _ (c.is_symbol_at.ensures.0 c.more-test.false)))
-
-pub returns-in_err-definition-clause-reads_seen : goal.returns-in_err-definition-clause-reads_seen
-returns-in_err-definition-clause-reads_seen c =
-    λ hidden xs more stand deep brace could.
-    elim (next_or_hidden definition_lexemes definition_part (λ x. defined_depth x.defined ≤ c.args.left) hidden (symbol RightBrace) more _ refl brace definition_begins (iff_false c.is_symbol_at.ensures c.more-test.true) (c.more.invariant.seen hidden xs more stand deep brace could)) [
-      | inl n ↦ handed_seen hidden c.from_residual.result _ _ c.from_residual.ensures.1 (c.in_err-definition.ensures.reads_seen hidden n.0 _ n.5 n.1 n.6)
+    λ hidden xs more stand brace could.
+    elim (next_or_hidden definition_lexemes definition_part (λ _. Unit {0}) hidden (symbol RightBrace) more _ refl brace definition_begins (iff_false c.is_symbol_at.ensures c.more-test.true) (c.more.invariant.seen hidden xs more stand brace could)) [
+      | inl n ↦ handed_seen hidden c.from_residual.result _ _ c.from_residual.ensures.1 (c.in_err-definition.ensures.reads hidden n.0 _ n.5 n.6)
       | inr h ↦ handed_seen hidden c.from_residual.result _ _ c.from_residual.ensures.1 (hidden_stuck hidden c.more.self _ h c.in_err-definition.ensures.beyond)
     ]
 
-pub returns-clause-reads_seen : goal.returns-clause-reads_seen
-returns-clause-reads_seen c =
-    λ hidden xs more stand deep brace could.
-    closed_all_seen definition_lexemes definition_part (λ x. defined_depth x.defined ≤ c.args.left) hidden more _ (c.is_symbol_at.ensures.0 c.more-test.false) definition_begins
-    (c.more.invariant.seen hidden xs more stand deep brace could)
+pub returns-clause-reads : goal.returns-clause-reads
+returns-clause-reads c =
+    λ hidden xs more stand brace could.
+    closed_all_seen definition_lexemes definition_part (λ _. Unit {0}) hidden more _ (c.is_symbol_at.ensures.0 c.more-test.false) definition_begins
+    (c.more.invariant.seen hidden xs more stand brace could)

@@ -2,14 +2,12 @@
 use Rattle.std.proofs.Common.{◌≡◌, ℕ, ◌≤◌, ◌++◌, length, map, List, Some}
 use Rattle.tp_syntax.specs.Ahead.{ahead}
 use Rattle.tp_syntax.specs.Definitions.{definitions_lexemes, definition_lexemes}
-use Rattle.tp_syntax.specs.Nesting.{definitions_depth, defined_depth}
 use Rattle.tp_syntax.specs.Grammar.{definition_part}
 use Rattle.tp_syntax.specs.Standing.{GoesOver}
 use Rattle.tp_token.specs.Lexeme.{Lexeme, symbol}
 use Rattle.tp_syntax.specs.Reading.{AllStand, first}
 use Rattle.tp_syntax.specs.HiddenTokens.{CouldBe}
 use Rattle.tp_syntax.proofs.PartsInOrderSeen.{RemainAllSeen}
-use Rattle.tp_syntax.proofs.PartsLeftToRead.{RemainAll}
 use Rattle.tp_tree.specs.declared.tree.Definition.{Definition}
 use Rattle.tp_token.specs.declared.token.Symbol.TheVariants.{RightBrace}
 use Rattle.tp_syntax.specs.Lines.{noted_in_order, definition_notes}
@@ -19,12 +17,9 @@ use Rattle.tp_syntax.proofs.cursor.Parser.definitions.Given as goal
 abbrev pub invariant-more : goal.invariant-more
 invariant-more l = record {
   tokens : ahead l.fn.self.rest.now ≡ definitions_lexemes l.definitions.items ++ ahead l.self.rest.now;
-  nested : definitions_depth l.definitions.items ≤ l.left;
   grammatical : GoesOver l.fn.self (map definition_part l.definitions.items) l.self;
-  reads : (xs : List Definition) (more : List Lexeme) → AllStand (map definition_part xs) more → definitions_depth xs ≤ l.left → first more ≡ Some (symbol RightBrace) → ahead l.fn.self.rest.now ≡ definitions_lexemes xs ++ more
-      → RemainAll definition_lexemes definition_part (λ x. defined_depth x.defined ≤ l.left) more (ahead l.self.rest.now);
-  seen : (hidden : ℕ) (xs : List Definition) (more : List Lexeme) → AllStand (map definition_part xs) more → definitions_depth xs ≤ l.left → first more ≡ Some (symbol RightBrace)
-      → CouldBe hidden l.fn.self.rest.now (definitions_lexemes xs ++ more) → RemainAllSeen definition_lexemes definition_part (λ x. defined_depth x.defined ≤ l.left) hidden more l.self.rest.now;
+  seen : (hidden : ℕ) (xs : List Definition) (more : List Lexeme) → AllStand (map definition_part xs) more → first more ≡ Some (symbol RightBrace)
+      → CouldBe hidden l.fn.self.rest.now (definitions_lexemes xs ++ more) → RemainAllSeen definition_lexemes definition_part (λ _. Unit {0}) hidden more l.self.rest.now;
   shorter : length l.self.rest.now ≤ length l.fn.self.rest.now;
   lines : PassesNoted l.fn.self.rest.now (noted_in_order (map definition_notes l.definitions.items)) l.self.rest.now;
 }

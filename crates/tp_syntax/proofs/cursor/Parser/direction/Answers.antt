@@ -23,37 +23,37 @@ returns-in_err-has_semicolon-clause-beyond c =
     (wrong_stands 0 0 c.args.self.now c.types.new.self _ (omega (arith, c.in_ok-way.ensures.shorter, c.in_ok-types.ensures.shorter))
     c.in_err-has_semicolon.ensures.place)
 
-pub returns-in_err-way-clause-reads_seen : goal.returns-in_err-way-clause-reads_seen
+pub returns-in_err-way-clause-reads : goal.returns-in_err-way-clause-reads
 unfolding direction_lexemes
-returns-in_err-way-clause-reads_seen c =
+returns-in_err-way-clause-reads c =
     λ hidden x more placed could.
     let e0 = simp append_assoc at could in
-    handed_seen hidden c.from_residual.result _ _ c.from_residual.ensures.1 (c.in_err-way.ensures.reads_seen hidden x.way _ e0)
+    handed_seen hidden c.from_residual.result _ _ c.from_residual.ensures.1 (c.in_err-way.ensures.reads hidden x.way _ e0)
 
-pub returns-in_err-types-clause-reads_seen : goal.returns-in_err-types-clause-reads_seen
+pub returns-in_err-types-clause-reads : goal.returns-in_err-types-clause-reads
 unfolding direction_lexemes
-returns-in_err-types-clause-reads_seen c =
+returns-in_err-types-clause-reads c =
     λ hidden x more placed could.
     let e0 = simp append_assoc at could in
-    let e1 = c.in_ok-way.ensures.reads_seen hidden x.way _ e0 in
+    let e1 = c.in_ok-way.ensures.reads hidden x.way _ e0 in
     handed_seen hidden c.from_residual-in_err-types.result _ _ c.from_residual-in_err-types.ensures.1
-    (c.in_err-types.ensures.reads_seen hidden x.types.items _ placed.0 (end_stops x.has_semicolon more placed.1) e1)
+    (c.in_err-types.ensures.reads hidden x.types.items _ placed.0 (end_stops x.has_semicolon more placed.1) e1)
 
-pub returns-in_err-has_semicolon-clause-reads_seen : goal.returns-in_err-has_semicolon-clause-reads_seen
+pub returns-in_err-has_semicolon-clause-reads : goal.returns-in_err-has_semicolon-clause-reads
 unfolding direction_lexemes
-returns-in_err-has_semicolon-clause-reads_seen c =
+returns-in_err-has_semicolon-clause-reads c =
     λ hidden x more placed could.
     let e0 = simp append_assoc at could in
-    let e1 = c.in_ok-way.ensures.reads_seen hidden x.way _ e0 in
-    let e2 = c.in_ok-types.ensures.reads_seen hidden x.types.items _ placed.0 (end_stops x.has_semicolon more placed.1) e1 in
+    let e1 = c.in_ok-way.ensures.reads hidden x.way _ e0 in
+    let e2 = c.in_ok-types.ensures.reads hidden x.types.items _ placed.0 (end_stops x.has_semicolon more placed.1) e1 in
     handed_seen hidden c.from_residual-in_err-has_semicolon.result _ _ c.from_residual-in_err-has_semicolon.ensures.1
-    (c.in_err-has_semicolon.ensures.reads_seen hidden x.has_semicolon more placed.1 e2)
+    (c.in_err-has_semicolon.ensures.reads hidden x.has_semicolon more placed.1 e2)
 
-pub returns-clause-reads_seen : goal.returns-clause-reads_seen
+pub returns-clause-reads : goal.returns-clause-reads
 unfolding direction_lexemes
-returns-clause-reads_seen c =
+returns-clause-reads c =
     λ hidden x more placed could.
     let e0 = simp append_assoc at could in
-    let e1 = c.in_ok-way.ensures.reads_seen hidden x.way _ e0 in
-    let e2 = c.in_ok-types.ensures.reads_seen hidden x.types.items _ placed.0 (end_stops x.has_semicolon more placed.1) e1 in
-    c.in_ok-has_semicolon.ensures.reads_seen hidden x.has_semicolon more placed.1 e2
+    let e1 = c.in_ok-way.ensures.reads hidden x.way _ e0 in
+    let e2 = c.in_ok-types.ensures.reads hidden x.types.items _ placed.0 (end_stops x.has_semicolon more placed.1) e1 in
+    c.in_ok-has_semicolon.ensures.reads hidden x.has_semicolon more placed.1 e2

@@ -6,7 +6,6 @@ use Rattle.tp_syntax.specs.Grammar.{direction_part}
 use Rattle.tp_syntax.specs.Standing.{GoesOver}
 use Rattle.tp_token.specs.Lexeme.{Lexeme, symbol}
 use Rattle.tp_syntax.specs.Reading.{AllStand, first}
-use Rattle.tp_syntax.proofs.PartsLeftToRead.{RemainAll}
 use Rattle.tp_tree.specs.declared.tree.Direction.{Direction}
 use Rattle.tp_token.specs.declared.token.Symbol.TheVariants.{RightBrace}
 use Rattle.tp_syntax.specs.Forward.{GoesForward}
@@ -18,8 +17,6 @@ abbrev pub invariant-more : goal.invariant-more
 invariant-more l = record {
   tokens : ahead l.fn.self.rest.now ≡ directions_lexemes l.directions.items ++ ahead l.self.rest.now;
   grammatical : GoesOver l.fn.self (map direction_part l.directions.items) l.self;
-  reads : (xs : List Direction) (more : List Lexeme) → AllStand (map direction_part xs) more → first more ≡ Some (symbol RightBrace) → ahead l.fn.self.rest.now ≡ directions_lexemes xs ++ more
-      → RemainAll direction_lexemes direction_part (λ _. Unit {0}) more (ahead l.self.rest.now);
   none : l.directions.items ≡ [] → l.self ≡ l.fn.self;
   seen : (hidden : ℕ) (xs : List Direction) (more : List Lexeme) → AllStand (map direction_part xs) more → first more ≡ Some (symbol RightBrace) →
       CouldBe hidden l.fn.self.rest.now (directions_lexemes xs ++ more)

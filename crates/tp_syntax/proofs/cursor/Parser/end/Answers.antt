@@ -24,13 +24,6 @@ missing closed true old ps more stands e other same shut closes = other (ap firs
 missing true false old ps more stands e other same shut closes = false≢true (sym shut)
 missing false false old ps more stands e other same shut closes = closes (brace_at ps more (same ∙ e) (before_brace (first more) stands))
 
-pub returns-clause-reads : goal.returns-clause-reads
-returns-clause-reads c =
-    λ e more stands same.
-    absurd (missing c.args.is_closed e _ c.has_symbol.new.self.rest.now more stands same c.if-has_symbol.ensures.other
-    (ap (λ (p : Parser). ahead p.rest.now) c.if-has_symbol.ensures.no) c.if-is_closed.false
-    (iff_false c.is_symbol_at.ensures c.if-is_symbol_at.false))
-
 seen_missing : (hidden : ℕ) (closed e : Bool) (ps : List Placed) (more : List Lexeme) → MayStandBefore (closed || e) more → (token_at ps 0 ≡ Some (symbol Semicolon) → ⊥)
     → CouldBe hidden ps (end_lexemes e ++ more) → CouldBe hidden ps more
 seen_missing hidden closed true ps more stands other could = hidden_could (absent_seen hidden ps (symbol Semicolon) more refl could other)
@@ -52,17 +45,17 @@ seen_ended hidden closed false ps rest more stands e could =
       | inr f ↦ absurd (false≢true (ap (λ (ts : List Lexeme). may_end_before (closed || false) (first ts)) (sym f.1) ∙ stands))
     ]
 
-pub returns-then-has_symbol-clause-reads_seen : goal.returns-then-has_symbol-clause-reads_seen
-returns-then-has_symbol-clause-reads_seen c =
+pub returns-then-has_symbol-clause-reads : goal.returns-then-has_symbol-clause-reads
+returns-then-has_symbol-clause-reads c =
     λ hidden e more stands could. seen_ended hidden c.args.is_closed e _ _ more stands c.if-has_symbol.ensures.passed could
 
-pub returns-then-is_closed-clause-reads_seen : goal.returns-then-is_closed-clause-reads_seen
-returns-then-is_closed-clause-reads_seen c =
+pub returns-then-is_closed-clause-reads : goal.returns-then-is_closed-clause-reads
+returns-then-is_closed-clause-reads c =
     λ hidden e more stands could.
     rw c.if-has_symbol.ensures.no (seen_missing hidden c.args.is_closed e c.args.self.now.rest.now more stands c.if-has_symbol.ensures.absent could)
 
-pub returns-clause-reads_seen : goal.returns-clause-reads_seen
-returns-clause-reads_seen c =
+pub returns-clause-reads : goal.returns-clause-reads
+returns-clause-reads c =
     λ hidden e more stands could.
     rw c.if-has_symbol.ensures.no (seen_shut hidden c.args.is_closed e c.args.self.now.rest.now more stands c.if-has_symbol.ensures.absent c.if-is_closed.false
     (λ at. iff_false c.is_symbol_at.ensures c.if-is_symbol_at.false (ap (λ (p : Parser). token_at p.rest.now 0) c.if-has_symbol.ensures.no ∙ at)) could)

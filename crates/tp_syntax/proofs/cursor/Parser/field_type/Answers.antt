@@ -21,15 +21,15 @@ returns-in_err-name-clause-beyond c =
     handed_as (StandAtLeast 0 c.args.self.now) c.from_residual-in_err-name.result _ _ c.from_residual-in_err-name.ensures.1
     (behind_stands 0 c.args.self.now c.type_name.new.self _ (omega (arith, c.in_ok-type_name.ensures.shorter)) c.in_err-name.ensures.place)
 
-pub returns-in_err-type_name-clause-reads_seen : goal.returns-in_err-type_name-clause-reads_seen
-returns-in_err-type_name-clause-reads_seen c =
+pub returns-in_err-type_name-clause-reads : goal.returns-in_err-type_name-clause-reads
+returns-in_err-type_name-clause-reads c =
     λ hidden x more could.
     let e0 = simp append_assoc at could in
-    handed_seen hidden c.from_residual.result _ _ c.from_residual.ensures.1 (c.in_err-type_name.ensures.reads_seen hidden x.type_name _ e0)
+    handed_seen hidden c.from_residual.result _ _ c.from_residual.ensures.1 (c.in_err-type_name.ensures.reads hidden x.type_name _ e0)
 
-pub returns-in_err-name-clause-reads_seen : goal.returns-in_err-name-clause-reads_seen
-returns-in_err-name-clause-reads_seen c =
+pub returns-in_err-name-clause-reads : goal.returns-in_err-name-clause-reads
+returns-in_err-name-clause-reads c =
     λ hidden x more could.
     let e0 = simp append_assoc at could in
-    let e1 = c.in_ok-type_name.ensures.reads_seen hidden x.type_name _ e0 in
-    handed_seen hidden c.from_residual-in_err-name.result _ _ c.from_residual-in_err-name.ensures.1 (c.in_err-name.ensures.reads_seen hidden _ more e1)
+    let e1 = c.in_ok-type_name.ensures.reads hidden x.type_name _ e0 in
+    handed_seen hidden c.from_residual-in_err-name.result _ _ c.from_residual-in_err-name.ensures.1 (c.in_err-name.ensures.reads hidden _ more e1)

@@ -4,7 +4,6 @@ use Rattle.tp_syntax.specs.Ahead.{ahead}
 use Rattle.tp_syntax.specs.Definitions.{field_types_lexemes, field_type_lexemes}
 use Rattle.tp_token.specs.Lexeme.{Lexeme, symbol}
 use Rattle.tp_syntax.specs.Reading.{first}
-use Rattle.tp_syntax.proofs.PartsLeftToRead.{Remain}
 use Rattle.tp_tree.specs.declared.tree.FieldType.{FieldType}
 use Rattle.tp_token.specs.declared.token.Symbol.TheVariants.{RightBrace}
 use Rattle.tp_syntax.specs.Lines.{noted_by_commas, field_type_notes}
@@ -17,8 +16,6 @@ abbrev pub invariant-more : goal.invariant-more
 invariant-more l = record {
   tokens : ahead l.fn.self.rest.now ≡ field_types_lexemes l.fields.items ++ ahead l.self.rest.now;
   some : 0 < length l.fields.items;
-  reads : (xs : List FieldType) (more : List Lexeme) → first more ≡ Some (symbol RightBrace) → ahead l.fn.self.rest.now ≡ field_types_lexemes xs ++ more
-      → Remain field_type_lexemes (λ _. Unit {0}) more (ahead l.self.rest.now);
   seen : (hidden : ℕ) (xs : List FieldType) (more : List Lexeme) → first more ≡ Some (symbol RightBrace) → CouldBe hidden l.fn.self.rest.now
       (field_types_lexemes xs ++ more)
       → RemainSeen field_type_lexemes (λ _. Unit {0}) hidden more l.self.rest.now;

@@ -1,9 +1,7 @@
 -- Each variable and statement but the last of them has its `;`, or ends in a `}`.
-use Rattle.std.proofs.Common.{List, ◌++◌, map, append_assoc, refl, ◌∷◌, arith, subst}
+use Rattle.std.proofs.Common.{List, ◌++◌, map, refl, ◌∷◌, subst}
 use Rattle.tp_syntax.specs.Grammar.{statements_parts, variable_part}
 use Rattle.tp_syntax.proofs.PassedPartGrowth.{between_parts, between_then}
-use Rattle.tp_syntax.proofs.FirstTokensAhead.{handed}
-use Rattle.tp_syntax.specs.Definitions.{function_lexemes}
 use Rattle.tp_syntax.proofs.TestCaseReading.{function_variables, function_statements, statements_no_var}
 use Rattle.tp_token.specs.Lexeme.{Lexeme, symbol}
 use Rattle.tp_syntax.specs.HiddenTokens.{CouldBe}
@@ -21,330 +19,162 @@ returns-clause-grammatical c =
     between_parts (variables ++ statements) _ _
     (between_then variables statements _ _ _ c.in_ok-variables.ensures.grammatical c.in_ok-statements.ensures.grammatical)
 
-pub returns-in_err-word-clause-reads : goal.returns-in_err-word-clause-reads
-unfolding function_lexemes
-returns-in_err-word-clause-reads c =
-    λ x more right deep e.
-    let e0 = simp append_assoc at e in
-    handed c.from_residual.result _ _ c.from_residual.ensures.1 (c.in_err-word.ensures.reads _ e0)
-
-pub returns-in_err-name-clause-reads : goal.returns-in_err-name-clause-reads
-unfolding function_lexemes
-returns-in_err-name-clause-reads c =
-    λ x more right deep e.
-    let e0 = simp append_assoc at e in
-    let e1 = c.in_ok-word.ensures.reads _ e0 in
-    handed c.from_residual-in_err-name.result _ _ c.from_residual-in_err-name.ensures.1 (c.in_err-name.ensures.reads _ _ e1)
-
-pub returns-in_err-symbol-clause-reads : goal.returns-in_err-symbol-clause-reads
-unfolding function_lexemes
-returns-in_err-symbol-clause-reads c =
-    λ x more right deep e.
-    let e0 = simp append_assoc at e in
-    let e1 = c.in_ok-word.ensures.reads _ e0 in
-    let e2 = c.in_ok-name.ensures.reads _ _ e1 in
-    handed c.from_residual-in_err-symbol.result _ _ c.from_residual-in_err-symbol.ensures.1 (c.in_err-symbol.ensures.reads _ e2)
-
-pub returns-in_err-parameters-clause-reads : goal.returns-in_err-parameters-clause-reads
-unfolding function_lexemes
-returns-in_err-parameters-clause-reads c =
-    λ x more right deep e.
-    let e0 = simp append_assoc at e in
-    let e1 = c.in_ok-word.ensures.reads _ e0 in
-    let e2 = c.in_ok-name.ensures.reads _ _ e1 in
-    let e3 = c.in_ok-symbol.ensures.reads _ e2 in
-    handed c.from_residual-in_err-parameters.result _ _ c.from_residual-in_err-parameters.ensures.1 (c.in_err-parameters.ensures.reads x.parameters.items _ refl e3)
-
-pub returns-in_err-symbol-2-clause-reads : goal.returns-in_err-symbol-2-clause-reads
-unfolding function_lexemes
-returns-in_err-symbol-2-clause-reads c =
-    λ x more right deep e.
-    let e0 = simp append_assoc at e in
-    let e1 = c.in_ok-word.ensures.reads _ e0 in
-    let e2 = c.in_ok-name.ensures.reads _ _ e1 in
-    let e3 = c.in_ok-symbol.ensures.reads _ e2 in
-    let e4 = c.in_ok-parameters.ensures.reads x.parameters.items _ refl e3 in
-    handed c.from_residual-in_err-symbol-2.result _ _ c.from_residual-in_err-symbol-2.ensures.1 (c.in_err-symbol-2.ensures.reads _ e4)
-
-pub returns-in_err-word-2-clause-reads : goal.returns-in_err-word-2-clause-reads
-unfolding function_lexemes
-returns-in_err-word-2-clause-reads c =
-    λ x more right deep e.
-    let e0 = simp append_assoc at e in
-    let e1 = c.in_ok-word.ensures.reads _ e0 in
-    let e2 = c.in_ok-name.ensures.reads _ _ e1 in
-    let e3 = c.in_ok-symbol.ensures.reads _ e2 in
-    let e4 = c.in_ok-parameters.ensures.reads x.parameters.items _ refl e3 in
-    let e5 = c.in_ok-symbol-2.ensures.reads _ e4 in
-    handed c.from_residual-in_err-word-2.result _ _ c.from_residual-in_err-word-2.ensures.1 (c.in_err-word-2.ensures.reads _ e5)
-
-pub returns-in_err-word-3-clause-reads : goal.returns-in_err-word-3-clause-reads
-unfolding function_lexemes
-returns-in_err-word-3-clause-reads c =
-    λ x more right deep e.
-    let e0 = simp append_assoc at e in
-    let e1 = c.in_ok-word.ensures.reads _ e0 in
-    let e2 = c.in_ok-name.ensures.reads _ _ e1 in
-    let e3 = c.in_ok-symbol.ensures.reads _ e2 in
-    let e4 = c.in_ok-parameters.ensures.reads x.parameters.items _ refl e3 in
-    let e5 = c.in_ok-symbol-2.ensures.reads _ e4 in
-    let e6 = c.in_ok-word-2.ensures.reads _ e5 in
-    handed c.from_residual-in_err-word-3.result _ _ c.from_residual-in_err-word-3.ensures.1 (c.in_err-word-3.ensures.reads _ e6)
-
-pub returns-in_err-runs_on-clause-reads : goal.returns-in_err-runs_on-clause-reads
-unfolding function_lexemes
-returns-in_err-runs_on-clause-reads c =
-    λ x more right deep e.
-    let e0 = simp append_assoc at e in
-    let e1 = c.in_ok-word.ensures.reads _ e0 in
-    let e2 = c.in_ok-name.ensures.reads _ _ e1 in
-    let e3 = c.in_ok-symbol.ensures.reads _ e2 in
-    let e4 = c.in_ok-parameters.ensures.reads x.parameters.items _ refl e3 in
-    let e5 = c.in_ok-symbol-2.ensures.reads _ e4 in
-    let e6 = c.in_ok-word-2.ensures.reads _ e5 in
-    let e7 = c.in_ok-word-3.ensures.reads _ e6 in
-    handed c.from_residual-in_err-runs_on.result _ _ c.from_residual-in_err-runs_on.ensures.1 (c.in_err-runs_on.ensures.reads _ _ e7)
-
-pub returns-in_err-inner-clause-reads : goal.returns-in_err-inner-clause-reads
-unfolding function_lexemes
-returns-in_err-inner-clause-reads c =
-    λ x more right deep e.
-    let e0 = simp append_assoc at e in
-    let e1 = c.in_ok-word.ensures.reads _ e0 in
-    let e2 = c.in_ok-name.ensures.reads _ _ e1 in
-    let e3 = c.in_ok-symbol.ensures.reads _ e2 in
-    let e4 = c.in_ok-parameters.ensures.reads x.parameters.items _ refl e3 in
-    let e5 = c.in_ok-symbol-2.ensures.reads _ e4 in
-    let e6 = c.in_ok-word-2.ensures.reads _ e5 in
-    let e7 = c.in_ok-word-3.ensures.reads _ e6 in
-    let e8 = c.in_ok-runs_on.ensures.reads _ _ e7 in
-    handed c.from_residual-in_err-inner.result _ _ c.from_residual-in_err-inner.ensures.1 (c.in_err-inner.ensures.reads _ (omega arith) e8)
-
-pub returns-in_err-variables-clause-reads : goal.returns-in_err-variables-clause-reads
-unfolding function_lexemes
-returns-in_err-variables-clause-reads c =
-    λ x more right deep e.
-    let e0 = simp append_assoc at e in
-    let e1 = c.in_ok-word.ensures.reads _ e0 in
-    let e2 = c.in_ok-name.ensures.reads _ _ e1 in
-    let e3 = c.in_ok-symbol.ensures.reads _ e2 in
-    let e4 = c.in_ok-parameters.ensures.reads x.parameters.items _ refl e3 in
-    let e5 = c.in_ok-symbol-2.ensures.reads _ e4 in
-    let e6 = c.in_ok-word-2.ensures.reads _ e5 in
-    let e7 = c.in_ok-word-3.ensures.reads _ e6 in
-    let e8 = c.in_ok-runs_on.ensures.reads _ _ e7 in
-    let e9 = c.in_ok-inner.ensures.reads _ (omega arith) e8 in
-    handed c.from_residual-in_err-variables.result _ _ c.from_residual-in_err-variables.ensures.1 (c.in_err-variables.ensures.reads x.variables.items _ (function_variables x more right) (statements_no_var x.statements.items (symbol RightBrace ∷ more) (λ h. cc h)) e9)
-
-pub returns-in_err-statements-clause-reads : goal.returns-in_err-statements-clause-reads
-unfolding function_lexemes
-returns-in_err-statements-clause-reads c =
-    λ x more right deep e.
-    let e0 = simp append_assoc at e in
-    let e1 = c.in_ok-word.ensures.reads _ e0 in
-    let e2 = c.in_ok-name.ensures.reads _ _ e1 in
-    let e3 = c.in_ok-symbol.ensures.reads _ e2 in
-    let e4 = c.in_ok-parameters.ensures.reads x.parameters.items _ refl e3 in
-    let e5 = c.in_ok-symbol-2.ensures.reads _ e4 in
-    let e6 = c.in_ok-word-2.ensures.reads _ e5 in
-    let e7 = c.in_ok-word-3.ensures.reads _ e6 in
-    let e8 = c.in_ok-runs_on.ensures.reads _ _ e7 in
-    let e9 = c.in_ok-inner.ensures.reads _ (omega arith) e8 in
-    let e10 = c.in_ok-variables.ensures.reads x.variables.items _ (function_variables x more right) (statements_no_var x.statements.items (symbol RightBrace ∷ more) (λ h. cc h)) e9 in
-    handed c.from_residual-in_err-statements.result _ _ c.from_residual-in_err-statements.ensures.1 (c.in_err-statements.ensures.reads x.statements.items _ (function_statements x more right) (omega (arith, c.in_ok-inner.ensures.inner)) refl e10)
-
-pub returns-in_err-symbol-3-clause-reads : goal.returns-in_err-symbol-3-clause-reads
-unfolding function_lexemes
-returns-in_err-symbol-3-clause-reads c =
-    λ x more right deep e.
-    let e0 = simp append_assoc at e in
-    let e1 = c.in_ok-word.ensures.reads _ e0 in
-    let e2 = c.in_ok-name.ensures.reads _ _ e1 in
-    let e3 = c.in_ok-symbol.ensures.reads _ e2 in
-    let e4 = c.in_ok-parameters.ensures.reads x.parameters.items _ refl e3 in
-    let e5 = c.in_ok-symbol-2.ensures.reads _ e4 in
-    let e6 = c.in_ok-word-2.ensures.reads _ e5 in
-    let e7 = c.in_ok-word-3.ensures.reads _ e6 in
-    let e8 = c.in_ok-runs_on.ensures.reads _ _ e7 in
-    let e9 = c.in_ok-inner.ensures.reads _ (omega arith) e8 in
-    let e10 = c.in_ok-variables.ensures.reads x.variables.items _ (function_variables x more right) (statements_no_var x.statements.items (symbol RightBrace ∷ more) (λ h. cc h)) e9 in
-    let e11 = c.in_ok-statements.ensures.reads x.statements.items _ (function_statements x more right) (omega (arith, c.in_ok-inner.ensures.inner)) refl e10 in
-    handed c.from_residual-in_err-symbol-3.result _ _ c.from_residual-in_err-symbol-3.ensures.1 (c.in_err-symbol-3.ensures.reads more e11)
-
-pub returns-clause-reads : goal.returns-clause-reads
-unfolding function_lexemes
-returns-clause-reads c =
-    λ x more right deep e.
-    let e0 = simp append_assoc at e in
-    let e1 = c.in_ok-word.ensures.reads _ e0 in
-    let e2 = c.in_ok-name.ensures.reads _ _ e1 in
-    let e3 = c.in_ok-symbol.ensures.reads _ e2 in
-    let e4 = c.in_ok-parameters.ensures.reads x.parameters.items _ refl e3 in
-    let e5 = c.in_ok-symbol-2.ensures.reads _ e4 in
-    let e6 = c.in_ok-word-2.ensures.reads _ e5 in
-    let e7 = c.in_ok-word-3.ensures.reads _ e6 in
-    let e8 = c.in_ok-runs_on.ensures.reads _ _ e7 in
-    let e9 = c.in_ok-inner.ensures.reads _ (omega arith) e8 in
-    let e10 = c.in_ok-variables.ensures.reads x.variables.items _ (function_variables x more right) (statements_no_var x.statements.items (symbol RightBrace ∷ more) (λ h. cc h)) e9 in
-    let e11 = c.in_ok-statements.ensures.reads x.statements.items _ (function_statements x more right) (omega (arith, c.in_ok-inner.ensures.inner)) refl e10 in
-    c.in_ok-symbol-3.ensures.reads more e11
-
 pub returns-clause-lines : goal.returns-clause-lines
 unfolding function_notes
 returns-clause-lines c =
-    passes_next c.in_ok-word.ensures.forward c.in_ok-word.ensures.tokens (passes_next c.in_ok-name.ensures.forward c.in_ok-name.ensures.tokens (passes_next c.in_ok-symbol.ensures.forward c.in_ok-symbol.ensures.tokens (passes_then c.in_ok-parameters.ensures.lines (passes_next c.in_ok-symbol-2.ensures.forward c.in_ok-symbol-2.ensures.tokens (passes_next c.in_ok-word-2.ensures.forward c.in_ok-word-2.ensures.tokens (passes_next c.in_ok-word-3.ensures.forward c.in_ok-word-3.ensures.tokens (passes_next c.in_ok-runs_on.ensures.forward c.in_ok-runs_on.ensures.tokens (passes_next c.in_ok-inner.ensures.forward c.in_ok-inner.ensures.tokens (passes_then (passes_then c.in_ok-variables.ensures.lines c.in_ok-statements.ensures.lines) (passes_one c.in_ok-symbol-3.ensures.forward c.in_ok-symbol-3.ensures.tokens))))))))))
+    passes_next c.in_ok-word.ensures.forward c.in_ok-word.ensures.tokens (passes_next c.in_ok-name.ensures.forward c.in_ok-name.ensures.tokens (passes_next c.in_ok-symbol.ensures.forward c.in_ok-symbol.ensures.tokens (passes_then c.in_ok-parameters.ensures.lines (passes_next c.in_ok-symbol-2.ensures.forward c.in_ok-symbol-2.ensures.tokens (passes_next c.in_ok-word-2.ensures.forward c.in_ok-word-2.ensures.tokens (passes_next c.in_ok-word-3.ensures.forward c.in_ok-word-3.ensures.tokens (passes_next c.in_ok-runs_on.ensures.forward c.in_ok-runs_on.ensures.tokens (passes_next c.in_ok-symbol-3.ensures.forward c.in_ok-symbol-3.ensures.tokens (passes_then (passes_then c.in_ok-variables.ensures.lines c.in_ok-statements.ensures.lines) (passes_one c.in_ok-symbol-4.ensures.forward c.in_ok-symbol-4.ensures.tokens))))))))))
 
-pub returns-in_err-word-clause-reads_seen : goal.returns-in_err-word-clause-reads_seen
-returns-in_err-word-clause-reads_seen c =
-    λ hidden x more right deep could.
+pub returns-in_err-word-clause-reads : goal.returns-in_err-word-clause-reads
+returns-in_err-word-clause-reads c =
+    λ hidden x more right could.
     let e0 = subst (λ (ts : List Lexeme). CouldBe hidden c.args.self.now.rest.now ts) (function_opens x more) could in
-    handed_seen hidden c.from_residual.result _ _ c.from_residual.ensures.1 (c.in_err-word.ensures.reads_seen hidden _ e0)
+    handed_seen hidden c.from_residual.result _ _ c.from_residual.ensures.1 (c.in_err-word.ensures.reads hidden _ e0)
 
-pub returns-in_err-name-clause-reads_seen : goal.returns-in_err-name-clause-reads_seen
-returns-in_err-name-clause-reads_seen c =
-    λ hidden x more right deep could.
+pub returns-in_err-name-clause-reads : goal.returns-in_err-name-clause-reads
+returns-in_err-name-clause-reads c =
+    λ hidden x more right could.
     let e0 = subst (λ (ts : List Lexeme). CouldBe hidden c.args.self.now.rest.now ts) (function_opens x more) could in
-    let e1 = c.in_ok-word.ensures.reads_seen hidden _ e0 in
-    handed_seen hidden c.from_residual-in_err-name.result _ _ c.from_residual-in_err-name.ensures.1 (c.in_err-name.ensures.reads_seen hidden _ _ e1)
+    let e1 = c.in_ok-word.ensures.reads hidden _ e0 in
+    handed_seen hidden c.from_residual-in_err-name.result _ _ c.from_residual-in_err-name.ensures.1 (c.in_err-name.ensures.reads hidden _ _ e1)
 
-pub returns-in_err-symbol-clause-reads_seen : goal.returns-in_err-symbol-clause-reads_seen
-returns-in_err-symbol-clause-reads_seen c =
-    λ hidden x more right deep could.
+pub returns-in_err-symbol-clause-reads : goal.returns-in_err-symbol-clause-reads
+returns-in_err-symbol-clause-reads c =
+    λ hidden x more right could.
     let e0 = subst (λ (ts : List Lexeme). CouldBe hidden c.args.self.now.rest.now ts) (function_opens x more) could in
-    let e1 = c.in_ok-word.ensures.reads_seen hidden _ e0 in
-    let e2 = c.in_ok-name.ensures.reads_seen hidden _ _ e1 in
-    handed_seen hidden c.from_residual-in_err-symbol.result _ _ c.from_residual-in_err-symbol.ensures.1 (c.in_err-symbol.ensures.reads_seen hidden _ e2)
+    let e1 = c.in_ok-word.ensures.reads hidden _ e0 in
+    let e2 = c.in_ok-name.ensures.reads hidden _ _ e1 in
+    handed_seen hidden c.from_residual-in_err-symbol.result _ _ c.from_residual-in_err-symbol.ensures.1 (c.in_err-symbol.ensures.reads hidden _ e2)
 
-pub returns-in_err-parameters-clause-reads_seen : goal.returns-in_err-parameters-clause-reads_seen
-returns-in_err-parameters-clause-reads_seen c =
-    λ hidden x more right deep could.
+pub returns-in_err-parameters-clause-reads : goal.returns-in_err-parameters-clause-reads
+returns-in_err-parameters-clause-reads c =
+    λ hidden x more right could.
     let e0 = subst (λ (ts : List Lexeme). CouldBe hidden c.args.self.now.rest.now ts) (function_opens x more) could in
-    let e1 = c.in_ok-word.ensures.reads_seen hidden _ e0 in
-    let e2 = c.in_ok-name.ensures.reads_seen hidden _ _ e1 in
-    let e3 = c.in_ok-symbol.ensures.reads_seen hidden _ e2 in
-    handed_seen hidden c.from_residual-in_err-parameters.result _ _ c.from_residual-in_err-parameters.ensures.1 (c.in_err-parameters.ensures.reads_seen hidden x.parameters.items _ refl e3)
+    let e1 = c.in_ok-word.ensures.reads hidden _ e0 in
+    let e2 = c.in_ok-name.ensures.reads hidden _ _ e1 in
+    let e3 = c.in_ok-symbol.ensures.reads hidden _ e2 in
+    handed_seen hidden c.from_residual-in_err-parameters.result _ _ c.from_residual-in_err-parameters.ensures.1 (c.in_err-parameters.ensures.reads hidden x.parameters.items _ refl e3)
 
-pub returns-in_err-symbol-2-clause-reads_seen : goal.returns-in_err-symbol-2-clause-reads_seen
-returns-in_err-symbol-2-clause-reads_seen c =
-    λ hidden x more right deep could.
+pub returns-in_err-symbol-2-clause-reads : goal.returns-in_err-symbol-2-clause-reads
+returns-in_err-symbol-2-clause-reads c =
+    λ hidden x more right could.
     let e0 = subst (λ (ts : List Lexeme). CouldBe hidden c.args.self.now.rest.now ts) (function_opens x more) could in
-    let e1 = c.in_ok-word.ensures.reads_seen hidden _ e0 in
-    let e2 = c.in_ok-name.ensures.reads_seen hidden _ _ e1 in
-    let e3 = c.in_ok-symbol.ensures.reads_seen hidden _ e2 in
-    let e4 = c.in_ok-parameters.ensures.reads_seen hidden x.parameters.items _ refl e3 in
-    handed_seen hidden c.from_residual-in_err-symbol-2.result _ _ c.from_residual-in_err-symbol-2.ensures.1 (c.in_err-symbol-2.ensures.reads_seen hidden _ e4)
+    let e1 = c.in_ok-word.ensures.reads hidden _ e0 in
+    let e2 = c.in_ok-name.ensures.reads hidden _ _ e1 in
+    let e3 = c.in_ok-symbol.ensures.reads hidden _ e2 in
+    let e4 = c.in_ok-parameters.ensures.reads hidden x.parameters.items _ refl e3 in
+    handed_seen hidden c.from_residual-in_err-symbol-2.result _ _ c.from_residual-in_err-symbol-2.ensures.1 (c.in_err-symbol-2.ensures.reads hidden _ e4)
 
-pub returns-in_err-word-2-clause-reads_seen : goal.returns-in_err-word-2-clause-reads_seen
-returns-in_err-word-2-clause-reads_seen c =
-    λ hidden x more right deep could.
+pub returns-in_err-word-2-clause-reads : goal.returns-in_err-word-2-clause-reads
+returns-in_err-word-2-clause-reads c =
+    λ hidden x more right could.
     let e0 = subst (λ (ts : List Lexeme). CouldBe hidden c.args.self.now.rest.now ts) (function_opens x more) could in
-    let e1 = c.in_ok-word.ensures.reads_seen hidden _ e0 in
-    let e2 = c.in_ok-name.ensures.reads_seen hidden _ _ e1 in
-    let e3 = c.in_ok-symbol.ensures.reads_seen hidden _ e2 in
-    let e4 = c.in_ok-parameters.ensures.reads_seen hidden x.parameters.items _ refl e3 in
-    let e5 = c.in_ok-symbol-2.ensures.reads_seen hidden _ e4 in
-    handed_seen hidden c.from_residual-in_err-word-2.result _ _ c.from_residual-in_err-word-2.ensures.1 (c.in_err-word-2.ensures.reads_seen hidden _ e5)
+    let e1 = c.in_ok-word.ensures.reads hidden _ e0 in
+    let e2 = c.in_ok-name.ensures.reads hidden _ _ e1 in
+    let e3 = c.in_ok-symbol.ensures.reads hidden _ e2 in
+    let e4 = c.in_ok-parameters.ensures.reads hidden x.parameters.items _ refl e3 in
+    let e5 = c.in_ok-symbol-2.ensures.reads hidden _ e4 in
+    handed_seen hidden c.from_residual-in_err-word-2.result _ _ c.from_residual-in_err-word-2.ensures.1 (c.in_err-word-2.ensures.reads hidden _ e5)
 
-pub returns-in_err-word-3-clause-reads_seen : goal.returns-in_err-word-3-clause-reads_seen
-returns-in_err-word-3-clause-reads_seen c =
-    λ hidden x more right deep could.
+pub returns-in_err-word-3-clause-reads : goal.returns-in_err-word-3-clause-reads
+returns-in_err-word-3-clause-reads c =
+    λ hidden x more right could.
     let e0 = subst (λ (ts : List Lexeme). CouldBe hidden c.args.self.now.rest.now ts) (function_opens x more) could in
-    let e1 = c.in_ok-word.ensures.reads_seen hidden _ e0 in
-    let e2 = c.in_ok-name.ensures.reads_seen hidden _ _ e1 in
-    let e3 = c.in_ok-symbol.ensures.reads_seen hidden _ e2 in
-    let e4 = c.in_ok-parameters.ensures.reads_seen hidden x.parameters.items _ refl e3 in
-    let e5 = c.in_ok-symbol-2.ensures.reads_seen hidden _ e4 in
-    let e6 = c.in_ok-word-2.ensures.reads_seen hidden _ e5 in
-    handed_seen hidden c.from_residual-in_err-word-3.result _ _ c.from_residual-in_err-word-3.ensures.1 (c.in_err-word-3.ensures.reads_seen hidden _ e6)
+    let e1 = c.in_ok-word.ensures.reads hidden _ e0 in
+    let e2 = c.in_ok-name.ensures.reads hidden _ _ e1 in
+    let e3 = c.in_ok-symbol.ensures.reads hidden _ e2 in
+    let e4 = c.in_ok-parameters.ensures.reads hidden x.parameters.items _ refl e3 in
+    let e5 = c.in_ok-symbol-2.ensures.reads hidden _ e4 in
+    let e6 = c.in_ok-word-2.ensures.reads hidden _ e5 in
+    handed_seen hidden c.from_residual-in_err-word-3.result _ _ c.from_residual-in_err-word-3.ensures.1 (c.in_err-word-3.ensures.reads hidden _ e6)
 
-pub returns-in_err-runs_on-clause-reads_seen : goal.returns-in_err-runs_on-clause-reads_seen
-returns-in_err-runs_on-clause-reads_seen c =
-    λ hidden x more right deep could.
+pub returns-in_err-runs_on-clause-reads : goal.returns-in_err-runs_on-clause-reads
+returns-in_err-runs_on-clause-reads c =
+    λ hidden x more right could.
     let e0 = subst (λ (ts : List Lexeme). CouldBe hidden c.args.self.now.rest.now ts) (function_opens x more) could in
-    let e1 = c.in_ok-word.ensures.reads_seen hidden _ e0 in
-    let e2 = c.in_ok-name.ensures.reads_seen hidden _ _ e1 in
-    let e3 = c.in_ok-symbol.ensures.reads_seen hidden _ e2 in
-    let e4 = c.in_ok-parameters.ensures.reads_seen hidden x.parameters.items _ refl e3 in
-    let e5 = c.in_ok-symbol-2.ensures.reads_seen hidden _ e4 in
-    let e6 = c.in_ok-word-2.ensures.reads_seen hidden _ e5 in
-    let e7 = c.in_ok-word-3.ensures.reads_seen hidden _ e6 in
-    handed_seen hidden c.from_residual-in_err-runs_on.result _ _ c.from_residual-in_err-runs_on.ensures.1 (c.in_err-runs_on.ensures.reads_seen hidden _ _ e7)
+    let e1 = c.in_ok-word.ensures.reads hidden _ e0 in
+    let e2 = c.in_ok-name.ensures.reads hidden _ _ e1 in
+    let e3 = c.in_ok-symbol.ensures.reads hidden _ e2 in
+    let e4 = c.in_ok-parameters.ensures.reads hidden x.parameters.items _ refl e3 in
+    let e5 = c.in_ok-symbol-2.ensures.reads hidden _ e4 in
+    let e6 = c.in_ok-word-2.ensures.reads hidden _ e5 in
+    let e7 = c.in_ok-word-3.ensures.reads hidden _ e6 in
+    handed_seen hidden c.from_residual-in_err-runs_on.result _ _ c.from_residual-in_err-runs_on.ensures.1 (c.in_err-runs_on.ensures.reads hidden _ _ e7)
 
-pub returns-in_err-inner-clause-reads_seen : goal.returns-in_err-inner-clause-reads_seen
-returns-in_err-inner-clause-reads_seen c =
-    λ hidden x more right deep could.
+pub returns-in_err-symbol-3-clause-reads : goal.returns-in_err-symbol-3-clause-reads
+returns-in_err-symbol-3-clause-reads c =
+    λ hidden x more right could.
     let e0 = subst (λ (ts : List Lexeme). CouldBe hidden c.args.self.now.rest.now ts) (function_opens x more) could in
-    let e1 = c.in_ok-word.ensures.reads_seen hidden _ e0 in
-    let e2 = c.in_ok-name.ensures.reads_seen hidden _ _ e1 in
-    let e3 = c.in_ok-symbol.ensures.reads_seen hidden _ e2 in
-    let e4 = c.in_ok-parameters.ensures.reads_seen hidden x.parameters.items _ refl e3 in
-    let e5 = c.in_ok-symbol-2.ensures.reads_seen hidden _ e4 in
-    let e6 = c.in_ok-word-2.ensures.reads_seen hidden _ e5 in
-    let e7 = c.in_ok-word-3.ensures.reads_seen hidden _ e6 in
-    let e8 = c.in_ok-runs_on.ensures.reads_seen hidden _ _ e7 in
-    handed_seen hidden c.from_residual-in_err-inner.result _ _ c.from_residual-in_err-inner.ensures.1 (c.in_err-inner.ensures.reads_seen hidden _ (omega arith) e8)
+    let e1 = c.in_ok-word.ensures.reads hidden _ e0 in
+    let e2 = c.in_ok-name.ensures.reads hidden _ _ e1 in
+    let e3 = c.in_ok-symbol.ensures.reads hidden _ e2 in
+    let e4 = c.in_ok-parameters.ensures.reads hidden x.parameters.items _ refl e3 in
+    let e5 = c.in_ok-symbol-2.ensures.reads hidden _ e4 in
+    let e6 = c.in_ok-word-2.ensures.reads hidden _ e5 in
+    let e7 = c.in_ok-word-3.ensures.reads hidden _ e6 in
+    let e8 = c.in_ok-runs_on.ensures.reads hidden _ _ e7 in
+    handed_seen hidden c.from_residual-in_err-symbol-3.result _ _ c.from_residual-in_err-symbol-3.ensures.1 (c.in_err-symbol-3.ensures.reads hidden _ e8)
 
-pub returns-in_err-variables-clause-reads_seen : goal.returns-in_err-variables-clause-reads_seen
-returns-in_err-variables-clause-reads_seen c =
-    λ hidden x more right deep could.
+pub returns-in_err-variables-clause-reads : goal.returns-in_err-variables-clause-reads
+returns-in_err-variables-clause-reads c =
+    λ hidden x more right could.
     let e0 = subst (λ (ts : List Lexeme). CouldBe hidden c.args.self.now.rest.now ts) (function_opens x more) could in
-    let e1 = c.in_ok-word.ensures.reads_seen hidden _ e0 in
-    let e2 = c.in_ok-name.ensures.reads_seen hidden _ _ e1 in
-    let e3 = c.in_ok-symbol.ensures.reads_seen hidden _ e2 in
-    let e4 = c.in_ok-parameters.ensures.reads_seen hidden x.parameters.items _ refl e3 in
-    let e5 = c.in_ok-symbol-2.ensures.reads_seen hidden _ e4 in
-    let e6 = c.in_ok-word-2.ensures.reads_seen hidden _ e5 in
-    let e7 = c.in_ok-word-3.ensures.reads_seen hidden _ e6 in
-    let e8 = c.in_ok-runs_on.ensures.reads_seen hidden _ _ e7 in
-    let e9 = c.in_ok-inner.ensures.reads_seen hidden _ (omega arith) e8 in
-    handed_seen hidden c.from_residual-in_err-variables.result _ _ c.from_residual-in_err-variables.ensures.1 (c.in_err-variables.ensures.reads_seen hidden x.variables.items _ (function_variables x more right) (statements_no_var x.statements.items (symbol RightBrace ∷ more) (λ h. cc h)) e9)
+    let e1 = c.in_ok-word.ensures.reads hidden _ e0 in
+    let e2 = c.in_ok-name.ensures.reads hidden _ _ e1 in
+    let e3 = c.in_ok-symbol.ensures.reads hidden _ e2 in
+    let e4 = c.in_ok-parameters.ensures.reads hidden x.parameters.items _ refl e3 in
+    let e5 = c.in_ok-symbol-2.ensures.reads hidden _ e4 in
+    let e6 = c.in_ok-word-2.ensures.reads hidden _ e5 in
+    let e7 = c.in_ok-word-3.ensures.reads hidden _ e6 in
+    let e8 = c.in_ok-runs_on.ensures.reads hidden _ _ e7 in
+    let e9 = c.in_ok-symbol-3.ensures.reads hidden _ e8 in
+    handed_seen hidden c.from_residual-in_err-variables.result _ _ c.from_residual-in_err-variables.ensures.1 (c.in_err-variables.ensures.reads hidden x.variables.items _ (function_variables x more right) (statements_no_var x.statements.items (symbol RightBrace ∷ more) (λ h. cc h)) e9)
 
-pub returns-in_err-statements-clause-reads_seen : goal.returns-in_err-statements-clause-reads_seen
-returns-in_err-statements-clause-reads_seen c =
-    λ hidden x more right deep could.
+pub returns-in_err-statements-clause-reads : goal.returns-in_err-statements-clause-reads
+returns-in_err-statements-clause-reads c =
+    λ hidden x more right could.
     let e0 = subst (λ (ts : List Lexeme). CouldBe hidden c.args.self.now.rest.now ts) (function_opens x more) could in
-    let e1 = c.in_ok-word.ensures.reads_seen hidden _ e0 in
-    let e2 = c.in_ok-name.ensures.reads_seen hidden _ _ e1 in
-    let e3 = c.in_ok-symbol.ensures.reads_seen hidden _ e2 in
-    let e4 = c.in_ok-parameters.ensures.reads_seen hidden x.parameters.items _ refl e3 in
-    let e5 = c.in_ok-symbol-2.ensures.reads_seen hidden _ e4 in
-    let e6 = c.in_ok-word-2.ensures.reads_seen hidden _ e5 in
-    let e7 = c.in_ok-word-3.ensures.reads_seen hidden _ e6 in
-    let e8 = c.in_ok-runs_on.ensures.reads_seen hidden _ _ e7 in
-    let e9 = c.in_ok-inner.ensures.reads_seen hidden _ (omega arith) e8 in
-    let e10 = c.in_ok-variables.ensures.reads_seen hidden x.variables.items _ (function_variables x more right) (statements_no_var x.statements.items (symbol RightBrace ∷ more) (λ h. cc h)) e9 in
-    handed_seen hidden c.from_residual-in_err-statements.result _ _ c.from_residual-in_err-statements.ensures.1 (c.in_err-statements.ensures.reads_seen hidden x.statements.items _ (function_statements x more right) (omega (arith, c.in_ok-inner.ensures.inner)) refl e10)
+    let e1 = c.in_ok-word.ensures.reads hidden _ e0 in
+    let e2 = c.in_ok-name.ensures.reads hidden _ _ e1 in
+    let e3 = c.in_ok-symbol.ensures.reads hidden _ e2 in
+    let e4 = c.in_ok-parameters.ensures.reads hidden x.parameters.items _ refl e3 in
+    let e5 = c.in_ok-symbol-2.ensures.reads hidden _ e4 in
+    let e6 = c.in_ok-word-2.ensures.reads hidden _ e5 in
+    let e7 = c.in_ok-word-3.ensures.reads hidden _ e6 in
+    let e8 = c.in_ok-runs_on.ensures.reads hidden _ _ e7 in
+    let e9 = c.in_ok-symbol-3.ensures.reads hidden _ e8 in
+    let e10 = c.in_ok-variables.ensures.reads hidden x.variables.items _ (function_variables x more right) (statements_no_var x.statements.items (symbol RightBrace ∷ more) (λ h. cc h)) e9 in
+    handed_seen hidden c.from_residual-in_err-statements.result _ _ c.from_residual-in_err-statements.ensures.1 (c.in_err-statements.ensures.reads hidden x.statements.items _ (function_statements x more right) refl e10)
 
-pub returns-in_err-symbol-3-clause-reads_seen : goal.returns-in_err-symbol-3-clause-reads_seen
-returns-in_err-symbol-3-clause-reads_seen c =
-    λ hidden x more right deep could.
+pub returns-in_err-symbol-4-clause-reads : goal.returns-in_err-symbol-4-clause-reads
+returns-in_err-symbol-4-clause-reads c =
+    λ hidden x more right could.
     let e0 = subst (λ (ts : List Lexeme). CouldBe hidden c.args.self.now.rest.now ts) (function_opens x more) could in
-    let e1 = c.in_ok-word.ensures.reads_seen hidden _ e0 in
-    let e2 = c.in_ok-name.ensures.reads_seen hidden _ _ e1 in
-    let e3 = c.in_ok-symbol.ensures.reads_seen hidden _ e2 in
-    let e4 = c.in_ok-parameters.ensures.reads_seen hidden x.parameters.items _ refl e3 in
-    let e5 = c.in_ok-symbol-2.ensures.reads_seen hidden _ e4 in
-    let e6 = c.in_ok-word-2.ensures.reads_seen hidden _ e5 in
-    let e7 = c.in_ok-word-3.ensures.reads_seen hidden _ e6 in
-    let e8 = c.in_ok-runs_on.ensures.reads_seen hidden _ _ e7 in
-    let e9 = c.in_ok-inner.ensures.reads_seen hidden _ (omega arith) e8 in
-    let e10 = c.in_ok-variables.ensures.reads_seen hidden x.variables.items _ (function_variables x more right) (statements_no_var x.statements.items (symbol RightBrace ∷ more) (λ h. cc h)) e9 in
-    let e11 = uncut (c.in_ok-statements.ensures.reads_seen hidden x.statements.items _ (function_statements x more right) (omega (arith, c.in_ok-inner.ensures.inner)) refl e10) in
-    handed_seen hidden c.from_residual-in_err-symbol-3.result _ _ c.from_residual-in_err-symbol-3.ensures.1 (c.in_err-symbol-3.ensures.reads_seen hidden more e11)
+    let e1 = c.in_ok-word.ensures.reads hidden _ e0 in
+    let e2 = c.in_ok-name.ensures.reads hidden _ _ e1 in
+    let e3 = c.in_ok-symbol.ensures.reads hidden _ e2 in
+    let e4 = c.in_ok-parameters.ensures.reads hidden x.parameters.items _ refl e3 in
+    let e5 = c.in_ok-symbol-2.ensures.reads hidden _ e4 in
+    let e6 = c.in_ok-word-2.ensures.reads hidden _ e5 in
+    let e7 = c.in_ok-word-3.ensures.reads hidden _ e6 in
+    let e8 = c.in_ok-runs_on.ensures.reads hidden _ _ e7 in
+    let e9 = c.in_ok-symbol-3.ensures.reads hidden _ e8 in
+    let e10 = c.in_ok-variables.ensures.reads hidden x.variables.items _ (function_variables x more right) (statements_no_var x.statements.items (symbol RightBrace ∷ more) (λ h. cc h)) e9 in
+    let e11 = uncut (c.in_ok-statements.ensures.reads hidden x.statements.items _ (function_statements x more right) refl e10) in
+    handed_seen hidden c.from_residual-in_err-symbol-4.result _ _ c.from_residual-in_err-symbol-4.ensures.1 (c.in_err-symbol-4.ensures.reads hidden more e11)
 
-pub returns-clause-reads_seen : goal.returns-clause-reads_seen
-returns-clause-reads_seen c =
-    λ hidden x more right deep could.
+pub returns-clause-reads : goal.returns-clause-reads
+returns-clause-reads c =
+    λ hidden x more right could.
     let e0 = subst (λ (ts : List Lexeme). CouldBe hidden c.args.self.now.rest.now ts) (function_opens x more) could in
-    let e1 = c.in_ok-word.ensures.reads_seen hidden _ e0 in
-    let e2 = c.in_ok-name.ensures.reads_seen hidden _ _ e1 in
-    let e3 = c.in_ok-symbol.ensures.reads_seen hidden _ e2 in
-    let e4 = c.in_ok-parameters.ensures.reads_seen hidden x.parameters.items _ refl e3 in
-    let e5 = c.in_ok-symbol-2.ensures.reads_seen hidden _ e4 in
-    let e6 = c.in_ok-word-2.ensures.reads_seen hidden _ e5 in
-    let e7 = c.in_ok-word-3.ensures.reads_seen hidden _ e6 in
-    let e8 = c.in_ok-runs_on.ensures.reads_seen hidden _ _ e7 in
-    let e9 = c.in_ok-inner.ensures.reads_seen hidden _ (omega arith) e8 in
-    let e10 = c.in_ok-variables.ensures.reads_seen hidden x.variables.items _ (function_variables x more right) (statements_no_var x.statements.items (symbol RightBrace ∷ more) (λ h. cc h)) e9 in
-    let e11 = uncut (c.in_ok-statements.ensures.reads_seen hidden x.statements.items _ (function_statements x more right) (omega (arith, c.in_ok-inner.ensures.inner)) refl e10) in
-    c.in_ok-symbol-3.ensures.reads_seen hidden more e11
+    let e1 = c.in_ok-word.ensures.reads hidden _ e0 in
+    let e2 = c.in_ok-name.ensures.reads hidden _ _ e1 in
+    let e3 = c.in_ok-symbol.ensures.reads hidden _ e2 in
+    let e4 = c.in_ok-parameters.ensures.reads hidden x.parameters.items _ refl e3 in
+    let e5 = c.in_ok-symbol-2.ensures.reads hidden _ e4 in
+    let e6 = c.in_ok-word-2.ensures.reads hidden _ e5 in
+    let e7 = c.in_ok-word-3.ensures.reads hidden _ e6 in
+    let e8 = c.in_ok-runs_on.ensures.reads hidden _ _ e7 in
+    let e9 = c.in_ok-symbol-3.ensures.reads hidden _ e8 in
+    let e10 = c.in_ok-variables.ensures.reads hidden x.variables.items _ (function_variables x more right) (statements_no_var x.statements.items (symbol RightBrace ∷ more) (λ h. cc h)) e9 in
+    let e11 = uncut (c.in_ok-statements.ensures.reads hidden x.statements.items _ (function_statements x more right) refl e10) in
+    c.in_ok-symbol-4.ensures.reads hidden more e11

@@ -6,9 +6,9 @@ use Rattle.tp_token.specs.Lexeme.{symbol}
 use Rattle.tp_syntax.proofs.FirstTokensSeen.{passed_before, token_first}
 use Rattle.tp_syntax.proofs.cursor.Parser.integer.Goals as goal
 
-pub returns-in-Symbol-Minus-clause-reads_seen : goal.returns-in-Symbol-Minus-clause-reads_seen
-returns-in-Symbol-Minus-clause-reads_seen c =
+pub returns-in-Symbol-Minus-clause-reads : goal.returns-in-Symbol-Minus-clause-reads
+returns-in-Symbol-Minus-clause-reads c =
     λ hidden z more right could.
     let e = token_first c.args.self.now.rest.now c.take.new.self.rest.now c.in_ok-placed.placed.now (token.Symbol Minus) c.in_ok-placed.ensures.next
     (let first_token : c.in_ok-placed.placed.now.token ≡ token.Symbol Minus = first_of (search rules, grind arith) in first_token) in
-    c.negative.ensures.reads_seen hidden z more right (passed_before hidden _ _ (symbol Minus) _ e could)
+    c.negative.ensures.reads hidden z more right (passed_before hidden _ _ (symbol Minus) _ e could)

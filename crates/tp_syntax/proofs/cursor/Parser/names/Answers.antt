@@ -1,10 +1,9 @@
 -- One more name of a port is read behind its comma.
-use Rattle.std.proofs.Common.{ap, arith, length-append, sym, subst, rules, string_bytes, length}
+use Rattle.std.proofs.Common.{ap, arith, length-append, rules, string_bytes, length}
 use Rattle.tp_syntax.specs.Definitions.{declared_name_lexemes}
 use Rattle.tp_syntax.proofs.ReadSequenceGrowth.{push_read}
 use Rattle.std.proofs.lemmas.Grind.{common_steps}
-use Rattle.tp_syntax.proofs.FirstTokensAhead.{handed, same_ahead}
-use Rattle.tp_syntax.proofs.PartsLeftToRead.{Remain, comma_first, comma_next, comma_last, all_any}
+use Rattle.tp_syntax.proofs.PartsLeftToRead.{all_any}
 use Rattle.tp_syntax.specs.declared.cursor.Parser.{Parser}
 use Rattle.tp_syntax.specs.Lines.{declared_name_notes}
 use Rattle.tp_syntax.proofs.LinesOfPassedTokens.{passes_comma, passes_first, passes_one, passes_same}
@@ -20,10 +19,7 @@ more-preserved c = record {
   seen = λ hidden xs more some stops could.
       let n = next_part_seen declared_name_lexemes (λ _. Unit {0}) hidden more _ _ (item_of c.more.names.items c.more.invariant.some) tt
       (c.more.invariant.seen hidden xs more some stops could) c.more-test.ensures.passed stops in
-      (n.2, n.3, c.in_ok-next.ensures.reads_seen hidden (string_bytes n.0.name) _ n.4);
-  reads = λ xs more some stops e.
-      let n = comma_next declared_name_lexemes (λ _. Unit {0}) more _ _ (c.more.invariant.reads xs more some stops e) c.more-test.ensures.yes stops in
-      subst (Remain declared_name_lexemes (λ _. Unit {0}) more) (sym (c.in_ok-next.ensures.reads (string_bytes n.0.name) n.2 n.3)) n.4;
+      (n.2, n.3, c.in_ok-next.ensures.reads hidden (string_bytes n.0.name) _ n.4);
   tokens = rw c.in_ok-push-2.ensures.items
       (push_read declared_name_lexemes c.more.names.items c.in_ok-next.next _ _ _ _
       c.more.invariant.some c.more.invariant.tokens c.more-test.ensures.yes c.in_ok-next.ensures.tokens);
@@ -38,53 +34,33 @@ pub more-init : goal.more-init
 more-init c = record {
   seen = λ hidden xs more some stops could.
       let n = first_part_seen declared_name_lexemes (λ _. Unit {0}) hidden xs more c.args.self.now.rest.now (all_any xs) some could in
-      (n.2, n.3, c.in_ok-first.ensures.reads_seen hidden (string_bytes n.0.name) _ n.4);
+      (n.2, n.3, c.in_ok-first.ensures.reads hidden (string_bytes n.0.name) _ n.4);
   tokens = first_of (search rules, grind (arith, common_steps));
   some = first_of (search rules, grind (arith, common_steps));
-  reads = λ xs more some stops e.
-      let n = comma_first declared_name_lexemes (λ _. Unit {0}) xs more _ (all_any xs) (some) e in
-      subst (Remain declared_name_lexemes (λ _. Unit {0}) more) (sym (c.in_ok-first.ensures.reads (string_bytes n.0.name) n.2 n.3)) n.4;
   shorter = first_of (search rules, grind (arith, common_steps));
   lines = rw (c.in_ok-push.ensures.items, c.new-names.ensures.items) (passes_first declared_name_notes c.in_ok-first.first c.in_ok-first.ensures.lines);
 }
 
-pub returns-in_err-first-clause-reads : goal.returns-in_err-first-clause-reads
-returns-in_err-first-clause-reads c =
-    λ xs more some stops e.
-    let n = comma_first declared_name_lexemes (λ _. Unit {0}) xs more _ (all_any xs) (some) e in
-    handed c.from_residual.result _ _ c.from_residual.ensures.1 (c.in_err-first.ensures.reads (string_bytes n.0.name) n.2 n.3)
-
-pub returns-in_err-next-clause-reads : goal.returns-in_err-next-clause-reads
-returns-in_err-next-clause-reads c =
-    λ xs more some stops e.
-    let n = comma_next declared_name_lexemes (λ _. Unit {0}) more _ _ (c.more.invariant.reads xs more some stops e) c.more-test.ensures.yes stops in
-    handed c.from_residual-in_err-next.result _ _ c.from_residual-in_err-next.ensures.1 (c.in_err-next.ensures.reads (string_bytes n.0.name) n.2 n.3)
-
-pub returns-clause-reads : goal.returns-clause-reads
-returns-clause-reads c =
-    λ xs more some stops e.
-    same_ahead c.more-test.ensures.no (comma_last declared_name_lexemes (λ _. Unit {0}) more _ (c.more.invariant.reads xs more some stops e) c.more-test.ensures.other)
-
 pub returns-clause-lines : goal.returns-clause-lines
 returns-clause-lines c = passes_same (ap (λ (p : Parser). p.rest.now) c.more-test.ensures.no) c.more.invariant.lines
 
-pub returns-in_err-first-clause-reads_seen : goal.returns-in_err-first-clause-reads_seen
-returns-in_err-first-clause-reads_seen c =
+pub returns-in_err-first-clause-reads : goal.returns-in_err-first-clause-reads
+returns-in_err-first-clause-reads c =
     λ hidden xs more some stops could.
     handed_seen hidden c.from_residual.result _ _ c.from_residual.ensures.1
     (let n = first_part_seen declared_name_lexemes (λ _. Unit {0}) hidden xs more c.args.self.now.rest.now
-    (all_any xs) some could in c.in_err-first.ensures.reads_seen hidden (string_bytes n.0.name) _ n.4)
+    (all_any xs) some could in c.in_err-first.ensures.reads hidden (string_bytes n.0.name) _ n.4)
 
-pub returns-in_err-next-clause-reads_seen : goal.returns-in_err-next-clause-reads_seen
-returns-in_err-next-clause-reads_seen c =
+pub returns-in_err-next-clause-reads : goal.returns-in_err-next-clause-reads
+returns-in_err-next-clause-reads c =
     λ hidden xs more some stops could.
     let n = next_part_seen declared_name_lexemes (λ _. Unit {0}) hidden more _ _ (item_of c.more.names.items c.more.invariant.some) tt
     (c.more.invariant.seen hidden xs more some stops could) c.more-test.ensures.passed stops in
-    handed_seen hidden c.from_residual-in_err-next.result _ _ c.from_residual-in_err-next.ensures.1 (c.in_err-next.ensures.reads_seen hidden
+    handed_seen hidden c.from_residual-in_err-next.result _ _ c.from_residual-in_err-next.ensures.1 (c.in_err-next.ensures.reads hidden
     (string_bytes n.0.name) _ n.4)
 
-pub returns-clause-reads_seen : goal.returns-clause-reads_seen
-returns-clause-reads_seen c =
+pub returns-clause-reads : goal.returns-clause-reads
+returns-clause-reads c =
     λ hidden xs more some stops could.
     same_could c.more-test.ensures.no (last_part_seen declared_name_lexemes (λ _. Unit {0}) hidden more _
     (c.more.invariant.seen hidden xs more some stops could) c.more-test.ensures.absent)

@@ -4,7 +4,6 @@ use Rattle.tp_syntax.specs.Ahead.{ahead}
 use Rattle.tp_syntax.specs.Definitions.{declared_names_lexemes, declared_name_lexemes}
 use Rattle.tp_token.specs.Lexeme.{Lexeme}
 use Rattle.tp_syntax.specs.Reading.{Stops}
-use Rattle.tp_syntax.proofs.PartsLeftToRead.{Remain}
 use Rattle.tp_tree.specs.declared.tree.DeclaredName.{DeclaredName}
 use Rattle.tp_syntax.specs.Grammar.{has_one}
 use Rattle.tp_syntax.specs.Lines.{noted_by_commas, declared_name_notes}
@@ -17,8 +16,6 @@ abbrev pub invariant-more : goal.invariant-more
 invariant-more l = record {
   tokens : ahead l.fn.self.rest.now ≡ declared_names_lexemes l.names.items ++ ahead l.self.rest.now;
   some : 0 < length l.names.items;
-  reads : (xs : List DeclaredName) (more : List Lexeme) → has_one xs ≡ true → Stops more → ahead l.fn.self.rest.now ≡ declared_names_lexemes xs ++ more
-      → Remain declared_name_lexemes (λ _. Unit {0}) more (ahead l.self.rest.now);
   seen : (hidden : ℕ) (xs : List DeclaredName) (more : List Lexeme) → has_one xs ≡ true → Stops more → CouldBe hidden l.fn.self.rest.now
       (declared_names_lexemes xs ++ more)
       → RemainSeen declared_name_lexemes (λ _. Unit {0}) hidden more l.self.rest.now;

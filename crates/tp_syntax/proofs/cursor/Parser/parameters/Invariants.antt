@@ -5,7 +5,6 @@ use Rattle.tp_syntax.specs.Definitions.{parameters_lexemes, parameter_lexemes}
 use Rattle.tp_token.specs.Lexeme.{Lexeme, symbol}
 use Rattle.tp_syntax.specs.Reading.{first}
 use Rattle.tp_syntax.specs.HiddenTokens.{CouldBe}
-use Rattle.tp_syntax.proofs.PartsLeftToRead.{Remain}
 use Rattle.tp_syntax.proofs.PartsLeftSeen.{RemainSeen}
 use Rattle.tp_tree.specs.declared.tree.Parameter.{Parameter}
 use Rattle.tp_token.specs.declared.token.Symbol.TheVariants.{RightParen}
@@ -17,8 +16,6 @@ abbrev pub invariant-more : goal.invariant-more
 invariant-more l = record {
   tokens : ahead l.fn.self.rest.now ≡ parameters_lexemes l.parameters.items ++ ahead l.self.rest.now;
   some : 0 < length l.parameters.items;
-  reads : (xs : List Parameter) (more : List Lexeme) → first more ≡ Some (symbol RightParen) → ahead l.fn.self.rest.now ≡ parameters_lexemes xs ++ more
-      → Remain parameter_lexemes (λ _. Unit {0}) more (ahead l.self.rest.now);
   seen : (hidden : ℕ) (xs : List Parameter) (more : List Lexeme) → first more ≡ Some (symbol RightParen) → CouldBe hidden l.fn.self.rest.now (parameters_lexemes xs ++ more)
       → RemainSeen parameter_lexemes (λ _. Unit {0}) hidden more l.self.rest.now;
   shorter : length l.self.rest.now < length l.fn.self.rest.now;

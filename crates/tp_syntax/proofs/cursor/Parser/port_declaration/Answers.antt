@@ -41,42 +41,42 @@ returns-in_err-has_semicolon-clause-beyond c =
       c.in_ok-names.ensures.shorter,
     )) c.in_err-has_semicolon.ensures.place)
 
-pub returns-in_err-type_name-clause-reads_seen : goal.returns-in_err-type_name-clause-reads_seen
+pub returns-in_err-type_name-clause-reads : goal.returns-in_err-type_name-clause-reads
 unfolding port_declaration_lexemes
-returns-in_err-type_name-clause-reads_seen c =
+returns-in_err-type_name-clause-reads c =
     λ hidden x more placed could.
     let e0 = simp append_assoc at could in
-    let e1 = c.in_ok-word.ensures.reads_seen hidden _ e0 in
+    let e1 = c.in_ok-word.ensures.reads hidden _ e0 in
     handed_seen hidden c.from_residual-in_err-type_name.result _ _ c.from_residual-in_err-type_name.ensures.1
-    (c.in_err-type_name.ensures.reads_seen hidden _ _ e1)
+    (c.in_err-type_name.ensures.reads hidden _ _ e1)
 
-pub returns-in_err-names-clause-reads_seen : goal.returns-in_err-names-clause-reads_seen
+pub returns-in_err-names-clause-reads : goal.returns-in_err-names-clause-reads
 unfolding port_declaration_lexemes
-returns-in_err-names-clause-reads_seen c =
+returns-in_err-names-clause-reads c =
     λ hidden x more placed could.
     let e0 = simp append_assoc at could in
-    let e1 = c.in_ok-word.ensures.reads_seen hidden _ e0 in
-    let e2 = c.in_ok-type_name.ensures.reads_seen hidden _ _ e1 in
+    let e1 = c.in_ok-word.ensures.reads hidden _ e0 in
+    let e2 = c.in_ok-type_name.ensures.reads hidden _ _ e1 in
     handed_seen hidden c.from_residual-in_err-names.result _ _ c.from_residual-in_err-names.ensures.1
-    (c.in_err-names.ensures.reads_seen hidden x.names.items _ placed.0 (end_stops x.has_semicolon more placed.1) e2)
+    (c.in_err-names.ensures.reads hidden x.names.items _ placed.0 (end_stops x.has_semicolon more placed.1) e2)
 
-pub returns-in_err-has_semicolon-clause-reads_seen : goal.returns-in_err-has_semicolon-clause-reads_seen
+pub returns-in_err-has_semicolon-clause-reads : goal.returns-in_err-has_semicolon-clause-reads
 unfolding port_declaration_lexemes
-returns-in_err-has_semicolon-clause-reads_seen c =
+returns-in_err-has_semicolon-clause-reads c =
     λ hidden x more placed could.
     let e0 = simp append_assoc at could in
-    let e1 = c.in_ok-word.ensures.reads_seen hidden _ e0 in
-    let e2 = c.in_ok-type_name.ensures.reads_seen hidden _ _ e1 in
-    let e3 = c.in_ok-names.ensures.reads_seen hidden x.names.items _ placed.0 (end_stops x.has_semicolon more placed.1) e2 in
+    let e1 = c.in_ok-word.ensures.reads hidden _ e0 in
+    let e2 = c.in_ok-type_name.ensures.reads hidden _ _ e1 in
+    let e3 = c.in_ok-names.ensures.reads hidden x.names.items _ placed.0 (end_stops x.has_semicolon more placed.1) e2 in
     handed_seen hidden c.from_residual-in_err-has_semicolon.result _ _ c.from_residual-in_err-has_semicolon.ensures.1
-    (c.in_err-has_semicolon.ensures.reads_seen hidden x.has_semicolon more placed.1 e3)
+    (c.in_err-has_semicolon.ensures.reads hidden x.has_semicolon more placed.1 e3)
 
-pub returns-clause-reads_seen : goal.returns-clause-reads_seen
+pub returns-clause-reads : goal.returns-clause-reads
 unfolding port_declaration_lexemes
-returns-clause-reads_seen c =
+returns-clause-reads c =
     λ hidden x more placed could.
     let e0 = simp append_assoc at could in
-    let e1 = c.in_ok-word.ensures.reads_seen hidden _ e0 in
-    let e2 = c.in_ok-type_name.ensures.reads_seen hidden _ _ e1 in
-    let e3 = c.in_ok-names.ensures.reads_seen hidden x.names.items _ placed.0 (end_stops x.has_semicolon more placed.1) e2 in
-    c.in_ok-has_semicolon.ensures.reads_seen hidden x.has_semicolon more placed.1 e3
+    let e1 = c.in_ok-word.ensures.reads hidden _ e0 in
+    let e2 = c.in_ok-type_name.ensures.reads hidden _ _ e1 in
+    let e3 = c.in_ok-names.ensures.reads hidden x.names.items _ placed.0 (end_stops x.has_semicolon more placed.1) e2 in
+    c.in_ok-has_semicolon.ensures.reads hidden x.has_semicolon more placed.1 e3

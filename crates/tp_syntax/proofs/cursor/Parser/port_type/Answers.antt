@@ -1,18 +1,18 @@
 -- A port type has a direction, and each but the last has its `;`.
 use Rattle.std.proofs.Common.{◌≡◌, ◌<◌, length, map, arith, append_assoc, append_assoc, refl}
 use Rattle.std.proofs.lemmas.Bool.{and_from, and_parts}
-use Rattle.tp_syntax.proofs.OperationReading.{directions_read}
 use Rattle.tp_syntax.specs.Grammar.{are_parts, direction_part, has_one}
 use Rattle.tp_syntax.proofs.PassedPartGrowth.{between_parts, has_one_of}
-use Rattle.tp_syntax.proofs.FirstTokensAhead.{handed, raw}
+use Rattle.tp_syntax.proofs.FirstTokensAhead.{raw}
 use Rattle.tp_syntax.specs.Definitions.{port_type_lexemes}
 use Rattle.tp_syntax.proofs.DefinitionReading.{directions_stand}
 use Rattle.tp_token.specs.Lexeme.{word}
-use Rattle.tp_syntax.proofs.FirstTokensSeen.{handed_as, memory_stands, handed_seen}
+use Rattle.tp_syntax.proofs.FirstTokensSeen.{handed_as, handed_seen}
 use Rattle.tp_syntax.proofs.TokensBeyond.{behind_stands, beyond_stands, wrong_stands}
 use Rattle.tp_syntax.specs.Stuck.{StandAtLeast}
 use Rattle.tp_token.specs.declared.word.Word.TheVariants as w
 use Rattle.tp_syntax.proofs.TypesSeen.{no_items, way_hidden}
+use Rattle.tp_syntax.proofs.FirstTokensStand.{memory_alone, own_could}
 use Rattle.tp_syntax.proofs.cursor.Parser.port_type.Goals as goal
 
 pub returns-clause-grammatical : goal.returns-clause-grammatical
@@ -21,59 +21,6 @@ returns-clause-grammatical c =
     and_from (has_one c.in_ok-directions.directions.items) (are_parts (map direction_part c.in_ok-directions.directions.items))
     (has_one_of c.in_ok-directions.directions.items some)
     (between_parts (map direction_part c.in_ok-directions.directions.items) _ _ c.in_ok-directions.ensures.grammatical)
-
-pub returns-in_err-directions-clause-reads : goal.returns-in_err-directions-clause-reads
-unfolding port_type_lexemes
-returns-in_err-directions-clause-reads c =
-    λ x more right e.
-    let e0 = simp append_assoc at e in
-    let e1 = c.in_ok-word.ensures.reads _ e0 in
-    let e2 = c.in_ok-word-2.ensures.reads _ e1 in
-    let e3 = c.in_ok-name.ensures.reads _ _ e2 in
-    let e4 = c.in_ok-word-3.ensures.reads _ e3 in
-    let e5 = c.in_ok-symbol.ensures.reads _ e4 in
-    handed c.from_residual-in_err-directions.result _ _ c.from_residual-in_err-directions.ensures.1 (c.in_err-directions.ensures.reads x.directions.items _ (directions_stand x more right) refl e5)
-
-pub returns-in_err-symbol-2-clause-reads : goal.returns-in_err-symbol-2-clause-reads
-unfolding port_type_lexemes
-returns-in_err-symbol-2-clause-reads c =
-    λ x more right e.
-    let e0 = simp append_assoc at e in
-    let e1 = c.in_ok-word.ensures.reads _ e0 in
-    let e2 = c.in_ok-word-2.ensures.reads _ e1 in
-    let e3 = c.in_ok-name.ensures.reads _ _ e2 in
-    let e4 = c.in_ok-word-3.ensures.reads _ e3 in
-    let e5 = c.in_ok-symbol.ensures.reads _ e4 in
-    let e6 = c.in_ok-directions.ensures.reads x.directions.items _ (directions_stand x more right) refl e5 in
-    handed c.from_residual-in_err-symbol-2.result _ _ c.from_residual-in_err-symbol-2.ensures.1 (c.in_err-symbol-2.ensures.reads more e6)
-
-pub returns-clause-reads : goal.returns-clause-reads
-unfolding port_type_lexemes
-returns-clause-reads c =
-    λ x more right e.
-    let e0 = simp append_assoc at e in
-    let e1 = c.in_ok-word.ensures.reads _ e0 in
-    let e2 = c.in_ok-word-2.ensures.reads _ e1 in
-    let e3 = c.in_ok-name.ensures.reads _ _ e2 in
-    let e4 = c.in_ok-word-3.ensures.reads _ e3 in
-    let e5 = c.in_ok-symbol.ensures.reads _ e4 in
-    let e6 = c.in_ok-directions.ensures.reads x.directions.items _ (directions_stand x more right) refl e5 in
-    c.in_ok-symbol-2.ensures.reads more e6
-
-pub returns-then-is_empty-clause-reads : goal.returns-then-is_empty-clause-reads
-unfolding port_type_lexemes
-returns-then-is_empty-clause-reads c =
-    λ x more right e.
-    let e0 = simp append_assoc at e in
-    let e1 = c.in_ok-word.ensures.reads _ e0 in
-    let e2 = c.in_ok-word-2.ensures.reads _ e1 in
-    let e3 = c.in_ok-name.ensures.reads _ _ e2 in
-    let e4 = c.in_ok-word-3.ensures.reads _ e3 in
-    let e5 = c.in_ok-symbol.ensures.reads _ e4 in
-    let e6 = c.in_ok-directions.ensures.reads x.directions.items _ (directions_stand x more right) refl e5 in
-    let none : length c.in_ok-directions.directions.items ≡ 0 = grind arith in
-    let some = (and_parts (has_one x.directions.items) (are_parts (map direction_part x.directions.items)) right).0 in
-    absurd (directions_read x.directions.items c.in_ok-directions.directions.items more _ _ some none e5 c.in_ok-directions.ensures.tokens e6)
 
 pub returns-in_err-word-clause-beyond : goal.returns-in_err-word-clause-beyond
 returns-in_err-word-clause-beyond c =
@@ -142,7 +89,7 @@ pub returns-in_err-word-clause-beyond_type : goal.returns-in_err-word-clause-bey
 returns-in_err-word-clause-beyond_type c =
     λ at.
     handed_as (StandAtLeast 1 c.args.self.now) c.from_residual.result _ _ c.from_residual.ensures.1
-    (memory_stands 1 c.args.self.now _ (c.in_err-word.ensures.reads _ (raw c.args.self.now.rest.now (word w.Type) at refl).1))
+    (memory_alone 1 c.args.self.now _ (c.in_err-word.ensures.reads 0 _ (own_could 0 _ _ (raw c.args.self.now.rest.now (word w.Type) at refl).1)))
 
 pub returns-in_err-word-2-clause-beyond_type : goal.returns-in_err-word-2-clause-beyond_type
 returns-in_err-word-2-clause-beyond_type c =
@@ -208,95 +155,95 @@ returns-in_err-symbol-2-clause-beyond_type c =
     ))
     c.in_err-symbol-2.ensures.place)
 
-pub returns-in_err-directions-clause-reads_seen : goal.returns-in_err-directions-clause-reads_seen
+pub returns-in_err-directions-clause-reads : goal.returns-in_err-directions-clause-reads
 unfolding port_type_lexemes
-returns-in_err-directions-clause-reads_seen c =
+returns-in_err-directions-clause-reads c =
     λ hidden x more right could.
     let e0 = simp append_assoc at could in
-    let e1 = c.in_ok-word.ensures.reads_seen hidden _ e0 in
-    let e2 = c.in_ok-word-2.ensures.reads_seen hidden _ e1 in
-    let e3 = c.in_ok-name.ensures.reads_seen hidden _ _ e2 in
-    let e4 = c.in_ok-word-3.ensures.reads_seen hidden _ e3 in
-    let e5 = c.in_ok-symbol.ensures.reads_seen hidden _ e4 in
+    let e1 = c.in_ok-word.ensures.reads hidden _ e0 in
+    let e2 = c.in_ok-word-2.ensures.reads hidden _ e1 in
+    let e3 = c.in_ok-name.ensures.reads hidden _ _ e2 in
+    let e4 = c.in_ok-word-3.ensures.reads hidden _ e3 in
+    let e5 = c.in_ok-symbol.ensures.reads hidden _ e4 in
     handed_seen hidden c.from_residual-in_err-directions.result _ _ c.from_residual-in_err-directions.ensures.1
-    (c.in_err-directions.ensures.reads_seen hidden x.directions.items _ (directions_stand x more right) refl e5)
+    (c.in_err-directions.ensures.reads hidden x.directions.items _ (directions_stand x more right) refl e5)
 
-pub returns-in_err-symbol-2-clause-reads_seen : goal.returns-in_err-symbol-2-clause-reads_seen
+pub returns-in_err-symbol-2-clause-reads : goal.returns-in_err-symbol-2-clause-reads
 unfolding port_type_lexemes
-returns-in_err-symbol-2-clause-reads_seen c =
+returns-in_err-symbol-2-clause-reads c =
     λ hidden x more right could.
     let e0 = simp append_assoc at could in
-    let e1 = c.in_ok-word.ensures.reads_seen hidden _ e0 in
-    let e2 = c.in_ok-word-2.ensures.reads_seen hidden _ e1 in
-    let e3 = c.in_ok-name.ensures.reads_seen hidden _ _ e2 in
-    let e4 = c.in_ok-word-3.ensures.reads_seen hidden _ e3 in
-    let e5 = c.in_ok-symbol.ensures.reads_seen hidden _ e4 in
-    let e6 = c.in_ok-directions.ensures.reads_seen hidden x.directions.items _ (directions_stand x more right) refl e5 in
+    let e1 = c.in_ok-word.ensures.reads hidden _ e0 in
+    let e2 = c.in_ok-word-2.ensures.reads hidden _ e1 in
+    let e3 = c.in_ok-name.ensures.reads hidden _ _ e2 in
+    let e4 = c.in_ok-word-3.ensures.reads hidden _ e3 in
+    let e5 = c.in_ok-symbol.ensures.reads hidden _ e4 in
+    let e6 = c.in_ok-directions.ensures.reads hidden x.directions.items _ (directions_stand x more right) refl e5 in
     handed_seen hidden c.from_residual-in_err-symbol-2.result _ _ c.from_residual-in_err-symbol-2.ensures.1
-    (c.in_err-symbol-2.ensures.reads_seen hidden more e6)
+    (c.in_err-symbol-2.ensures.reads hidden more e6)
 
-pub returns-clause-reads_seen : goal.returns-clause-reads_seen
+pub returns-clause-reads : goal.returns-clause-reads
 unfolding port_type_lexemes
-returns-clause-reads_seen c =
+returns-clause-reads c =
     λ hidden x more right could.
     let e0 = simp append_assoc at could in
-    let e1 = c.in_ok-word.ensures.reads_seen hidden _ e0 in
-    let e2 = c.in_ok-word-2.ensures.reads_seen hidden _ e1 in
-    let e3 = c.in_ok-name.ensures.reads_seen hidden _ _ e2 in
-    let e4 = c.in_ok-word-3.ensures.reads_seen hidden _ e3 in
-    let e5 = c.in_ok-symbol.ensures.reads_seen hidden _ e4 in
-    let e6 = c.in_ok-directions.ensures.reads_seen hidden x.directions.items _ (directions_stand x more right) refl e5 in
-    c.in_ok-symbol-2.ensures.reads_seen hidden more e6
+    let e1 = c.in_ok-word.ensures.reads hidden _ e0 in
+    let e2 = c.in_ok-word-2.ensures.reads hidden _ e1 in
+    let e3 = c.in_ok-name.ensures.reads hidden _ _ e2 in
+    let e4 = c.in_ok-word-3.ensures.reads hidden _ e3 in
+    let e5 = c.in_ok-symbol.ensures.reads hidden _ e4 in
+    let e6 = c.in_ok-directions.ensures.reads hidden x.directions.items _ (directions_stand x more right) refl e5 in
+    c.in_ok-symbol-2.ensures.reads hidden more e6
 
-pub returns-then-is_empty-clause-reads_seen : goal.returns-then-is_empty-clause-reads_seen
+pub returns-then-is_empty-clause-reads : goal.returns-then-is_empty-clause-reads
 unfolding port_type_lexemes
-returns-then-is_empty-clause-reads_seen c =
+returns-then-is_empty-clause-reads c =
     λ hidden x more right could.
     let e0 = simp append_assoc at could in
-    let e1 = c.in_ok-word.ensures.reads_seen hidden _ e0 in
-    let e2 = c.in_ok-word-2.ensures.reads_seen hidden _ e1 in
-    let e3 = c.in_ok-name.ensures.reads_seen hidden _ _ e2 in
-    let e4 = c.in_ok-word-3.ensures.reads_seen hidden _ e3 in
-    let e5 = c.in_ok-symbol.ensures.reads_seen hidden _ e4 in
-    let e6 = c.in_ok-directions.ensures.reads_seen hidden x.directions.items _ (directions_stand x more right) refl e5 in
+    let e1 = c.in_ok-word.ensures.reads hidden _ e0 in
+    let e2 = c.in_ok-word-2.ensures.reads hidden _ e1 in
+    let e3 = c.in_ok-name.ensures.reads hidden _ _ e2 in
+    let e4 = c.in_ok-word-3.ensures.reads hidden _ e3 in
+    let e5 = c.in_ok-symbol.ensures.reads hidden _ e4 in
+    let e6 = c.in_ok-directions.ensures.reads hidden x.directions.items _ (directions_stand x more right) refl e5 in
     let none : length c.in_ok-directions.directions.items ≡ 0 = grind arith in
     let some = (and_parts (has_one x.directions.items) (are_parts (map direction_part x.directions.items)) right).0 in
     way_hidden hidden x.directions.items more c.symbol.new.self c.directions.new.self some (c.in_ok-directions.ensures.none (no_items _ none)) e5 e6
 
-pub returns-in_err-word-2-clause-reads_seen : goal.returns-in_err-word-2-clause-reads_seen
+pub returns-in_err-word-2-clause-reads : goal.returns-in_err-word-2-clause-reads
 unfolding port_type_lexemes
-returns-in_err-word-2-clause-reads_seen c =
+returns-in_err-word-2-clause-reads c =
     λ hidden x more right could.
     let e0 = simp append_assoc at could in
-    let e1 = c.in_ok-word.ensures.reads_seen hidden _ e0 in
-    handed_seen hidden c.from_residual-in_err-word-2.result _ _ c.from_residual-in_err-word-2.ensures.1 (c.in_err-word-2.ensures.reads_seen hidden _ e1)
+    let e1 = c.in_ok-word.ensures.reads hidden _ e0 in
+    handed_seen hidden c.from_residual-in_err-word-2.result _ _ c.from_residual-in_err-word-2.ensures.1 (c.in_err-word-2.ensures.reads hidden _ e1)
 
-pub returns-in_err-name-clause-reads_seen : goal.returns-in_err-name-clause-reads_seen
+pub returns-in_err-name-clause-reads : goal.returns-in_err-name-clause-reads
 unfolding port_type_lexemes
-returns-in_err-name-clause-reads_seen c =
+returns-in_err-name-clause-reads c =
     λ hidden x more right could.
     let e0 = simp append_assoc at could in
-    let e1 = c.in_ok-word.ensures.reads_seen hidden _ e0 in
-    let e2 = c.in_ok-word-2.ensures.reads_seen hidden _ e1 in
-    handed_seen hidden c.from_residual-in_err-name.result _ _ c.from_residual-in_err-name.ensures.1 (c.in_err-name.ensures.reads_seen hidden _ _ e2)
+    let e1 = c.in_ok-word.ensures.reads hidden _ e0 in
+    let e2 = c.in_ok-word-2.ensures.reads hidden _ e1 in
+    handed_seen hidden c.from_residual-in_err-name.result _ _ c.from_residual-in_err-name.ensures.1 (c.in_err-name.ensures.reads hidden _ _ e2)
 
-pub returns-in_err-word-3-clause-reads_seen : goal.returns-in_err-word-3-clause-reads_seen
+pub returns-in_err-word-3-clause-reads : goal.returns-in_err-word-3-clause-reads
 unfolding port_type_lexemes
-returns-in_err-word-3-clause-reads_seen c =
+returns-in_err-word-3-clause-reads c =
     λ hidden x more right could.
     let e0 = simp append_assoc at could in
-    let e1 = c.in_ok-word.ensures.reads_seen hidden _ e0 in
-    let e2 = c.in_ok-word-2.ensures.reads_seen hidden _ e1 in
-    let e3 = c.in_ok-name.ensures.reads_seen hidden _ _ e2 in
-    handed_seen hidden c.from_residual-in_err-word-3.result _ _ c.from_residual-in_err-word-3.ensures.1 (c.in_err-word-3.ensures.reads_seen hidden _ e3)
+    let e1 = c.in_ok-word.ensures.reads hidden _ e0 in
+    let e2 = c.in_ok-word-2.ensures.reads hidden _ e1 in
+    let e3 = c.in_ok-name.ensures.reads hidden _ _ e2 in
+    handed_seen hidden c.from_residual-in_err-word-3.result _ _ c.from_residual-in_err-word-3.ensures.1 (c.in_err-word-3.ensures.reads hidden _ e3)
 
-pub returns-in_err-symbol-clause-reads_seen : goal.returns-in_err-symbol-clause-reads_seen
+pub returns-in_err-symbol-clause-reads : goal.returns-in_err-symbol-clause-reads
 unfolding port_type_lexemes
-returns-in_err-symbol-clause-reads_seen c =
+returns-in_err-symbol-clause-reads c =
     λ hidden x more right could.
     let e0 = simp append_assoc at could in
-    let e1 = c.in_ok-word.ensures.reads_seen hidden _ e0 in
-    let e2 = c.in_ok-word-2.ensures.reads_seen hidden _ e1 in
-    let e3 = c.in_ok-name.ensures.reads_seen hidden _ _ e2 in
-    let e4 = c.in_ok-word-3.ensures.reads_seen hidden _ e3 in
-    handed_seen hidden c.from_residual-in_err-symbol.result _ _ c.from_residual-in_err-symbol.ensures.1 (c.in_err-symbol.ensures.reads_seen hidden _ e4)
+    let e1 = c.in_ok-word.ensures.reads hidden _ e0 in
+    let e2 = c.in_ok-word-2.ensures.reads hidden _ e1 in
+    let e3 = c.in_ok-name.ensures.reads hidden _ _ e2 in
+    let e4 = c.in_ok-word-3.ensures.reads hidden _ e3 in
+    handed_seen hidden c.from_residual-in_err-symbol.result _ _ c.from_residual-in_err-symbol.ensures.1 (c.in_err-symbol.ensures.reads hidden _ e4)

@@ -1,15 +1,13 @@
 -- One more declaration of ports is read behind the others.
-use Rattle.std.proofs.Common.{arith, sym, subst, ap, ◌∙◌, rules, inl, inr, refl}
+use Rattle.std.proofs.Common.{arith, rules, inl, inr, refl}
 use Rattle.tp_syntax.specs.Definitions.{port_declaration_lexemes}
 use Rattle.tp_syntax.specs.Grammar.{port_declaration_part}
 use Rattle.tp_syntax.proofs.ReadSequenceGrowth.{push_read_all}
 use Rattle.std.proofs.lemmas.Bool.{iff_false}
 use Rattle.tp_syntax.proofs.PassedPartGrowth.{between_push, between_none}
 use Rattle.std.proofs.lemmas.Grind.{common_steps}
-use Rattle.tp_syntax.proofs.FirstTokensAhead.{handed, brace_at, brace_first}
-use Rattle.tp_syntax.proofs.PartsLeftToRead.{RemainAll, all_next, all_last, no_brace, all_any}
+use Rattle.tp_syntax.proofs.PartsLeftToRead.{all_any}
 use Rattle.tp_syntax.proofs.FirstTokensOfParts.{port_declaration_begins}
-use Rattle.tp_syntax.specs.Reading.{first}
 use Rattle.tp_syntax.specs.Lines.{port_declaration_notes}
 use Rattle.tp_syntax.proofs.LinesOfPassedTokens.{passes_none, passes_push}
 use Rattle.tp_syntax.proofs.PartsInOrderSeen.{none_left_seen}
@@ -27,15 +25,12 @@ more-preserved c = record {
       elim (next_or_hidden port_declaration_lexemes port_declaration_part (λ _. Unit {0}) hidden
       (symbol RightBrace) more c.more.self.rest.now refl brace port_declaration_begins (iff_false c.is_symbol_at.ensures c.more-test.true)
       (c.more.invariant.seen hidden xs more stand brace could)) [
-        | inl n ↦ (n.2, n.3, n.4, c.in_ok-port_declaration.ensures.reads_seen hidden n.0 _ n.5 n.6)
+        | inl n ↦ (n.2, n.3, n.4, c.in_ok-port_declaration.ensures.reads hidden n.0 _ n.5 n.6)
         | inr h ↦ none_left_seen port_declaration_lexemes port_declaration_part (λ _. Unit {0}) hidden more _ (omega (
           arith,
           c.in_ok-port_declaration.ensures.shorter,
         ))
       ];
-  reads = λ xs more stand brace e.
-      let n = all_next port_declaration_lexemes port_declaration_part (λ _. Unit {0}) more _ (c.more.invariant.reads xs more stand brace e) port_declaration_begins (λ same. iff_false c.is_symbol_at.ensures c.more-test.true (brace_at _ more same brace)) in
-      subst (RemainAll port_declaration_lexemes port_declaration_part (λ _. Unit {0}) more) (sym (c.in_ok-port_declaration.ensures.reads n.0 n.2 n.3 n.4)) n.5;
   tokens = rw c.in_ok-push.ensures.items
       (push_read_all port_declaration_lexemes c.more.ports.items c.in_ok-port_declaration.port_declaration _ _ _
       c.more.invariant.tokens c.in_ok-port_declaration.ensures.tokens);
@@ -51,34 +46,23 @@ more-init c = record {
   seen = λ hidden xs more stand brace could. (xs, all_any xs, stand, could);
   tokens = first_of (search rules, grind (arith, common_steps));
   grammatical = rw c.new-ports.ensures.items (between_none _);
-  reads = λ xs more stand brace e. (xs, all_any xs, stand, e);
   shorter = first_of (search rules, grind (arith, common_steps));
   lines = rw c.new-ports.ensures.items (passes_none _);
 }
 
 pub returns-in_err-port_declaration-clause-reads : goal.returns-in_err-port_declaration-clause-reads
 returns-in_err-port_declaration-clause-reads c =
-    λ xs more stand brace e.
-    let n = all_next port_declaration_lexemes port_declaration_part (λ _. Unit {0}) more _ (c.more.invariant.reads xs more stand brace e) port_declaration_begins (λ same. iff_false c.is_symbol_at.ensures c.more-test.true (brace_at _ more same brace)) in
-    handed c.from_residual.result _ _ c.from_residual.ensures.1 (c.in_err-port_declaration.ensures.reads n.0 n.2 n.3 n.4)
-
-pub returns-clause-reads : goal.returns-clause-reads
-returns-clause-reads c =
-    λ xs more stand brace e. all_last port_declaration_lexemes port_declaration_part (λ _. Unit {0}) more _ (c.more.invariant.reads xs more stand brace e) (λ y r same. no_brace _ (port_declaration_begins y r) (ap first (sym same) ∙ brace_first _ (c.is_symbol_at.ensures.0 c.more-test.false)))
-
-pub returns-in_err-port_declaration-clause-reads_seen : goal.returns-in_err-port_declaration-clause-reads_seen
-returns-in_err-port_declaration-clause-reads_seen c =
     λ hidden xs more stand brace could.
     handed_seen hidden c.from_residual.result _ _ c.from_residual.ensures.1
     (elim (next_or_hidden port_declaration_lexemes port_declaration_part (λ _. Unit {0}) hidden
     (symbol RightBrace) more c.more.self.rest.now refl brace port_declaration_begins (iff_false c.is_symbol_at.ensures c.more-test.true)
     (c.more.invariant.seen hidden xs more stand brace could)) [
-      | inl n ↦ c.in_err-port_declaration.ensures.reads_seen hidden n.0 _ n.5 n.6
+      | inl n ↦ c.in_err-port_declaration.ensures.reads hidden n.0 _ n.5 n.6
       | inr h ↦ hidden_stuck hidden c.more.self _ h c.in_err-port_declaration.ensures.beyond
     ])
 
-pub returns-clause-reads_seen : goal.returns-clause-reads_seen
-returns-clause-reads_seen c =
+pub returns-clause-reads : goal.returns-clause-reads
+returns-clause-reads c =
     λ hidden xs more stand brace could.
     closed_all_seen port_declaration_lexemes port_declaration_part (λ _. Unit {0}) hidden more _
     (c.is_symbol_at.ensures.0 c.more-test.false) port_declaration_begins (c.more.invariant.seen hidden xs more stand brace could)

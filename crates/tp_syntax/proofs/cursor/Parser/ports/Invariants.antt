@@ -6,7 +6,6 @@ use Rattle.tp_syntax.specs.Grammar.{port_declaration_part}
 use Rattle.tp_syntax.specs.Standing.{GoesOver}
 use Rattle.tp_token.specs.Lexeme.{Lexeme, symbol}
 use Rattle.tp_syntax.specs.Reading.{AllStand, first}
-use Rattle.tp_syntax.proofs.PartsLeftToRead.{RemainAll}
 use Rattle.tp_tree.specs.declared.tree.PortDeclaration.{PortDeclaration}
 use Rattle.tp_token.specs.declared.token.Symbol.TheVariants.{RightBrace}
 use Rattle.tp_syntax.specs.Lines.{noted_in_order, port_declaration_notes}
@@ -19,8 +18,6 @@ abbrev pub invariant-more : goal.invariant-more
 invariant-more l = record {
   tokens : ahead l.fn.self.rest.now ≡ port_declarations_lexemes l.ports.items ++ ahead l.self.rest.now;
   grammatical : GoesOver l.fn.self (map port_declaration_part l.ports.items) l.self;
-  reads : (xs : List PortDeclaration) (more : List Lexeme) → AllStand (map port_declaration_part xs) more → first more ≡ Some (symbol RightBrace) → ahead l.fn.self.rest.now ≡ port_declarations_lexemes xs ++ more
-      → RemainAll port_declaration_lexemes port_declaration_part (λ _. Unit {0}) more (ahead l.self.rest.now);
   seen : (hidden : ℕ) (xs : List PortDeclaration) (more : List Lexeme) → AllStand (map port_declaration_part xs) more → first more ≡ Some
       (symbol RightBrace) → CouldBe hidden l.fn.self.rest.now (port_declarations_lexemes xs ++ more)
       → RemainAllSeen port_declaration_lexemes port_declaration_part (λ _. Unit {0}) hidden more l.self.rest.now;

@@ -16,15 +16,15 @@ returns-clause-lines c =
     let body = unnoted_then action ending (passes_unnoted (action) c.in_ok-action.ensures.forward c.in_ok-action.ensures.tokens) (passes_unnoted (ending) c.in_ok-has_semicolon.ensures.forward c.in_ok-has_semicolon.ensures.tokens) in
     passes_at _ _ body c.line-line.ensures (ap starts_zero c.in_ok-action.ensures.tokens ∙ setup_no_zero c.in_ok-action.action _)
 
-pub returns-in_err-action-clause-reads_seen : goal.returns-in_err-action-clause-reads_seen
-returns-in_err-action-clause-reads_seen c =
+pub returns-in_err-action-clause-reads : goal.returns-in_err-action-clause-reads
+returns-in_err-action-clause-reads c =
     λ hidden x more placed could.
     let e0 = simp append_assoc at could in
-    handed_seen hidden c.from_residual.result _ _ c.from_residual.ensures.1 (c.in_err-action.ensures.reads_seen hidden x.action _ e0)
+    handed_seen hidden c.from_residual.result _ _ c.from_residual.ensures.1 (c.in_err-action.ensures.reads hidden x.action _ e0)
 
-pub returns-in_err-has_semicolon-clause-reads_seen : goal.returns-in_err-has_semicolon-clause-reads_seen
-returns-in_err-has_semicolon-clause-reads_seen c =
+pub returns-in_err-has_semicolon-clause-reads : goal.returns-in_err-has_semicolon-clause-reads
+returns-in_err-has_semicolon-clause-reads c =
     λ hidden x more placed could.
     let e0 = simp append_assoc at could in
-    let e1 = c.in_ok-action.ensures.reads_seen hidden x.action _ e0 in
-    handed_seen hidden c.from_residual-in_err-has_semicolon.result _ _ c.from_residual-in_err-has_semicolon.ensures.1 (c.in_err-has_semicolon.ensures.reads_seen hidden x.has_semicolon more placed.1 e1)
+    let e1 = c.in_ok-action.ensures.reads hidden x.action _ e0 in
+    handed_seen hidden c.from_residual-in_err-has_semicolon.result _ _ c.from_residual-in_err-has_semicolon.ensures.1 (c.in_err-has_semicolon.ensures.reads hidden x.has_semicolon more placed.1 e1)

@@ -6,7 +6,6 @@ use Rattle.tp_syntax.specs.Grammar.{setup_part}
 use Rattle.tp_syntax.specs.Standing.{GoesOver}
 use Rattle.tp_token.specs.Lexeme.{Lexeme}
 use Rattle.tp_syntax.specs.Reading.{AllStand, is_setup_ahead}
-use Rattle.tp_syntax.proofs.PartsLeftToRead.{RemainAll}
 use Rattle.tp_syntax.proofs.PartsInOrderSeen.{RemainAllSeen}
 use Rattle.tp_syntax.specs.HiddenTokens.{CouldBe}
 use Rattle.tp_tree.specs.declared.tree.SetupStatement.{SetupStatement}
@@ -18,8 +17,6 @@ abbrev pub invariant-more : goal.invariant-more
 invariant-more l = record {
   tokens : ahead l.fn.self.rest.now ≡ setups_lexemes l.setups.items ++ ahead l.self.rest.now;
   grammatical : GoesOver l.fn.self (map setup_part l.setups.items) l.self;
-  reads : (xs : List SetupStatement) (more : List Lexeme) → AllStand (map setup_part xs) more → is_setup_ahead more ≡ false → ahead l.fn.self.rest.now ≡ setups_lexemes xs ++ more
-      → RemainAll setup_lexemes setup_part (λ _. Unit {0}) more (ahead l.self.rest.now);
   shorter : length l.self.rest.now ≤ length l.fn.self.rest.now;
   lines : PassesNoted l.fn.self.rest.now (noted_in_order (map setup_notes l.setups.items)) l.self.rest.now;
   seen : (hidden : ℕ) (xs : List SetupStatement) (more : List Lexeme) → AllStand (map setup_part xs) more → is_setup_ahead more ≡ false → CouldBe hidden l.fn.self.rest.now (setups_lexemes xs ++ more)

@@ -1,28 +1,24 @@
 -- One more start of a component is read behind the others.
-use Rattle.std.proofs.Common.{arith, sym, subst, ap, ◌∙◌, rules, refl}
+use Rattle.std.proofs.Common.{arith, rules, refl}
 use Rattle.tp_syntax.specs.Definitions.{start_lexemes}
 use Rattle.tp_syntax.specs.Grammar.{start_part}
+use Rattle.tp_syntax.proofs.TokensBeyond.{beyond_stands}
 use Rattle.tp_syntax.proofs.ReadSequenceGrowth.{push_read_all}
 use Rattle.tp_syntax.proofs.PassedPartGrowth.{between_push, between_none}
 use Rattle.std.proofs.lemmas.Grind.{common_steps}
-use Rattle.tp_syntax.proofs.FirstTokensAhead.{handed, start_first}
-use Rattle.tp_syntax.proofs.PartsLeftToRead.{RemainAll, all_next, all_last, all_any}
-use Rattle.tp_syntax.proofs.FirstTokensOfParts.{start_begins, start_at}
-use Rattle.tp_syntax.specs.Reading.{is_start_ahead}
+use Rattle.tp_syntax.proofs.PartsLeftToRead.{all_any}
+use Rattle.tp_syntax.proofs.FirstTokensOfParts.{start_begins}
 use Rattle.std.proofs.lemmas.Bool.{false≢true}
 use Rattle.tp_syntax.specs.Lines.{start_notes}
 use Rattle.tp_syntax.proofs.LinesOfPassedTokens.{passes_none, passes_push}
 use Rattle.tp_syntax.specs.HiddenTokens.{IsCutStart}
 use Rattle.tp_syntax.specs.Stuck.{StandAtLeast}
 use Rattle.tp_syntax.proofs.FirstTokensSeen.{handed_as, handed_seen}
-use Rattle.tp_syntax.proofs.TestCasesSeen.{further_stands, loop_ends, loop_passed, loop_stuck, no_start, start_left, start_passed, start_stuck}
+use Rattle.tp_syntax.proofs.TestCasesSeen.{loop_ends, loop_passed, loop_stuck, no_start, start_left, start_passed, start_stuck}
 use Rattle.tp_syntax.proofs.cursor.Parser.starts.Goals as goal
 
 pub more-preserved : goal.more-preserved
 more-preserved c = record {
-  reads = λ xs more stand other e.
-      let n = all_next start_lexemes start_part (λ _. Unit {0}) more _ (c.more.invariant.reads xs more stand other e) start_begins (λ same. false≢true (sym other ∙ ap is_start_ahead (sym same) ∙ start_first _ (c.more-test.ensures.start.0 refl))) in
-      subst (RemainAll start_lexemes start_part (λ _. Unit {0}) more) (sym (c.in_ok-start.ensures.reads n.0 n.2 n.3 n.4)) n.5;
   tokens = rw c.in_ok-push.ensures.items
       (push_read_all start_lexemes c.more.starts.items c.in_ok-start.start _ _ _ c.more.invariant.tokens c.in_ok-start.ensures.tokens);
   grammatical = rw c.in_ok-push.ensures.items
@@ -32,7 +28,7 @@ more-preserved c = record {
       (passes_push start_notes c.more.starts.items c.in_ok-start.start c.more.invariant.lines c.in_ok-start.ensures.lines);
   seen = λ hidden xs more stand other could.
       loop_passed start_lexemes start_part hidden more _ _ start_begins (c.more.invariant.seen hidden xs more stand other could)
-      (start_passed hidden more _ _ (c.more-test.ensures.start.0 refl) other (omega (arith, c.in_ok-start.ensures.shorter)) c.in_ok-start.ensures.beyond_start) (c.in_ok-start.ensures.reads_seen hidden);
+      (start_passed hidden more _ _ (c.more-test.ensures.start.0 refl) other (omega (arith, c.in_ok-start.ensures.shorter)) c.in_ok-start.ensures.beyond_start) (c.in_ok-start.ensures.reads hidden);
   none = λ no. absurd (no_start (c.more.invariant.none no) no (c.more-test.ensures.start.0 refl));
 }
 
@@ -40,7 +36,6 @@ pub more-init : goal.more-init
 more-init c = record {
   tokens = first_of (search rules, grind (arith, common_steps));
   grammatical = rw c.new-starts.ensures.items (between_none _);
-  reads = λ xs more stand other e. (xs, all_any xs, stand, e);
   shorter = first_of (search rules, grind (arith, common_steps));
   lines = rw c.new-starts.ensures.items (passes_none _);
   seen = λ hidden xs more stand other could. (xs, all_any xs, stand, could);
@@ -49,23 +44,13 @@ more-init c = record {
 
 pub returns-in_err-start-clause-reads : goal.returns-in_err-start-clause-reads
 returns-in_err-start-clause-reads c =
-    λ xs more stand other e.
-    let n = all_next start_lexemes start_part (λ _. Unit {0}) more _ (c.more.invariant.reads xs more stand other e) start_begins (λ same. false≢true (sym other ∙ ap is_start_ahead (sym same) ∙ start_first _ (c.more-test.ensures.start.0 refl))) in
-    handed c.from_residual.result _ _ c.from_residual.ensures.1 (c.in_err-start.ensures.reads n.0 n.2 n.3 n.4)
-
-pub returns-clause-reads : goal.returns-clause-reads
-returns-clause-reads c =
-    λ xs more stand other e. all_last start_lexemes start_part (λ _. Unit {0}) more _ (c.more.invariant.reads xs more stand other e) (λ y r same. false≢true (c.more-test.ensures.start.1 (start_at y r _ same)))
-
-pub returns-in_err-start-clause-reads_seen : goal.returns-in_err-start-clause-reads_seen
-returns-in_err-start-clause-reads_seen c =
     λ hidden xs more stand other could.
     handed_seen hidden c.from_residual.result _ _ c.from_residual.ensures.1
     (loop_stuck start_lexemes start_part hidden more _ _ start_begins (c.more.invariant.seen hidden xs more stand other could)
-    (start_stuck hidden more c.more.self _ (c.more-test.ensures.start.0 refl) other c.in_err-start.ensures.beyond c.in_err-start.ensures.beyond_start) (c.in_err-start.ensures.reads_seen hidden))
+    (start_stuck hidden more c.more.self _ (c.more-test.ensures.start.0 refl) other c.in_err-start.ensures.beyond c.in_err-start.ensures.beyond_start) (c.in_err-start.ensures.reads hidden))
 
-pub returns-clause-reads_seen : goal.returns-clause-reads_seen
-returns-clause-reads_seen c =
+pub returns-clause-reads : goal.returns-clause-reads
+returns-clause-reads c =
     λ hidden xs more stand other could.
     loop_ends start_lexemes start_part (IsCutStart hidden c.more.self.rest.now) hidden more _ start_begins (c.more.invariant.seen hidden xs more stand other could)
     (start_left hidden _ (λ begins. false≢true (c.more-test.ensures.start.1 begins)))
@@ -73,7 +58,7 @@ returns-clause-reads_seen c =
 pub returns-in_err-start-clause-beyond : goal.returns-in_err-start-clause-beyond
 returns-in_err-start-clause-beyond c =
     handed_as (StandAtLeast 0 c.args.self.now) c.from_residual.result _ _ c.from_residual.ensures.1
-    (further_stands 0 c.args.self.now c.more.self _ (omega (arith, c.more.invariant.shorter)) c.in_err-start.ensures.beyond)
+    (beyond_stands 0 0 c.args.self.now c.more.self _ (omega (arith, c.more.invariant.shorter)) c.in_err-start.ensures.beyond)
 
 pub returns-in_err-start-clause-none : goal.returns-in_err-start-clause-none
 returns-in_err-start-clause-none c = λ no. absurd (no_start (c.more.invariant.none no) no (c.more-test.ensures.start.0 refl))

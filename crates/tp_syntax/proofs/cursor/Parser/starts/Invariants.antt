@@ -6,7 +6,6 @@ use Rattle.tp_syntax.specs.Grammar.{start_part}
 use Rattle.tp_syntax.specs.Standing.{GoesOver}
 use Rattle.tp_token.specs.Lexeme.{Lexeme}
 use Rattle.tp_syntax.specs.Reading.{AllStand, is_start_ahead}
-use Rattle.tp_syntax.proofs.PartsLeftToRead.{RemainAll}
 use Rattle.tp_syntax.proofs.PartsInOrderSeen.{RemainAllSeen}
 use Rattle.tp_syntax.specs.HiddenTokens.{CouldBe}
 use Rattle.tp_tree.specs.declared.tree.ComponentStart.{ComponentStart}
@@ -18,8 +17,6 @@ abbrev pub invariant-more : goal.invariant-more
 invariant-more l = record {
   tokens : ahead l.fn.self.rest.now ≡ starts_lexemes l.starts.items ++ ahead l.self.rest.now;
   grammatical : GoesOver l.fn.self (map start_part l.starts.items) l.self;
-  reads : (xs : List ComponentStart) (more : List Lexeme) → AllStand (map start_part xs) more → is_start_ahead more ≡ false → ahead l.fn.self.rest.now ≡ starts_lexemes xs ++ more
-      → RemainAll start_lexemes start_part (λ _. Unit {0}) more (ahead l.self.rest.now);
   shorter : length l.self.rest.now ≤ length l.fn.self.rest.now;
   lines : PassesNoted l.fn.self.rest.now (noted_in_order (map start_notes l.starts.items)) l.self.rest.now;
   seen : (hidden : ℕ) (xs : List ComponentStart) (more : List Lexeme) → AllStand (map start_part xs) more → is_start_ahead more ≡ false → CouldBe hidden l.fn.self.rest.now (starts_lexemes xs ++ more)

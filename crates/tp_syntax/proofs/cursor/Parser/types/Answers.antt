@@ -1,10 +1,9 @@
 -- One more type that may pass through a port is read behind its comma.
-use Rattle.std.proofs.Common.{arith, length-append, sym, subst, rules, ap, length}
+use Rattle.std.proofs.Common.{arith, length-append, rules, ap, length}
 use Rattle.tp_syntax.specs.Values.{type_lexemes}
 use Rattle.tp_syntax.proofs.ReadSequenceGrowth.{push_read}
 use Rattle.std.proofs.lemmas.Grind.{common_steps}
-use Rattle.tp_syntax.proofs.FirstTokensAhead.{handed, same_ahead}
-use Rattle.tp_syntax.proofs.PartsLeftToRead.{Remain, comma_first, comma_next, comma_last, all_any}
+use Rattle.tp_syntax.proofs.PartsLeftToRead.{all_any}
 use Rattle.tp_syntax.proofs.PartsLeftSeen.{first_part_seen, last_part_seen, next_part_seen}
 use Rattle.tp_syntax.specs.declared.cursor.Parser.{Parser}
 use Rattle.tp_syntax.proofs.FirstTokensSeen.{handed_as, handed_seen, same_could}
@@ -18,10 +17,7 @@ more-preserved c = record {
   seen = λ hidden xs more some stops could.
       let n = next_part_seen type_lexemes (λ _. Unit {0}) hidden more _ _ type_name.Integer tt (c.more.invariant.seen hidden xs more some stops could)
       c.more-test.ensures.passed stops in
-      (n.2, n.3, c.in_ok-next.ensures.reads_seen hidden n.0 _ n.4);
-  reads = λ xs more some stops e.
-      let n = comma_next type_lexemes (λ _. Unit {0}) more _ _ (c.more.invariant.reads xs more some stops e) c.more-test.ensures.yes stops in
-      subst (Remain type_lexemes (λ _. Unit {0}) more) (sym (c.in_ok-next.ensures.reads n.0 n.2 n.3)) n.4;
+      (n.2, n.3, c.in_ok-next.ensures.reads hidden n.0 _ n.4);
   tokens = rw c.in_ok-push-2.ensures.items
       (push_read type_lexemes c.more.types.items c.in_ok-next.next _ _ _ _
       c.more.invariant.some c.more.invariant.tokens c.more-test.ensures.yes c.in_ok-next.ensures.tokens);
@@ -34,49 +30,29 @@ pub more-init : goal.more-init
 more-init c = record {
   seen = λ hidden xs more some stops could.
       let n = first_part_seen type_lexemes (λ _. Unit {0}) hidden xs more c.args.self.now.rest.now (all_any xs) some could in
-      (n.2, n.3, c.in_ok-first.ensures.reads_seen hidden n.0 _ n.4);
+      (n.2, n.3, c.in_ok-first.ensures.reads hidden n.0 _ n.4);
   tokens = first_of (search rules, grind (arith, common_steps));
   some = first_of (search rules, grind (arith, common_steps));
-  reads = λ xs more some stops e.
-      let n = comma_first type_lexemes (λ _. Unit {0}) xs more _ (all_any xs) (some) e in
-      subst (Remain type_lexemes (λ _. Unit {0}) more) (sym (c.in_ok-first.ensures.reads n.0 n.2 n.3)) n.4;
   shorter = first_of (search rules, grind (arith, common_steps));
   forward = λ all tail. c.in_ok-first.ensures.forward all tail;
 }
 
 pub returns-in_err-first-clause-reads : goal.returns-in_err-first-clause-reads
 returns-in_err-first-clause-reads c =
-    λ xs more some stops e.
-    let n = comma_first type_lexemes (λ _. Unit {0}) xs more _ (all_any xs) (some) e in
-    handed c.from_residual.result _ _ c.from_residual.ensures.1 (c.in_err-first.ensures.reads n.0 n.2 n.3)
-
-pub returns-in_err-next-clause-reads : goal.returns-in_err-next-clause-reads
-returns-in_err-next-clause-reads c =
-    λ xs more some stops e.
-    let n = comma_next type_lexemes (λ _. Unit {0}) more _ _ (c.more.invariant.reads xs more some stops e) c.more-test.ensures.yes stops in
-    handed c.from_residual-in_err-next.result _ _ c.from_residual-in_err-next.ensures.1 (c.in_err-next.ensures.reads n.0 n.2 n.3)
-
-pub returns-clause-reads : goal.returns-clause-reads
-returns-clause-reads c =
-    λ xs more some stops e.
-    same_ahead c.more-test.ensures.no (comma_last type_lexemes (λ _. Unit {0}) more _ (c.more.invariant.reads xs more some stops e) c.more-test.ensures.other)
-
-pub returns-in_err-first-clause-reads_seen : goal.returns-in_err-first-clause-reads_seen
-returns-in_err-first-clause-reads_seen c =
     λ hidden xs more some stops could.
     handed_seen hidden c.from_residual.result _ _ c.from_residual.ensures.1
     (let n = first_part_seen type_lexemes (λ _. Unit {0}) hidden xs more c.args.self.now.rest.now
-    (all_any xs) some could in c.in_err-first.ensures.reads_seen hidden n.0 _ n.4)
+    (all_any xs) some could in c.in_err-first.ensures.reads hidden n.0 _ n.4)
 
-pub returns-in_err-next-clause-reads_seen : goal.returns-in_err-next-clause-reads_seen
-returns-in_err-next-clause-reads_seen c =
+pub returns-in_err-next-clause-reads : goal.returns-in_err-next-clause-reads
+returns-in_err-next-clause-reads c =
     λ hidden xs more some stops could.
     let n = next_part_seen type_lexemes (λ _. Unit {0}) hidden more _ _ type_name.Integer tt (c.more.invariant.seen hidden xs more some stops could)
     c.more-test.ensures.passed stops in
-    handed_seen hidden c.from_residual-in_err-next.result _ _ c.from_residual-in_err-next.ensures.1 (c.in_err-next.ensures.reads_seen hidden n.0 _ n.4)
+    handed_seen hidden c.from_residual-in_err-next.result _ _ c.from_residual-in_err-next.ensures.1 (c.in_err-next.ensures.reads hidden n.0 _ n.4)
 
-pub returns-clause-reads_seen : goal.returns-clause-reads_seen
-returns-clause-reads_seen c =
+pub returns-clause-reads : goal.returns-clause-reads
+returns-clause-reads c =
     λ hidden xs more some stops could.
     same_could c.more-test.ensures.no (last_part_seen type_lexemes (λ _. Unit {0}) hidden more _ (c.more.invariant.seen hidden xs more some stops could)
     c.more-test.ensures.absent)

@@ -4,7 +4,6 @@ use Rattle.tp_syntax.specs.Ahead.{ahead}
 use Rattle.tp_syntax.specs.Definitions.{types_lexemes}
 use Rattle.tp_token.specs.Lexeme.{Lexeme}
 use Rattle.tp_syntax.specs.Reading.{Stops}
-use Rattle.tp_syntax.proofs.PartsLeftToRead.{Remain}
 use Rattle.tp_tree.specs.declared.message.TypeName.{TypeName}
 use Rattle.tp_syntax.specs.Grammar.{has_one}
 use Rattle.tp_syntax.specs.Values.{type_lexemes}
@@ -17,8 +16,6 @@ abbrev pub invariant-more : goal.invariant-more
 invariant-more l = record {
   tokens : ahead l.fn.self.rest.now ≡ types_lexemes l.types.items ++ ahead l.self.rest.now;
   some : 0 < length l.types.items;
-  reads : (xs : List TypeName) (more : List Lexeme) → has_one xs ≡ true → Stops more → ahead l.fn.self.rest.now ≡ types_lexemes xs ++ more
-      → Remain type_lexemes (λ _. Unit {0}) more (ahead l.self.rest.now);
   seen : (hidden : ℕ) (xs : List TypeName) (more : List Lexeme) → has_one xs ≡ true → Stops more → CouldBe hidden l.fn.self.rest.now (types_lexemes xs ++ more)
       → RemainSeen type_lexemes (λ _. Unit {0}) hidden more l.self.rest.now;
   shorter : length l.self.rest.now < length l.fn.self.rest.now;

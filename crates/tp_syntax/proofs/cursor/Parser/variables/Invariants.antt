@@ -7,7 +7,6 @@ use Rattle.tp_syntax.specs.Grammar.{variable_part}
 use Rattle.tp_syntax.specs.Standing.{GoesOver}
 use Rattle.tp_token.specs.Lexeme.{Lexeme, word}
 use Rattle.tp_syntax.specs.Reading.{AllStand, first}
-use Rattle.tp_syntax.proofs.PartsLeftToRead.{RemainAll}
 use Rattle.tp_tree.specs.declared.tree.Variable.{Variable}
 use Rattle.tp_syntax.specs.Lines.{noted_in_order, variable_notes}
 use Rattle.tp_syntax.specs.Forward.{PassesNoted}
@@ -19,8 +18,6 @@ abbrev pub invariant-more : goal.invariant-more
 invariant-more l = record {
   tokens : ahead l.fn.self.rest.now ≡ variables_lexemes l.variables.items ++ ahead l.self.rest.now;
   grammatical : GoesOver l.fn.self (map variable_part l.variables.items) l.self;
-  reads : (xs : List Variable) (more : List Lexeme) → AllStand (map variable_part xs) more → first more ≢ Some (word w.Var) → ahead l.fn.self.rest.now ≡ variables_lexemes xs ++ more
-      → RemainAll variable_lexemes variable_part (λ _. Unit {0}) more (ahead l.self.rest.now);
   moved : (l.self ≡ l.fn.self) ⊎ (3 + length l.self.rest.now ≤ length l.fn.self.rest.now);
   none : token_at l.fn.self.rest.now 0 ≢ Some (word w.Var) → l.self ≡ l.fn.self;
   seen : (hidden : ℕ) (xs : List Variable) (more : List Lexeme) → AllStand (map variable_part xs) more → first more ≢ Some (word w.Var) →
