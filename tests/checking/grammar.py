@@ -108,7 +108,7 @@ def open_brackets() -> Iterator[Case]:
     yield behind(33, "p.stop", "15 Limit 1")
 
 
-# The line of the bracket that is one too many, and 10 where no bracket can stand at all.
+# The line of the bracket or number that is too much, and 10 where none can stand, or another token before it.
 TOO_MANY = (
     (32, "15 Limit 2", r"p.send(\nv)"),
     (32, "15 Limit 2", r"p.check(\nreceive)"),
@@ -120,6 +120,11 @@ TOO_MANY = (
     (31, "15 Limit 2", r"alt { [\n] p.receive }"),
     (31, "15 Limit 2", r"alt { [\nelse] { } }"),
     (32, "15 Limit 2", r"alt {\n[else] { } }"),
+    (32, "15 Limit 3", r"alt\n{ [else] { } }"),
+    (32, "15 Limit 3", r"p.send\n(v)"),
+    (32, "15 Limit 3", r"for\n(var integer i := 0; i < 1; i := i + 1) { }"),
+    (31, "15 Limit 3", r"p.receive(R:\n{})"),
+    (31, "15 Limit 3", r"p.send(integer:\n9223372036854775808)"),
     (32, "10 Syntax 3", r"p.stop\n("),
     (32, "10 Syntax 3", r"p.send\n{v}"),
     (32, "10 Syntax 3", r"p.check\n["),
@@ -129,6 +134,11 @@ TOO_MANY = (
     (32, "10 Syntax 3", r"\n{"),
     (32, "10 Syntax 3", r"\n["),
     (32, "10 Syntax 3", r"\n("),
+    (32, "10 Syntax 2", r"p, send\n(v)"),
+    (32, "10 Syntax 2", r"alt else\n{ }"),
+    (32, "10 Syntax 2", r"for {\n("),
+    (31, "10 Syntax 2", r"p.send(v v,\n{{1}})"),
+    (31, "10 Syntax 2", r"p.send(integer v,\n9223372036854775808)"),
 )
 
 
@@ -164,7 +174,7 @@ def groups() -> list[Group]:
     return [
         Group("grammar.texts", 1, texts_of_the_table),
         Group("open brackets", 42, open_brackets),
-        Group("brackets that are too many", 19, brackets_too_many),
+        Group("brackets that are too many", 29, brackets_too_many),
         Group("faults of tokens", 21, token_faults_first),
         Group("characters of patterns", 21, characters_of_patterns),
     ]
