@@ -8,7 +8,7 @@ use Rattle.tp_token.specs.Lexeme.{Lexeme, name, symbol, lexeme_of}
 use Rattle.tp_syntax.specs.Ahead.{ahead, lexemes, is_name_in, token_at}
 use Rattle.tp_syntax.specs.Grammar.{has_one, one_and_each}
 use Rattle.tp_syntax.specs.HiddenTokens.{AllHidden, CouldBe}
-use Rattle.tp_syntax.specs.Reading.{first, ends_operation, IsField, Stops}
+use Rattle.tp_syntax.specs.Reading.{first, ends_operation, BeginsField, Stops}
 use Rattle.tp_syntax.specs.Sequences.{more_by_commas, by_commas}
 use Rattle.tp_syntax.proofs.FirstTokensAhead.{named, raw}
 use Rattle.tp_syntax.proofs.FirstTokensSeen.{hidden_could, shorter_hidden, next_passed, front_seen, absent_seen}
@@ -118,7 +118,7 @@ some_item g [] some right = absurd (omega arith)
 some_item g (x ∷ xs) some right = let all = one_right g (x ∷ xs) right in (x, all.0)
 
 -- a name and `:=` come next
-pub field_ahead : (ps : List Placed) → IsField ps → (n : List ℕ) × (rest : List Placed) × (ahead ps ≡ name n ∷ symbol Assign ∷ ahead rest)
+pub field_ahead : (ps : List Placed) → BeginsField ps → (n : List ℕ) × (rest : List Placed) × (ahead ps ≡ name n ∷ symbol Assign ∷ ahead rest)
 field_ahead ps (is, assign) =
     let n = named (token_at ps 0) is in
     let a = raw ps (name n.0) n.1 refl in

@@ -18,7 +18,7 @@ use Rattle.tp_syntax.specs.Values.{int_lexemes}
 use Rattle.tp_syntax.specs.Templates.{low_lexemes, high_lexemes, template_lexemes, template_field_lexemes}
 use Rattle.tp_syntax.specs.Grammar.{each, one_and_each, is_64_bit, is_bound, is_plain, is_template, is_template_field}
 use Rattle.tp_syntax.specs.HiddenTokens.{AllHidden, CouldBe}
-use Rattle.tp_syntax.specs.Reading.{IsField}
+use Rattle.tp_syntax.specs.Reading.{BeginsField}
 use Rattle.std.proofs.lemmas.List.{length-map}
 use Rattle.tp_syntax.proofs.GrammarEquations as grammar
 use Rattle.tp_syntax.proofs.TemplateTokens as tokens
@@ -135,7 +135,7 @@ list_some hidden [] more ps right other could =
     (v.Int (pos 0) ∷ [], ap (λ b. b && true) zero_right, hidden_could (absent_seen hidden ps (symbol RightBrace) more refl could other))
 list_some hidden (x ∷ xs) more ps right other could = (x ∷ xs, right, unbraced_seen hidden ps (by_commas (map template_lexemes (x ∷ xs))) more (symbol RightBrace) could)
 
-record_front : (hidden : ℕ) (f : TemplateField) (us : List Lexeme) (ps : List Placed) → (IsField ps → ⊥) → CouldBe hidden ps (template_field_lexemes f ++ us) →
+record_front : (hidden : ℕ) (f : TemplateField) (us : List Lexeme) (ps : List Placed) → (BeginsField ps → ⊥) → CouldBe hidden ps (template_field_lexemes f ++ us) →
     (length ps ≤ hidden) × CouldBe hidden ps (by_commas (map template_lexemes (v.Name (out-TemplateField f).name ∷ [])) ++ symbol RightBrace ∷ [])
 record_front hidden f us [] other could =
     let h = none_could hidden [] _ refl could (λ e. let k = sym (template_field_opens f us) ∙ e in cc k) in
@@ -157,7 +157,7 @@ record_front hidden f us (p ∷ ps) other could =
     ]
 
 -- where a record could come next, and no name and `:=` do, all is hidden but a name, which could be a list's
-pub record_unseen : (hidden : ℕ) (fs : List TemplateField) (more : List Lexeme) (ps : List Placed) → one_and_each (map is_template_field fs) ≡ true → (IsField ps → ⊥) →
+pub record_unseen : (hidden : ℕ) (fs : List TemplateField) (more : List Lexeme) (ps : List Placed) → one_and_each (map is_template_field fs) ≡ true → (BeginsField ps → ⊥) →
     CouldBe hidden ps ((by_commas (map template_field_lexemes fs) ++ symbol RightBrace ∷ []) ++ more) →
     (n : String Global) × (length ps ≤ hidden) × CouldBe hidden ps (by_commas (map template_lexemes (v.Name n ∷ [])) ++ symbol RightBrace ∷ [])
 record_unseen hidden [] more ps right other could = absurd (false≢true right)
@@ -172,7 +172,7 @@ pub name_right : (n : String Global) → one_and_each (map is_template (v.Name n
 name_right n = ap (λ b. b && true) (grammar.template_name n)
 
 -- where a list could come next, and a name and `:=` do, all is hidden but the name
-pub list_unseen : (hidden : ℕ) (xs : List Template) (more : List Lexeme) (ps : List Placed) → IsField ps →
+pub list_unseen : (hidden : ℕ) (xs : List Template) (more : List Lexeme) (ps : List Placed) → BeginsField ps →
     CouldBe hidden ps ((by_commas (map template_lexemes xs) ++ symbol RightBrace ∷ []) ++ more) → length ps ≤ hidden
 list_unseen hidden xs more ps (is, assign) could =
     let n = named_first ps is in

@@ -16,7 +16,7 @@ use Rattle.tp_syntax.specs.Sequences.{by_commas, more_by_commas}
 use Rattle.tp_syntax.specs.Values.{int_lexemes, value_lexemes, value_field_lexemes}
 use Rattle.tp_syntax.specs.Grammar.{each, one_and_each, is_64_bit, is_value, is_value_field}
 use Rattle.tp_syntax.specs.HiddenTokens.{AllHidden, CouldBe}
-use Rattle.tp_syntax.specs.Reading.{IsField}
+use Rattle.tp_syntax.specs.Reading.{BeginsField}
 use Rattle.std.proofs.lemmas.List.{length-map}
 use Rattle.tp_syntax.proofs.GrammarEquations as grammar
 use Rattle.tp_syntax.proofs.ValueTokens as tokens
@@ -129,7 +129,7 @@ list_some hidden [] more ps right other could =
     (v.Int (pos 0) ∷ [], ap (λ b. b && true) zero_right, hidden_could (absent_seen hidden ps (symbol RightBrace) more refl could other))
 list_some hidden (x ∷ xs) more ps right other could = (x ∷ xs, right, unbraced_seen hidden ps (by_commas (map value_lexemes (x ∷ xs))) more (symbol RightBrace) could)
 
-record_front : (hidden : ℕ) (f : ValueField) (us : List Lexeme) (ps : List Placed) → (IsField ps → ⊥) → CouldBe hidden ps (value_field_lexemes f ++ us) →
+record_front : (hidden : ℕ) (f : ValueField) (us : List Lexeme) (ps : List Placed) → (BeginsField ps → ⊥) → CouldBe hidden ps (value_field_lexemes f ++ us) →
     (length ps ≤ hidden) × CouldBe hidden ps (by_commas (map value_lexemes (v.Name (out-ValueField f).name ∷ [])) ++ symbol RightBrace ∷ [])
 record_front hidden f us [] other could =
     let h = none_could hidden [] _ refl could (λ e. let k = sym (value_field_opens f us) ∙ e in cc k) in
@@ -151,7 +151,7 @@ record_front hidden f us (p ∷ ps) other could =
     ]
 
 -- where a record could come next, and no name and `:=` do, all is hidden but a name, which could be a list's
-pub record_unseen : (hidden : ℕ) (fs : List ValueField) (more : List Lexeme) (ps : List Placed) → one_and_each (map is_value_field fs) ≡ true → (IsField ps → ⊥) →
+pub record_unseen : (hidden : ℕ) (fs : List ValueField) (more : List Lexeme) (ps : List Placed) → one_and_each (map is_value_field fs) ≡ true → (BeginsField ps → ⊥) →
     CouldBe hidden ps ((by_commas (map value_field_lexemes fs) ++ symbol RightBrace ∷ []) ++ more) →
     (n : String Global) × (length ps ≤ hidden) × CouldBe hidden ps (by_commas (map value_lexemes (v.Name n ∷ [])) ++ symbol RightBrace ∷ [])
 record_unseen hidden [] more ps right other could = absurd (false≢true right)
@@ -166,7 +166,7 @@ pub name_right : (n : String Global) → one_and_each (map is_value (v.Name n �
 name_right n = ap (λ b. b && true) (grammar.value_name n)
 
 -- where a list could come next, and a name and `:=` do, all is hidden but the name
-pub list_unseen : (hidden : ℕ) (xs : List Value) (more : List Lexeme) (ps : List Placed) → IsField ps →
+pub list_unseen : (hidden : ℕ) (xs : List Value) (more : List Lexeme) (ps : List Placed) → BeginsField ps →
     CouldBe hidden ps ((by_commas (map value_lexemes xs) ++ symbol RightBrace ∷ []) ++ more) → length ps ≤ hidden
 list_unseen hidden xs more ps (is, assign) could =
     let n = named_first ps is in

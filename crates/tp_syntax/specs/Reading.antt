@@ -129,5 +129,5 @@ IsRange ps =
     ⊎ ((is_number_in (token_at ps 0) ≡ true) × (token_at ps 1 ≡ Some (symbol DotDot))))
 
 -- a field begins with these tokens: a name and `:=`
-abbrev pub IsField : List Placed → Type 0
-IsField ps = (is_name_in (token_at ps 0) ≡ true) × (token_at ps 1 ≡ Some (symbol Assign))
+abbrev pub BeginsField : List Placed → Type 0
+BeginsField ps = (is_name_in (token_at ps 0) ≡ true) × (token_at ps 1 ≡ Some (symbol Assign))

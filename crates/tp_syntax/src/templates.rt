@@ -9,7 +9,7 @@ ghost use Rattle.tp_syntax.specs.Passing.{Passes};
 ghost use Rattle.tp_syntax.specs.Sequences.{by_commas, parenthesised};
 ghost use Rattle.tp_syntax.specs.Templates.{low_lexemes, high_lexemes, template_lexemes, template_field_lexemes, message_template_lexemes};
 ghost use Rattle.tp_syntax.specs.Grammar.{each, is_bound, is_plain, is_template, is_template_field, one_and_each};
-ghost use Rattle.tp_syntax.specs.Reading.{Stops, IsRange, IsField};
+ghost use Rattle.tp_syntax.specs.Reading.{Stops, IsRange, BeginsField};
 ghost use Rattle.tp_syntax.specs.Stuck.{IsStuckAt, IsStuckBehind, integer_stands, leads_on, GoesBeyond};
 
 use crate::cursor::Parser;
@@ -323,7 +323,7 @@ impl<'a, 't> Parser<'a, 't> {
             Stops more →
             Reads hidden self.old (by_commas (map template_field_lexemes xs)) more result
             self.new }
-        ensures beyond { IsField self.old.rest.now → GoesBeyond 2 self.old result self.new }
+        ensures beyond { BeginsField self.old.rest.now → GoesBeyond 2 self.old result self.new }
         ensures stuck { IfErr result (IsStuckAt self.new) }
     {
         let mut fields = Vec::new(alloc);
@@ -347,7 +347,7 @@ impl<'a, 't> Parser<'a, 't> {
         ensures reads { (hidden : ℕ) (x : TemplateField) (more : List Lexeme) →
             IsTrue (is_template_field x) →
             Reads hidden self.old (template_field_lexemes x) more result self.new }
-        ensures beyond { IsField self.old.rest.now → GoesBeyond 2 self.old result self.new }
+        ensures beyond { BeginsField self.old.rest.now → GoesBeyond 2 self.old result self.new }
         ensures stuck { IfErr result (IsStuckAt self.new) }
     {
         let name = self.name(alloc)?;

@@ -8,7 +8,7 @@ ghost use Rattle.tp_syntax.specs.Passing.{Passes};
 ghost use Rattle.tp_syntax.specs.Sequences.{by_commas};
 ghost use Rattle.tp_syntax.specs.Values.{int_lexemes, type_lexemes, value_lexemes, value_field_lexemes, message_lexemes};
 ghost use Rattle.tp_syntax.specs.Grammar.{each, is_64_bit, is_value, is_value_field, one_and_each};
-ghost use Rattle.tp_syntax.specs.Reading.{Stops, IsField};
+ghost use Rattle.tp_syntax.specs.Reading.{Stops, BeginsField};
 ghost use Rattle.tp_syntax.specs.Stuck.{IsStuckAt, IsStuckBehind, IsWrongBehind, integer_stands, number_stands, GoesBeyond};
 
 use crate::cursor::Parser;
@@ -244,7 +244,7 @@ impl<'a, 't> Parser<'a, 't> {
             Stops more →
             Reads hidden self.old (by_commas (map value_field_lexemes xs)) more result
             self.new }
-        ensures beyond { IsField self.old.rest.now → GoesBeyond 2 self.old result self.new }
+        ensures beyond { BeginsField self.old.rest.now → GoesBeyond 2 self.old result self.new }
         ensures stuck { IfErr result (IsStuckAt self.new) }
     {
         let mut fields = Vec::new(alloc);
@@ -268,7 +268,7 @@ impl<'a, 't> Parser<'a, 't> {
         ensures reads { (hidden : ℕ) (x : ValueField) (more : List Lexeme) →
             IsTrue (is_value_field x) →
             Reads hidden self.old (value_field_lexemes x) more result self.new }
-        ensures beyond { IsField self.old.rest.now → GoesBeyond 2 self.old result self.new }
+        ensures beyond { BeginsField self.old.rest.now → GoesBeyond 2 self.old result self.new }
         ensures stuck { IfErr result (IsStuckAt self.new) }
     {
         let name = self.name(alloc)?;

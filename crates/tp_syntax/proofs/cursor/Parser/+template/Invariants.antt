@@ -5,7 +5,7 @@ use Rattle.tp_syntax.specs.Sequences.{by_commas}
 use Rattle.tp_syntax.specs.Templates.{template_lexemes, template_field_lexemes}
 use Rattle.tp_syntax.specs.Grammar.{one_and_each, is_template, is_template_field}
 use Rattle.tp_token.specs.Lexeme.{Lexeme}
-use Rattle.tp_syntax.specs.Reading.{IsField, Stops}
+use Rattle.tp_syntax.specs.Reading.{BeginsField, Stops}
 use Rattle.tp_syntax.specs.HiddenTokens.{CouldBe}
 use Rattle.tp_syntax.proofs.PartsLeftSeen.{RemainSeen}
 use Rattle.tp_tree.specs.declared.message.Template.{Template}
@@ -55,7 +55,7 @@ invariant-template_fields-more l = record {
   some : 0 < length l.fields.items;
   seen : (hidden : ℕ) (xs : List TemplateField) (more : List Lexeme) → one_and_each (map is_template_field xs) ≡ true → Stops more
       → CouldBe hidden l.fn.self.rest.now (by_commas (map template_field_lexemes xs) ++ more) → RemainSeen template_field_lexemes (λ x. is_template_field x ≡ true) hidden more l.self.rest.now;
-  beyond : IsField l.fn.self.rest.now → 2 + length l.self.rest.now ≤ length l.fn.self.rest.now;
+  beyond : BeginsField l.fn.self.rest.now → 2 + length l.self.rest.now ≤ length l.fn.self.rest.now;
   shorter : length l.self.rest.now < length l.fn.self.rest.now;
   forward : GoesForward l.fn.self l.self;
 }

@@ -5,7 +5,7 @@ use Rattle.tp_syntax.specs.Sequences.{by_commas}
 use Rattle.tp_syntax.specs.Values.{value_lexemes, value_field_lexemes}
 use Rattle.tp_syntax.specs.Grammar.{one_and_each, is_value, is_value_field}
 use Rattle.tp_token.specs.Lexeme.{Lexeme}
-use Rattle.tp_syntax.specs.Reading.{IsField, Stops}
+use Rattle.tp_syntax.specs.Reading.{BeginsField, Stops}
 use Rattle.tp_syntax.specs.HiddenTokens.{CouldBe}
 use Rattle.tp_syntax.proofs.PartsLeftSeen.{RemainSeen}
 use Rattle.tp_tree.specs.declared.message.Value.{Value}
@@ -49,7 +49,7 @@ invariant-value_fields-more l = record {
   some : 0 < length l.fields.items;
   seen : (hidden : ℕ) (xs : List ValueField) (more : List Lexeme) → one_and_each (map is_value_field xs) ≡ true → Stops more
       → CouldBe hidden l.fn.self.rest.now (by_commas (map value_field_lexemes xs) ++ more) → RemainSeen value_field_lexemes (λ x. is_value_field x ≡ true) hidden more l.self.rest.now;
-  beyond : IsField l.fn.self.rest.now → 2 + length l.self.rest.now ≤ length l.fn.self.rest.now;
+  beyond : BeginsField l.fn.self.rest.now → 2 + length l.self.rest.now ≤ length l.fn.self.rest.now;
   shorter : length l.self.rest.now < length l.fn.self.rest.now;
   forward : GoesForward l.fn.self l.self;
 }
