@@ -3,21 +3,17 @@ that the script may have.
 
     explored.py each TPR ORDERED SCRIPT..
     explored.py random TPR ORDERED SEED NUMBER
-    explored.py told SCRIPT ANSWER
 
 `each` looks at what is shown of each script: each verdict has a report with this result, which the judge of
-tests/orders allows, and where two runs part is told. It prints a line `passed VERDICTS SCRIPT` for each script. `random`
-does so with scripts made by chance that have few components, and with orders of their steps by chance: each is forced,
-and comes to the report that the model of runs has. A hundredth of them must have several verdicts. `told` reads what
-`tools/explore SCRIPT --json` printed: its answer is ANSWER, its verdicts are those of SCRIPT's expected files, and its
-reports are among these.
+tests/orders allows, and where two runs part is told. It prints a line `passed VERDICTS SCRIPT` for each script.
+`random` does so with scripts made by chance that have few components, and with orders of their steps by chance: each is
+forced, and comes to the report that the model of runs has. A hundredth of them must have several verdicts.
 
 It prints lines that begin with `FAILED: ` where something doesn't hold.
 """
 from __future__ import annotations
 
 import argparse
-import json
 import os
 import random
 import sys
@@ -25,7 +21,7 @@ import tempfile
 from concurrent.futures import ProcessPoolExecutor
 from functools import partial
 from pathlib import Path
-from typing import Any, Callable, NamedTuple, Optional
+from typing import Callable, NamedTuple, Optional
 
 sys.dont_write_bytecode = True
 ROOT = Path(__file__).resolve().parents[2]
@@ -33,7 +29,6 @@ sys.path[:0] = [str(ROOT / it) for it in ("tools", "tests/orders")]
 
 from generator import some_script
 from judge import is_allowed
-from judged import expected_beside
 from tpr_tools.explore.answers import Answer
 from tpr_tools.explore.asking import verdicts_by
 from tpr_tools.explore.exploration import Exploration
@@ -180,34 +175,6 @@ def by_chance(programs: Programs, seed: str, number: int) -> None:
     print(f"{word} {several} of {number} scripts by chance have several verdicts")
 
 
-# What is told of a script
-
-
-def wrongly_told(told: dict[str, Any], expected: set[str]) -> Optional[str]:
-    """What of an answer isn't so, or None."""
-    if not {it["report"] for it in told["runs"]} <= expected:
-        return "a report isn't one of the expected"
-    if set(told["verdicts"]) != {it.split()[-1] for it in expected}:
-        return "the verdicts aren't those of the expected reports"
-    if [it["verdict"] for it in told["runs"]] != told["verdicts"]:
-        return "not each verdict has a run"
-    if any(it["report"].split()[-1] != it["verdict"] for it in told["runs"]):
-        return "a report hasn't the verdict that is told"
-    if len(told["partings"]) != len(told["verdicts"]) - 1 or any(it["where"] is None for it in told["partings"]):
-        return "a parting is missing"
-    return None if told["decided"] and not told["faults"] else "it isn't decided, or has faults"
-
-
-def told_rightly(path: str, answer: str) -> int:
-    told = json.load(sys.stdin)
-    wrong = wrongly_told(told, expected_beside(path))
-    if told["answer"] != answer:
-        wrong = f"the answer is {told['answer']}"
-    if wrong is not None:
-        print(wrong)
-    return 0 if wrong is None else 1
-
-
 def arguments() -> argparse.Namespace:
     words = argparse.ArgumentParser(description="Whether tools/explore shows runs of the verdicts that there are.")
     kinds = words.add_subparsers(dest="what", required=True)
@@ -220,16 +187,11 @@ def arguments() -> argparse.Namespace:
             kind.add_argument("number", metavar="NUMBER", type=int)
         else:
             kind.add_argument("scripts", metavar="SCRIPT", nargs="+", type=Path)
-    kind = kinds.add_parser("told")
-    kind.add_argument("script", metavar="SCRIPT")
-    kind.add_argument("answer", metavar="ANSWER")
     return words.parse_args()
 
 
 def main() -> int:
     asked = arguments()
-    if asked.what == "told":
-        return told_rightly(asked.script, asked.answer)
     programs = Programs(asked.tpr, asked.ordered)
     if asked.what == "random":
         by_chance(programs, asked.seed, asked.number)

@@ -22,7 +22,7 @@ FOLDERS = {
     "tools": (),
     "tests/checking": (),
     "tests/documents": (),
-    "tests/exploring": ("orders",),
+    "tests/exploring": ("orders", "program", "tools"),
     "tests/forced": ("program",),
     "tests/gate": ("checking", "program"),
     "tests/orders": (),
@@ -31,7 +31,7 @@ FOLDERS = {
     "tests/rewrites/chance": ("orders",),
     "tests/runs": ("program", "orders", "traces"),
     "tests/runs/many_components": ("orders",),
-    "tests/tools": ("orders", "gate"),
+    "tests/tools": ("orders", "gate", "program"),
     "tests/traces": ("orders",),
     "tests/verdicts": ("orders",),
 }

@@ -1,0 +1,238 @@
+#!/usr/bin/env python3
+"""What tools/explore says of scripts, of orders that are forced, and with other programs (other_programs.py).
+
+    tests/exploring/explore_cases.py TPR ORDERED
+
+It prints a line `passed NAME` for each case, or lines that begin with `FAILED: NAME`.
+"""
+from __future__ import annotations
+
+import argparse
+import json
+import re
+import sys
+import tempfile
+import xml.etree.ElementTree as xml
+from collections.abc import Iterator
+from dataclasses import replace
+from pathlib import Path
+from typing import Any, Optional
+
+sys.dont_write_bytecode = True
+ROOT = Path(__file__).resolve().parents[2]
+sys.path[:0] = [str(ROOT / "tests" / it) for it in ("orders", "program", "tools")]
+
+import example_files
+import other_programs
+from explore_runs import OVERTAKEN, PING_PONG, TELLS_PARTING, Exploring, begins_with, has_in_order, prints_file
+from judged import expected_beside
+from made_scripts import senders, stars
+from rule_cases import must
+from tool_runs import (
+    Case,
+    Ended,
+    Test,
+    Tool,
+    file_of,
+    judged,
+    prints,
+    prints_nothing,
+    run,
+    says_alone,
+    says_nothing,
+    tell,
+)
+
+# The first script of each pair has a verdict that hangs on the schedule, and the second is its repaired twin.
+PAIRS = (
+    ("broadcast_is_overtaken_by_an_answer", "broadcast_has_a_port_of_its_own"),
+    ("shutdown_overtakes_the_last_answer", "shutdown_waits_for_the_last_answer"),
+    ("else_is_taken_for_a_timeout", "answer_is_waited_for_without_else"),
+    ("lock_is_refused_to_the_second", "lock_is_granted_once_it_is_free"),
+    ("halt_comes_beside_an_order", "halt_waits_for_the_order"),
+    ("clear_may_discard_the_answer", "clear_comes_before_the_question"),
+    ("first_answer_is_taken_for_the_nearest", "each_answer_has_a_port_of_its_own"),
+    ("news_come_before_the_subscription", "news_wait_for_the_subscription"),
+    ("trigger_may_discard_the_result", "trigger_looks_at_a_port_of_its_own"),
+    ("start_may_discard_an_early_order", "start_is_told_to_the_guest"),
+    ("last_writer_is_not_known", "second_writer_waits_for_the_first"),
+    ("relayed_message_is_overtaken", "relayed_message_is_confirmed"),
+)
+BETWEEN_TWO_LOOKS = "tests/exploring/acts/message_comes_between_two_looks.ttcn"
+REFUSED = "tests/golden/refused_scripts/script_cut_inside_an_alt"
+COMES_TO = "A run that comes to "
+
+
+# Mistakes and their repairs
+
+
+def pairs(asked: Exploring) -> Iterator[Case]:
+    for faulty, repaired in PAIRS:
+        yield told_of_example(asked.tool, faulty, 1, "pass or fail")
+        yield told_of_example(asked.tool, repaired, 0, "always pass")
+
+
+def told_of_example(tool: Tool, name: str, status: int, answer: str) -> Case:
+    script = str(example_files.example(f"{name}.ttcn"))
+    return tool.case(f"what is said of {name}", [script, "--json"], status, says_nothing, tells(answer, script))
+
+
+def tells(answer: str, script: str) -> Test:
+    """It has this answer, and its reports are those that the script may have."""
+
+    def holds(ended: Ended) -> bool:
+        told = json.loads(ended.printed)
+        must(told["answer"] == answer, f"the answer is {told['answer']}")
+        wrong = wrongly_told(told, expected_beside(script))
+        must(wrong is None, f"{wrong}")
+        return True
+
+    return holds
+
+
+def wrongly_told(told: dict[str, Any], expected: set[str]) -> Optional[str]:
+    """What of an answer isn't so, or None."""
+    if not {it["report"] for it in told["runs"]} <= expected:
+        return "a report isn't one of the expected"
+    if set(told["verdicts"]) != {it.split()[-1] for it in expected}:
+        return "the verdicts aren't those of the expected reports"
+    if [it["verdict"] for it in told["runs"]] != told["verdicts"]:
+        return "not each verdict has a run"
+    if any(it["report"].split()[-1] != it["verdict"] for it in told["runs"]):
+        return "a report hasn't the verdict that is told"
+    if len(told["partings"]) != len(told["verdicts"]) - 1 or any(it["where"] is None for it in told["partings"]):
+        return "a parting is missing"
+    return None if told["decided"] and not told["faults"] else "it isn't decided, or has faults"
+
+
+# What parts runs, and orders that are run again
+
+
+def one_script(asked: Exploring) -> Iterator[Case]:
+    """What its text says, and the document; and the order of a run that is told, run again."""
+    ended = asked.tool.run(f"{OVERTAKEN}.ttcn")
+    yield judged("where two runs part", ended, 1, TELLS_PARTING)
+    yield judged("what docs/EXPLORING.md shows", ended, 1, says_nothing, is_shown)
+    _, again, report = re.split(f"^{COMES_TO}fail; again: (.*)\n", ended.printed, flags=re.M)
+    lines = [line.removeprefix("  ") for line in report.splitlines(keepends=True) if line.startswith("  ")]
+    must(lines, "there is a report of the run that comes to fail")
+    run_again = run(["bash", "-c", again], variables={"TPR_ORDERED": asked.ordered})
+    yield judged("the order of a run that is told", run_again, 0, prints("".join(lines)))
+    yield asked.tool.full_device("an answer that can't be written", f"{OVERTAKEN}.ttcn")
+
+
+def is_shown(ended: Ended) -> bool:
+    """The parts above the first report stand in the document, which leaves out what each component came to."""
+    head = ended.printed[: ended.printed.index(f"\n{COMES_TO}")].rstrip("\n")
+    parts = re.sub("^(?=.)", "    ", head, flags=re.M).split("\n\n")
+    shown = (ROOT / "docs" / "EXPLORING.md").read_text(encoding="utf-8").split("\n\n")
+    return len(parts) > 2 and all(any(part in it for it in shown) for part in parts)
+
+
+def orders(asked: Exploring) -> Iterator[Case]:
+    """Orders that are given, right and wrong."""
+    file, script = asked.room / "order", f"{OVERTAKEN}.ttcn"
+    unnamed = f"explore: {file}, line 1: no component is named"
+    between = ("component mtc", "dropped p a 0 integer:1", "took q a 0 integer:2", "else", "set pass")
+    for name, order, asked_of, status, test in (
+        ("an order that is run again", "mtc a a mtc b b b", script, 0, prints_file(f"{OVERTAKEN}.expected.1")),
+        ("the other order", "mtc mtc a a b b b", script, 0, prints_file(f"{OVERTAKEN}.expected.2")),
+        ("an order that names nobody", "mtc nobody", script, 2, says_alone(unnamed)),
+        # A send tries no branch: the gate gives up at once, and not after its ten million turns.
+        ("an order that can't be held", "mtc mtc+ a", script, 4, prints("not held\n")),
+        (
+            "an order with a message between two looks",
+            "a mtc a mtc+ mtc+ mtc mtc",
+            BETWEEN_TWO_LOOKS,
+            0,
+            begins_with(*between),
+        ),
+        ("an order with two signs behind a name", "a mtc++", BETWEEN_TWO_LOOKS, 2, says_alone(f"{unnamed} 'mtc++'")),
+    ):
+        file_of(file, f"{order}\n")
+        yield asked.tool.case(name, [asked_of, "--order", file], status, test)
+
+
+# Other scripts
+
+
+def other_scripts(asked: Exploring) -> Iterator[Case]:
+    """Larger ones, and those in which others act between two discards or two looks."""
+    case, room = asked.tool.case, asked.room
+    same, different = file_of(room / "same.ttcn", senders(10, "1")), file_of(room / "different.ttcn", senders(4, "@"))
+    yield case("ten senders that can't be told apart", [same], 0, begins_with("always pass"))
+    yield case("four senders of different numbers", [different], 0, begins_with("always pass"))
+    discards = "tests/golden/receiving/trigger_in_an_alt_comes_before_else.ttcn"
+    always_inconc = begins_with("always inconc")
+    yield case("an alt between the discards of which others may act", [discards], 0, always_inconc)
+    # Both messages are of one sender, in one order: it is the look that comes before or behind the second.
+    parting = has_in_order(
+        "  line 17: mtc discarded integer:1 from a at port p, sent at line 7;",
+        "    in the other run, at line 16, it took integer:2 from a at port q, sent at line 8",
+        "  nothing makes line 16 wait for line 8, nor line 8 for line 16",
+    )
+    hangs = "a verdict that hangs on what comes between two looks"
+    yield case(hangs, [BETWEEN_TWO_LOOKS], 1, begins_with("pass or fail"), parting)
+    many, soon = file_of(room / "stars.ttcn", stars(20, 400)), replace(asked.tool, most_seconds=60)
+    yield soon.case("templates of 20 stars, and long values", [many], 0, begins_with("always pass"))
+    waiting = "tests/orders/messages/all_wait_for_each_other.ttcn"
+    yield case("components that wait for good", [waiting], 0, says_nothing, waits_for_good)
+
+
+def waits_for_good(ended: Ended) -> bool:
+    return re.search("^error: .* none, which waits for good", ended.printed, re.M) is not None
+
+
+def refusals(asked: Exploring) -> Iterator[Case]:
+    """Scripts and calls that are refused."""
+    case, nowhere = asked.tool.case, asked.room / "nowhere.ttcn"
+    yield case("a script that is refused", [f"{REFUSED}.ttcn"], 2, prints_file(f"{REFUSED}.expected"))
+    yield case("a script that isn't there", [nowhere], 2, says_alone(f"explore: {nowhere} can't be read"))
+    yield case("no script", [], 4, prints_nothing)
+    yield case("an option that is gone", [PING_PONG, "--runs", "5"], 4, prints_nothing)
+
+
+# Suites
+
+
+def suites(asked: Exploring) -> Iterator[Case]:
+    """What tools/suite writes of each case where it is asked."""
+    names = ("clear_may_discard_the_answer", "clear_comes_before_the_question")
+    scripts, file = [f"examples/{it}.ttcn" for it in names], asked.room / "explored.xml"
+    suite = asked.asking(asked.tpr, asked.ordered, "suite")
+    ended = suite.run(*scripts, "--explore", "--want", "none,pass,fail", "--junit", file)
+    answers = [(names[0], "pass or fail"), (names[1], "always pass")]
+    yield judged("a suite that explores", ended, 0, lambda _: explored_in(file) == answers)
+    yield suite.case("a suite that explores and writes no XML", [scripts[1], "--explore"], 4, prints_nothing)
+
+
+def explored_in(file: Path) -> list[tuple[Optional[str], Optional[str]]]:
+    """The name of each case with what was explored of it."""
+    cases = xml.parse(file).iter("testcase")
+    found = [(it.get("name"), it.find("properties/property[@name='explored']")) for it in cases]
+    return [(name, explored.get("value")) for name, explored in found if explored is not None]
+
+
+# Each group, with how many cases it has at least.
+GROUPS = (
+    (pairs, 24),
+    (one_script, 4),
+    (orders, 6),
+    (other_scripts, 6),
+    (refusals, 4),
+    (suites, 2),
+    *other_programs.GROUPS,
+)
+
+
+def main() -> int:
+    words = argparse.ArgumentParser(description="What tools/explore says of scripts and of orders.")
+    words.add_argument("tpr", metavar="TPR", help="the program that answers")
+    words.add_argument("ordered", metavar="ORDERED", help="the one that forces orders")
+    asked = words.parse_args()
+    with tempfile.TemporaryDirectory() as room:
+        return tell(GROUPS, Exploring(asked.tpr, asked.ordered, Path(room)))
+
+
+if __name__ == "__main__":
+    sys.exit(main())

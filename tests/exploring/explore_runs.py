@@ -1,0 +1,58 @@
+"""Runs of tools/explore, with any programs, and what it prints of them."""
+from __future__ import annotations
+
+from itertools import takewhile
+from pathlib import Path
+
+from tool_runs import ROOT, Ended, Test, Tool, prints, says_nothing
+
+OVERTAKEN = "examples/broadcast_is_overtaken_by_an_answer"
+PING_PONG = "examples/ping_pong.ttcn"
+
+
+class Exploring:
+    """The programs that the tool asks, and a folder for files."""
+
+    def __init__(self, tpr: str, ordered: str, room: Path):
+        self.tpr, self.ordered, self.room = tpr, ordered, room
+        self.nowhere = str(room / "nowhere")
+        self.tool = self.asking(tpr, ordered)
+
+    def asking(self, tpr: str, ordered: str, name: str = "explore") -> Tool:
+        """The tool with these programs: the one that answers, and the one that forces orders."""
+        return Tool(name, variables={"TPR": tpr, "TPR_ORDERED": ordered})
+
+
+def begins_with(*lines: str) -> Test:
+    """The first lines are these, and it says nothing."""
+    return lambda ended: tuple(ended.printed.split("\n")[: len(lines)]) == lines and says_nothing(ended)
+
+
+def prints_file(file: str) -> Test:
+    return prints((ROOT / file).read_bytes().decode("utf-8"))
+
+
+def has_in_order(*lines: str) -> Test:
+    """Of its lines those that are one of these are these, and it says nothing."""
+    return lambda ended: tuple(it for it in ended.printed.split("\n") if it in lines) == lines and says_nothing(ended)
+
+
+def tells_faults(*lines: str) -> Test:
+    """Behind the first two lines stand these, nothing parts the runs, and it says nothing."""
+    return lambda ended: faults_of(ended) == lines and not parts_runs(ended) and says_nothing(ended)
+
+
+def faults_of(ended: Ended) -> tuple[str, ...]:
+    return tuple(takewhile(bool, ended.printed.split("\n")[2:]))
+
+
+def parts_runs(ended: Ended) -> bool:
+    return "\nWhat parts " in f"\n{ended.printed}"
+
+
+# What stands between the two runs of OVERTAKEN, in the words of the script.
+TELLS_PARTING = has_in_order(
+    '  line 13: b took charstring:"begin" from mtc at port line, sent at line 32;',
+    '    in the other run, at line 17, it took charstring:"hello" from a at port line, sent at line 8',
+    "  nothing makes line 32 wait for line 8, nor line 8 for line 32",
+)

@@ -1,0 +1,218 @@
+"""What tools/explore says where one of its programs isn't there, says something else, or is interrupted."""
+from __future__ import annotations
+
+import json
+import os
+import shlex
+import signal
+import subprocess
+import time
+from collections.abc import Iterator, Mapping
+from pathlib import Path
+from typing import Optional
+
+from explore_runs import (
+    OVERTAKEN,
+    PING_PONG,
+    TELLS_PARTING,
+    Exploring,
+    begins_with,
+    has_in_order,
+    parts_runs,
+    tells_faults,
+)
+from rule_cases import must
+from tool_runs import (
+    ROOT,
+    Case,
+    Ended,
+    judged,
+    prints,
+    prints_nothing,
+    program_of,
+    run,
+    says_alone,
+    says_nothing,
+    text_of,
+)
+
+MOST_SECONDS = 60
+TAKES_SIGNALS = ("env", "--default-signal=HUP,INT,PIPE,TERM")  # before a command, so that it ignores none of them
+WANTS = "they want tpr_ordered, "
+FAULT = "a fault of tpr or of its tools:"
+TO_PASS, TO_FAIL = "mtc a mtc a b b b", "mtc a a mtc b b b"  # orders of OVERTAKEN
+
+
+# Other answers
+
+
+def answer_of(asked: Exploring, status: int, text: str, script: str) -> Ended:
+    """What is said where `tpr verdicts` prints this, and ends so."""
+    program = program_of(asked.room / "answer", f"printf %s {shlex.quote(text)}", f"exit {status}")
+    return asked.asking(program, asked.ordered).run(script)
+
+
+def undecided_answers(asked: Exploring) -> Iterator[Case]:
+    """Above the limit of states, and without memory."""
+    script, undecided = f"{OVERTAKEN}.ttcn", "undecided, seen pass"
+    one = answer_of(asked, 3, f"undecided\nseen pass\nstates 9\npass: {TO_PASS}\n", script)
+    yield judged("where one verdict is seen", one, 4, begins_with(undecided, "states 9"), runs_to_pass)
+    two = answer_of(asked, 3, f"undecided\nseen pass fail\nstates 9\npass: {TO_PASS}\nfail: {TO_FAIL}\n", script)
+    yield judged("where two are seen", two, 1, begins_with(f"{undecided} or fail", "states 9"))
+    nothing, fault = "undecided\nstates 0\n", "fault 50 Memory\n"
+    yield judged("where nothing is seen", answer_of(asked, 3, nothing, script), 4, prints(nothing))
+    yield judged("where memory is refused", answer_of(asked, 3, fault, script), 3, prints(fault))
+
+
+def runs_to_pass(ended: Ended) -> bool:
+    return "\nA run that comes to pass; again: " in ended.printed and not parts_runs(ended)
+
+
+def orders_that_are_wrong(asked: Exploring) -> Iterator[Case]:
+    """By the order of a verdict the model of runs comes to another, or to none."""
+    fault = f"{FAULT} by its order the model of runs comes to"
+    for name, orders, faults in (
+        ("comes to another verdict", (TO_FAIL, TO_PASS), (f"pass: {fault} fail", f"fail: {fault} pass")),
+        (
+            "comes to no end",
+            (TO_PASS, "mtc a a mtc b b"),
+            (f"fail: {fault} no end: b has a step behind the order",),
+        ),
+        (
+            "has a step that can't be",
+            (TO_PASS, "mtc b a mtc b b b"),
+            (f"fail: {fault} no end: b, name 2 of the order, has no step there",),
+        ),
+    ):
+        text = "pass or fail\nstates 9\npass: {}\nfail: {}\n".format(*orders)
+        yield judged(f"an order that {name}", answer_of(asked, 2, text, f"{OVERTAKEN}.ttcn"), 1, tells_faults(*faults))
+
+
+def answers_that_are_none(asked: Exploring) -> Iterator[Case]:
+    for name, status, text, said in (
+        ("an answer that is none", 0, "always pass\n", "verdicts ended with status 0: always pass"),
+        ("another status", 2, "always pass\nstates 9\n", "verdicts ended with status 2: always pass states 9"),
+        ("a program without the mode", 4, "", "verdicts ended with status 4: "),
+        ("a program that can't be built", 1, "", "can't be built"),
+    ):
+        ended = answer_of(asked, status, text, PING_PONG)
+        yield judged(name, ended, 1, says_alone(f"explore: {asked.room / 'answer'} {said}"))
+    nothing = says_alone(f"explore: {asked.nowhere} can't be run: No such file or directory")
+    yield asked.asking(asked.nowhere, asked.ordered).case("no program", [PING_PONG], 1, nothing)
+
+
+# No program, or another one, that forces orders
+
+
+def without_reports(asked: Exploring) -> Iterator[Case]:
+    """Reports are left out where nothing runs orders, and said to be."""
+    script, tool = f"{OVERTAKEN}.ttcn", asked.asking(asked.tpr, asked.nowhere)
+    ended = tool.run(script)
+    yield judged("where two runs part, without reports", ended, 1, TELLS_PARTING)
+    yield judged("the orders and why there are no reports", ended, 1, prints_orders)
+    yield tool.case("the same as an object", [script, "--json"], 1, says_nothing, lacks_reports)
+    answer = run([asked.tpr, "verdicts", PING_PONG])
+    must(answer.printed, "there is an answer to compare with")
+    yield tool.case("one verdict alone, without a report", [PING_PONG], 0, prints(answer.printed))
+    no_program = says_alone(f"explore: there is no program {asked.nowhere}")
+    yield tool.case("orders, and nothing to run them", [script, "--order", "/dev/null"], 1, no_program)
+
+
+def prints_orders(ended: Ended) -> bool:
+    """What `tpr verdicts` prints stands above what parts the runs, with an empty line behind the states."""
+    told, _, behind = ended.printed.partition("\nWhat parts ")
+    wanted = (ROOT / f"{OVERTAKEN}.verdicts").read_text(encoding="utf-8")
+    lines = told.split("\n")
+    return lines[2:3] == [""] and "\n".join(lines[:2] + lines[3:]) == wanted and f"\nNo reports: {WANTS}" in behind
+
+
+def lacks_reports(ended: Ended) -> bool:
+    runs = json.loads(ended.printed)["runs"]
+    return len(runs) == 2 and all(it["missing"].startswith(WANTS) and it["report"] is None for it in runs)
+
+
+def forced_by(asked: Exploring, line: str) -> Ended:
+    """What is said where orders are run by a program of this line."""
+    program = program_of(asked.room / "other", line)
+    return asked.asking(asked.tpr, program).run(PING_PONG)
+
+
+def altered_by(asked: Exploring, sed: str) -> Ended:
+    return forced_by(asked, f'{shlex.quote(asked.ordered)} "$@" | sed {shlex.quote(sed)}')
+
+
+def other_reports(asked: Exploring) -> Iterator[Case]:
+    """A program that holds no order, two that come to something else, one that refuses the script."""
+    ended = forced_by(asked, 'while read -r line; do printf "order %s\\nnot held\\n\\n" "$line"; done <"$2"')
+    yield judged("a program that holds no order", ended, 0, has_in_order("no report: the order couldn't be held"))
+    ended = altered_by(asked, "s/^result pass/result fail/")
+    fault = f"pass: {FAULT} the run of its order came to"
+    yield judged("a program that comes to another verdict", ended, 1, tells_faults(f"{fault} fail"))
+    ended = altered_by(asked, "s/^took /found /")
+    other = tells_faults(f"{fault} another report than the model of runs")
+    yield judged("a program that comes to another report", ended, 1, other)
+    ended = forced_by(asked, 'printf "refused 15 Limit line 0\\n"; exit 2')
+    yield judged("a program that refuses what is run", ended, 0, begins_with("always pass"))
+
+
+def programs_that_break_off(asked: Exploring) -> Iterator[Case]:
+    for line, said in (
+        ('cat -- "$2" >/dev/null', "ended with status 0: "),
+        ("echo a file; exit 7", "ended with status 7: a file"),
+        ("kill -9 $$", "came to no end of its own: "),
+        ('printf "component mtc\\n\\n"', "ended with status 0: component mtc"),
+    ):
+        told = says_alone(f"explore: {asked.room / 'other'} {said}")
+        yield judged(f"a program of the line {line}", forced_by(asked, line), 1, told)
+
+
+# Signals
+
+
+def interrupted(asked: Exploring) -> Iterator[Case]:
+    """A signal comes while a program is asked, which is ended with the tool."""
+    number = asked.room / "number"
+    sleeps = f"echo $$ >{shlex.quote(str(number))}; exec sleep {MOST_SECONDS}"
+    sleeper = program_of(asked.room / "sleeper", sleeps)
+    holding = program_of(asked.room / "holding", f'if test -s "$2"; then {sleeps}; fi')
+    for sent in (signal.SIGINT, signal.SIGTERM):
+        ended = ended_by(sent, asked.asking(sleeper, asked.ordered).variables, number)
+        yield judged(f"tpr verdicts that is interrupted by {sent.name}", ended, 130, prints_nothing)
+        yield f"it is ended too by {sent.name}", left_at_work(number)
+        ended = ended_by(sent, asked.asking(asked.tpr, holding).variables, number)
+        yield judged(f"runs that are interrupted by {sent.name}", ended, 130, begins_with("pass or fail"))
+        why = has_in_order("No reports: it was interrupted")
+        yield judged(f"why they have no reports at {sent.name}", ended, 130, why)
+        yield f"they are ended too by {sent.name}", left_at_work(number)
+
+
+def ended_by(sent: signal.Signals, programs: Mapping[str, str], number: Path) -> Ended:
+    """How the tool ends at the signal, which comes once a program of it is asleep, and has written its number."""
+    number.unlink(missing_ok=True)
+    command = [*TAKES_SIGNALS, str(ROOT / "tools" / "explore"), f"{OVERTAKEN}.ttcn"]
+    variables, none, pipe = {**os.environ, **programs}, subprocess.DEVNULL, subprocess.PIPE
+    with subprocess.Popen(command, cwd=ROOT, env=variables, stdin=none, stdout=pipe, stderr=pipe) as process:
+        until = time.monotonic() + MOST_SECONDS
+        while not (number.exists() and number.read_text()) and time.monotonic() < until:
+            time.sleep(0.05)
+        process.send_signal(sent)
+        printed, said = process.communicate(timeout=MOST_SECONDS)
+    return Ended(process.returncode, text_of(printed), text_of(said))
+
+
+def left_at_work(number: Path) -> Optional[str]:
+    """What is wrong where the program that was asleep is still there."""
+    process = int(number.read_text())
+    return f"process {process} is still there" if Path(f"/proc/{process}").exists() else None
+
+
+# Each group, with how many cases it has at least.
+GROUPS = (
+    (undecided_answers, 4),
+    (orders_that_are_wrong, 3),
+    (answers_that_are_none, 5),
+    (without_reports, 5),
+    (other_reports, 4),
+    (programs_that_break_off, 4),
+    (interrupted, 10),
+)
