@@ -1,27 +1,17 @@
-#!/usr/bin/env python3
-"""The rules on what tools/explain says, as far as a shell can't see them.
+"""The rules on what tools/explain says of many scripts, and on its words. explain_cases.py tries them."""
+from __future__ import annotations
 
-    explain_rules.py answers JSON FOLDER      each script of the folder is told as NAME.answer has it
-    explain_rules.py columns JSON             nine of ten that are refused at a line have a column
-    explain_rules.py planted FOLDER           of refusals that aren't those of its scripts the rules are told alone
-    explain_rules.py table JSON TABLE LEAST   each script of a table is told so
-    explain_rules.py words                    the tool's words are those of the documents
-    explain_rules.py numbers                  each number has its name, in tools/, the documents and the program
-
-Each prints what is wrong and ends with status 1, or prints nothing and ends with status 0.
-"""
 import json
 import os
 import re
 import sys
-from collections.abc import Callable
 from typing import Any
 
 ROOT = os.path.dirname(os.path.dirname(os.path.dirname(os.path.realpath(__file__))))
 sys.dont_write_bytecode = True
 sys.path.insert(0, os.path.join(ROOT, "tools"))
 
-from rule_cases import must, read, try_one_of
+from rule_cases import must, read
 from tpr_tools.explain.explaining import explain, reading_of
 from tpr_tools.explain.explanation import Explanation
 from tpr_tools.refusals import SEND_FAULTS, Refusal
@@ -29,16 +19,18 @@ from tpr_tools.script.constructs import Construct
 from tpr_tools.script.refusal_rules import BEYOND_SCRIPTS, RULES_OF
 from tpr_tools.words import RESERVED, RESERVED_ELSEWHERE
 
+Told = dict[str, dict[str, Any]]  # what is told of each script, by its name without folder and ending
 
-def told_in(file: str) -> dict[str, dict[str, Any]]:
-    """What is told of each script, by its name without folder and ending."""
-    told = json.loads(read(file))
+
+def told_in(printed: str) -> Told:
+    """What `explain --json` printed."""
+    told = json.loads(printed)
     must(told, "nothing is told")
     return {os.path.basename(one["file"]).removesuffix(".ttcn"): one for one in told}
 
 
-def check_answers(file: str, folder: str) -> None:
-    told = told_in(file)
+def check_answers(told: Told, folder: str) -> None:
+    """Each script of the folder is told as NAME.answer has it."""
     names = [name.removesuffix(".answer") for name in sorted(os.listdir(folder)) if name.endswith(".answer")]
     must(len(names) == len(told), f"{len(told)} scripts are told of, and there are {len(names)}")
     for name in names:
@@ -71,7 +63,7 @@ def check_places(file: str, one: dict[str, Any]) -> None:
 
 
 def check_planted(folder: str) -> None:
-    """Each script with the numbers, names and lines of other refusals."""
+    """Of refusals that aren't those of the scripts the rules are told alone: other numbers, names and lines."""
     numbers = [it for it in RULES_OF if it is not Refusal.READ]
     names = [name.removesuffix(".answer") for name in sorted(os.listdir(folder)) if name.endswith(".answer")]
     must(len(names) >= 1000, f"there are {len(names)} texts alone")
@@ -99,18 +91,19 @@ def check_planted_one(name: str, told: Explanation, said: str, own: str) -> None
     must(f": {own}\n" in told.text(), f"{name}, {said}: {told.text()}")
 
 
-def check_columns(file: str) -> None:
-    told = [one for one in told_in(file).values() if one["answer"] == "refused" and one["line"]]
-    have = sum(one["column"] is not None for one in told)
-    must(len(told) >= 600, f"{len(told)} scripts alone are refused")
-    must(have * 10 >= len(told) * 9, f"{have} of {len(told)} have a column")
+def check_columns(told: Told) -> None:
+    """Nine of ten that are refused at a line have a column."""
+    refused = [one for one in told.values() if one["answer"] == "refused" and one["line"]]
+    have = sum(one["column"] is not None for one in refused)
+    must(len(refused) >= 600, f"{len(refused)} scripts alone are refused")
+    must(have * 10 >= len(refused) * 9, f"{have} of {len(refused)} have a column")
 
 
-def check_table(file: str, table: str, least: str) -> None:
-    """`NAME|NUMBER|LINE|WHAT STANDS AT THE COLUMN|CONSTRUCT|CLAUSE`, or `NUMBER|LINE|..|SENTENCE`."""
-    told = told_in(file)
+def check_table(told: Told, table: str, least: int) -> None:
+    """Each script of a table is told so: `NAME|NUMBER|LINE|WHAT STANDS AT THE COLUMN|CONSTRUCT|CLAUSE`, or
+    `NUMBER|LINE|..|SENTENCE`."""
     rows = [line.split("|") for line in read(table).splitlines() if not line.startswith("#")]
-    must(len(rows) >= int(least), f"{table} has {len(rows)} rows, and {least} at least are wanted")
+    must(len(rows) >= least, f"{table} has {len(rows)} rows, and {least} at least are wanted")
     for row in rows:
         name, number, line, behind = row[:4] if len(row) == 6 else [row[0], *row[:3]]
         must(name in told, f"there is no script {name}")
@@ -166,21 +159,3 @@ def check_numbers() -> None:
     must(with_rules == wanted, f"{with_rules} have rules, and all but {Refusal.WRITE} are printed")
     order = f"the first in the order {', '.join(f'{fault:d}' for fault in SEND_FAULTS)} counts"
     must(order in read(f"{ROOT}/docs/PROFILE.md"), f"docs/PROFILE.md doesn't say: {order}")
-
-
-CHECKS: dict[str, Callable[..., None]] = {
-    "answers": check_answers,
-    "planted": check_planted,
-    "columns": check_columns,
-    "table": check_table,
-    "words": check_words,
-    "numbers": check_numbers,
-}
-
-
-def main() -> None:
-    try_one_of(CHECKS, "The rules on what tools/explain says.", (ValueError, KeyError, IndexError))
-
-
-if __name__ == "__main__":
-    main()

@@ -1,4 +1,4 @@
-"""The numbers and names of all refusals and faults, once. `tests/tools/explain_rules.py numbers` compares them with
+"""The numbers and names of all refusals and faults, once. `tests/tools/explain_rules.py` compares them with
 docs/REFUSALS.md, and with the table by which the program prints them (`crates/tp_refusal`)."""
 from __future__ import annotations
 

@@ -1,0 +1,196 @@
+"""What tools/explain says of numbers, and of scripts with a fault at one place: worked out by hand."""
+from __future__ import annotations
+
+from typing import NamedTuple
+
+
+class Explained(NamedTuple):
+    """A number or a script, in few words, and what is said of it. The script's file is told as FILE."""
+
+    name: str
+    asked: str
+    told: str
+
+
+NUMBERS = (
+    Explained(
+        "a number",
+        "27",
+        """\
+27 Already
+  they aren't connected yet
+""",
+    ),
+    Explained(
+        "the end of a send",
+        "41",
+        """\
+41 NoRoute
+  the port isn't connected or mapped, or not with the component behind `to`
+""",
+    ),
+    Explained(
+        "a line that is none",
+        "1",
+        """\
+1 BadLine
+  modes `queue` and `judge`: a line is none of a queue file, or of a trace
+  what to do: docs/PROFILE.md, "The queue file", has the form of its lines; docs/TRACES.md has that of the lines of \
+a trace, and where each can stand
+""",
+    ),
+    Explained(
+        "memory that was refused",
+        "50",
+        """\
+50 Memory
+  memory was refused
+  what to do: run it again where it may have more memory (`ulimit -v` prints the bound)
+""",
+    ),
+    Explained(
+        "a thread that was refused",
+        "51",
+        """\
+51 NoThread
+  modes `run` and `trace`: the starting of a thread was refused
+  what to do: run it again where it may have more threads (`ulimit -u`), and memory for their stacks (`ulimit -v`)
+""",
+    ),
+    Explained(
+        "a behaviour that was ended too early",
+        "61",
+        """\
+61 Restless
+  a run ended a behaviour as waiting although one of its branches is open
+  what to do: run it again. It is a fault of `tpr`, and not of the script: report it, with the script
+""",
+    ),
+    Explained(
+        "a run that no one order gives",
+        "62",
+        """\
+62 NoOrder
+  no one order of all that the components of a run did gives what each did and saw
+  what to do: run it again. It is a fault of `tpr`, and not of the script: report it, with the script
+""",
+    ),
+)
+
+PLACES = (
+    Explained(
+        "a tab before the place stays one",
+        "module M {\n\ttype set S { }\n}\n",
+        """\
+FILE:2:7: refused 10 Syntax: a set isn't supported (ES 201 873-1, 6.2.2): `set` can't stand behind `type`
+   2 | \ttype set S { }
+     | \t     ^^^
+  can stand here: `record`, `port`, `component`
+  write instead: `type record`: its fields then stand in their order, or by their names
+  more: docs/FROM_TTCN3.md, 6.2.2
+""",
+    ),
+    Explained(
+        "a letter of two bytes in a comment is one column",
+        "module M { /* é */ x }",
+        """\
+FILE:1:20: refused 10 Syntax: `x` can't stand behind `{`
+   1 | module M { /* é */ x }
+     |                    ^
+  can stand here: `}`, a definition
+""",
+    ),
+    Explained(
+        "a construct that begins before its place",
+        """\
+module M {
+  type component C { }
+  testcase t() runs on C {
+    timer t;
+  }
+}
+""",
+        """\
+FILE:4:11: refused 10 Syntax: a timer isn't supported (ES 201 873-1, 12, 23): `t` can't stand behind `timer`
+   4 |     timer t;
+     |     ~~~~~~^
+  can stand here: `.`, since `timer` is a name here
+  nothing instead: there is no time in a run. Leave the timer and its branches out: a wait that nobody answers ends \
+as `end waiting`, with the result `error`
+  more: docs/FROM_TTCN3.md, 12, 23
+""",
+    ),
+    Explained(
+        "two places",
+        """\
+module M {
+  type record R { integer a,
+    boolean a }
+  testcase t() runs on C { }
+}
+""",
+        """\
+FILE:3:13: refused 12 Duplicate: `R` has two fields `a`
+   3 |     boolean a }
+     |             ^
+   2 |   type record R { integer a,
+     |                           ^ the first one
+  rule: no two fields of a record, ports of a component type or parameters of a function have one name
+""",
+    ),
+    Explained(
+        "the place is behind the line that is told",
+        """\
+module M {
+  type port P message { inout integer }
+  type component C { port P p }
+  testcase t() runs on C {
+    p.send(
+      integer:true);
+  }
+}
+""",
+        """\
+FILE:5:5: refused 13 WrongType: `true` is a boolean, and `integer` is wanted
+   6 |       integer:true);
+     |               ^^^^
+  rule: the value or template fits the type
+""",
+    ),
+    Explained(
+        "a semicolon is missing",
+        """\
+module M {
+  type component C { }
+  testcase t() runs on C {
+    setverdict(pass)
+    setverdict(fail);
+  }
+}
+""",
+        """\
+FILE:5:5: refused 10 Syntax: `setverdict` can't stand behind `)`: a `;` is missing
+   5 |     setverdict(fail);
+     |     ^^^^^^^^^^
+  can stand here: `;`, `}`
+""",
+    ),
+    Explained(
+        "a name that is nearly there",
+        """\
+module M {
+  type port P message { inout integer }
+  type component C { port P counter }
+  testcase t() runs on C { conter.clear; }
+}
+""",
+        """\
+FILE:4:28: refused 11 Unknown: `C` has no port `conter` (is `counter` meant?): it has `counter`
+   4 |   testcase t() runs on C { conter.clear; }
+     |                            ^^^^^^
+   3 |   type component C { port P counter }
+     |                  ^ the type that the body runs on
+  rule: the type that the body runs on has the port
+""",
+    ),
+)
