@@ -1,20 +1,5 @@
-#!/usr/bin/env python3
-"""What tools/why says of reports, beside the model of runs in tools/tpr_tools/model, which shares no code with it.
-
-    why_rules.py examples REPORT..     the lines of each report are those of some run of the model that
-                                       has this report
-    why_rules.py random NUMBER [SEED]  so are those of reports of so many scripts made by chance; and none
-                                       of these fits its script any more, if that lacks a statement by
-                                       which something was done
-    why_rules.py discarded NUMBER      of so many small scripts with clears and starts all runs are tried: of
-                                       each message that one discards, the lines are those by which it is
-                                       discarded in some run that has the same report
-    why_rules.py table FILE REPORT..   the lines of each report are those of the table, worked out by hand
-    why_rules.py causes TPR SCRIPT..   why the result isn't pass is what NAME.why says, of the report in
-                                       NAME.expected, or where there is none, of a run
-
-Each prints what is wrong and ends with status 1, or prints nothing and ends with status 0.
-"""
+"""What tools/why says of reports, beside the model of runs in tools/tpr_tools/model, which shares no code with it, and
+beside what was worked out by hand. why_cases.py tries these rules."""
 from __future__ import annotations
 
 import os
@@ -31,7 +16,7 @@ sys.path[:0] = [os.path.join(ROOT, "tools"), os.path.join(ROOT, "tests", "orders
 
 from generator import some_script
 from judge import run_of
-from rule_cases import Wrong, must, try_one_of
+from rule_cases import Wrong, must
 from tpr_tools.model.bodies import TestCase, Tried
 from tpr_tools.model.reading import TOKENS, Reader
 from tpr_tools.model.run import Act, Message, Run
@@ -277,30 +262,29 @@ def is_modelled(row: ToolRow) -> bool:
 # The rules
 
 
-def examples_rule(*reports: str) -> None:
-    for file in reports:
-        with open(script_of(file), "rb") as opened:
-            script = opened.read()
-        with open(file, "rb") as opened:
-            report = opened.read()
-        case, lines = lined_case(script.decode("latin-1"))
-        run = run_of(LinedRun(case, lines), report.decode("latin-1"))
-        if not isinstance(run, LinedRun):
-            raise Wrong(f"{file}: the model has no such run")
-        try:
-            same_rows(rows_of_tool(script, report), rows_of_model(run))
-        except Wrong as wrong:
-            raise Wrong(f"{file}: {wrong}") from None
+def example_rule(file: str) -> None:
+    """The lines of the report are those of some run of the model that has this report."""
+    with open(script_of(file), "rb") as opened:
+        script = opened.read()
+    with open(file, "rb") as opened:
+        report = opened.read()
+    case, lines = lined_case(script.decode("latin-1"))
+    run = run_of(LinedRun(case, lines), report.decode("latin-1"))
+    if not isinstance(run, LinedRun):
+        raise Wrong(f"{file}: the model has no such run")
+    same_rows(rows_of_tool(script, report), rows_of_model(run))
 
 
 def script_of(report: str) -> str:
     return re.sub(r"\.expected(\.[0-9]+)?$", ".ttcn", report)
 
 
-def random_rule(number: str, seed: str = "1") -> None:
-    chance = random.Random(int(seed))
+def random_rule(number: int, seed: int = 1) -> None:
+    """So are those of reports of so many scripts made by chance; and none of these fits its script any more, if that
+    lacks a statement by which something was done."""
+    chance = random.Random(seed)
     entries = discarded = lacking = 0
-    for turn in range(int(number)):
+    for turn in range(number):
         text = some_script(chance)
         case, lines = lined_case(text)
         run = run_by_chance(LinedRun(case, lines), chance)
@@ -312,7 +296,7 @@ def random_rule(number: str, seed: str = "1") -> None:
         except (Wrong, NotAReport, DoesNotFit) as wrong:
             raise Wrong(f"script {turn} of seed {seed}: {wrong!r}\n{text}\n{run.report()}") from None
     done = min(entries // 10, 10 * discarded, 2 * lacking)
-    must(done >= int(number), f"too little was done: {entries}, {discarded} and {lacking}")
+    must(done >= number, f"too little was done: {entries}, {discarded} and {lacking}")
 
 
 DOES = re.compile(r" *([pq]\.send\(.*|([pq]|all port)\.(start|stop|halt|clear);|setverdict\(.*)")
@@ -364,10 +348,12 @@ KNOWN = (
 )
 
 
-def discarded_rule(number: str) -> None:
+def discarded_rule(number: int) -> None:
+    """Of so many small scripts with clears and starts all runs are tried: of each message that one discards, the lines
+    are those by which it is discarded in some run that has the same report."""
     chance = random.Random(7)
     told = [0, 0]  # where it is known by which one it was discarded, and where that is open
-    for turn in range(int(number)):
+    for turn in range(number):
         picked = [chance.choices(kinds, k=count) for kinds, count in ((EMPTIES, 4), (ANSWERS, 2), (SENDS, 3))]
         blocks = KNOWN[turn] if turn < len(KNOWN) else map(" ".join, picked)
         text = EMPTYING % tuple(block.replace("; ", ";\n    ") for block in blocks)
@@ -379,7 +365,7 @@ def discarded_rule(number: str) -> None:
                 wanted = discarded.get((route.receiver, route.port, route.sender, message.number), lines)
                 must(lines == wanted, f"{message.told()}: {lines} are told, and it was {wanted}\n{text}\n{report}")
                 told[len(wanted) > 1] += message.fate == "discarded"
-    must(min(told) >= int(number), f"too little was discarded: {told}")
+    must(min(told) >= number, f"too little was discarded: {told}")
 
 
 def discarded_in_runs(case: TestCase, lines: Lines) -> dict[str, dict[Key, set[int]]]:
@@ -403,7 +389,8 @@ def discarded_in_runs(case: TestCase, lines: Lines) -> dict[str, dict[Key, set[i
 
 
 def table_rule(table: str, *reports: str) -> None:
-    """The table has a name of a report in each odd line, and what is told of its lines in the next one."""
+    """The lines of each report are those of the table: it has a name of a report in each odd line, and what is told of
+    its lines in the next one."""
     with open(table, encoding="ascii") as opened:
         rows = [line for line in opened.read().splitlines() if line and not line.startswith("#")]
     files = {os.path.basename(file): file for file in reports}
@@ -421,28 +408,15 @@ def in_short(row: ToolRow) -> str:
     return f"{line or ''}{sign}{other.replace(' or ', '|')}" or "-"
 
 
-def causes_rule(program: str, *scripts: str) -> None:
-    for script in scripts:
-        base = script.removesuffix(".ttcn")
-        with open(script, "rb") as opened, open(f"{base}.why", encoding="ascii") as why:
-            text, wanted = opened.read(), why.read()
-        if os.path.exists(f"{base}.expected"):
-            with open(f"{base}.expected", "rb") as opened:
-                report = opened.read()
-        else:
-            report = subprocess.run([program, "run", script], stdout=subprocess.PIPE, check=True).stdout
-        told = reasons_of(ways_of(text, report))
-        must(told == wanted, f"{script}:\n{told}and by hand:\n{wanted}")
-
-
-RULES: dict[str, Callable[..., None]] = {
-    "causes": causes_rule,
-    "discarded": discarded_rule,
-    "examples": examples_rule,
-    "random": random_rule,
-    "table": table_rule,
-}
-
-
-if __name__ == "__main__":
-    try_one_of(RULES, "The rules on what tools/why says.")
+def cause_rule(program: str, script: str) -> None:
+    """Why the result isn't pass is what NAME.why says: of the report in NAME.expected, or of a run if there is none."""
+    base = script.removesuffix(".ttcn")
+    with open(script, "rb") as opened, open(f"{base}.why", encoding="ascii") as why:
+        text, wanted = opened.read(), why.read()
+    if os.path.exists(f"{base}.expected"):
+        with open(f"{base}.expected", "rb") as opened:
+            report = opened.read()
+    else:
+        report = subprocess.run([program, "run", script], stdout=subprocess.PIPE, check=True).stdout
+    told = reasons_of(ways_of(text, report))
+    must(told == wanted, f"{script}:\n{told}and by hand:\n{wanted}")

@@ -1,0 +1,386 @@
+#!/usr/bin/env python3
+"""What tools/why says of reports: the line of the script that each line comes from, and why a result isn't pass.
+
+    tests/tools/why_cases.py PROGRAM
+
+The lines are held against a table worked out by hand, and against the model of runs (why_rules.py); the reasons and
+the annotated scripts against files worked out by hand, in whys/. It prints a line `passed NAME` for each case, or lines
+that begin with `FAILED: NAME`.
+"""
+from __future__ import annotations
+
+import argparse
+import re
+import sys
+import tempfile
+from collections.abc import Iterator
+from pathlib import Path
+from typing import NamedTuple
+
+sys.dont_write_bytecode = True
+ROOT = Path(__file__).resolve().parents[2]
+sys.path.append(str(ROOT / "tests" / "program"))
+
+import example_files
+import why_rules
+from rule_cases import must
+from tool_runs import (
+    Case,
+    Ended,
+    Test,
+    Tool,
+    block_of,
+    file_of,
+    judged,
+    prints,
+    prints_line,
+    ruled,
+    run,
+    says,
+    says_alone,
+    says_nothing,
+    says_usage,
+    tell,
+)
+
+WHYS = Path("tests/tools/whys")
+CAUSES = WHYS / "causes"
+IN_A_TURN, FOR_EACH_OTHER = f"{CAUSES}/verdicts/inconc_in_a_turn.ttcn", f"{CAUSES}/waits/waits_for_each_other.ttcn"
+BEHIND_THE_MARK = CAUSES / "marks" / "waits_behind_the_mark.ttcn"
+KITCHEN, LOGIN = "examples/closed_counter_serves_no_order", "examples/login_is_answered.ttcn"
+HALT = "examples/halt_holds_back_what_comes_later"
+REFUSED = "tests/golden/refused_scripts/script_cut_inside_an_alt.ttcn"
+COLUMNS = "70"  # of a chart in letters
+
+LISTED = """\
+line          report
+   5          component mtc
+   7 -> 10    sent mtc.q 0 integer:1
+   8          halted q
+   9 -> left  sent mtc.q 1 integer:2
+  10 <- 7     took q mtc 0 integer:1
+  11          end waiting
+              verdict none
+     <- 9     left q mtc 1 integer:2
+              result error
+
+"""  # of BEHIND_THE_MARK
+SUMMARY = f"""\
+{IN_A_TURN}   7 statements, all of them reached
+{FOR_EACH_OTHER}  6 statements, 4 never reached: lines 7 and 15-16
+2 scripts: 13 statements, 4 never reached
+"""
+CHART = """\
+halt_holds_back_what_comes_later: result error
+
+              mtc                    a
+               |-- integer:1 (17) -->| took p (7)
+               |              [halted p (8)]
+   took q (17) |<-- integer:9 (9) ---|
+               |-- integer:2 (17) --]. left p
+           end done          end waiting (10)
+         verdict none          verdict none
+
+a: left p mtc 1 integer:2
+
+result error
+"""
+
+
+class Reasoning:
+    """The tool with the program that it asks, and a folder for scripts and reports."""
+
+    def __init__(self, program: str, room: Path):
+        self.program, self.room = program, room
+        self.tool, self.missing = Tool("why", ("--tpr", program)), room / "missing"
+        self.nowhere = Tool("why", ("--tpr", str(self.missing)))
+
+    def report_of(self, script: str) -> Path:
+        """The report of a run, in a file."""
+        ended = run([self.program, "run", script])
+        must(ended.status == 0 and says_nothing(ended), f"{script} isn't run: {ended.shown()}")
+        return file_of(self.room / "report", ended.printed)
+
+
+# Lines and reasons, by the rules
+
+
+def reports_of_examples() -> list[str]:
+    files = [it for script in example_files.texts("ttcn") for it in example_files.answers(script)]
+    return [str(it) for it in files if it.read_bytes().startswith(b"component mtc\n")]
+
+
+def lines_of_reports(_: Reasoning) -> Iterator[Case]:
+    """Beside the model, and beside what was worked out by hand."""
+    reports, own = reports_of_examples(), [str(it) for it in sorted((ROOT / WHYS).glob("*.expected"))]
+    for it in (*reports, *own):
+        yield ruled(f"the lines of {Path(it).name} are those of the model", why_rules.example_rule, it)
+    by_hand = (str(ROOT / WHYS / "lines"), *reports, *own)
+    yield ruled("the lines that were worked out by hand", why_rules.table_rule, *by_hand)
+    yield ruled("the lines of 300 scripts by chance are those of the model", why_rules.random_rule, 300)
+    discarded = "by which clear or start a message was discarded, in all runs of 40 scripts"
+    yield ruled(discarded, why_rules.discarded_rule, 40)
+
+
+def causes_of_results(asked: Reasoning) -> Iterator[Case]:
+    for script in sorted((ROOT / CAUSES).glob("*/*.ttcn")):
+        name = f"why the result of {script.name} isn't pass, as worked out by hand"
+        yield ruled(name, why_rules.cause_rule, asked.program, str(script))
+
+
+# What is printed of one script, and of several
+
+
+def has(part: str) -> Test:
+    """It prints this somewhere."""
+    return lambda ended: part in ended.printed
+
+
+def ends_with(line: str) -> Test:
+    return lambda ended: ended.printed.endswith(line)
+
+
+def one_script(asked: Reasoning) -> Iterator[Case]:
+    script, case = str(BEHIND_THE_MARK), asked.tool.case
+    listed = prints(LISTED + (ROOT / BEHIND_THE_MARK.with_suffix(".why")).read_text(encoding="utf-8"))
+    report = asked.report_of(script)
+    yield case("a script that is run", [script], 0, listed)
+    yield case("the same of its report", [script, report], 0, listed)
+    of_input = asked.tool.run(script, "/dev/stdin", given=report.read_bytes())
+    yield judged("and of standard input", of_input, 0, listed)
+    yield case("an empty standard input", [script, "/dev/stdin"], 2, says_alone("why: /dev/stdin, line 1: "))
+    yield case("a result that is pass has no reason", [LOGIN], 0, says_nothing, ends_with("  result pass\n"))
+    shown = block_of("tools/README.md", "line          report\n")
+    must(shown.count("\n") >= 15, "tools/README.md shows what why says")
+    yield case("tools/README.md shows it", [f"{HALT}.ttcn"], 0, prints(shown))
+
+
+def several_scripts(asked: Reasoning) -> Iterator[Case]:
+    """How often each statement was reached, beside NAME.annotated, and how many were."""
+    for annotated in sorted((ROOT / WHYS).rglob("*.annotated")):
+        script = annotated.with_suffix(".ttcn").relative_to(ROOT)
+        wanted = prints(annotated.read_text(encoding="utf-8"))
+        yield asked.tool.case(f"{script.name} is annotated", ["--annotate", script], 0, wanted)
+    yield asked.tool.case("a summary", ["--summary", IN_A_TURN, FOR_EACH_OTHER], 0, prints(SUMMARY))
+
+
+# Reports that don't fit their scripts
+
+
+class Misfit(NamedTuple):
+    """A report in which each of these texts is replaced: the line of it that doesn't fit, and what is said."""
+
+    name: str
+    report: str
+    changes: tuple[tuple[str, str], ...]
+    line: int
+    said: str
+
+    def changed(self) -> str:
+        text = (ROOT / f"{self.report}.expected").read_text(encoding="utf-8")
+        for before, behind in self.changes:
+            text, times = re.subn(before, behind, text, flags=re.M)
+            must(times, f"{self.name}: there is no {before} in the report")
+        return text
+
+
+MISFITS = (
+    Misfit(
+        "an entry is missing",
+        KITCHEN,
+        ((r"^halted.*\n", ""),),
+        10,
+        'chef: `sent mtc.bell 0 charstring:"we close"` doesn\'t fit the script: `halted counter` is next (line 10)',
+    ),
+    Misfit(
+        "another verdict",
+        KITCHEN,
+        ((r"^(set|verdict|result) pass", r"\1 fail"),),
+        14,
+        "chef: `set fail` doesn't fit the script: `set pass` is next (line 15)",
+    ),
+    Misfit(
+        "an else is missing",
+        KITCHEN,
+        ((r"^else\n", ""),),
+        13,
+        "chef: `set pass` doesn't fit the script: a message or `[else]` is next (lines 14-15)",
+    ),
+    Misfit(
+        "another value",
+        KITCHEN,
+        (("we close", "we closed"),),
+        3,
+        'mtc: `took bell chef 0 charstring:"we closed"` doesn\'t fit the script: this message isn\'t wanted (line 25)',
+    ),
+    Misfit(
+        "a value that isn't sent",
+        KITCHEN,
+        (("number := 2", "number := 3"),),
+        4,
+        'mtc: `sent chef.counter 1 Order:{number := 3, dish := "soup, please"}` doesn\'t fit the script: '
+        '`sent chef.counter` of `Order:{number := 2, dish := "soup, please"}` is next (line 26)',
+    ),
+    Misfit(
+        "an entry too many",
+        KITCHEN,
+        (("^set pass\n", "set pass\nset pass\n"),),
+        15,
+        "chef: `set pass` doesn't fit the script: the body ends here",
+    ),
+    Misfit(
+        "an end too early",
+        KITCHEN,
+        ((r"^else\nset pass\n", ""), ("pass", "none")),
+        13,
+        "chef: `end done` doesn't fit the script: a message or `[else]` is next (lines 14-15)",
+    ),
+    Misfit(
+        "a wait where nothing waits",
+        KITCHEN,
+        ((r"^set pass\nend done\n", "set pass\nend waiting\n"), ("result pass", "result error")),
+        15,
+        "chef: `end waiting` doesn't fit the script: the body ends here",
+    ),
+    Misfit(
+        "another number of a failed send",
+        "tests/golden/sending/nobody_is_connected",
+        (("41", "42"),),
+        3,
+        "mtc: `failed 42` doesn't fit the script: `failed 41` is next (line 8)",
+    ),
+    Misfit(
+        "a message is taken that is found",
+        f"{WHYS}/found_and_discarded",
+        (("^found", "took"),),
+        7,
+        "a: `took p mtc 0 integer:1` doesn't fit the script: a message that is `found` is next (line 8)",
+    ),
+    Misfit(
+        "an open branch isn't chosen",
+        f"{WHYS}/open_branch",
+        (("^took q.*", "else"), ("^(verdict none\n)", "\\1left q mtc 0 integer:1\n")),
+        4,
+        "mtc: `else` doesn't fit the script: `integer:1` was at the top, and this branch open (line 9)",
+    ),
+    Misfit(
+        "a wait that is answered",
+        f"{WHYS}/answered",
+        (
+            ("^took.*\n", ""),
+            ("end done", "end waiting"),
+            ("^(verdict none\n)", "\\1left q mtc 0 integer:1\n"),
+            ("result none", "result error"),
+        ),
+        3,
+        "mtc: `end waiting` doesn't fit the script: `left q mtc 0 integer:1` is what it waits for (line 8)",
+    ),
+    Misfit(
+        "another component",
+        KITCHEN,
+        (("chef", "cook"),),
+        8,
+        "cook: `component cook` doesn't fit the script: the components of the script are mtc, chef",
+    ),
+)
+
+
+def misfits(asked: Reasoning) -> Iterator[Case]:
+    for it in MISFITS:
+        report = file_of(asked.room / "changed", it.changed())
+        said = says(f"why: {report}, line {it.line}: {it.said}\n")
+        yield asked.tool.case(it.name, [f"{it.report}.ttcn", report], 1, said)
+
+
+# Calls that are wrong
+
+
+def bad_input(asked: Reasoning) -> Iterator[Case]:
+    """Files that aren't there, or aren't what they are to be."""
+    script, missing, case = f"{KITCHEN}.ttcn", asked.missing, asked.tool.case
+    unread = says_alone(f"why: {missing} can't be read")
+    yield case("a missing script", [missing], 2, unread)
+    yield case("a script that is refused", [REFUSED], 2, says_alone(f"why: {REFUSED}, line "))
+    yield case("a missing report", [script, missing], 2, unread)
+    yield case("a report that is none", [script, script], 2, says_alone(f"why: {script}, line 1: "))
+    nothing = says_alone(f"why: there is no file or folder {missing}")
+    yield case("a summary of nothing", ["--summary", missing], 2, nothing)
+    yield case("a summary of a script that is refused", ["--summary", REFUSED, LOGIN], 2, has("\n2 scripts: "))
+
+
+def calls(asked: Reasoning) -> Iterator[Case]:
+    """Command lines that are wrong, a full device, no program, and the help."""
+    script, case = f"{KITCHEN}.ttcn", asked.tool.case
+    no_program = says_alone(f"why: {asked.missing} can't be run")
+    yield asked.nowhere.case("a program that isn't there", [script], 1, no_program)
+    yield asked.nowhere.case("a summary without a program", ["--summary", script, LOGIN], 1, no_program)
+    yield asked.tool.full_device("onto a full device", script)
+    yield case("no script", [], 4, says_usage("why"))
+    yield case("too many files", [script, "a", "b"], 4, says_usage("why"))
+    yield case("the help", ["--help"], 0, prints_line("  1  the report isn't one of this script"))
+
+
+# Charts
+
+
+def is_drawn(ended: Ended) -> bool:
+    """The chart in letters, but for how wide its spaces are."""
+    return in_letters(ended.printed) == in_letters(CHART)
+
+
+def in_letters(chart: str) -> str:
+    return re.sub("^ ", "", re.sub(" +", " ", chart), flags=re.M)
+
+
+def charts(_: Reasoning) -> Iterator[Case]:
+    """With the lines of the script."""
+    report, chart = f"{HALT}.expected", Tool("chart", variables={"COLUMNS": COLUMNS})
+    lined = ["--script", f"{HALT}.ttcn", report]
+    yield chart.case("a chart with the lines of the script", ["--text", *lined], 0, says_nothing, is_drawn)
+    yield chart.case("the lines in a drawn chart", lined, 0, says_nothing, has(">took p (7)<"))
+    yield chart.case("the lines in a page", ["--html", *lined], 0, says_nothing, has("halted p (8)"))
+    other = ["--script", f"{WHYS}/answered.ttcn", report]
+    yield chart.case("a chart beside another script", other, 1, says_alone(f"chart: {report}, line "))
+
+
+# A long report
+
+
+def at_length(asked: Reasoning) -> Iterator[Case]:
+    """Two loops of 1,000 turns. How long it takes, bench/why/run says."""
+    made = run(["bash", "-c", ". bench/why/script.sh && script_of_60000_entries"])
+    script = file_of(asked.room / "script", made.printed)
+    report = asked.report_of(str(script))
+    lines = report.read_text(encoding="utf-8").count("\n")
+    must(lines == 60007, f"the report has {lines} lines, and 60,000 entries are wanted")
+    yield asked.tool.case("60,000 entries", [script, report], 0, says_nothing, last_is_told)
+
+
+def last_is_told(ended: Ended) -> bool:
+    last = ' *125 <- 163 *took counter mtc 29999 Order:{number := 999, dish := "soup of the day"}'
+    return re.fullmatch(last, ended.printed.split("\n")[60004]) is not None
+
+
+GROUPS = (
+    (lines_of_reports, 137),
+    (causes_of_results, 42),
+    (one_script, 6),
+    (several_scripts, 4),
+    (misfits, 13),
+    (bad_input, 6),
+    (calls, 6),
+    (charts, 4),
+    (at_length, 1),
+)
+
+
+def main() -> int:
+    words = argparse.ArgumentParser(description="What tools/why says of reports.")
+    words.add_argument("program", metavar="PROGRAM", help="the program that runs the scripts")
+    asked = words.parse_args()
+    with tempfile.TemporaryDirectory() as room:
+        return tell(GROUPS, Reasoning(asked.program, Path(room)))
+
+
+if __name__ == "__main__":
+    sys.exit(main())
