@@ -1,0 +1,68 @@
+"""What the archive and the package of a release hold, whose it is, and of which time: beside what they must hold."""
+from __future__ import annotations
+
+import re
+import shutil
+from collections.abc import Iterable
+from pathlib import PurePosixPath
+
+from release_tree import COMMITTED, Item, Made, Tree, in_the_package, in_the_tree
+from tool_calls import difference, run
+
+RIGHTS = {"f": "-rw-r--r--", "x": "-rwxr-xr-x", "d": "drwxr-xr-x", "l": "lrwxrwxrwx"}
+
+
+def with_folders(items: Iterable[Item]) -> set[Item]:
+    """Them, and the folders in which they are."""
+    files = set(items)
+    parents = {str(parent) for it in files for parent in PurePosixPath(it.path).parents}
+    return files | {Item("d", it) for it in parents - {"."}}
+
+
+def line_of(item: Item, beginning: str) -> str:
+    """What tar tells of it, its path behind this beginning."""
+    ending = {"d": "/", "l": f" -> {item.target}"}.get(item.kind, "")
+    rights = RIGHTS[item.kind]
+    return f"{rights} 0/0 {rights} root/root {COMMITTED} {beginning}{item.path}{ending}"
+
+
+def lines_to_be(items: Iterable[Item], beginning: str) -> str:
+    """What tar is to tell of them, with the folder in which all is."""
+    head = f"{RIGHTS['d']} 0/0 {RIGHTS['d']} root/root {COMMITTED} {beginning}"
+    lines = {head, *(line_of(it, beginning) for it in with_folders(items))}
+    return "".join(f"{line}\n" for line in sorted(lines))
+
+
+def lines_of(archive: bytes) -> str:
+    """What tar tells of an archive, a line for each file: what it is and who may do what, its owner by number and by
+    name, its time, its name, and where a link goes."""
+    words, utc = ("tar", "--full-time", "-tvf", "-"), {"TZ": "UTC"}
+    numbers = run(*words, "--numeric-owner", input=archive, more=utc).must_end(0).text.splitlines()
+    names = run(*words, input=archive, more=utc).must_end(0).text.splitlines()
+    lines = []
+    for number, name in zip(numbers, names):
+        lines.append(" ".join(number.split()[:2]) + " " + re.sub(r"^(\S+) +(\S+) +[0-9]+ ", r"\1 \2 ", name))
+    return "".join(f"{line}\n" for line in sorted(lines))
+
+
+def wrong_archive(tree: Tree, made: Made) -> str:
+    unpacked = run("gzip", "-dc", made.archive).must_end(0).printed
+    found = difference(lines_to_be(in_the_tree(tree), f"tpr-{tree.version}/"), lines_of(unpacked))
+    version = (tree.folder / "VERSION").read_bytes()
+    return found or difference(version, tree.said_in(made, "VERSION").must_end(0).printed)
+
+
+def wrong_package(tree: Tree, made: Made) -> str:
+    files = run("dpkg-deb", "--fsys-tarfile", made.package).must_end(0).printed
+    found = difference(lines_to_be(in_the_package(tree), "./"), lines_of(files))
+    if found:
+        return found
+    said = run("dpkg-deb", "-f", made.package, "Package", "Version", "Architecture").must_end(0)
+    return difference(f"Package: tpr\nVersion: {tree.version}\nArchitecture: amd64\n", said.printed)
+
+
+def wrong_with(tree: Tree, made: Made) -> str:
+    """How both differ from what they must be, whose and of when, and which version they say; nothing where they
+    don't. Without dpkg-deb the archive alone is looked at."""
+    found = wrong_archive(tree, made)
+    return found if found or not shutil.which("dpkg-deb") else wrong_package(tree, made)

@@ -1,0 +1,156 @@
+"""A repository of what is handed out, with the program that is tested, of which tools/release makes releases."""
+from __future__ import annotations
+
+import os
+import re
+import shutil
+from collections.abc import Iterator
+from pathlib import Path
+from typing import NamedTuple
+
+from tool_calls import ROOT, Ended, run
+from rule_cases import must
+
+PLACES = ("CHANGELOG.md", "LICENSE", "README.md", "VERSION", "docs", "examples", "tools")
+# The time of the commit in the tests, as tar prints it.
+COMMITTED = "2026-01-02 03:04:05"
+WHO = ("-c", "user.name=A Tester", "-c", "user.email=tester@tpr.example", "-c", "commit.gpgsign=false")
+# Where git runs ./test, as in a hook, it may say where its repository is: what is committed here is another.
+OF_ANOTHER = ("GIT_DIR", "GIT_WORK_TREE", "GIT_INDEX_FILE", "GIT_OBJECT_DIRECTORY", "GIT_COMMON_DIR", "GIT_PREFIX")
+
+
+class Made(NamedTuple):
+    """What tools/release makes into a folder of the room."""
+
+    archive: Path
+    package: Path
+
+
+class Tree:
+    """The repository, in a room in which releases are made."""
+
+    def __init__(self, room: Path, program: Path):
+        self.room, self.program, self.folder = room, program, room / "tree"
+        self.built = self.folder / "crates" / "tpr" / "out" / "tpr"
+        self.version = (ROOT / "VERSION").read_text(encoding="utf-8").partition("\n")[0]
+
+    def make(self) -> None:
+        for name in OF_ANOTHER:
+            os.environ.pop(name, None)
+        self.built.parent.mkdir(parents=True)
+        (self.folder / "out").mkdir()
+        self.copy_places()
+        self.build()
+        (self.folder / ".gitignore").write_text("out/\n", encoding="utf-8")
+        self.git("init", "-q")
+        self.commit()
+
+    def copy_places(self) -> None:
+        for place in PLACES:
+            if (ROOT / place).is_dir():
+                shutil.copytree(ROOT / place, self.folder / place, symlinks=True)
+            else:
+                shutil.copy2(ROOT / place, self.folder / place)
+
+    def build(self) -> None:
+        """The program is the one that is tested."""
+        shutil.copyfile(self.program, self.built)
+        self.built.chmod(0o755)
+
+    def git(self, *words: str) -> str:
+        ended = run("git", "-C", self.folder, *words).must_end(0)
+        return ended.text.removesuffix("\n")
+
+    def commit(self) -> None:
+        times = {"GIT_AUTHOR_DATE": f"{COMMITTED} +0000", "GIT_COMMITTER_DATE": f"{COMMITTED} +0000"}
+        self.git("add", "-A")
+        run("git", "-C", self.folder, *WHO, "commit", "-q", "-m", "tree", more=times).must_end(0)
+
+    def restore(self) -> None:
+        """What is tracked is as it was committed."""
+        self.git("checkout", "-q", ".")
+
+    def change(self, file: str, form: str, other: str) -> None:
+        """Puts something else where each line has the form first."""
+        path = self.folder / file
+        lines = path.read_text(encoding="utf-8").splitlines(keepends=True)
+        changed = [re.sub(form, other, line, count=1) for line in lines]
+        must(changed != lines, f"{form!r} isn't in {file}")
+        path.write_text("".join(changed), encoding="utf-8")
+
+    def append(self, file: str, text: str) -> None:
+        with open(self.folder / file, "a", encoding="utf-8") as opened:
+            opened.write(text)
+
+    def release(self, *words: str) -> Ended:
+        """What tools/release does with these words, in the room."""
+        return run(self.folder / "tools" / "release", *words, folder=self.room)
+
+    def made(self, folder: str) -> Made:
+        """The two that it makes into the folder."""
+        place = self.room / folder
+        return Made(place / f"tpr-{self.version}-amd64.tar.gz", place / f"tpr_{self.version}_amd64.deb")
+
+    def said_in(self, made: Made, file: str) -> Ended:
+        """What stands in a file of the archive."""
+        return run("tar", "-xzOf", made.archive, f"tpr-{self.version}/{file}")
+
+
+class Item(NamedTuple):
+    """What is handed out: a folder `d`, a file `f`, one that can be run `x`, or a link `l`, with where it goes."""
+
+    kind: str
+    path: str
+    target: str = ""
+
+
+def paths_below(folder: Path) -> Iterator[Path]:
+    """The folder, and all that is in it."""
+    yield folder
+    yield from sorted(folder.rglob("*") if folder.is_dir() else ())
+
+
+def is_kept_back(path: str) -> bool:
+    """Whether it is for whoever changes tpr."""
+    name = path.rpartition("/")[2]
+    return path == "tools/costs.py" or path.startswith(("tools/release", "tools/tpr_tools/release")) or name[0] == "."
+
+
+def item_of(file: Path, path: str) -> Item:
+    if file.is_dir():
+        return Item("d", path)
+    return Item("x" if re.fullmatch("tools/[a-z]+", path) else "f", path)
+
+
+def in_the_tree(tree: Tree) -> list[Item]:
+    """What is handed out of the repository, by where it stands there."""
+    items = [Item("x", "tpr"), Item("f", "GATE")]
+    for place in PLACES:
+        found = [(it, str(it.relative_to(tree.folder))) for it in paths_below(tree.folder / place)]
+        items += [item_of(file, path) for file, path in found if not is_kept_back(path)]
+    return items
+
+
+def tools_of(tree: Tree) -> list[str]:
+    """The commands beside the program."""
+    return [it.path.removeprefix("tools/") for it in in_the_tree(tree) if it.kind == "x" and it.path != "tpr"]
+
+
+def place_in_package(path: str, kind: str) -> str:
+    if path == "docs/tpr.1":
+        return "usr/share/man/man1/tpr.1.gz"
+    if kind == "x" or path.startswith("tools/tpr_tools/"):
+        return f"usr/lib/tpr/{path}"
+    return f"usr/share/doc/tpr/{path}"
+
+
+def in_the_package(tree: Tree) -> list[Item]:
+    """What is handed out, by where the package has it, with what only a package has."""
+    items = [Item(it.kind, place_in_package(it.path, it.kind)) for it in in_the_tree(tree) if it.kind != "d"]
+    items += [Item("f", f"usr/share/doc/tpr/{it}") for it in ("changelog.gz", "copyright")]
+    items.append(Item("f", "usr/share/lintian/overrides/tpr"))
+    items.append(Item("l", "usr/bin/tpr", "../lib/tpr/tpr"))
+    for tool in tools_of(tree):
+        items.append(Item("l", f"usr/bin/tpr-{tool}", f"../lib/tpr/tools/{tool}"))
+        items.append(Item("l", f"usr/share/man/man1/tpr-{tool}.1.gz", "tpr.1.gz"))
+    return items

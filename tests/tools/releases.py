@@ -1,0 +1,255 @@
+#!/usr/bin/env python3
+"""What is handed out: what a gate leaves for tools/release, and the archive and the package that this makes.
+
+    tests/tools/releases.py PROGRAM FOLDER
+
+Both are looked at, made of trees in which there is a fault, refused, installed into an empty root, and used there. All
+is written into the FOLDER. It prints a line `passed NAME` for each case, `left out NAME: WHY` for what this machine
+can't try, and lines that begin with `FAILED: NAME` for what is wrong.
+"""
+from __future__ import annotations
+
+import argparse
+import hashlib
+import os
+import shutil
+import sys
+from functools import partial
+from pathlib import Path
+from typing import NamedTuple
+
+sys.dont_write_bytecode = True
+
+from installed_release import archive_is_used, manual_page, package_by_lintian, package_is_installed
+from release_contents import wrong_with
+from release_tree import Tree
+from rule_cases import must
+from tool_calls import ROOT, Ended, Group, case, run, shown, try_groups
+
+LAST_LINES = "the gate said\nexamples: 9 passed, 0 failed\n"
+
+
+def files_in(folder: Path) -> dict[str, bytes]:
+    return {str(it.relative_to(folder)): it.read_bytes() for it in sorted(folder.rglob("*")) if it.is_file()}
+
+
+def must_be_whole(tree: Tree, folder: str) -> None:
+    """What was made into the folder holds what it must."""
+    wrong = wrong_with(tree, tree.made(folder))
+    must(not wrong, f"{folder} differs{shown(wrong)}")
+
+
+def makes_both(tree: Tree) -> None:
+    made = tree.made("made")
+    with case("the archive and the package"):
+        names = "".join(f"{it.relative_to(tree.room)}\n" for it in made)
+        tree.release("made", "--unchecked").must_print(names)
+    with case("what they hold"):
+        must_be_whole(tree, "made")
+    with case("made once more, on another day and by somebody else, they are the same"):
+        for file in (tree.folder, *tree.folder.rglob("*")):
+            os.utime(file)
+        command = tree.folder / "tools" / "release"
+        words = 'umask 077 && exec "$0" again --unchecked'
+        run("sh", "-c", words, command, folder=tree.room, more={"TZ": "Asia/Tokyo"}).must_end(0)
+        must(files_in(tree.room / "made") == files_in(tree.room / "again") != {}, "they aren't")
+    with case("what is said where no gate is asked"):
+        said = "No gate has passed on this: it was made with --unchecked, for tests.\n"
+        tree.said_in(made, "GATE").must_print(said)
+
+
+# Faults in how it is made
+
+
+class Fault(NamedTuple):
+    """What is wrong, in which file of tools/, where which form stands there, what is put there, and what is told."""
+
+    name: str
+    file: str
+    form: str
+    other: str
+    told: str
+
+
+TREE, ARCHIVES, DEBIAN = (f"tpr_tools/release/{it}.py" for it in ("tree", "archives", "debian"))
+CHARTS = "tools/tpr_tools/chart/"
+OF_RELEASES = (
+    Fault("no library of the tools", TREE, '"tools/costs.py"', f'"{CHARTS}"', f"/{CHARTS}page.py"),
+    Fault("an archive of another version", "release", r'f"tpr-\{release\.version\}"', '"tpr-99.0.0"', "tpr-99.0.0/"),
+    Fault("commands that a group may write", TREE, "0o755", "0o775", "-rwxrwxr-x 0/0"),
+    Fault("folders for one alone", ARCHIVES, "(_OF_A_FOLDER = )0o755", r"\g<1>0o700", "drwx------ 0/0"),
+    Fault("another owner's number", ARCHIVES, "head.mtime = time", r"\g<0>; head.uid = 1000", " 1000/0 "),
+    Fault("another owner's name", ARCHIVES, '(head.uname = .*)"root"', r'\g<1>"games"', " games/games "),
+    Fault("the time of another day", ARCHIVES, "head.mtime = time", r"\g<0> + 86400", " 2026-01-03 "),
+    Fault("what is for who changes tpr", TREE, '"tools/costs.py", ', "", "tools/costs.py"),
+)
+
+
+def of_packages(version: str) -> tuple[Fault, ...]:
+    return (
+        Fault("no tool in the package", DEBIAN, r"^    entries = \[_pl.*", r"\g<0>[:1]", "./usr/lib/tpr/tools/chart"),
+        Fault("a package of another version", DEBIAN, "^Version: ", r"\g<0>1", f"Version: 1{version}"),
+        Fault("a link to nowhere", DEBIAN, r'\.\./lib/tpr/tpr"', '../lib/tpr"', "tpr -> ../lib/tpr"),
+    )
+
+
+def tells_planted(tree: Tree, faults: tuple[Fault, ...]) -> None:
+    """Whoever looks at what was made tells the fault."""
+    for it in faults:
+        with case(f"planted: {it.name}"):
+            try:
+                tree.change(f"tools/{it.file}", it.form, it.other)
+                tree.release("planted", "--unchecked").must_end(0)
+            finally:
+                tree.restore()
+            wrong = wrong_with(tree, tree.made("planted"))
+            told = [line for line in wrong.splitlines() if line[:1] in "+-" and it.told in line]
+            must(told, f"{it.told!r} isn't told{shown(wrong)}")
+        shutil.rmtree(tree.room / "planted", ignore_errors=True)
+
+
+# What a gate leaves
+
+
+def gate(tree: Tree, script: str, toolchain: str = "echo a toolchain") -> Ended:
+    """What the functions of tests/gate/kept_gate.sh do in the tree, with a toolchain that does so."""
+    kept = ROOT / "tests" / "gate" / "kept_gate.sh"
+    words = f'source "$0"; rt() {{ {toolchain}; }}; {script}'
+    return run("bash", "-c", words, kept, folder=tree.folder)
+
+
+def leaves_nothing(tree: Tree) -> None:
+    must(not (tree.folder / "out" / "gate").exists(), "there is out/gate")
+
+
+def keeps_gate(tree: Tree) -> None:
+    """A gate leaves out/gate where it passed on one commit, and a release of it is made."""
+    (tree.room / "last_lines").write_text(LAST_LINES, encoding="utf-8")
+    kept, whole = tree.folder / "out" / "gate", "begin_gate && keep_gate ../last_lines"
+    with case("a gate beside which a file is edited leaves nothing"):
+        gate(tree, "begin_gate; echo more >>README.md; keep_gate ../last_lines").must_print("")
+        leaves_nothing(tree)
+    tree.restore()
+    ended = gate(tree, whole, "return 1")
+    with case("a gate of which rt doesn't say the toolchain leaves nothing"):
+        leaves_nothing(tree)
+    with case("and that is said"):
+        ended.must_say("test: out/gate isn't kept: ", 1)
+    with case("what a gate leaves"):
+        gate(tree, whole).must_print("")
+        head, program = tree.git("rev-parse", "HEAD"), hashlib.sha256(tree.program.read_bytes()).hexdigest()
+        wanted = f"commit {head}\ntoolchain a toolchain\nprogram {program}\n\n{LAST_LINES}"
+        run("cat", kept).must_print(wanted)
+    with case("a release of a gate that passed"):
+        tree.release("gated").must_print("".join(f"{it.relative_to(tree.room)}\n" for it in tree.made("gated")))
+    with case("which says what the gate said"):
+        tree.said_in(tree.made("gated"), "GATE").must_print(kept.read_bytes())
+    said = kept.read_bytes()
+    with case("a gate that is under way, or failed, leaves nothing"):
+        gate(tree, "begin_gate").must_print("")
+        leaves_nothing(tree)
+    kept.write_bytes(said)
+
+
+# What no release is made of
+
+
+def refuses(tree: Tree, name: str, said: str, *words: str) -> None:
+    """No release is made, and nothing is left of one."""
+    with case(name):
+        tree.release("refused", *words).must_say(f"release: {said}", 2)
+        must(not (tree.room / "refused").exists(), "something is made")
+    shutil.rmtree(tree.room / "refused", ignore_errors=True)
+
+
+def refusals_of_gates(tree: Tree) -> None:
+    """What isn't just what the gate passed on."""
+    commit = tree.git("rev-parse", "HEAD")
+    refuses(tree, "no gate", "no gate has passed here")
+    keeps_gate(tree)
+    tree.append("README.md", "more\n")
+    refuses(tree, "a file that was changed behind the gate", "the work tree isn't what the gate passed on: README.md")
+    tree.restore()
+    (tree.folder / "docs" / "new").touch()
+    refuses(tree, "a file that came behind the gate", "the work tree isn't what the gate passed on: docs/new")
+    (tree.folder / "docs" / "new").unlink()
+    with open(tree.built, "ab") as file:
+        file.write(b"\n")
+    refuses(tree, "another program than the gate tried", "the program isn't the one that the gate tried")
+    tree.build()
+    with case("a program of one's own, with a gate"):
+        ended = tree.release("--program", str(tree.program))
+        ended.must_complain("^release: --program needs --unchecked", 4)
+    tree.append("README.md", "more\n")
+    tree.commit()
+    refuses(tree, "a commit behind the gate", f"the gate passed on commit {commit}, and this is ")
+    tree.git("reset", "-q", "--hard", commit)
+
+
+def refusals_of_versions(tree: Tree) -> None:
+    version = tree.folder / "VERSION"
+    version.write_text("0.9\n", encoding="utf-8")
+    refuses(tree, "a version that is none", "'0.9' in VERSION is no version", "--unchecked")
+    version.write_text("0.8.999\n", encoding="utf-8")
+    name = "a version that CHANGELOG.md doesn't tell of"
+    refuses(tree, name, "VERSION says 0.8.999, and", "--unchecked")
+    tree.restore()
+    tree.change("CHANGELOG.md", rf"^## \[{tree.version}\]", r"## [99.0.0] - 2026-01-02\n\n\g<0>")
+    said = f"VERSION says {tree.version}, and CHANGELOG.md tells of 99.0.0"
+    refuses(tree, "a version that isn't the newest there", said, "--unchecked")
+    tree.restore()
+
+
+def refusals_of_releases(tree: Tree) -> None:
+    refusals_of_gates(tree)
+    refuses(tree, "no program", "missing can't be read", "--unchecked", "--program", "missing")
+    said = "ldd doesn't know the program"
+    refuses(tree, "a program that is none", said, "--unchecked", "--program", "tree/README.md")
+    refusals_of_versions(tree)
+    tree.git("rm", "-q", "--cached", "docs/tpr.1")
+    refuses(tree, "no manual page", "there is no docs/tpr.1", "--unchecked")
+    tree.git("reset", "-q", "--hard")
+    (tree.room / "a_file").touch()
+    with case("a folder that is a file"):
+        said = f"release: a_file/tpr-{tree.version}-amd64.tar.gz can't be written"
+        tree.release("--unchecked", "a_file").must_say(said, 3)
+
+
+# What this machine can try
+
+
+def groups(tree: Tree) -> list[Group]:
+    found = [
+        Group(partial(makes_both, tree), 4, "releases"),
+        Group(partial(tells_planted, tree, OF_RELEASES), 8, "planted releases"),
+        Group(partial(refusals_of_releases, tree), 20, "refusals of releases"),
+        Group(partial(manual_page, tree), 4, "the manual page"),
+        Group(partial(archive_is_used, tree), 4, "the archive that is used"),
+    ]
+    if not shutil.which("dpkg-deb") or not os.access("/usr/bin/python3", os.X_OK):
+        print("left out the package, since there is no dpkg-deb, or no /usr/bin/python3", flush=True)
+        return found
+    found.append(Group(partial(tells_planted, tree, of_packages(tree.version)), 3, "planted packages"))
+    found.append(Group(partial(package_is_installed, tree), 18, "the package that is installed"))
+    if shutil.which("lintian"):
+        found.append(Group(partial(package_by_lintian, tree), 1, "the package by lintian"))
+    else:
+        print("left out the package by lintian, since there is none", flush=True)
+    return found
+
+
+def main() -> int:
+    words = argparse.ArgumentParser(description="What tools/release makes.")
+    words.add_argument("program", metavar="PROGRAM", type=Path)
+    words.add_argument("folder", metavar="FOLDER", type=Path, help="where all is written")
+    asked = words.parse_args()
+    if not shutil.which("git") or asked.program.read_bytes()[:4] != b"\x7fELF":
+        print("left out what tools/release makes, since there is no git, or TPR names no program of the machine")
+        return 0
+    tree = Tree(asked.folder.resolve(), asked.program.resolve())
+    tree.make()
+    return try_groups(groups(tree))
+
+
+if __name__ == "__main__":
+    sys.exit(main())
