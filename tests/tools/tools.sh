@@ -303,11 +303,7 @@ tools() {
     at_least 66 cut_reports
     at_least 141 refused_reports
     at_least 28 refusals_of_texts
-    at_least 14 suites_of_scripts
-    at_least 8 suites_of_another_program
-    at_least 19 suites_that_cannot_be
-    at_least 9 suites_of_what_is_wanted
-    at_least 19 suites_that_lose_nothing
+    at_least 69 suites
     at_least 6 comparisons
     at_least 5 comparisons_of_two_senders
     at_least $((open_examples + 2)) comparisons_of_examples

@@ -1,0 +1,94 @@
+"""Runs of tools/suite: with `tpr`, or with a program in its place that does what its script says."""
+from __future__ import annotations
+
+import os
+import re
+import shlex
+import shutil
+import subprocess
+from pathlib import Path
+
+from rule_cases import must
+from tool_calls import ROOT, Ended, difference, example, python, run, shown
+
+SUITE = ROOT / "tools" / "suite"
+HEAD = re.compile("script +result +run time  reason")
+TIMES = "the runs took T, judging them T"
+ONE_PASS = "1 script: 1 pass; all as wanted"
+
+# On no text it does nothing, and a script tells it what to do.
+ANOTHER = """#!/usr/bin/env bash
+if [[ $1 == queue ]]; then exit 0; fi
+source "$2"
+"""
+
+
+def answer(name: str) -> str:
+    """The file of what is expected of an example, as a word of the shell."""
+    return shlex.quote(str(example(name)))
+
+
+class Suites:
+    """The programs, and a folder in which suites are run."""
+
+    def __init__(self, room: Path, name: str, tpr: str):
+        self.folder, self.tpr, self.another = room / name, tpr, str(room / "another")
+        self.folder.mkdir()
+        Path(self.another).write_text(ANOTHER, encoding="ascii")
+        os.chmod(self.another, 0o755)
+
+    def file(self, name: str) -> Path:
+        return self.folder / name
+
+    def write(self, name: str, text: str) -> None:
+        """A script, or what is wanted of one."""
+        self.file(name).parent.mkdir(parents=True, exist_ok=True)
+        self.file(name).write_text(text, encoding="utf-8")
+
+    def copy(self, name: str, place: str) -> None:
+        """An example, into a place in the folder."""
+        self.file(place).parent.mkdir(parents=True, exist_ok=True)
+        shutil.copyfile(example(name), self.file(place))
+
+    def run(self, program: str, *words: str) -> Ended:
+        """Runs tools/suite with a program. The times of its table are left out."""
+        ended = run(SUITE, *words, folder=self.folder, more={"TPR": program})
+        lines = [timeless(line) for line in ended.text.split("\n")]
+        return ended._replace(printed="\n".join(lines).encode("utf-8", "surrogateescape"))
+
+    def start(self, *words: str, printed: int) -> subprocess.Popen[bytes]:
+        """Starts tools/suite with the other program. Whatever it says is lost."""
+        no, variables = subprocess.DEVNULL, {**os.environ, "TPR": self.another}
+        return subprocess.Popen(
+            [str(SUITE), *words], cwd=self.folder, env=variables, stdin=no, stdout=printed, stderr=no
+        )
+
+    def rules(self, *words: str, program: str) -> Ended:
+        """What a rule of tool_rules.py prints of a command with this program."""
+        return python("tool_rules.py", *words, folder=self.folder, more={"TPR": program})
+
+    def files_in(self, name: str) -> list[str]:
+        """All files in a folder of it, by their paths there."""
+        folder = self.file(name)
+        return sorted(str(it.relative_to(folder)) for it in folder.rglob("*") if it.is_file())
+
+
+def timeless(line: str) -> str:
+    """A line of the table without the time that it tells first, and its last line without both."""
+    times = 0 if line.startswith("the runs took ") else 1
+    return re.sub(r" +[0-9]+\.[0-9]{3}s(?=[ ,]|$)", " T", line, count=times).rstrip(" ")
+
+
+def must_be_table(ended: Ended, status: int, *lines: str) -> None:
+    """What was printed is the head, a line for each script, in whichever order they were done, and the last."""
+    ended.must_say_nothing(status)
+    head, *found = ended.text.removesuffix("\n").split("\n")
+    must(HEAD.fullmatch(head), f"the head is {head!r}")
+    must(found[-2:] == [TIMES, lines[-1]], f"the last lines are{shown(chr(10).join(found[-2:]))}")
+    wrong = difference("\n".join(sorted(lines[:-1])), "\n".join(sorted(found[:-2])))
+    must(not wrong, f"other lines are wanted{shown(wrong)}")
+
+
+def kept(name: str, result: str, ending: str = "report", folder: str = "kept") -> str:
+    """Where the reason says that a report is kept."""
+    return f"; kept: {folder}/{name}.ttcn/run1.{result}.{ending}"
