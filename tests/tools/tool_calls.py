@@ -18,6 +18,7 @@ from typing import Any, NamedTuple, Optional, Union
 ROOT = Path(__file__).resolve().parents[2]
 sys.path.append(str(ROOT / "tests" / "program"))
 
+import example_files as example_files
 from example_files import example as example
 from rule_cases import Wrong, must
 

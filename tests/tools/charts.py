@@ -1,0 +1,182 @@
+#!/usr/bin/env python3
+"""tools/chart: the charts of all examples, those of the documents, those of reports at random, and how it is called.
+
+    tests/tools/charts.py FOLDER
+
+All is written into the FOLDER. What a chart's text doesn't tell, tool_rules.py looks at. It prints a line `passed NAME`
+for each case, or lines that begin with `FAILED: NAME`.
+"""
+from __future__ import annotations
+
+import argparse
+import re
+import sys
+from functools import partial
+from pathlib import Path
+
+sys.dont_write_bytecode = True
+
+import example_reports
+from tool_calls import EXAMPLES, ROOT, Group, case, onto_a_full_device, rules_must_hold, run, try_groups
+
+CHART = ROOT / "tools" / "chart"
+LOGIN = EXAMPLES / "login_is_answered.expected"
+WIDTH = {"COLUMNS": "90"}
+
+
+def charts_of_examples(folder: Path) -> None:
+    """Each is drawn, and the rules hold of all."""
+    both: list[Path] = []
+    for report in example_reports.all_of_them():
+        chart = folder / f"{report.name}.svg"
+        with case(f"the chart of {report.name}"):
+            chart.write_bytes(run(CHART, report).must_say_nothing().printed)
+        both += [report, chart]
+    with case("the rules on all these charts"):
+        rules_must_hold("chart", *both)
+
+
+def charts_of_documents() -> None:
+    for file in sorted((ROOT / "docs" / "charts").glob("*.svg")):
+        with case(f"{file.name} is the chart of its example"):
+            run(CHART, EXAMPLES / f"{file.stem}.expected").must_print(file.read_bytes())
+
+
+def rules_on_reports() -> None:
+    with case("the orders of the reports of the examples"):
+        rules_must_hold("orders", *example_reports.all_of_them())
+    with case("reports that are cut behind any of their bytes"):
+        rules_must_hold("cuts", *example_reports.small_ones())
+    with case("reports at random"):
+        rules_must_hold("random", "150")
+    with case("the charts' orders of 10,000 reports at random, played on the ports"):
+        rules_must_hold("played", "10000")
+    with case("small reports, of which all orders are tried"):
+        rules_must_hold("tried", "2000")
+
+
+# In other ways
+
+IN_LETTERS = """\
+halt_holds_back_what_comes_later: result error
+
+           mtc               a
+            |-- integer:1 -->| took p
+            |           [halted p]
+     took q |<-- integer:9 --|
+            |-- integer:2 --]. left p
+        end done        end waiting
+      verdict none     verdict none
+
+a: left p mtc 1 integer:2
+
+result error
+"""
+
+
+def charts_in_other_ways(folder: Path) -> None:
+    chart = folder / "chart.svg"
+    with case("a chart of standard input, with a title"):
+        run(CHART, "--title", LOGIN.stem, input=LOGIN.read_bytes()).must_print(run(CHART, LOGIN).printed)
+    with case("a chart with a title of signs"):
+        chart.write_bytes(run(CHART, "--title", '<&"', LOGIN).must_say_nothing().printed)
+        rules_must_hold("chart", LOGIN, chart)
+    with case("a chart in letters"):
+        report = EXAMPLES / "halt_holds_back_what_comes_later.expected"
+        run(CHART, "--text", report, more=WIDTH).must_print(IN_LETTERS)
+    charts_of_emptied_ports(folder)
+    charts_that_cannot_be(folder)
+    with case("a chart of two files"):
+        run(CHART, LOGIN, LOGIN).must_complain("^usage: chart", 4)
+    with case("what chart --help says"):
+        run(CHART, "--help").must_show("^  4  the command line is wrong$")
+
+
+def charts_that_cannot_be(folder: Path) -> None:
+    with case("a chart of a closed standard input"):
+        run("sh", "-c", 'exec "$0" <&-', CHART).must_say("chart: standard input", 2)
+    with case("a chart of a missing file"):
+        run(CHART, folder / "missing").must_say(f"chart: {folder / 'missing'} can't be read", 2)
+    with case("a chart of a folder"):
+        run(CHART, folder).must_say(f"chart: {folder} can't be read", 2)
+    unwritten = "chart: the answer can't be written"
+    with case("a chart onto a full device"):
+        onto_a_full_device(CHART, LOGIN).must_say(unwritten, 3)
+    with case("a chart onto a closed standard output"):
+        run("sh", "-c", 'exec "$0" "$1" >&-', CHART, LOGIN).must_say(unwritten, 3)
+
+
+# Which of two emptyings discards a message, and what can only have come behind one
+
+END = "end done|verdict none|"
+FIRST = (
+    f"component mtc|cleared p|took p b 0 integer:2|cleared p|{END}component a|sent mtc.p 0 integer:1|"
+    f"sent b.p 0 integer:5|{END}component b|took p a 0 integer:5|sent mtc.p 0 integer:2|{END}result none|"
+)
+BEHIND = (
+    f"component mtc|took q a 0 integer:9|cleared p|took p a 0 integer:1|{END}"
+    f"component a|sent mtc.q 0 integer:9|sent mtc.p 0 integer:1|{END}result none|"
+)
+OF_FIRST = """\
+first: result none
+
+ mtc a b
+ discarded p |#-- integer:1 --| |
+ [cleared p, discards 1] | |
+ | |-- integer:5 -->| took p
+ took p |<---------- integer:2 -----------|
+ [cleared p] . .
+ end done end done end done
+ verdict none verdict none verdict none
+
+result none
+"""
+OF_BEHIND = """\
+behind: result none
+
+ mtc a
+ took q |<-- integer:9 --|
+ [cleared p] |
+ took p |<-- integer:1 --|
+ end done end done
+ verdict none verdict none
+
+result none
+"""
+
+
+def without_width(text: str) -> str:
+    """But for how wide the spaces are."""
+    return re.sub("^ ", "", re.sub(" +", " ", text), flags=re.MULTILINE)
+
+
+def must_be_in_letters(folder: Path, name: str, report: str, wanted: str) -> None:
+    file = folder / f"{name}.report"
+    file.write_text(report.replace("|", "\n"), encoding="ascii")
+    ended = run(CHART, "--text", file, more=WIDTH)
+    ended._replace(printed=without_width(ended.text).encode()).must_print(without_width(wanted))
+
+
+def charts_of_emptied_ports(folder: Path) -> None:
+    with case("a message that the first of two emptyings discards"):
+        must_be_in_letters(folder, "first", FIRST, OF_FIRST)
+    with case("a message that comes behind an emptying"):
+        must_be_in_letters(folder, "behind", BEHIND, OF_BEHIND)
+
+
+def main() -> int:
+    words = argparse.ArgumentParser(description="What tools/chart makes of reports.")
+    words.add_argument("folder", metavar="FOLDER", type=Path, help="where all is written")
+    folder = words.parse_args().folder.resolve()
+    return try_groups(
+        [
+            Group(partial(charts_of_examples, folder), 1, "charts of examples"),
+            Group(charts_of_documents, 3, "charts of documents"),
+            Group(rules_on_reports, 5, "rules on reports"),
+            Group(partial(charts_in_other_ways, folder), 12, "charts in other ways"),
+        ]
+    )
+
+
+if __name__ == "__main__":
+    sys.exit(main())

@@ -1,0 +1,228 @@
+#!/usr/bin/env python3
+"""tools/compare: reports that are equal, equal but for the order between senders, and different.
+
+    tests/tools/comparisons.py FOLDER
+
+Reports are written into the FOLDER. It prints a line `passed NAME` for each case, or lines that begin with
+`FAILED: NAME`.
+"""
+from __future__ import annotations
+
+import argparse
+import sys
+from functools import partial
+from pathlib import Path
+
+sys.dont_write_bytecode = True
+
+from example_reports import named
+from tool_calls import ROOT, Group, case, example_files, run, try_groups
+
+COMPARE = ROOT / "tools" / "compare"
+EQUAL_BUT_FOR_THE_ORDER = "equal but for the order between senders\n"
+
+
+def compared(name: str, status: int, printed: str, one: Path, other: Path) -> None:
+    with case(f"compare: {name}"):
+        run(COMPARE, one, other).must_print(printed, status)
+
+
+# What it says of a report that differs
+
+TWO_ORDERS = f"""\
+{EQUAL_BUT_FOR_THE_ORDER}mtc, open: which came first
+  - report A, line 4: took orders north 0 charstring:"stopped"
+  + report B, line 4: took orders south 0 charstring:"stopped"
+"""
+ANOTHER_VERDICT = """\
+different
+mtc, what it did by itself
+  - report A, line 4: set pass
+  + report B, line 4: set fail
+mtc, its verdict
+  - report A, line 9: verdict pass
+  + report B, line 9: verdict fail
+the result
+  - report A, line 17: result pass
+  + report B, line 17: result fail
+"""
+ANOTHER_MESSAGE = """\
+different
+mtc, what went to system.server
+  - report A, line 2: sent system.server 0 Request:{user := "ada", password := "guess"}
+  + report B, line 2: sent system.server 0 Request:{user := "ada", password := "guest"}
+system, what came from mtc at server
+  - report A, line 11: took server mtc 0 Request:{user := "ada", password := "guess"}
+  + report B, line 11: took server mtc 0 Request:{user := "ada", password := "guest"}
+"""
+SET_LATER = """\
+different
+mtc, the order of what it did
+  - report A, line 4: set pass
+  + report B, line 4: sent system.server 1 Request:{user := "ada", password := "secret"}
+"""
+OTHER_COMPONENTS = """\
+different
+the components
+  - report A, line 10: component system
+  + report B, line 9: component north
+"""
+
+
+def comparisons(folder: Path) -> None:
+    login, one = named("login"), named("stop")
+    lines = login.read_text(encoding="utf-8").splitlines(keepends=True)
+    compared("a report with itself", 0, "equal\n", login, login)
+    compared("two orders", 0, TWO_ORDERS, one, one.with_suffix(".2"))
+    failed = [it.replace("pass", "fail", 1) if number in (4, 9, 17) else it for number, it in enumerate(lines, 1)]
+    compared("another verdict", 5, ANOTHER_VERDICT, login, written(folder / "failed", failed))
+    guest = [it.replace("guess", "guest", 1) for it in lines]
+    compared("another message", 5, ANOTHER_MESSAGE, login, written(folder / "guest", guest))
+    later = [*lines[:3], lines[4], lines[3], *lines[5:]]
+    compared("a verdict that is set later", 5, SET_LATER, login, written(folder / "later", later))
+    compared("other components", 5, OTHER_COMPONENTS, login, one)
+
+
+def written(file: Path, lines: list[str]) -> Path:
+    file.write_text("".join(lines), encoding="utf-8")
+    return file
+
+
+# Reports in which mtc takes a message of a and one of b, and sets a verdict
+
+ENTRIES = {
+    "a_then_b": "took p a 0 integer:1|took p b 0 integer:1|set fail",
+    "b_then_a": "took p b 0 integer:1|took p a 0 integer:1|set fail",
+    "a_then_fail": "took p a 0 integer:1|set fail|took p b 0 integer:1",
+    "three": "took p a 0 integer:1|took p b 0 integer:1|took p a 1 integer:1|set fail",
+    "fail_between": "took p b 0 integer:1|took p a 0 integer:1|set fail|took p a 1 integer:1",
+    "sent_to_a": "sent a.p 0 integer:2|sent b.p 0 integer:2|took p a 0 integer:1|took p b 0 integer:1",
+    "sent_to_b": "sent b.p 0 integer:2|sent a.p 0 integer:2|took p a 0 integer:1|took p b 0 integer:1",
+}
+
+
+def report_of_two_senders(name: str) -> list[str]:
+    entries = ENTRIES[name].split("|")
+    sends = name.startswith("sent_")
+    result = "none" if sends else "fail"
+    lines = ["component mtc", *entries, "end done", f"verdict {result}"]
+    for sender in ("a", "b"):
+        messages = 2 if f"took p {sender} 1 integer:1" in entries else 1
+        lines += [f"component {sender}", *(f"sent mtc.p {number} integer:1" for number in range(messages))]
+        lines += ["end done", "verdict none", *(["left p mtc 0 integer:2"] if sends else [])]
+    return [f"{line}\n" for line in (*lines, f"result {result}")]
+
+
+OF_TWO_SENDERS = (
+    (
+        "two senders",
+        0,
+        f"""\
+{EQUAL_BUT_FOR_THE_ORDER}mtc, open: which came first
+  - report A, line 2: took p a 0 integer:1
+  + report B, line 2: took p b 0 integer:1
+""",
+        "a_then_b",
+        "b_then_a",
+    ),
+    (
+        "a verdict between two senders",
+        5,
+        """\
+different
+mtc, the order of what it did
+  - report A, line 3: took p b 0 integer:1
+  + report B, line 3: set fail
+""",
+        "a_then_b",
+        "a_then_fail",
+    ),
+    (
+        "the same behind each message",
+        0,
+        f"""\
+{EQUAL_BUT_FOR_THE_ORDER}mtc, open: which came first
+  - report A, line 2: took p b 0 integer:1
+  + report B, line 2: took p a 0 integer:1
+""",
+        "b_then_a",
+        "a_then_fail",
+    ),
+    (
+        "a verdict at another place behind an open order",
+        5,
+        """\
+different
+mtc, the order of what it did
+  - report A, line 4: took p a 1 integer:1
+  + report B, line 4: set fail
+mtc, open: which came first
+  - report A, line 2: took p a 0 integer:1
+  + report B, line 2: took p b 0 integer:1
+""",
+        "three",
+        "fail_between",
+    ),
+    (
+        "the order of its own sendings",
+        5,
+        """\
+different
+mtc, the order of what it did
+  - report A, line 2: sent a.p 0 integer:2
+  + report B, line 2: sent b.p 0 integer:2
+""",
+        "sent_to_a",
+        "sent_to_b",
+    ),
+)
+
+
+def comparisons_of_two_senders(folder: Path) -> None:
+    reports = {name: written(folder / name, report_of_two_senders(name)) for name in ENTRIES}
+    for name, status, printed, one, other in OF_TWO_SENDERS:
+        compared(name, status, printed, reports[one], reports[other])
+
+
+# The reports of the examples
+
+
+def comparisons_of_examples(folder: Path) -> None:
+    for second in pairs_of_examples():
+        first = second.with_suffix(".1")
+        ends = {it.read_bytes().splitlines()[-1] for it in (first, second)}
+        results = "one result" if len(ends) == 1 else "two results"
+        with case(f"compare: the first two reports of {second.stem}, of {results}"):
+            ended = run(COMPARE, first, second)
+            if len(ends) == 1:
+                ended.must_show(f"^{EQUAL_BUT_FOR_THE_ORDER}").must_say_nothing()
+            else:
+                ended.must_show("^the result$", 5).must(ended.text.startswith("different\n"), "they differ")
+    missing = folder / "missing"
+    with case("compare: a missing file"):
+        run(COMPARE, named("login"), missing).must_say(f"compare: {missing} can't be read", 2)
+    with case("compare: one file"):
+        run(COMPARE, named("login")).must_complain("^usage: compare", 4)
+
+
+def pairs_of_examples() -> list[Path]:
+    """The second of the reports that an example may have."""
+    found = [it for script in example_files.texts("ttcn") for it in example_files.answers(script)]
+    return [it for it in found if it.suffix == ".2"]
+
+
+def main() -> int:
+    words = argparse.ArgumentParser(description="What tools/compare says of reports.")
+    words.add_argument("folder", metavar="FOLDER", type=Path, help="where reports are written")
+    folder = words.parse_args().folder.resolve()
+    return try_groups(
+        [
+            Group(partial(comparisons, folder), 6, "comparisons"),
+            Group(partial(comparisons_of_two_senders, folder), 5, "comparisons of two senders"),
+            Group(partial(comparisons_of_examples, folder), 2, "comparisons of examples"),
+        ]
+    )
+
+
+if __name__ == "__main__":
+    sys.exit(main())

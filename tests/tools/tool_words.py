@@ -1,0 +1,56 @@
+#!/usr/bin/env python3
+"""What all tools have in common: what they do where nobody gets their words, and where memory is refused.
+
+    tests/tools/tool_words.py
+
+It prints a line `passed NAME` for each case, or lines that begin with `FAILED: NAME`.
+"""
+from __future__ import annotations
+
+import os
+import sys
+
+sys.dont_write_bytecode = True
+
+from rule_cases import must
+from tool_calls import ROOT, Group, case, onto_a_full_device, run, try_groups
+
+TOOLS = ("chart", "compare", "explain", "explore", "release", "rewrite", "suite", "titan", "why")
+NEEDS_MUCH = """from tpr_tools import command
+command.run("tool", lambda: len(bytes(1 << 62)))"""
+
+
+def words_that_nobody_gets() -> None:
+    for tool in TOOLS:
+        command = ROOT / "tools" / tool
+        with case(f"the help of {tool} onto a full device"):
+            onto_a_full_device(command, "--help").must_say(f"{tool}: the answer can't be written", 3)
+        with case(f"wrong words for {tool}, and a full standard error"):
+            with open("/dev/full", "wb") as full:
+                ended = run(command, "--nothing", stderr=full).must_end(4)
+            must(not ended.printed, "it printed something")
+        with case(f"wrong words for {tool}, and a closed standard error"):
+            ended = run("sh", "-c", 'exec "$0" --nothing 2>&-', command).must_end(4)
+            must(not ended.printed, "it printed something")
+    what_titan_cannot_read()
+    memory_that_is_refused()
+
+
+def what_titan_cannot_read() -> None:
+    odd = ROOT / "tests" / "titan" / "odd"
+    with case("what titan can't read, and a full standard error"):
+        with open("/dev/full", "wb") as full:
+            ended = run(ROOT / "tools" / "titan", odd / "mtc.log", odd / "3.log", stderr=full)
+        ended.must_print((odd / "trace").read_bytes(), 5)
+
+
+def memory_that_is_refused() -> None:
+    with case("a tool that is refused memory"):
+        ended = run("python3", "-B", "-c", NEEDS_MUCH, more={"PYTHONPATH": str(ROOT / "tools")})
+        ended.must_say("tool: memory was refused", 1)
+
+
+if __name__ == "__main__":
+    # Without it what can't be written stays, and is tried again at the very end.
+    os.environ.pop("PYTHONUNBUFFERED", None)
+    sys.exit(try_groups([Group(words_that_nobody_gets, 29, "words that nobody gets")]))
