@@ -1,10 +1,6 @@
 # The tools of the test engineer: tools/chart, tools/compare, tools/suite (suites.sh), and what they all refuse
 # (refused_reports.sh), or have in common (tool_words.py).
 
-rules_hold() { # RULE..
-    says_nothing && python3 "$root/tests/tools/tool_rules.py" "$@"
-}
-
 # The reports of the examples: what mode run prints of a script that it runs.
 find_reports() {
     local file script
@@ -21,9 +17,7 @@ tools() {
     at_least $((reports_of_examples + 21)) told "$room/told_of_charts" tests/tools/charts.py "$room/charts"
     at_least 16 parts_of_charts
     pages
-    at_least 66 cut_reports
-    at_least 141 refused_reports
-    at_least 28 refusals_of_texts
+    at_least 235 refused_reports
     at_least 69 suites
     at_least $((open_examples + 13)) told "$room/told_of_comparisons" tests/tools/comparisons.py "$room/comparisons"
     at_least 29 told "$room/told_of_words" tests/tools/tool_words.py

@@ -1,0 +1,106 @@
+#!/usr/bin/env python3
+"""Reports that are cut or changed, and texts that are no reports: the tools refuse each, with its line.
+
+    tests/tools/refused_reports.py FOLDER
+
+They are written into the FOLDER. It prints a line `passed NAME` for each case, or lines that begin with `FAILED: NAME`.
+"""
+from __future__ import annotations
+
+import argparse
+import sys
+from functools import partial
+from pathlib import Path
+
+sys.dont_write_bytecode = True
+
+from example_reports import NAMED, named
+from refused_texts import CHANGED, refused_texts
+from rule_cases import must
+from tool_calls import ROOT, Group, case, rules_must_hold, run, try_groups
+
+CHART, COMPARE = ROOT / "tools" / "chart", ROOT / "tools" / "compare"
+GOLDEN = ROOT / "tests" / "golden"
+
+
+class Texts:
+    """The texts that are tried, of which no two have one name or are the same, each in a file of the folder."""
+
+    def __init__(self, folder: Path):
+        self.folder = folder
+        self.names: set[str] = set()
+        self.known: dict[bytes, str] = {}
+
+    def write(self, name: str, text: bytes) -> Path:
+        other = self.known.setdefault(text, name)
+        must(name not in self.names and other == name, f"its text is that of {other}, or its name isn't its own")
+        self.names.add(name)
+        (self.folder / "text").write_bytes(text)
+        return self.folder / "text"
+
+    def must_be_refused(self, file: Path, line: int) -> None:
+        """tools/chart refuses it at this line, or draws it where this is 0, since tpr may print it."""
+        ended = run(CHART, file)
+        if line:
+            ended.must_say(f"chart: {file}, line {line}: ", 2)
+        else:
+            chart = self.folder / "chart.svg"
+            chart.write_bytes(ended.must_say_nothing().printed)
+            rules_must_hold("chart", file, chart)
+
+
+def cut_reports(texts: Texts) -> None:
+    """A report that is cut behind any of its lines is refused at the next."""
+    for name in NAMED:
+        cut_report(texts, name, "chart")
+    cut_report(texts, "halt", "compare", named("login"))
+
+
+def cut_report(texts: Texts, name: str, tool: str, *words: Path) -> None:
+    lines, cut = named(name).read_bytes().splitlines(keepends=True), texts.folder / "cut"
+    for number in range(len(lines)):
+        with case(f"{tool} of the report {name}, cut behind line {number}"):
+            cut.write_bytes(b"".join(lines[:number]))
+            said = f"{tool}: {cut}, line {number + 1}: "
+            run(ROOT / "tools" / tool, *words, cut).must_say(said, 2)
+
+
+def changed_reports(texts: Texts) -> None:
+    """Each change is a script of `sed`."""
+    for name, line, change in CHANGED:
+        with case(f"the report {name} with the change {change}"):
+            changed = run("sed", "-e", change, named(name)).must_say_nothing().printed
+            must(changed != named(name).read_bytes(), "nothing is changed")
+            texts.must_be_refused(texts.write(f"{name} {change}", changed), line)
+
+
+def charts_of_refusals(texts: Texts) -> None:
+    """What is printed of a script that is refused is no report."""
+    for file in sorted(GOLDEN.glob("*/*refused.expected")):
+        with case(f"the chart of {file.name}"):
+            texts.must_be_refused(file, 1)
+
+
+def refusals_of_texts(texts: Texts) -> None:
+    """In each a `|` stands for the end of a line."""
+    for line, text in refused_texts():
+        with case(f"the text {text[:60]}"):
+            texts.must_be_refused(texts.write(text, text.replace("|", "\n").encode()), line)
+
+
+def main() -> int:
+    words = argparse.ArgumentParser(description="Which reports the tools refuse.")
+    words.add_argument("folder", metavar="FOLDER", type=Path, help="where reports are written")
+    texts = Texts(words.parse_args().folder.resolve())
+    return try_groups(
+        [
+            Group(partial(cut_reports, texts), 66, "reports that are cut"),
+            Group(partial(changed_reports, texts), 96, "reports that are changed"),
+            Group(partial(charts_of_refusals, texts), 45, "charts of refusals"),
+            Group(partial(refusals_of_texts, texts), 28, "texts that are refused"),
+        ]
+    )
+
+
+if __name__ == "__main__":
+    sys.exit(main())
