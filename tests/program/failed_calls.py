@@ -13,7 +13,8 @@ import os
 from collections.abc import Callable, Iterator
 from typing import NamedTuple
 
-from from_outside import Case, Ended, Program, try_each
+from calling import Ended
+from from_outside import Case, Program, try_each
 from refusing import NO_READ, Wrong, must
 
 # The modes whose answers to the texts of a program are written in several pieces. That of mode queue is as long, and

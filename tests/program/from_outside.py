@@ -10,21 +10,17 @@ can't be tried here, and lines that begin with `FAILED: NAME` for one that is wr
 from __future__ import annotations
 
 import argparse
-import fcntl
 import os
 import resource
 import signal
 import subprocess
-import sys
-import termios
 import time
 from collections.abc import Callable, Iterable, Iterator
-from typing import IO, Any, NamedTuple, Optional, Union
+from typing import Any, Optional
 
+from calling import ENDING, MOST_SECONDS, Ended, take_signals, wait_until, waiting_bytes
 from refusing import NO_MEMORY, NO_READ, NO_THREAD, Wrong, must, refused_calls
 
-MOST_SECONDS = 20
-ENDING = (signal.SIGINT, signal.SIGTERM, signal.SIGHUP)
 NOBODY = 65534
 
 SENDS_TO_ITSELF = """module Sends {
@@ -64,18 +60,6 @@ WAITS_LONG = f"""module Waits {{
 
 class LeftOut(Exception):
     """A case that can't be tried here."""
-
-
-class Ended(NamedTuple):
-    """How a run ended, what it printed, and what it said."""
-
-    status: int
-    printed: bytes
-    said: bytes
-
-    def must_be(self, status: int, printed: bytes) -> None:
-        wanted = Ended(status, printed, b"")
-        must(self == wanted, f"status {self.status}, printed {self.printed[-80:]!r}, said {self.said[-80:]!r}")
 
 
 class Program:
@@ -310,19 +294,6 @@ def started(program: Program, *words: str, **files: Any) -> subprocess.Popen[byt
     return subprocess.Popen([program.path, *words], **given)
 
 
-def wait_until(holds: Callable[[], bool], what: str) -> None:
-    end = time.monotonic() + MOST_SECONDS
-    while not holds():
-        must(time.monotonic() < end, f"it never was so that {what}")
-        time.sleep(0.01)
-
-
-def waiting_bytes(pipe: Union[int, IO[bytes], None]) -> int:
-    """How many bytes stand in a pipe."""
-    assert pipe is not None
-    return int.from_bytes(fcntl.ioctl(pipe, termios.FIONREAD, b"\0" * 4), sys.byteorder)
-
-
 def waits_for_a_reader(process: subprocess.Popen[bytes]) -> bool:
     """Whether the process has written much, and does nothing more."""
     before = waiting_bytes(process.stdout)
@@ -426,14 +397,6 @@ def cases() -> Iterator[Case]:
     yield "a limit on processes", "run", limit_on_processes
     for number in ENDING:
         yield f"{number.name} in a run in which one waits", "run", signal_while_running(number)
-
-
-def take_signals() -> None:
-    """Undoes what this was started with, where a script, nohup or a daemon ignores or blocks one of these: whoever is
-    started by this takes them."""
-    signal.pthread_sigmask(signal.SIG_UNBLOCK, ENDING)
-    for number in ENDING:
-        signal.signal(number, signal.SIG_DFL)
 
 
 def try_each(tried: Iterable[Case]) -> None:

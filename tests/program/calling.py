@@ -1,0 +1,142 @@
+"""Commands called as users call them: what each is given, how it must end, and what is told of each case."""
+from __future__ import annotations
+
+import difflib
+import fcntl
+import os
+import signal
+import subprocess
+import sys
+import termios
+import time
+from collections.abc import Callable, Iterable, Sequence
+from typing import IO, Any, NamedTuple, Optional, TypeVar, Union
+
+from refusing import Wrong, must
+
+MOST_SECONDS, MOST_SECONDS_OF_A_CALL = 20, 120
+MOST_LINES = 40  # of what was printed, where it is wrong
+ENDING = (signal.SIGINT, signal.SIGTERM, signal.SIGHUP)
+
+Word = Union[str, bytes]
+Tried = TypeVar("Tried")
+
+
+class Ended(NamedTuple):
+    """How a run ended, what it printed, and what it said."""
+
+    status: int
+    printed: bytes
+    said: bytes
+
+    def must_be(self, status: int, printed: bytes) -> None:
+        wanted = Ended(status, printed, b"")
+        must(self == wanted, f"status {self.status}, printed {self.printed[-80:]!r}, said {self.said[-80:]!r}")
+
+    def difference(self, wanted: Ended) -> Optional[str]:
+        """What isn't as it is wanted, None where all is."""
+        if self == wanted:
+            return None
+        other = "" if self.status == wanted.status else f", and {wanted.status} is wanted"
+        return "\n".join([
+            f"status {self.status}{other}",
+            *different_lines("printed", wanted.printed, self.printed),
+            *different_lines("said", wanted.said, self.said),
+        ])
+
+
+def different_lines(what: str, wanted: bytes, found: bytes) -> list[str]:
+    before, after = ([repr(line)[2:-1] for line in text.splitlines(keepends=True)] for text in (wanted, found))
+    return [*difflib.unified_diff(before, after, f"{what}, as wanted", what, lineterm="")][:MOST_LINES]
+
+
+def take_signals() -> None:
+    """Undoes what this was started with, where a script, nohup or a daemon ignores or blocks one of these: whoever is
+    started by this takes them."""
+    signal.pthread_sigmask(signal.SIG_UNBLOCK, ENDING)
+    for number in ENDING:
+        signal.signal(number, signal.SIG_DFL)
+
+
+def wait_until(holds: Callable[[], bool], what: str) -> None:
+    end = time.monotonic() + MOST_SECONDS
+    while not holds():
+        must(time.monotonic() < end, f"it never was so that {what}")
+        time.sleep(0.01)
+
+
+def waiting_bytes(pipe: Union[int, IO[bytes], None]) -> int:
+    """How many bytes stand in a pipe."""
+    assert pipe is not None
+    return int.from_bytes(fcntl.ioctl(pipe, termios.FIONREAD, b"\0" * 4), sys.byteorder)
+
+
+def give(process: subprocess.Popen[bytes], piece: bytes) -> None:
+    """A piece of its standard input, which it has read then."""
+    assert process.stdin is not None
+    os.write(process.stdin.fileno(), piece)
+    wait_until(lambda: waiting_bytes(process.stdin) == 0, f"{piece!r} was read")
+
+
+def call(words: Sequence[Word], pieces: Sequence[bytes] = (), closed: Sequence[int] = (), **streams: Any) -> Ended:
+    """Calls a command, by default with an empty standard input. The PIECES come there one by one. The standard streams
+    of these numbers are closed."""
+    stdin = subprocess.PIPE if pieces else subprocess.DEVNULL
+    given: dict[str, Any] = {"stdin": stdin, "stdout": subprocess.PIPE, "stderr": subprocess.PIPE, **streams}
+
+    def close() -> None:
+        for stream in closed:
+            os.close(stream)
+
+    with subprocess.Popen(words, preexec_fn=close, **given) as process:
+        try:
+            for piece in pieces:
+                give(process, piece)
+            printed, said = process.communicate(timeout=MOST_SECONDS_OF_A_CALL)
+        except BaseException:
+            process.kill()
+            raise
+    return Ended(process.returncode, printed or b"", said or b"")
+
+
+class Cases:
+    """The cases that were tried, each of another name, and whether one failed."""
+
+    def __init__(self) -> None:
+        self.names: set[str] = set()
+        self.count, self.has_failed = 0, False
+
+    def told(self, name: str, wrong: Optional[str]) -> None:
+        """Tells of a case what is wrong with it, if anything is."""
+        if name in self.names:
+            wrong = "two cases have this name"
+        self.names.add(name)
+        self.count += 1
+        self.has_failed |= wrong is not None
+        print(f"passed {name}" if wrong is None else f"FAILED: {name}: {wrong}", flush=True)
+
+    def must_end(self, name: str, ended: Ended, status: int, printed: bytes = b"", said: bytes = b"") -> None:
+        self.told(name, ended.difference(Ended(status, printed, said)))
+
+    def must_be(self, name: str, found: object, wanted: object) -> None:
+        self.told(name, None if found == wanted else f"{found!r}, and {wanted!r} is wanted")
+
+    def must_come(self, name: str, holds: Callable[[], bool]) -> None:
+        """It holds, or does so soon."""
+        try:
+            wait_until(holds, "it holds")
+            self.told(name, None)
+        except Wrong as late:
+            self.told(name, str(late))
+
+    def try_groups(self, tried: Tried, groups: Iterable[tuple[Callable[[Tried], None], int]]) -> int:
+        """Tries each group of cases, of which there are so many at least. The status to end with."""
+        for group, least in groups:
+            before = self.count
+            try:
+                group(tried)
+            except (Wrong, OSError, subprocess.SubprocessError) as wrong:
+                self.told(f"{group.__name__} broke off", str(wrong))
+            if (count := self.count - before) < least:
+                self.told(group.__name__, f"there are {count} cases of it, and {least} are wanted at least")
+        return int(self.has_failed)
