@@ -1,5 +1,5 @@
 # What ./build builds, and that ./tpr then runs it and tries nothing: in a tree of five crates, with an `rt`
-# that only says what it was asked for. trying.sh goes on with the same tree.
+# that only says what it was asked for.
 
 # The toolchain's command of these tests. The program that it makes prints its words and ends with 7. Files
 # beside the crates of the tree TREE make it refuse a crate, fail once it has made the program, edit a source
@@ -225,7 +225,7 @@ building() {
     mkdir "$room/building" && cd -- "$room/building" || exit 1
     if set_up "there is a tree of five crates" make_tree; then
         at_least 49 builds_and_fails
-        trying
     fi
     cd -- "$root" || exit 1
+    trying
 }

@@ -1,0 +1,164 @@
+"""A tree of five crates with the repository's ./tpr, ./try and ./build, and a command `rt` in the toolchain's place,
+which proves nothing, and says what it was asked for."""
+from __future__ import annotations
+
+import os
+import re
+import shutil
+import subprocess
+import sys
+from collections.abc import Iterator, Sequence
+from contextlib import contextmanager
+from pathlib import Path
+from typing import Any, Optional
+
+from calling import MOST_SECONDS, Cases, Ended, Word, call, take_signals
+from refusing import ROOT, must
+
+# The program that it makes prints its words and ends with 7. Files beside the crates of the tree TREE make it refuse a
+# crate, fail once it has made the program, edit a source meanwhile, hang, or wait for another crate; and one is what it
+# does where it tries.
+RT = r"""#!/bin/sh
+# Waits until two crates are at work.
+meet() {
+    touch "$TREE/met in $crate"
+    for _ in 1 2 3 4 5 6 7 8 9 10 11 12 13 14 15 16 17 18 19 20; do
+        if [ -e "$TREE/met in low" ] && [ -e "$TREE/met in side" ]; then return; fi
+        sleep 0.5
+    done
+    exit 2
+}
+crate=${PWD##*/}
+if [ "$1" = try ]; then exec sh ../tried "$@"; fi
+echo "rt was asked in $crate: $*"
+if [ -e "$TREE/refused in $crate" ]; then exit 2; fi
+if [ -e "$TREE/meet" ]; then meet; fi
+if [ -e "$TREE/hangs in $crate" ]; then echo $$ >"$TREE/hanging" && sleep 60; fi
+mkdir -p out/rlib && touch out/rlib/stamp
+if [ -e "$TREE/edits" ]; then rm "$TREE/edits" && sleep 0.1 && touch "$TREE/low/src/lib.rt"; fi
+if [ "$1" = run ]; then printf '#!/bin/sh\nprintf "%%s;" "$@"\nexit 7\n' >"out/$crate" && chmod +x "out/$crate"; fi
+if [ -e "$TREE/fails in $crate" ]; then exit 2; fi
+"""
+# `tpr` and `tpr_ordered` stand on `low` and `side`, and `beside` doesn't matter to them.
+CRATES = """low: thiserror
+side: thiserror
+beside: low
+tpr may_wait=5: low side
+tpr_ordered: low side
+"""
+SOURCES = ("src/lib.rt", "src/more.rt", "specs/Lib.antt", "proofs/Lib.antt")
+COMMANDS = (
+    "bash", "cat", "chmod", "env", "find", "mkdir", "mv", "readlink", "rm", "setsid", "sh", "sleep", "tail", "touch"
+)
+NAME = "a tree"
+# The folders of commands, by what is to be found there.
+ALL, WITHOUT_RT, WITHOUT_PYTHON = ("rt", "without_rt"), ("without_rt",), ("without_python",)
+
+
+class Tree:
+    """The tree, in a folder in which its commands are called, and the cases."""
+
+    def __init__(self, folder: Path):
+        self.folder, self.cases = folder, Cases()
+        self.path, self.rooms = folder / NAME, folder / "rooms"
+        self.crates, self.out = self.path / "crates", self.path / "out"
+        self.rooms.mkdir()
+        self.path.mkdir()
+        for name in ("tpr", "try", "build"):
+            shutil.copy(ROOT / name, self.path)
+        (self.path / "crates.txt").write_text(CRATES)
+        for file in (self.crates / crate / file for crate in self.names_of_crates() for file in SOURCES):
+            file.parent.mkdir(parents=True, exist_ok=True)
+            file.touch()
+        make_commands(folder / "commands")
+        found = re.search(r"^MINUTES_OF_A_FIRST_BUILD = (\d+)", (ROOT / "build").read_text(), re.MULTILINE)
+        must(found, "./build doesn't say how many minutes it takes")
+        self.minutes = found[1] if found else ""
+
+    @staticmethod
+    def names_of_crates() -> list[str]:
+        return re.findall(r"^\w+", CRATES, re.MULTILINE)
+
+    def environment(self, commands: Sequence[str]) -> dict[str, str]:
+        """What the commands of the tree find around them: no TPR, and temporary files in `rooms`."""
+        path = os.pathsep.join(str(self.folder / "commands" / it) for it in commands)
+        of_this = {"TREE": str(self.crates), "PATH": path, "TMPDIR": str(self.rooms)}
+        return {**{name: value for name, value in os.environ.items() if name != "TPR"}, **of_this}
+
+    def call(
+        self, words: Sequence[Word], commands: Sequence[str] = ALL, more: Optional[dict[str, str]] = None, **how: Any
+    ) -> Ended:
+        """Calls a command in the folder of the tree. What is left among the temporary files is told as said."""
+        ended = call(words, cwd=self.folder, env={**self.environment(commands), **(more or {})}, **how)
+        return ended._replace(said=ended.said + "".join(f"{it} is left\n" for it in self.left_files()).encode())
+
+    def left_files(self) -> list[Path]:
+        return sorted(self.rooms.rglob("*"))
+
+    def must_end(self, name: str, ended: Ended, status: int, printed: str = "", said: str = "") -> None:
+        self.cases.must_end(name, ended, status, printed.encode("latin-1"), said.encode())
+
+    def runs(self, name: str, program: str = f"{NAME}/tpr") -> None:
+        """The program that is built runs, and nothing is tried."""
+        self.must_end(f"{name}, and the program runs", self.call([program, "run", "a file"]), 7, "run;a file;")
+
+    @contextmanager
+    def started(self, *words: str) -> Iterator[subprocess.Popen[bytes]]:
+        """A command at work, which takes the signals that would end it, and is ended where its case breaks off."""
+        with subprocess.Popen(
+            words,
+            cwd=self.folder,
+            env=self.environment(ALL),
+            stdin=subprocess.DEVNULL,
+            stdout=subprocess.PIPE,
+            stderr=subprocess.PIPE,
+            preexec_fn=take_signals,
+        ) as process:
+            try:
+                yield process
+            except BaseException:
+                process.terminate()
+                raise
+
+
+def make_commands(folder: Path) -> None:
+    """Folders of commands: `rt` alone, all but it, and one that has all but python3."""
+    without_rt, without_python, alone = (folder / it for it in ("without_rt", "without_python", "rt"))
+    without_rt.mkdir(parents=True)
+    for name in COMMANDS:
+        found = shutil.which(name)
+        must(found, f"there is no command {name}")
+        (without_rt / name).symlink_to(found or "")
+    shutil.copytree(without_rt, without_python, symlinks=True)
+    alone.mkdir()
+    write_command(without_rt / "python3", f'#!/bin/sh\nexec "{sys.executable}" "$@"\n')
+    write_command(alone / "rt", RT)
+    write_command(without_python / "rt", RT)
+
+
+def write_command(file: Path, text: str) -> None:
+    file.write_text(text)
+    file.chmod(0o755)
+
+
+def end_of(process: subprocess.Popen[bytes]) -> Ended:
+    printed, said = process.communicate(timeout=MOST_SECONDS)
+    return Ended(process.returncode, printed, said)
+
+
+def lines(*texts: str) -> str:
+    return "".join(f"{it}\n" for it in texts)
+
+
+def is_gone(file: Path) -> bool:
+    """Whether the process of which the file has the number has ended."""
+    try:
+        status = Path(f"/proc/{int(file.read_text())}/stat").read_text(encoding="latin-1")
+    except (FileNotFoundError, ProcessLookupError):
+        return True
+    return status.rpartition(")")[2].split()[0] == "Z"
+
+
+def has_begun(file: Path) -> bool:
+    """Whether something stands in the file."""
+    return file.exists() and file.stat().st_size > 0
