@@ -227,6 +227,10 @@ def faults_of_the_list(tree: Tree) -> None:
     tree.write(EACH_RUN, f"{TRIED}\n{unknown}\n")
     no_edit = f"{EACH_RUN}: {unknown} is no edit and its function"
     record_says(tree, "an edit for each run that isn't there", said_of_record(NONE, [no_edit]))
+    other = TRIED.replace("Room::get", "Room::other")
+    tree.write(EACH_RUN, f"{other}\n")
+    no_edit = f"{EACH_RUN}: {other} is no edit and its function"
+    record_says(tree, "an edit for each run of another function", said_of_record(NONE, [no_edit]))
     tree.write(EACH_RUN, f"{TRIED}\n")
 
 
