@@ -155,7 +155,7 @@ def removed_as_it_must(it: Installed) -> None:
     with case("the sums of what is installed"):
         run("md5sum", "--quiet", "-c", "var/lib/dpkg/info/tpr.md5sums", folder=it.root).must_print("")
     with case("nothing is left of it once it is removed"):
-        run("dpkg", f"--root={it.root}", "-r", "tpr", more=ADMIN)
+        run("dpkg", f"--root={it.root}", "-r", "tpr", more=ADMIN).must_end(0)
         left = [str(file) for file in it.root.iterdir() if not file.name.startswith("var")]
         must(not left, f"there is still {left}")
 
