@@ -1,0 +1,203 @@
+#!/usr/bin/env python3
+"""What ./build builds, and that ./tpr then runs it and tries nothing: in a tree of five crates.
+
+    tests/program/building.py
+
+It prints a line `passed NAME` for each case, or lines that begin with `FAILED: NAME`.
+"""
+from __future__ import annotations
+
+import argparse
+import os
+import re
+import signal
+import sys
+import tempfile
+from collections.abc import Sequence
+from functools import partial
+from pathlib import Path
+
+sys.dont_write_bytecode = True
+
+from calling import Ended, wait_until
+from tree_of_crates import ALL, NAME, WITHOUT_RT, Tree, end_of, has_begun, is_gone, lines
+
+BUILD = f"{NAME}/build"
+USAGE = "usage: ./build [tpr_ordered] [--jobs N] | ./build is_built | ./build lanes\n"
+AGAIN = "a source is newer than the last build of the program, which is built again"
+LOW, SIDE, LAST = (
+    f"crate {number} of 3, {name}; 0 minutes so far" for number, name in enumerate(("low", "side", "tpr"), 1)
+)
+ASKED_LAST = "rt was asked in tpr: run --jobs 1 -- queue"
+
+
+def of_tpr(*said: str) -> str:
+    """What the build says, line by line."""
+    return lines(*(f"tpr: {it}" for it in said))
+
+
+class Building:
+    """The tree, and what is said of its builds."""
+
+    def __init__(self, tree: Tree):
+        self.tree, self.cases, self.crates = tree, tree.cases, tree.crates
+        self.log = f"what the build says is written to {tree.out}/build.log"
+        self.failed = f"tpr: the build failed; all that it said is in {tree.out}/build.log"
+
+    def build(self, *words: str, commands: Sequence[str] = ALL) -> Ended:
+        return self.tree.call([BUILD, *words], commands)
+
+    def answers(self, name: str, words: Sequence[str], status: int, said: str = "") -> None:
+        """./build ends so with these words, and prints nothing."""
+        self.tree.must_end(name, self.build(*words), status, "", said)
+
+    def builds(self, name: str, *said: str) -> None:
+        """The program is built, which is said so, and then runs. Where nothing is newer, nothing is said."""
+        self.answers(name, ["--jobs", "2"], 0, of_tpr(*said))
+        self.tree.runs(name)
+
+    def fails(self, name: str, *said: str) -> None:
+        self.answers(name, ["--jobs", "2"], 1, lines(*said))
+
+    def must_be_in_the_log(self, name: str, *wanted: str) -> None:
+        """These lines alone, with each time of a crate as `N seconds`, in some order."""
+        found = re.sub(r" took [0-9]+ seconds ", " took N seconds ", (self.tree.out / "build.log").read_text())
+        self.cases.must_be(name, sorted(found.splitlines()), sorted(wanted))
+
+    def touch(self, *files: str) -> None:
+        for file in files:
+            (self.crates / file).touch()
+
+    def remove(self, file: str) -> None:
+        (self.crates / file).unlink()
+
+
+def first_build(building: Building) -> None:
+    """Without the toolchain nothing is built; with it two crates side by side, and then the program."""
+    name, no_rt = "a first build without the toolchain", "the toolchain's command rt is not on PATH"
+    without_rt = building.build("--jobs", "2", commands=WITHOUT_RT)
+    building.tree.must_end(name, without_rt, 1, "", of_tpr(f"the program has to be built, and {no_rt}"))
+    building.answers("nothing is built yet", ["is_built"], 1)
+    building.touch("meet")
+    minutes = f"A first build proves it too and takes about {building.tree.minutes} minutes"
+    first = f"building the program. {minutes}"
+    building.builds("a first build, of two crates side by side", first, building.log, LOW, SIDE, LAST)
+    building.remove("meet")
+    building.must_be_in_the_log(
+        "what rt was asked, and what each crate took",
+        "rt was asked in low: lib --jobs 1",
+        "rt was asked in side: lib --jobs 1",
+        ASKED_LAST,
+        *(f"tpr: {it} took N seconds with 1 job" for it in ("low", "side", "tpr")),
+    )
+    building.cases.must_be("what a build leaves", sorted(os.listdir(building.tree.out)), ["build.log", "built", "lock"])
+
+
+def words_of_a_build(building: Building) -> None:
+    """Whether all is built, how many checks there may be at one time, and words that it doesn't know."""
+    building.answers("all is built", ["is_built"], 0)
+    building.answers("another word for the build", ["it"], 4, USAGE)
+    building.answers("on no processor", ["--jobs", "0"], 4, USAGE)
+    building.answers("only tpr can be asked for", ["tpr_ordered", "is_built"], 4, USAGE)
+    lanes = building.build("lanes")
+    is_so = lanes.status == 0 and lanes.said == b"" and 1 <= int(lanes.printed) <= len(os.sched_getaffinity(0))
+    building.cases.must_be(f"at most as many checks at one time as processors: {lanes}", is_so, True)
+
+
+def other_program(building: Building) -> None:
+    """The program that tools/explore runs."""
+    words, last = ["tpr_ordered", "--jobs", "2"], "crate 3 of 3, tpr_ordered; 0 minutes so far"
+    other = "building tpr_ordered, and what it stands on where that isn't built yet"
+    building.answers("the program for tools/explore", words, 0, of_tpr(other, building.log, last))
+    script = building.tree.path / "examples/login_is_answered.ttcn"
+    building.must_be_in_the_log(
+        "what rt was asked for it",
+        f"rt was asked in tpr_ordered: run --jobs 1 -- {script} /dev/null",
+        "tpr: tpr_ordered took N seconds with 1 job",
+    )
+    building.answers("it is built", words, 0)
+    building.touch("tpr_ordered/src/lib.rt")
+    building.builds("a newer source of the other program")
+    building.answers("and it is built again", words, 0, of_tpr(AGAIN, building.log, last))
+
+
+def what_is_newer(building: Building) -> None:
+    """What is newer is built again, with what stands on it, and nothing else; a proof makes no other program."""
+    log = building.log
+    building.builds("nothing is newer")
+    (building.tree.folder / "link").symlink_to(building.tree.path / "tpr")
+    building.tree.runs("called by a link", "./link")
+    building.touch("low/proofs/Lib.antt")
+    building.builds("a newer proof")
+    building.touch("tpr/specs/Lib.antt")
+    building.builds("a newer definition of tpr", AGAIN, log, LAST)
+    building.touch("low/src/lib.rt")
+    building.answers("a source is newer", ["is_built"], 1)
+    building.builds("a newer source below tpr", AGAIN, log, LOW, LAST)
+    building.remove("low/src/more.rt")
+    building.builds("a source taken away", AGAIN, log, LOW, LAST)
+    building.touch("../crates.txt")
+    building.builds("a newer list of crates", AGAIN, log, LOW, SIDE, LAST)
+    building.touch("edits", "tpr/src/lib.rt")
+    edited = "a source below tpr is edited while tpr is built"
+    building.answers(edited, ["--jobs", "2"], 0, of_tpr(AGAIN, log, LAST))
+    building.builds("and counts as newer", AGAIN, log, LOW, LAST)
+    building.touch("beside/src/lib.rt")
+    building.builds("a newer crate on which tpr doesn't stand")
+
+
+def failed_builds(building: Building) -> None:
+    """A build that failed isn't taken for one, and is begun again."""
+    log, listed = building.log, building.tree.path / "crates.txt"
+    building.touch("refused in low", "low/src/lib.rt")
+    said = (*of_tpr(AGAIN, log, LOW).splitlines(), "rt was asked in low: lib --jobs 2", building.failed)
+    building.fails("a crate below tpr is refused", *said)
+    building.remove("refused in low")
+    building.builds("once it is no longer", AGAIN, log, LOW, LAST)
+    building.touch("fails in tpr", "tpr/src/lib.rt")
+    said = (*of_tpr(AGAIN, log, LAST).splitlines(), ASKED_LAST, building.failed)
+    building.fails("the program is made, and its first run fails", *said)
+    building.fails("and fails again", *said)
+    building.remove("fails in tpr")
+    building.builds("once it fails no longer", AGAIN, log, LAST)
+    kept = listed.rename(listed.with_name("list"))
+    building.fails("no list of crates", f"tpr: there is no crate tpr in {listed}")
+    kept.rename(listed)
+
+
+def interrupted_build(building: Building) -> None:
+    """An interrupt while a crate is at work: what was kept of it is given back."""
+    hanging, log = building.crates / "hanging", building.log
+    building.touch("hangs in low", "low/src/lib.rt")
+    with building.tree.started(BUILD, "--jobs", "2") as process:
+        wait_until(lambda: has_begun(hanging), "rt is at work")
+        process.send_signal(signal.SIGINT)
+        ended = end_of(process)
+    building.tree.must_end("a build that is interrupted", ended, 130, "", of_tpr(AGAIN, log, LOW))
+    building.cases.must_come("rt is ended", partial(is_gone, hanging))
+    left = os.listdir(building.crates / "low/out"), (building.tree.out / "rooms").exists()
+    building.cases.must_be("what was kept of the crate is back, and its room is gone", left, (["rlib"], False))
+    building.remove("hangs in low")
+    building.builds("once it hangs no longer", AGAIN, log, LOW, LAST)
+
+
+# Each group, with how many cases it has at least. Each begins with the tree that the one before it leaves.
+GROUPS = (
+    (first_build, 6),
+    (words_of_a_build, 5),
+    (other_program, 6),
+    (what_is_newer, 19),
+    (failed_builds, 8),
+    (interrupted_build, 5),
+)
+
+
+def main() -> int:
+    argparse.ArgumentParser(description="What ./build builds, and that ./tpr then runs it.").parse_args()
+    with tempfile.TemporaryDirectory() as folder:
+        tree = Tree(Path(folder))
+        return tree.cases.try_groups(Building(tree), GROUPS)
+
+
+if __name__ == "__main__":
+    sys.exit(main())
