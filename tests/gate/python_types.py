@@ -32,7 +32,7 @@ FOLDERS = {
     "tests/runs": ("program", "orders", "traces"),
     "tests/runs/many_components": ("orders",),
     "tests/tools": ("orders", "gate", "program"),
-    "tests/traces": ("orders",),
+    "tests/traces": ("orders", "program"),
     "tests/verdicts": ("orders",),
 }
 PACKAGES = ("tools/tpr_tools",)

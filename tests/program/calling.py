@@ -9,7 +9,9 @@ import subprocess
 import sys
 import termios
 import time
-from collections.abc import Callable, Iterable, Sequence
+from collections.abc import Callable, Iterable, Iterator, Sequence
+from contextlib import contextmanager
+from pathlib import Path
 from typing import IO, Any, NamedTuple, Optional, TypeVar, Union
 
 from refusing import Wrong, must
@@ -76,6 +78,24 @@ def give(process: subprocess.Popen[bytes], piece: bytes) -> None:
     assert process.stdin is not None
     os.write(process.stdin.fileno(), piece)
     wait_until(lambda: waiting_bytes(process.stdin) == 0, f"{piece!r} was read")
+
+
+@contextmanager
+def opened(file: Path) -> Iterator[int]:
+    """A file or a folder, opened to be read."""
+    number = os.open(file, os.O_RDONLY)
+    try:
+        yield number
+    finally:
+        os.close(number)
+
+
+@contextmanager
+def printed_by(*command: str) -> Iterator[IO[bytes]]:
+    """A pipe in which stands what a command prints, which may be without an end."""
+    with subprocess.Popen(command, stdout=subprocess.PIPE, stderr=subprocess.DEVNULL) as process:
+        assert process.stdout is not None
+        yield process.stdout
 
 
 def call(words: Sequence[Word], pieces: Sequence[bytes] = (), closed: Sequence[int] = (), **streams: Any) -> Ended:

@@ -18,7 +18,7 @@ from typing import Any, NamedTuple
 
 sys.dont_write_bytecode = True
 
-from calling import MOST_SECONDS, Cases, Ended, Word, call
+from calling import MOST_SECONDS, Cases, Ended, Word, call, opened, printed_by
 from refusing import NO_READ, must
 
 USAGE, TOO_LONG = b"usage: tpr MODE [FILE]\n", b"refused 15 Limit line 0\n"
@@ -81,11 +81,10 @@ def what_cannot_be_read(program: Program) -> None:
         "--help as a missing file": "--help",
     }
     for name, mode in ((name, mode) for name in files for mode in MODES):
-        with open(text, "rb") as given:
+        with opened(text) as given:
             program.answers(f"{name} in mode {mode}", [mode, files[name]], 2, NO_READ, stdin=given)
-    opened = os.open(folder, os.O_RDONLY)
-    program.answers("a folder on standard input", ["queue"], 2, NO_READ, stdin=opened)
-    os.close(opened)
+    with opened(folder) as given:
+        program.answers("a folder on standard input", ["queue"], 2, NO_READ, stdin=given)
     program.answers("a closed standard input", ["queue"], 2, NO_READ, closed=[0])
 
 
@@ -100,9 +99,9 @@ def what_is_read(program: Program) -> None:
     program.answers("a file in a folder, names with spaces", ["queue", "a folder/a text"], 0, ANSWER)
     program.answers("a file by its whole path", ["queue", str(text)], 0, ANSWER)
     program.answers("a link to a file", ["queue", "link"], 0, ANSWER)
-    with open(program.write("other", b"halt\n"), "rb") as other:
+    with opened(program.write("other", b"halt\n")) as other:
         program.answers("a file goes before standard input", ["queue", "text"], 0, ANSWER, stdin=other)
-    with open(text, "rb") as given:
+    with opened(text) as given:
         program.answers("standard input", ["queue"], 0, ANSWER, stdin=given)
     pieces = [b"arr", b"ive a 1", b"\nre", b"ceive ?", b"\n"]
     program.answers("standard input that comes in pieces", ["queue"], 0, ANSWER, pieces=pieces)
@@ -163,17 +162,17 @@ def texts(program: Program) -> None:
     other = program.write("other", b"no line of any\n")
     for it in listed:
         given = program.write("given", it.text)
-        with open(given, "rb") as opened:
-            program.answers(f"{it.name}, on standard input", [it.mode], it.status, it.answer, stdin=opened)
-        with open(other, "rb") as opened:
-            program.answers(f"{it.name}, in a file", [it.mode, "given"], it.status, it.answer, stdin=opened)
+        with opened(given) as stdin:
+            program.answers(f"{it.name}, on standard input", [it.mode], it.status, it.answer, stdin=stdin)
+        with opened(other) as stdin:
+            program.answers(f"{it.name}, in a file", [it.mode, "given"], it.status, it.answer, stdin=stdin)
 
 
 def of_a_file_and_a_pipe(program: Program, name: str, text: bytes, status: int, answer: bytes) -> None:
     program.write("long", text)
     program.answers(name, ["queue", "long"], status, answer)
-    with subprocess.Popen(["cat", program.folder / "long"], stdout=subprocess.PIPE, stderr=subprocess.DEVNULL) as cat:
-        program.answers(f"{name}, through a pipe", ["queue"], status, answer, stdin=cat.stdout)
+    with printed_by("cat", str(program.folder / "long")) as pipe:
+        program.answers(f"{name}, through a pipe", ["queue"], status, answer, stdin=pipe)
 
 
 def limits(program: Program) -> None:
@@ -185,9 +184,9 @@ def limits(program: Program) -> None:
     of_a_file_and_a_pipe(program, "a text one byte too long", longest + b"\n", 2, TOO_LONG)
     program.write("long", b"resume\n" + longest)
     program.answers("a text too long that begins with a bad line", ["queue", "long"], 2, TOO_LONG)
-    with open(program.write("long", 4 * longest), "rb") as opened:
-        program.answers("a text far too long", ["queue"], 2, TOO_LONG, stdin=opened)
-        rest = 4 * MOST_BYTES - os.lseek(opened.fileno(), 0, os.SEEK_CUR)
+    with opened(program.write("long", 4 * longest)) as given:
+        program.answers("a text far too long", ["queue"], 2, TOO_LONG, stdin=given)
+        rest = 4 * MOST_BYTES - os.lseek(given, 0, os.SEEK_CUR)
     program.cases.must_be("a text far too long isn't read to its end", rest > 3_000_000, True)
 
 

@@ -3,7 +3,7 @@
     cuts.py LOG..
 
 Each must be refused; or be told to be cut off or to end early, and its lines begin those of the whole log. It prints
-what is wrong.
+a line `passed LOG` for each log, or one that begins with `FAILED: LOG`.
 """
 import argparse
 import os
@@ -30,21 +30,24 @@ def wrong(text: str, length: int, whole: Sequence[object]) -> str | None:
     return None if [*section.lines] == [*whole[: len(section.lines)]] else "its lines aren't those of the whole log"
 
 
-def main() -> int:
+def told(path: str) -> str:
+    with open(path, encoding="utf-8", newline="") as file:
+        text = file.read()
+    log = read_log(text)
+    assert log is not None, f"{path} is the log of no component"
+    whole = section_of(log).lines
+    for length in range(len(text) + 1):
+        if (reason := wrong(text, length, whole)) is not None:
+            return f"FAILED: {path}, cut off behind {length} characters: {reason}"
+    return f"passed {path}"
+
+
+def main() -> None:
     words = argparse.ArgumentParser(description="Cuts logs of Titan's off behind each of their bytes.")
     words.add_argument("logs", metavar="LOG", nargs="+")
     for path in words.parse_args().logs:
-        with open(path, encoding="utf-8", newline="") as file:
-            text = file.read()
-        log = read_log(text)
-        assert log is not None, f"{path} is the log of no component"
-        whole = section_of(log).lines
-        for length in range(len(text) + 1):
-            if (reason := wrong(text, length, whole)) is not None:
-                print(f"{path}, cut off behind {length} characters: {reason}")
-                return 1
-    return 0
+        print(told(path), flush=True)
 
 
 if __name__ == "__main__":
-    sys.exit(main())
+    main()

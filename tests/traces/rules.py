@@ -6,6 +6,7 @@
                                   out by hand: by the judge in oracle.py, or by the command with a file behind it
     rules.py lines FILE           each text has the form of a trace, or its first line of another form is the one that
                                   was found by hand
+    rules.py reports TRACE..      each trace of an example, without its arrivals, is a report that the example may have
     rules.py played SCRIPT..      traces of these scripts, played in orders made by chance, are lawful and one run
     rules.py tried NUMBER         of so many small traces, those are one run of which some order of their lines is a
                                   run; of so many small graphs, the first line of each circle is found; and of so many
@@ -21,7 +22,11 @@ import re
 import sys
 import tempfile
 from collections.abc import Callable, Iterator
+from pathlib import Path
 
+sys.path.append(os.path.join(os.path.dirname(os.path.realpath(__file__)), "..", "program"))
+
+import example_files
 from chance import small_graph, small_history, small_route, small_trace
 from circles import firsts_of_circles
 from compare import Judge
@@ -32,6 +37,7 @@ from one_run import delayed_lines, is_one_run_by_trying
 from planting import plant
 from player import play
 from oracle import answer_of
+from runs import without_arrivals
 
 SEEDS = 3
 
@@ -124,6 +130,16 @@ def lines(path: str) -> Iterator[str]:
             yield f"passed {text!r}" if found == wanted else f"FAILED: {text}: {found}, and {wanted} is wanted"
 
 
+def reports(path: str) -> Iterator[str]:
+    """A line for a trace that has the name of an example, none for another."""
+    example, trace = f"{Path(path).stem}.ttcn", Path(path).read_text(encoding="latin-1")
+    if not any((it / example).exists() for it in example_files.FOLDERS):
+        return
+    allowed = [it.read_text(encoding="latin-1") for it in example_files.answers(example_files.example(example))]
+    is_one = without_arrivals(trace) in allowed
+    yield f"passed {path}" if is_one else f"FAILED: {path} without its arrivals isn't a report of {example}"
+
+
 def played(script: str) -> str:
     for seed in range(SEEDS):
         text = play(script, seed)
@@ -213,8 +229,8 @@ def judge_of(command: list[str], room: str) -> Callable[[bytes], tuple[str, int]
 
 def main() -> int:
     words = argparse.ArgumentParser(description="Tests the judge of traces in oracle.py, and what it stands on.")
-    words.add_argument("what", choices=(*TEXTS, "lines", "played", "tried"))
-    words.add_argument("words", metavar="TABLE|FILE|SCRIPT|NUMBER", nargs="+")
+    words.add_argument("what", choices=(*TEXTS, "lines", "reports", "played", "tried"))
+    words.add_argument("words", metavar="TABLE|FILE|TRACE|SCRIPT|NUMBER", nargs="+")
     words.add_argument("--judge", metavar="COMMAND", nargs=argparse.REMAINDER, default=[], help="asked in its place")
     asked = words.parse_args()
     if asked.what in TEXTS:
@@ -223,6 +239,9 @@ def main() -> int:
                 print(line, flush=True)
     elif asked.what == "lines":
         for line in lines(asked.words[0]):
+            print(line, flush=True)
+    elif asked.what == "reports":
+        for line in (line for trace in asked.words for line in reports(trace)):
             print(line, flush=True)
     elif asked.what == "played":
         for script in asked.words:
