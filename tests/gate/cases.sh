@@ -54,21 +54,6 @@ must() { # NAME STATUS PRINTED SAID
     count $?
 }
 
-# The script in $room/script is answered so: `accepted` or `CODE NAME LINE`.
-answered() { # NAME ANSWER
-    local wanted=0
-    if [[ $2 == accepted ]]; then
-        echo accepted >"$room/wanted"
-    else
-        echo "refused ${2% *} line ${2##* }" >"$room/wanted"
-        wanted=2
-    fi
-    is_another_entry "$1" "$room/script"
-    observe "$tpr" check "$room/script" </dev/null
-    judge "$1" "$wanted" '' "$room/wanted"
-    count $?
-}
-
 # Runs the cases of a table, of which there are so many at least: a table that lost its entries, or
 # that isn't found, fails.
 at_least() { # LEAST COMMAND..
@@ -192,33 +177,7 @@ prints() { # TEXT
 
 # Files and processes
 
-# Whether the file has so many bytes.
-has_bytes() { # FILE BYTES
-    [[ -f $1 && $(wc -c <"$1") -eq $2 ]]
-}
-
 # A program that is a script would be refused its shell's calls: its cases of that kind are left out.
 is_script() { # PROGRAM
     [[ $(head -c 2 -- "$1") == '#!' ]]
-}
-
-# Waits until something stands in the file, as a process writes it once it has begun.
-has_begun() { # FILE
-    local turn
-    for ((turn = 0; turn < 200; turn++)); do
-        if [[ -s $1 ]]; then return 0; fi
-        sleep 0.1
-    done
-    return 1
-}
-
-# Whether the process has ended, or does so at once.
-is_gone() { # FILE OF ITS NUMBER
-    local number turn
-    read -r number <"$1" && [[ $number ]] || return 1
-    for ((turn = 0; turn < 50; turn++)); do
-        if ! kill -0 "$number" 2>/dev/null || grep -q '^State:.*Z' "/proc/$number/status" 2>/dev/null; then return 0; fi
-        sleep 0.1
-    done
-    return 1
 }

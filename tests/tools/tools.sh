@@ -1,17 +1,6 @@
 # The tools of the test engineer: tools/chart, tools/compare, tools/suite (suites.sh), and what they all refuse
 # (refused_reports.sh), or have in common (tool_words.py).
 
-# The reports of the examples: what mode run prints of a script that it runs.
-find_reports() {
-    local file script
-    reports=()
-    for script in "$root"/examples/*.ttcn "$root"/tests/golden/*/*.ttcn; do
-        for file in "${script%.ttcn}".expected*; do
-            if [[ $(head -n 1 -- "$file") == "component mtc" ]]; then reports+=("$file"); fi
-        done
-    done
-}
-
 tools() {
     mkdir -- "$room/charts" "$room/comparisons"
     at_least $((reports_of_examples + 21)) told "$room/told_of_charts" tests/tools/charts.py "$room/charts"
