@@ -128,7 +128,9 @@ impl<'t> Front<'t> {
     }
 }
 
-/// The tokens of a text up to the first that is beyond the limits, or all.
+/// The tokens of a text up to the first that is beyond the limits, or all. So no more than 33
+/// brackets are open at once in them. The parser calls itself at a bracket alone, and goes no
+/// deeper than that: nothing else bounds its stack.
 pub(crate) fn front_of(tokens: Vec<Placed>) -> Front
     ensures { AreTokensSeen (map placed_lexeme tokens.entry.items)
         (map placed_lexeme result.tokens.items) result.beyond }
