@@ -1,6 +1,7 @@
 pub mod TokensPassedWithinLimits
 pub mod FirstTokensOfParts
 pub mod AltHasOneBranch
+pub mod CutTokens
 pub mod TestCaseReading
 pub mod ReadSequenceGrowth
 pub mod DefinitionReading

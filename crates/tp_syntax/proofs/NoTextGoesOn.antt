@@ -1,8 +1,8 @@
 -- Where the parser is stuck, or stops before the end, no text of the grammar has the tokens up to there.
 use Rattle.std.proofs.Common.{inl, inr, ◌⊎◌, ◌≡◌, ℕ, zero, suc, ◌+◌, ◌-◌, ◌<◌, ◌≤◌, Bool, true, false, List, [], ◌∷◌, ◌++◌, Option, Some, None, length, map, take, drop, refl, ap, sym, subst, ◌∙◌, append-nil, append_assoc, arith}
 use Rattle.std.proofs.lemmas.Bool.{false≢true}
-use Rattle.std.proofs.lemmas.List.{length-map, length_push, map-append, take-map, take-append-drop}
-use Rattle.std.proofs.Math.Seq.{take-append-add}
+use Rattle.std.proofs.lemmas.List.{length-map, length-take-le, length_push, map-append, take-append-drop, take-map}
+use Rattle.std.proofs.Math.Seq.{drop-append_seam, take-append-add}
 use Rattle.tp_token.specs.declared.token.Placed.{Placed}
 use Rattle.tp_token.specs.declared.token.Symbol.TheVariants.{Minus}
 use Rattle.tp_token.specs.Lexeme.{Lexeme, PlacedLexeme, placed_lexeme, symbol}
@@ -18,7 +18,7 @@ use Rattle.tp_syntax.specs.HiddenTokens.{AgreeWhereSeen, CouldBe, IsStuckInHidde
 use Rattle.tp_syntax.specs.Stuck.{IsForMemory, StandAtLeast, left_where_stuck}
 use Rattle.tp_syntax.proofs.FirstTokensSeen.{any_agree, could_of}
 use Rattle.tp_syntax.proofs.LinesOfPassedTokens.{tokens_of_lines}
-use Rattle.tp_syntax.proofs.PartsWithinLimits.{allowed_parts, drop_front, length_take, lines_cut, next_allowed, next_cut}
+use Rattle.tp_syntax.proofs.PartsWithinLimits.{allowed_parts, lines_cut, next_allowed, next_cut}
 
 -- where the first tokens are the same, and the others are hidden, they agree
 agree_in_front : (hidden count : ℕ) (ts others : List Lexeme) → count + hidden ≡ length ts + 1 → take count others ≡ take count ts → AgreeWhereSeen hidden ts others
@@ -89,7 +89,7 @@ syntax_in_all i ps left same within room none =
     let cut : front ≡ take k front ++ drop k front = sym (take-append-drop k front) in
     let a = allowed_parts 0 false (take k front) (drop k front) within.0 within.1
     (subst (λ (ts : List PlacedLexeme). AreAllowed 0 false ts within.0 within.1) (sym same ∙ cut) within.2) in
-    let stands : length (take k front) ≡ k = length_take k front (omega arith) in
+    let stands : length (take k front) ≡ k = length-take-le k front (omega arith) in
     syntax_at i ps (take k front) (drop k front) (drop k front) a.0 left a.1 cut (sym same ∙ cut) a.2 (next_allowed a.0 a.1 (drop k front) within.0 within.1 a.3) refl
     (omega arith) none
 
@@ -105,12 +105,12 @@ syntax_in_cut i ps beyond left c some room none =
     let cut : c.passed ≡ take k c.passed ++ drop k c.passed = sym (take-append-drop k c.passed) in
     let a = allowed_parts 0 false (take k c.passed) (drop k c.passed) c.opened c.signed
     (subst (λ (ts : List PlacedLexeme). AreAllowed 0 false ts c.opened c.signed) cut c.allowed) in
-    let stands : length (take k c.passed) ≡ k = length_take k c.passed (omega arith) in
+    let stands : length (take k c.passed) ≡ k = length-take-le k c.passed (omega arith) in
     let others = drop k c.passed ++ last ∷ [] in
     let rest = drop k c.passed ++ c.token ∷ c.rest in
     let split : front ≡ take k c.passed ++ others = c.front_is.0 ∙ ap (λ (ts : List PlacedLexeme). ts ++ last ∷ []) cut ∙ append_assoc (take k c.passed) (drop k c.passed) (last ∷ []) in
     let goes : i.tokens ≡ take k c.passed ++ rest = c.is ∙ ap (λ (ts : List PlacedLexeme). ts ++ c.token ∷ c.rest) cut ∙ append_assoc (take k c.passed) (drop k c.passed) (c.token ∷ c.rest) in
-    let left_there : drop k front ≡ others = ap (λ (ts : List PlacedLexeme). drop k ts) split ∙ drop_front k (take k c.passed) others stands in
+    let left_there : drop k front ≡ others = ap (λ (ts : List PlacedLexeme). drop k ts) split ∙ ap (λ n. drop n (take k c.passed ++ others)) (sym stands) ∙ drop-append_seam (take k c.passed) others in
     subst (λ (ts : List PlacedLexeme). IsSyntaxAt i (line_of ts i.last_line)) (sym left_there)
     (syntax_at i ps (take k c.passed) others rest a.0 left a.1 split goes a.2 (next_cut a.0 a.1 (drop k c.passed) c.token c.rest c.opened c.signed a.3)
     (lines_cut (drop k c.passed) c.token c.rest c.signed i.last_line) (omega arith) none)

@@ -1,21 +1,7 @@
 -- The parts of tokens that are within the limits, and the token that comes next behind some of them.
-use Rattle.std.proofs.Common.{◌≡◌, ℕ, zero, suc, ◌+◌, ◌<◌, ◌≤◌, min, Bool, List, [], ◌∷◌, ◌++◌, length, map, take, drop, get_or, set, refl, ap, sym, subst, ◌∙◌, arith}
-use Rattle.std.proofs.lemmas.List.{take-map}
-use Rattle.std.proofs.Math.Seq.{take-append-add}
-use Rattle.tp_token.specs.declared.token.Placed.{Placed}
-use Rattle.tp_token.specs.Lexeme.{Lexeme, name, word, number, text, symbol, PlacedLexeme, placed_lexeme}
+use Rattle.std.proofs.Common.{◌≡◌, ℕ, min, Bool, List, [], ◌∷◌, ◌++◌, map, take, refl, ap, subst, arith}
+use Rattle.tp_token.specs.Lexeme.{Lexeme, name, word, number, text, symbol, PlacedLexeme}
 use Rattle.tp_syntax.specs.Faults.{AreAllowed, IsAllowed, brought_within, greatest_number, is_minus, line_of, next_within, opened_behind}
-
-pub length_take : {A : Type 0} (k : ℕ) (xs : List A) → k ≤ length xs → length (take k xs) ≡ k
-length_take zero xs h = refl
-length_take (suc k) [] h = absurd (omega arith)
-length_take (suc k) (x ∷ xs) h = let rest : length (take k xs) ≡ k = length_take k xs (omega arith) in omega arith
-
-pub drop_front : {A : Type 0} (k : ℕ) (xs ys : List A) → length xs ≡ k → drop k (xs ++ ys) ≡ ys
-drop_front zero [] ys h = refl
-drop_front zero (x ∷ xs) ys h = absurd (omega arith)
-drop_front (suc k) [] ys h = absurd (omega arith)
-drop_front (suc k) (x ∷ xs) ys h = drop_front k xs ys (omega arith)
 
 -- where some tokens and others behind them are within the limits, both are
 pub allowed_parts : (opened : ℕ) (signed : Bool) (ts us : List PlacedLexeme) (end : ℕ) (end_signed : Bool) → AreAllowed opened signed (ts ++ us) end end_signed →
@@ -68,39 +54,3 @@ pub next_behind : (opened : ℕ) (signed : Bool) (ts rest : List PlacedLexeme) (
 next_behind opened signed ts [] there there_signed end end_signed are all = refl
 next_behind opened signed ts (u ∷ us) there there_signed end end_signed are all =
     ap (λ (x : Lexeme). x ∷ []) (left_within there there_signed u.token (allowed_behind opened signed ts there there_signed u us end end_signed are all))
-
--- the tokens up to one of them
-pub taken_to : (ps : List Placed) (passed rest : List PlacedLexeme) (t : PlacedLexeme) (k : ℕ) → map placed_lexeme ps ≡ passed ++ t ∷ rest → length passed ≡ k →
-    map placed_lexeme (take (k + 1) ps) ≡ passed ++ t ∷ []
-taken_to ps passed rest t k e all =
-    sym (take-map placed_lexeme (k + 1) ps) ∙ ap (λ (ts : List PlacedLexeme). take (k + 1) ts) e ∙ ap (λ n. take (n + 1) (passed ++ t ∷ rest)) (sym all)
-    ∙ take-append-add passed (t ∷ rest) 1
-
--- the last of them
-pub last_kept : (ps : List Placed) (passed : List PlacedLexeme) (t : PlacedLexeme) (k : ℕ) (p : Placed) → map placed_lexeme ps ≡ passed ++ t ∷ [] → length passed ≡ k →
-    p ≡ get_or ps k p → placed_lexeme p ≡ t
-last_kept [] [] t k p e all at = absurd (cc e)
-last_kept [] (u ∷ us) t k p e all at = absurd (cc e)
-last_kept (q ∷ qs) [] t zero p e all at = let same : placed_lexeme q ≡ t = cc e in ap placed_lexeme at ∙ same
-last_kept (q ∷ qs) [] t (suc k) p e all at = absurd (omega arith)
-last_kept (q ∷ qs) (u ∷ us) t zero p e all at = absurd (omega arith)
-last_kept (q ∷ qs) (u ∷ us) t (suc k) p e all at = let rest : map placed_lexeme qs ≡ us ++ t ∷ [] = cc e in last_kept qs us t k p rest (omega arith) at
-
--- another in its place
-pub last_set : (ps : List Placed) (passed : List PlacedLexeme) (t : PlacedLexeme) (k : ℕ) (p : Placed) → map placed_lexeme ps ≡ passed ++ t ∷ [] → length passed ≡ k →
-    map placed_lexeme (set ps k p) ≡ passed ++ placed_lexeme p ∷ []
-last_set [] [] t k p e all = absurd (cc e)
-last_set [] (u ∷ us) t k p e all = absurd (cc e)
-last_set (q ∷ qs) [] t zero p e all = let none : map placed_lexeme qs ≡ [] = cc e in ap (λ (ts : List PlacedLexeme). placed_lexeme p ∷ ts) none
-last_set (q ∷ qs) [] t (suc k) p e all = absurd (omega arith)
-last_set (q ∷ qs) (u ∷ us) t zero p e all = absurd (omega arith)
-last_set (q ∷ qs) (u ∷ us) t (suc k) p e all =
-    let rest : map placed_lexeme qs ≡ us ++ t ∷ [] = cc e in
-    let same : placed_lexeme q ≡ u = cc e in
-    ap (λ (x : PlacedLexeme). x ∷ map placed_lexeme (set qs k p)) same ∙ ap (λ (ts : List PlacedLexeme). u ∷ ts) (last_set qs us t k p rest (omega arith))
-
--- the line of the token at a place
-pub line_there : (ps : List Placed) (k last : ℕ) (p : Placed) → k < length ps → p ≡ get_or ps k p → p.line ≡ line_of (drop k (map placed_lexeme ps)) last
-line_there [] k last p within at = absurd (omega arith)
-line_there (q ∷ qs) zero last p within at = ap (λ (x : Placed). x.line) at
-line_there (q ∷ qs) (suc k) last p within at = line_there qs k last p (omega arith) at

@@ -3,7 +3,7 @@ use Rattle.std.proofs.Common.{◌≡◌, List, [], ◌∷◌, ◌++◌, Some, ma
 use Rattle.tp_token.specs.declared.token.Placed.{Placed}
 use Rattle.tp_token.specs.Lexeme.{Lexeme, PlacedLexeme, lexeme_of, placed_lexeme}
 use Rattle.tp_syntax.specs.Faults.{brought_within}
-use Rattle.tp_syntax.proofs.PartsWithinLimits.{last_kept, last_set, taken_to}
+use Rattle.tp_syntax.proofs.CutTokens.{last_kept, last_set, taken_to}
 use Rattle.tp_syntax.proofs.faults.cut_behind.Goals as goal
 
 pub returns : goal.returns

@@ -3,7 +3,7 @@ use Rattle.std.proofs.Common.{◌≡◌, ◌-◌, List, drop, length, map, ap, �
 use Rattle.tp_token.specs.declared.token.Placed.{Placed}
 use Rattle.tp_token.specs.Lexeme.{placed_lexeme}
 use Rattle.tp_syntax.specs.Faults.{line_of}
-use Rattle.tp_syntax.proofs.PartsWithinLimits.{line_there}
+use Rattle.tp_syntax.proofs.CutTokens.{line_there}
 use Rattle.tp_syntax.proofs.faults.Front.line_at.Goals as goal
 
 pub returns-in-Some : goal.returns-in-Some
