@@ -11,7 +11,7 @@ For each document a line `passed ..`, or lines `FAILED: ..`, by these rules:
   in two documents. CHANGELOG.md tells of the past, and may have any;
 - each crate stands in docs/ARCHITECTURE.md and docs/PROVED.md;
 - the records of docs/DECISIONS.md are numbered one after the other, and have 120 words at most;
-- README.md has 1,300 words at most, and all documents have 45,000.
+- README.md has 1,300 words at most, and all documents have 47,000.
 """
 import argparse
 import glob
@@ -26,7 +26,7 @@ ON_THE_CODE = frozenset(f"docs/{name}.md" for name in PAGES_ON_THE_CODE)
 FOLDERS = ("bench", "crates", "docs", "examples", "tests", "tools", ".ci")
 SOURCES = ("build", "crates", "crates.txt", "tests", "test", "tools", "tpr", "try", "bench", ".ci")
 NO_SOURCE = frozenset(("out", "proofs", "wrong_bodies", "must-fail", "__pycache__"))
-MOST_WORDS, MOST_WORDS_OF_README, MOST_WORDS_OF_A_RECORD = 45_000, 1_300, 120
+MOST_WORDS, MOST_WORDS_OF_README, MOST_WORDS_OF_A_RECORD = 47_000, 1_300, 120
 
 _WORD = re.compile(r"[A-Za-z_][A-Za-z0-9_]*")
 _LINK = re.compile(r"\]\(([^)\s]+)\)")

@@ -5,3 +5,8 @@ documents() {
     at_least 19 told "$room/document_names" tests/documents/document_names.py
     at_least 82 told "$room/word_lists" tests/documents/word_lists.py
 }
+
+# How the documents are written.
+style() {
+    told "$room/style" tests/documents/document_style.py
+}
