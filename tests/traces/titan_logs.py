@@ -95,15 +95,15 @@ def shown_logs(tool: Tool) -> None:
     document, answers = DOCUMENT.read_text(encoding="utf-8"), (LOGS / "answers.table").read_text().splitlines()
     lost = "unlawful Lost line 7"
     line = trace_of("closing").decode().splitlines()[6]
-    shown = f"The answer is `{lost}`, and line 7 of the trace is `{line}`."
+    shown = f"Line 7 of the trace is `{line}`."
     tool.cases.must_be("docs/TRACES.md shows the line of what was lost", shown in document, True)
     tool.cases.must_be("that is the answer", f"closing => {lost}" in answers, True)
-    for folder, words, answer in (
-        ("closing", "of a run that Titan calls `pass`, it is", [lost]),
-        ("lost", "Of the two logs `tests/titan/lost/*.log` the answer is", ["unlawful Lost line 4"]),
-        ("two", "of `tests/titan/two/*.log` it is", ["lawful", "one run"]),
+    for folder, answer in (
+        ("closing", [lost]),
+        ("lost", ["unlawful Lost line 4"]),
+        ("two", ["lawful", "one run"]),
     ):
-        shown = f"{words} {' and '.join(f'`{it}`' for it in answer)}"
+        shown = f"- `tests/titan/{folder}/*.log`: {', '.join(f'`{it}`' for it in answer)}."
         tool.cases.must_be(f"docs/TRACES.md shows the answer to the logs of {folder}", shown in document, True)
         is_so = f"{folder} => {'; '.join(answer)}" in answers
         tool.cases.must_be(f"that is the answer to the logs of {folder}", is_so, True)
