@@ -24,7 +24,7 @@ sys.path[:0] = [str(ROOT / "tests" / it) for it in ("orders", "program", "tools"
 
 import example_files
 import other_programs
-from explore_runs import OVERTAKEN, PING_PONG, TELLS_PARTING, Exploring, begins_with, has_in_order, prints_file
+from explore_runs import DEPENDS, OVERTAKEN, PING_PONG, TELLS_PARTING, Exploring, begins_with, has_in_order, prints_file
 from judged import expected_beside
 from made_scripts import senders, stars
 from rule_cases import must
@@ -43,7 +43,7 @@ from tool_runs import (
     tell,
 )
 
-# The first script of each pair has a verdict that hangs on the schedule, and the second is its repaired twin.
+# The first script of each pair has a verdict that depends on the schedule, and the second is its repaired twin.
 PAIRS = (
     ("broadcast_is_overtaken_by_an_answer", "broadcast_has_a_port_of_its_own"),
     ("shutdown_overtakes_the_last_answer", "shutdown_waits_for_the_last_answer"),
@@ -60,7 +60,9 @@ PAIRS = (
 )
 BETWEEN_TWO_LOOKS = "tests/exploring/acts/message_comes_between_two_looks.ttcn"
 REFUSED = "tests/golden/refused_scripts/script_cut_inside_an_alt"
-COMES_TO = "A run that comes to "
+DISCARDED = "tests/golden/mistakes/start_may_discard_an_early_order"
+SVG = "{http://www.w3.org/2000/svg}"
+COMES_TO = "A run with the verdict "
 
 
 # Mistakes and their repairs
@@ -68,7 +70,7 @@ COMES_TO = "A run that comes to "
 
 def pairs(asked: Exploring) -> Iterator[Case]:
     for faulty, repaired in PAIRS:
-        yield told_of_example(asked.tool, faulty, 1, "pass or fail")
+        yield told_of_example(asked.tool, faulty, DEPENDS, "pass or fail")
         yield told_of_example(asked.tool, repaired, 0, "always pass")
 
 
@@ -111,14 +113,53 @@ def wrongly_told(told: dict[str, Any], expected: set[str]) -> Optional[str]:
 def one_script(asked: Exploring) -> Iterator[Case]:
     """What its text says, and the document; and the order of a run that is told, run again."""
     ended = asked.tool.run(f"{OVERTAKEN}.ttcn")
-    yield judged("where two runs part", ended, 1, TELLS_PARTING)
-    yield judged("what docs/EXPLORING.md shows", ended, 1, says_nothing, is_shown)
-    _, again, report = re.split(f"^{COMES_TO}fail; again: (.*)\n", ended.printed, flags=re.M)
+    yield judged("where two runs part", ended, DEPENDS, TELLS_PARTING)
+    yield judged("what docs/EXPLORING.md shows", ended, DEPENDS, says_nothing, is_shown)
+    _, again, report = re.split(f"^{COMES_TO}fail; to repeat it: (.*)\n", ended.printed, flags=re.M)
     lines = [line.removeprefix("  ") for line in report.splitlines(keepends=True) if line.startswith("  ")]
     must(lines, "there is a report of the run that comes to fail")
     run_again = run(["bash", "-c", again], variables={"TPR_ORDERED": asked.ordered})
     yield judged("the order of a run that is told", run_again, 0, prints("".join(lines)))
     yield asked.tool.full_device("an answer that can't be written", f"{OVERTAKEN}.ttcn")
+
+
+def pictures(asked: Exploring) -> Iterator[Case]:
+    """Two runs beside each other, with a line where they diverge; and a script that has no two."""
+    case = asked.tool.case
+    yield case("two runs beside each other", [f"{OVERTAKEN}.ttcn", "--svg"], DEPENDS, says_nothing, shows_where)
+    discarded = f"{DISCARDED}.ttcn"
+    yield case("runs with what is discarded", [discarded, "--svg"], DEPENDS, says_nothing, shows_where)
+    alone = says_alone("explore: always pass: no two runs diverge")
+    yield case("one run, which has no other beside it", [PING_PONG, "--svg"], 0, alone)
+    yield case("a picture as an object", [PING_PONG, "--svg", "--json"], 4, prints_nothing)
+
+
+def shows_where(ended: Ended) -> bool:
+    """In both charts the same rows stand above the line, and below it another one."""
+    root = xml.fromstring(ended.printed)
+    charts = [it for it in root.iter(f"{SVG}g") if it.get("transform")]
+    must(len(charts) == 2, f"there are {len(charts)} charts")
+    rows = [rows_round_the_line(it) for it in charts]
+    above, below = zip(*rows)
+    must(above[0] == above[1], f"above the lines stand {above}")
+    must(below[0][:1] != below[1][:1], f"below them stands {below[0][:1]} twice")
+    words = [it.text or "" for it in root.findall(f"{SVG}text")]
+    return any(word.startswith("line ") for word in words)
+
+
+def rows_round_the_line(chart: xml.Element) -> tuple[list[str], list[str]]:
+    """What is told of the rows above the line where the runs diverge, and of those below it. A row is as high as its
+    lowest text; what stands below the last row isn't one."""
+    (line,) = [it for it in chart.iter(f"{SVG}path") if it.get("class") == "parts"]
+    height = float((line.get("d") or "").partition(" ")[2].partition("H")[0])
+    rows: tuple[list[str], list[str]] = ([], [])
+    for row in chart.iter(f"{SVG}g"):
+        title = row.findtext(f"{SVG}title") or ""
+        if title.startswith("line ") and (texts := list(row.iter(f"{SVG}text"))):
+            lowest = max(float(it.get("y") or 0) for it in texts)
+            # What becomes of a message later stands behind a comma, and isn't common to both.
+            rows[0 if lowest < height else 1].append(re.split(", wh(?:ich|ere) ", row.get("aria-label") or "")[0])
+    return rows
 
 
 def is_shown(ended: Ended) -> bool:
@@ -139,7 +180,7 @@ def orders(asked: Exploring) -> Iterator[Case]:
         ("the other order", "mtc mtc a a b b b", script, 0, prints_file(f"{OVERTAKEN}.expected.2")),
         ("an order that names nobody", "mtc nobody", script, 2, says_alone(unnamed)),
         # A send tries no branch: the gate gives up at once, and not after its ten million turns.
-        ("an order that can't be held", "mtc mtc+ a", script, 4, prints("not held\n")),
+        ("an order that can't be held", "mtc mtc+ a", script, 5, prints("not held\n")),
         (
             "an order with a message between two looks",
             "a mtc a mtc+ mtc+ mtc mtc",
@@ -169,10 +210,10 @@ def other_scripts(asked: Exploring) -> Iterator[Case]:
     parting = has_in_order(
         "  line 17: mtc discarded integer:1 from a at port p, sent at line 7;",
         "    in the other run, at line 16, it took integer:2 from a at port q, sent at line 8",
-        "  nothing makes line 16 wait for line 8, nor line 8 for line 16",
+        "  line 16 and line 8 can come in either order",
     )
-    hangs = "a verdict that hangs on what comes between two looks"
-    yield case(hangs, [BETWEEN_TWO_LOOKS], 1, begins_with("pass or fail"), parting)
+    depends = "a verdict that depends on what comes between two looks"
+    yield case(depends, [BETWEEN_TWO_LOOKS], DEPENDS, begins_with("pass or fail"), parting)
     many, soon = file_of(room / "stars.ttcn", stars(20, 400)), replace(asked.tool, most_seconds=60)
     yield soon.case("templates of 20 stars, and long values", [many], 0, begins_with("always pass"))
     waiting = "tests/orders/messages/all_wait_for_each_other.ttcn"
@@ -203,7 +244,12 @@ def suites(asked: Exploring) -> Iterator[Case]:
     ended = suite.run(*scripts, "--explore", "--want", "none,pass,fail", "--junit", file)
     answers = [(names[0], "pass or fail"), (names[1], "always pass")]
     yield judged("a suite that explores", ended, 0, lambda _: explored_in(file) == answers)
-    yield suite.case("a suite that explores and writes no XML", [scripts[1], "--explore"], 4, prints_nothing)
+    yield suite.case("a suite that explores and writes no XML", [scripts[1], "--explore"], 0, has_answer("always pass"))
+
+
+def has_answer(answer: str) -> Test:
+    """Its table has this answer behind the result."""
+    return lambda ended: re.search(f" {answer} +[0-9.]+s$", ended.printed, re.M) is not None
 
 
 def explored_in(file: Path) -> list[tuple[Optional[str], Optional[str]]]:
@@ -217,6 +263,7 @@ def explored_in(file: Path) -> list[tuple[Optional[str], Optional[str]]]:
 GROUPS = (
     (pairs, 24),
     (one_script, 4),
+    (pictures, 4),
     (orders, 6),
     (other_scripts, 6),
     (refusals, 4),

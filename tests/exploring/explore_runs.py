@@ -8,6 +8,7 @@ from tool_runs import ROOT, Ended, Test, Tool, prints, says_nothing
 
 OVERTAKEN = "examples/broadcast_is_overtaken_by_an_answer"
 PING_PONG = "examples/ping_pong.ttcn"
+DEPENDS, UNDECIDED = 5, 6  # the statuses for several verdicts, and for an answer that promises nothing
 
 
 class Exploring:
@@ -38,7 +39,7 @@ def has_in_order(*lines: str) -> Test:
 
 
 def tells_faults(*lines: str) -> Test:
-    """Behind the first two lines stand these, nothing parts the runs, and it says nothing."""
+    """These follow the first two lines, no two runs diverge, and it says nothing."""
     return lambda ended: faults_of(ended) == lines and not parts_runs(ended) and says_nothing(ended)
 
 
@@ -47,12 +48,12 @@ def faults_of(ended: Ended) -> tuple[str, ...]:
 
 
 def parts_runs(ended: Ended) -> bool:
-    return "\nWhat parts " in f"\n{ended.printed}"
+    return "\nWhere the runs diverge (" in f"\n{ended.printed}"
 
 
 # What stands between the two runs of OVERTAKEN, in the words of the script.
 TELLS_PARTING = has_in_order(
     '  line 13: b took charstring:"begin" from mtc at port line, sent at line 32;',
     '    in the other run, at line 17, it took charstring:"hello" from a at port line, sent at line 8',
-    "  nothing makes line 32 wait for line 8, nor line 8 for line 32",
+    "  line 32 and line 8 can come in either order",
 )

@@ -3,11 +3,14 @@ that the script may have.
 
     explored.py each TPR ORDERED SCRIPT..
     explored.py random TPR ORDERED SEED NUMBER
+    explored.py grammar TPR ORDERED SEED NUMBER
 
 `each` looks at what is shown of each script: each verdict has a report with this result, which the judge of
 tests/orders allows, and where two runs part is told. It prints a line `passed VERDICTS SCRIPT` for each script.
 `random` does so with scripts made by chance that have few components, and with orders of their steps by chance: each is
 forced, and comes to the report that the model of runs has. A hundredth of them must have several verdicts.
+`grammar` does all this with scripts in which every form of the grammar occurs (grammar_scripts.py), and the model of
+runs must allow what `tpr run` prints of each.
 
 It prints lines that begin with `FAILED: ` where something doesn't hold.
 """
@@ -16,6 +19,7 @@ from __future__ import annotations
 import argparse
 import os
 import random
+import re
 import sys
 import tempfile
 from concurrent.futures import ProcessPoolExecutor
@@ -28,15 +32,16 @@ ROOT = Path(__file__).resolve().parents[2]
 sys.path[:0] = [str(ROOT / it) for it in ("tools", "tests/orders")]
 
 from generator import some_script
+from grammar_scripts import FORMS, some_grammar_script
 from judge import is_allowed
 from tpr_tools.explore.answers import Answer
-from tpr_tools.explore.asking import verdicts_by
+from tpr_tools.explore.asking import printed_by, verdicts_by
 from tpr_tools.explore.exploration import Exploration
 from tpr_tools.explore.following import result_of, takes_step
 from tpr_tools.explore.forced_runs import ForcedRuns
 from tpr_tools.explore.forced_script import ForcedScript, forced_script
 from tpr_tools.model.bodies import TestCase
-from tpr_tools.model.reading import read_script
+from tpr_tools.model.reading import read_script, tokens_of
 from tpr_tools.model.run import Run
 
 MOST_COMPONENTS = 5  # of a script by chance
@@ -126,11 +131,11 @@ def is_small(text: str) -> bool:
     return text.count(".create;") + 1 + text.count(" system C") <= MOST_COMPONENTS
 
 
-def made_by_chance(seed: str, number: int, folder: str) -> list[Path]:
+def made_by_chance(seed: str, number: int, folder: str, some: Callable[[random.Random], str]) -> list[Path]:
     """So many scripts of few components."""
     made: list[Path] = []
     for at in range(2 * number):
-        text = some_script(random.Random(f"{seed} {at}"))
+        text = some(random.Random(f"{seed} {at}"))
         if len(made) < number and is_small(text):
             made.append(Path(folder, f"seed_{seed}_script_{at}.ttcn"))
             made[-1].write_text(text, encoding="latin-1")
@@ -169,20 +174,46 @@ def looked_at_by_chance(programs: Programs, path: Path) -> Looked:
 
 def by_chance(programs: Programs, seed: str, number: int) -> None:
     with tempfile.TemporaryDirectory() as folder:
-        looked = tell_each(partial(looked_at_by_chance, programs), made_by_chance(seed, number, folder))
+        made = made_by_chance(seed, number, folder, some_script)
+        looked = tell_each(partial(looked_at_by_chance, programs), made)
     several = sum(it.verdicts > 1 for it in looked)
     word = "FAILED: only" if several < number // 100 else "passed"
     print(f"{word} {several} of {number} scripts by chance have several verdicts")
 
 
+# Scripts of the grammar
+
+
+def wrong_beside_a_run(programs: Programs, path: Path) -> Optional[str]:
+    """What the program prints of a free run, where the model of runs can't come to it."""
+    status, printed = printed_by([programs.tpr, "run", str(path)])
+    if status != 0:
+        return f"tpr run ended with status {status}: {printed}"
+    return None if is_allowed(TestCase(read_script(str(path))), printed) else f"the model can't have\n{printed}"
+
+
+def looked_at_beside_a_run(programs: Programs, path: Path) -> Looked:
+    looked = looked_at_by_chance(programs, path)
+    return looked if looked.wrong else looked._replace(wrong=wrong_beside_a_run(programs, path))
+
+
+def of_the_grammar(programs: Programs, seed: str, number: int) -> None:
+    with tempfile.TemporaryDirectory() as folder:
+        made = made_by_chance(seed, number, folder, some_grammar_script)
+        tell_each(partial(looked_at_beside_a_run, programs), made)
+        tokens = "\n".join(" ".join(tokens_of(it.read_text("latin-1"))) for it in made)
+    for form, pattern in FORMS.items():
+        print(f"passed {form}" if re.search(pattern, tokens) else f"FAILED: no script has {form}")
+
+
 def arguments() -> argparse.Namespace:
     words = argparse.ArgumentParser(description="Whether tools/explore shows runs of the verdicts that there are.")
     kinds = words.add_subparsers(dest="what", required=True)
-    for name in ("each", "random"):
+    for name in ("each", "random", "grammar"):
         kind = kinds.add_parser(name)
         kind.add_argument("tpr", metavar="TPR")
         kind.add_argument("ordered", metavar="ORDERED")
-        if name == "random":
+        if name != "each":
             kind.add_argument("seed", metavar="SEED")
             kind.add_argument("number", metavar="NUMBER", type=int)
         else:
@@ -195,6 +226,8 @@ def main() -> int:
     programs = Programs(asked.tpr, asked.ordered)
     if asked.what == "random":
         by_chance(programs, asked.seed, asked.number)
+    elif asked.what == "grammar":
+        of_the_grammar(programs, asked.seed, asked.number)
     else:
         tell_each(partial(looked_at, programs), asked.scripts)
     return 0

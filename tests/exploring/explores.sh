@@ -1,8 +1,9 @@
 # tools/explore: on each script of tests/orders/, and on scripts made by chance, each verdict that `tpr verdicts` names
 # has a run and a report (explored.py); what it says, and how it ends (explore_cases.py).
 
-# How many scripts are made by chance.
+# How many scripts are made by chance: of the common statements, and of every form of the grammar.
 explored_of_chance=300
+explored_of_grammar=200
 
 # Scripts with every kind of step, and those in which others act between two messages of a send, or two looks.
 explored_scripts() {
@@ -12,8 +13,10 @@ explored_scripts() {
 
 explores() {
     set_up "tpr_ordered is built" [ -x "$ordered" ] || return
-    at_least $((small_scripts + 7)) explored_scripts
+    at_least $((small_scripts + 8)) explored_scripts
     at_least $((explored_of_chance + 1)) \
         told "$room/explored_by_chance" tests/exploring/explored.py random "$tpr" "$ordered" 1 "$explored_of_chance"
-    at_least 81 told "$room/explore_cases" tests/exploring/explore_cases.py "$tpr" "$ordered"
+    at_least $((explored_of_grammar + 17)) \
+        told "$room/explored_of_grammar" tests/exploring/explored.py grammar "$tpr" "$ordered" 1 "$explored_of_grammar"
+    at_least 85 told "$room/explore_cases" tests/exploring/explore_cases.py "$tpr" "$ordered"
 }

@@ -12,9 +12,11 @@ from pathlib import Path
 from typing import Optional
 
 from explore_runs import (
+    DEPENDS,
     OVERTAKEN,
     PING_PONG,
     TELLS_PARTING,
+    UNDECIDED,
     Exploring,
     begins_with,
     has_in_order,
@@ -38,8 +40,8 @@ from tool_runs import (
 
 MOST_SECONDS = 60
 TAKES_SIGNALS = ("env", "--default-signal=HUP,INT,PIPE,TERM")  # before a command, so that it ignores none of them
-WANTS = "they want tpr_ordered, "
-FAULT = "a fault of tpr or of its tools:"
+WANTS = "reports need tpr_ordered, "
+FAULT = "a fault in tpr or its tools:"
 TO_PASS, TO_FAIL = "mtc a mtc a b b b", "mtc a a mtc b b b"  # orders of OVERTAKEN
 
 
@@ -56,32 +58,36 @@ def undecided_answers(asked: Exploring) -> Iterator[Case]:
     """Above the limit of states, and without memory."""
     script, undecided = f"{OVERTAKEN}.ttcn", "undecided, seen pass"
     one = answer_of(asked, 3, f"undecided\nseen pass\nstates 9\npass: {TO_PASS}\n", script)
-    yield judged("where one verdict is seen", one, 4, begins_with(undecided, "states 9"), runs_to_pass)
+    yield judged("where one verdict is seen", one, UNDECIDED, begins_with(undecided, "states 9"), runs_to_pass)
     two = answer_of(asked, 3, f"undecided\nseen pass fail\nstates 9\npass: {TO_PASS}\nfail: {TO_FAIL}\n", script)
-    yield judged("where two are seen", two, 1, begins_with(f"{undecided} or fail", "states 9"))
+    yield judged("where two are seen", two, DEPENDS, begins_with(f"{undecided} or fail", "states 9"))
     nothing, fault = "undecided\nstates 0\n", "fault 50 Memory\n"
-    yield judged("where nothing is seen", answer_of(asked, 3, nothing, script), 4, prints(nothing))
+    yield judged("where nothing is seen", answer_of(asked, 3, nothing, script), UNDECIDED, prints(nothing))
     yield judged("where memory is refused", answer_of(asked, 3, fault, script), 3, prints(fault))
 
 
 def runs_to_pass(ended: Ended) -> bool:
-    return "\nA run that comes to pass; again: " in ended.printed and not parts_runs(ended)
+    return "\nA run with the verdict pass; to repeat it: " in ended.printed and not parts_runs(ended)
 
 
 def orders_that_are_wrong(asked: Exploring) -> Iterator[Case]:
     """By the order of a verdict the model of runs comes to another, or to none."""
-    fault = f"{FAULT} by its order the model of runs comes to"
+    fault = f"{FAULT} the model of runs reaches"
     for name, orders, faults in (
-        ("comes to another verdict", (TO_FAIL, TO_PASS), (f"pass: {fault} fail", f"fail: {fault} pass")),
+        (
+            "comes to another verdict",
+            (TO_FAIL, TO_PASS),
+            (f"pass: {fault} fail by its order", f"fail: {fault} pass by its order"),
+        ),
         (
             "comes to no end",
             (TO_PASS, "mtc a a mtc b b"),
-            (f"fail: {fault} no end: b has a step behind the order",),
+            (f"fail: {fault} no end by its order: b has a step after the order",),
         ),
         (
             "has a step that can't be",
             (TO_PASS, "mtc b a mtc b b b"),
-            (f"fail: {fault} no end: b, name 2 of the order, has no step there",),
+            (f"fail: {fault} no end by its order: b, name 2 of the order, has no step there",),
         ),
     ):
         text = "pass or fail\nstates 9\npass: {}\nfail: {}\n".format(*orders)
@@ -108,9 +114,9 @@ def without_reports(asked: Exploring) -> Iterator[Case]:
     """Reports are left out where nothing runs orders, and said to be."""
     script, tool = f"{OVERTAKEN}.ttcn", asked.asking(asked.tpr, asked.nowhere)
     ended = tool.run(script)
-    yield judged("where two runs part, without reports", ended, 1, TELLS_PARTING)
-    yield judged("the orders and why there are no reports", ended, 1, prints_orders)
-    yield tool.case("the same as an object", [script, "--json"], 1, says_nothing, lacks_reports)
+    yield judged("where two runs part, without reports", ended, DEPENDS, TELLS_PARTING)
+    yield judged("the orders and why there are no reports", ended, DEPENDS, prints_orders)
+    yield tool.case("the same as an object", [script, "--json"], DEPENDS, says_nothing, lacks_reports)
     answer = run([asked.tpr, "verdicts", PING_PONG])
     must(answer.printed, "there is an answer to compare with")
     yield tool.case("one verdict alone, without a report", [PING_PONG], 0, prints(answer.printed))
@@ -119,8 +125,8 @@ def without_reports(asked: Exploring) -> Iterator[Case]:
 
 
 def prints_orders(ended: Ended) -> bool:
-    """What `tpr verdicts` prints stands above what parts the runs, with an empty line behind the states."""
-    told, _, behind = ended.printed.partition("\nWhat parts ")
+    """What `tpr verdicts` prints stands above where the runs diverge, with an empty line behind the states."""
+    told, _, behind = ended.printed.partition("\nWhere the runs diverge (")
     wanted = (ROOT / f"{OVERTAKEN}.verdicts").read_text(encoding="utf-8")
     lines = told.split("\n")
     return lines[2:3] == [""] and "\n".join(lines[:2] + lines[3:]) == wanted and f"\nNo reports: {WANTS}" in behind
@@ -146,10 +152,10 @@ def other_reports(asked: Exploring) -> Iterator[Case]:
     ended = forced_by(asked, 'while read -r line; do printf "order %s\\nnot held\\n\\n" "$line"; done <"$2"')
     yield judged("a program that holds no order", ended, 0, has_in_order("no report: the order couldn't be held"))
     ended = altered_by(asked, "s/^result pass/result fail/")
-    fault = f"pass: {FAULT} the run of its order came to"
-    yield judged("a program that comes to another verdict", ended, 1, tells_faults(f"{fault} fail"))
+    fault = f"pass: {FAULT} the run by its order"
+    yield judged("a program that comes to another verdict", ended, 1, tells_faults(f"{fault} reached fail"))
     ended = altered_by(asked, "s/^took /found /")
-    other = tells_faults(f"{fault} another report than the model of runs")
+    other = tells_faults(f"{fault} has a different report from the model of runs")
     yield judged("a program that comes to another report", ended, 1, other)
     ended = forced_by(asked, 'printf "refused 15 Limit line 0\\n"; exit 2')
     yield judged("a program that refuses what is run", ended, 0, begins_with("always pass"))
@@ -159,7 +165,7 @@ def programs_that_break_off(asked: Exploring) -> Iterator[Case]:
     for line, said in (
         ('cat -- "$2" >/dev/null', "ended with status 0: "),
         ("echo a file; exit 7", "ended with status 7: a file"),
-        ("kill -9 $$", "came to no end of its own: "),
+        ("kill -9 $$", "was killed or took too long: "),
         ('printf "component mtc\\n\\n"', "ended with status 0: component mtc"),
     ):
         told = says_alone(f"explore: {asked.room / 'other'} {said}")

@@ -105,7 +105,7 @@ class Maker:
         if place.variables and self.often(0.15):
             message = "n"
         elif place.loops and self.often(0.5):
-            message = f"integer:i{place.loops}"
+            message = self.chance.choice(("integer:", "")) + f"i{place.loops}"
         return [f"{port}.send({message}){self.receiver(place, port)};"]
 
     def receiver(self, place: Place, port: str) -> str:

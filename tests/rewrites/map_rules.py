@@ -164,7 +164,7 @@ def raced(program: str, output: str) -> None:
     with open(f"{output}.map", "a", encoding="utf-8") as opened:
         opened.write("2 1:1 race.ttcn\n")
     found = tool(program, "explore", output)
-    is_so = "it isn't the map of" in found and "What parts" not in found
+    is_so = "it isn't the map of" in found and "Where the runs diverge" not in found
     judged("explore, of a map that isn't the script's", is_so, found)
 
 
@@ -190,7 +190,7 @@ def look_at_partings() -> None:
     parting = Parting("mtc", Deed(3, "sent"), Deed(7, "waits for good"), (4, 6))
     wanted = (
         "line 9 of a.ttcn: mtc sent;\n  in the other run, at line 2 of b.ttcn, it waits for good\n"
-        "nothing makes line 9 of a.ttcn wait for line 2 of b.ttcn, nor line 2 of b.ttcn for line 9 of a.ttcn\n"
+        "line 9 of a.ttcn and line 2 of b.ttcn can come in either order\n"
     )
     judged("where two runs part", parting.text(origins) == wanted, parting.text(origins))
     told = Parting("mtc", Deed(3, "sent"), Deed(None, "waits"), None).as_json(origins)

@@ -1,5 +1,5 @@
 #!/usr/bin/env python3
-"""tools/compare: reports that are equal, equal but for the order between senders, and different.
+"""tools/compare: reports that are equal, equal except for the order between senders, and different.
 
     tests/tools/comparisons.py FOLDER
 
@@ -19,7 +19,7 @@ from example_reports import named
 from tool_calls import ROOT, Group, case, example_files, run, try_groups
 
 COMPARE = ROOT / "tools" / "compare"
-EQUAL_BUT_FOR_THE_ORDER = "equal but for the order between senders\n"
+EQUAL_EXCEPT_FOR_THE_ORDER = "equal except for the order between senders\n"
 
 
 def compared(name: str, status: int, printed: str, one: Path, other: Path) -> None:
@@ -30,7 +30,7 @@ def compared(name: str, status: int, printed: str, one: Path, other: Path) -> No
 # What it says of a report that differs
 
 TWO_ORDERS = f"""\
-{EQUAL_BUT_FOR_THE_ORDER}mtc, open: which came first
+{EQUAL_EXCEPT_FOR_THE_ORDER}mtc, open: which came first
   - report A, line 4: took orders north 0 charstring:"stopped"
   + report B, line 4: took orders south 0 charstring:"stopped"
 """
@@ -118,7 +118,7 @@ OF_TWO_SENDERS = (
         "two senders",
         0,
         f"""\
-{EQUAL_BUT_FOR_THE_ORDER}mtc, open: which came first
+{EQUAL_EXCEPT_FOR_THE_ORDER}mtc, open: which came first
   - report A, line 2: took p a 0 integer:1
   + report B, line 2: took p b 0 integer:1
 """,
@@ -141,7 +141,7 @@ mtc, the order of what it did
         "the same behind each message",
         0,
         f"""\
-{EQUAL_BUT_FOR_THE_ORDER}mtc, open: which came first
+{EQUAL_EXCEPT_FOR_THE_ORDER}mtc, open: which came first
   - report A, line 2: took p b 0 integer:1
   + report B, line 2: took p a 0 integer:1
 """,
@@ -195,7 +195,7 @@ def comparisons_of_examples(folder: Path) -> None:
         with case(f"compare: the first two reports of {second.stem}, of {results}"):
             ended = run(COMPARE, first, second)
             if len(ends) == 1:
-                ended.must_show(f"^{EQUAL_BUT_FOR_THE_ORDER}").must_say_nothing()
+                ended.must_show(f"^{EQUAL_EXCEPT_FOR_THE_ORDER}").must_say_nothing()
             else:
                 ended.must_show("^the result$", 5).must(ended.text.startswith("different\n"), "they differ")
     missing = folder / "missing"

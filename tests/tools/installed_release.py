@@ -93,10 +93,10 @@ def uses_readers_of_scripts(it: Installed) -> None:
 
 def uses_runners_of_scripts(it: Installed) -> None:
     with case("tpr-suite, installed"):
-        it.run("tpr-suite", "--jobs", "1", it.examples).must_show("; all as wanted$")
+        it.run("tpr-suite", "--jobs", "1", it.examples).must_show("; all as expected$")
     with case("tpr-explore, installed"):
         script = it.example("broadcast_is_overtaken_by_an_answer.ttcn")
-        it.run("tpr-explore", script).must_show('^  line 13: b took charstring:"begin" from mtc ', 1)
+        it.run("tpr-explore", script).must_show('^  line 13: b took charstring:"begin" from mtc ', 5)
     with case("tpr-suite --explore, installed"):
         it.run("tpr-suite", "--explore", "--junit", "explored.xml", it.example(f"{BELL}.ttcn")).must_end(0)
         told = (it.room / "explored.xml").read_text(encoding="utf-8")
@@ -206,7 +206,7 @@ def archive_is_used(tree: Tree) -> None:
         run("./tpr", "run", script, folder=folder, only=path).must_print(wanted)
     with case("tools/suite, unpacked"):
         ended = run("tools/suite", "--jobs", "1", script, folder=folder, only=path)
-        ended.must_show("^1 script: 1 pass; all as wanted$")
+        ended.must_show("^1 script: 1 pass; all as expected$")
 
 
 # The manual page

@@ -7,6 +7,7 @@ import shlex
 import signal
 import subprocess
 import time
+import xml.etree.ElementTree as xml
 from collections.abc import Callable
 from pathlib import Path
 
@@ -65,7 +66,7 @@ def of_another_program(room: Path, tpr: str) -> None:
     write_told(it)
     began = time.monotonic()
     cut = (
-        "what was printed is no report of tpr, report line 2: the text ends where the end of the component's"
+        "what was printed isn't a report of tpr, report line 2: the text ends where the end of the component's"
         " behaviour is needed"
     )
     with case("a suite of what is no report"):
@@ -77,7 +78,7 @@ def of_another_program(room: Path, tpr: str) -> None:
             f"told/is_killed.ttcn     broken * T  ended by signal 9{kept_of_told('is_killed', 'broken')}",
             f"told/lacks_memory.ttcn  fault * T  50 Memory{kept_of_told('lacks_memory', 'fault')}",
             f"told/says_signs.ttcn    broken * T  ended with status 7{kept_of_told('says_signs', 'broken')}",
-            "5 scripts: 1 fault, 1 stopped, 3 broken; 5 not as wanted (*)",
+            "5 scripts: 1 fault, 1 stopped, 3 broken; 5 not as expected (*)",
         )
     took = time.monotonic() - began
     with case("the JUnit file of what is no report"):
@@ -116,9 +117,9 @@ def suites_of_two_reports(it: Suites) -> None:
     failing, passing = answer("system_under_test_answers.expected"), answer(LOGIN)
     it.write("fails_once.ttcn", f"if [[ -e once ]]; then cat {passing}; else touch once; cat {failing}; fi\n")
     with case("a script that fails once"):
-        told = "fail in 1 of 4 runs, 3 pass; 2 different reports; mtc set fail, report line 5, behind: set pass"
+        told = "fail in 1 of 4 runs, 3 pass; 2 different reports; mtc set fail, report line 5, after: set pass"
         ended = it.run(it.another, "fails_once.ttcn", "--times", "4", "--jobs", "1")
-        must_be_table(ended, 5, f"fails_once.ttcn  fail * T  {told}", "1 script: 1 fail; 1 not as wanted (*)")
+        must_be_table(ended, 5, f"fails_once.ttcn  fail * T  {told}", "1 script: 1 fail; 1 not as expected (*)")
 
 
 # Nothing is lost of what a suite knows, and what isn't the report's own isn't mixed into it
@@ -191,12 +192,15 @@ def suites_that_are_interrupted(it: Suites) -> None:
     words = ("--jobs", "1", "--junit", "cut.xml")
     ended = it.rules("interrupted", "hangs", str(SUITE), *SCRIPTS[:2], "hangs.ttcn", *words, program=it.another)
     with case("a suite that is interrupted"):
-        ended.must_show("^interrupted, 2 of 3 scripts: 2 pass; all as wanted$")
+        ended.must_show("^interrupted, 2 of 3 scripts: 2 pass; 1 skipped$")
     with case("its status"):
         ended.must_show("^status 130$")
     with case("its JUnit file"):
         ended.must_say_nothing()
-        rules_must_hold("junit", it.file("cut.xml"), "2", "0", "0")
+        rules_must_hold("junit", it.file("cut.xml"), "3", "0", "0", "1")
+    with case("the script that was skipped"):
+        (skipped,) = xml.parse(it.file("cut.xml")).iterfind(".//skipped/..")
+        must(skipped.get("name") == "hangs", f"it is {skipped.get('name')}")
     waits = f'if test "$1" = verdicts; then touch {shlex.quote(str(it.file("explores")))}; sleep 5; fi'
     it.write("asked", f'#!/bin/sh\n{waits}\nexec {shlex.quote(it.another)} "$@"\n')
     it.file("asked").chmod(0o755)
@@ -205,9 +209,9 @@ def suites_that_are_interrupted(it: Suites) -> None:
     ended = it.rules("interrupted", "explores", str(SUITE), *explored, program=asked)
     with case("the status of a suite that is interrupted while it explores"):
         ended.must_show("^status 130$")
-    with case("its JUnit file, without what wasn't explored"):
+    with case("its JUnit file, in which what wasn't explored is skipped"):
         ended.must_say_nothing()
-        rules_must_hold("junit", it.file("explored.xml"), "1", "0", "0")
+        rules_must_hold("junit", it.file("explored.xml"), "1", "0", "0", "1")
 
 
 def suite_that_prints_at_once(it: Suites) -> None:
@@ -234,8 +238,8 @@ def suites_on_a_terminal(it: Suites) -> None:
     it.write("long.ttcn", f"if [[ -e seen ]]; then cat long; else touch seen; cat {answer(LOGIN)}; fi\n")
     with case("a long reason on a terminal"):
         words = ("long.ttcn", "--times", "3", "--jobs", "1")
-        told = "error in 2 of 3 runs, 1 pass; 2 different reports; mtc waits, report line 3, behind: sent a.p 0"
+        told = "error in 2 of 3 runs, 1 pass; 2 different reports; mtc waits, report line 3, after: sent a.p 0"
         form = rf'{told} charstring:"x*\.\.' + "\r$"
         it.rules("terminal", str(SUITE), *words, program=it.another).must_show(form)
     with case("a long reason elsewhere is whole"):
-        it.run(it.another, "long.ttcn").must_show(f'behind: sent a.p 0 charstring:"{long}"$', 5)
+        it.run(it.another, "long.ttcn").must_show(f'after: sent a.p 0 charstring:"{long}"$', 5)

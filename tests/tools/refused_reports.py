@@ -17,10 +17,11 @@ sys.dont_write_bytecode = True
 from example_reports import NAMED, named
 from refused_texts import CHANGED, refused_texts
 from rule_cases import must
-from tool_calls import ROOT, Group, case, rules_must_hold, run, try_groups
+from tool_calls import EXAMPLES, ROOT, Group, case, rules_must_hold, run, try_groups
 
 CHART, COMPARE = ROOT / "tools" / "chart", ROOT / "tools" / "compare"
 GOLDEN = ROOT / "tests" / "golden"
+PING_PONG = str(EXAMPLES / "ping_pong.ttcn")
 
 
 class Texts:
@@ -74,6 +75,18 @@ def changed_reports(texts: Texts) -> None:
             texts.must_be_refused(texts.write(f"{name} {change}", changed), line)
 
 
+def traces_in_place_of_reports(texts: Texts) -> None:
+    """A trace, which `tpr judge` reads, is called one."""
+    took = "took table other 0 integer:0\n"
+    report = (EXAMPLES / "ping_pong.expected").read_text(encoding="ascii")
+    must(took in report, "the report has another line")
+    trace = texts.write("a trace", report.replace(took, took.replace("took", "came") + took).encode())
+    for tool, *words in (("chart",), ("compare", str(EXAMPLES / "ping_pong.expected")), ("why", PING_PONG)):
+        with case(f"{tool} of a trace"):
+            said = f"{tool}: {trace}, line 3: this is a trace, as `tpr trace` prints it for `tpr judge`; a report of "
+            run(ROOT / "tools" / tool, *words, trace).must_say(said, 2)
+
+
 def charts_of_refusals(texts: Texts) -> None:
     """What is printed of a script that is refused is no report."""
     for file in sorted(GOLDEN.glob("*/*refused.expected")):
@@ -96,6 +109,7 @@ def main() -> int:
         [
             Group(partial(cut_reports, texts), 66, "reports that are cut"),
             Group(partial(changed_reports, texts), 96, "reports that are changed"),
+            Group(partial(traces_in_place_of_reports, texts), 3, "traces in place of reports"),
             Group(partial(charts_of_refusals, texts), 45, "charts of refusals"),
             Group(partial(refusals_of_texts, texts), 28, "texts that are refused"),
         ]

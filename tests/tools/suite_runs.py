@@ -12,9 +12,8 @@ from rule_cases import must
 from tool_calls import ROOT, Ended, difference, example, python, run, shown
 
 SUITE = ROOT / "tools" / "suite"
-HEAD = re.compile("script +result +run time  reason")
 TIMES = "the runs took T, judging them T"
-ONE_PASS = "1 script: 1 pass; all as wanted"
+ONE_PASS = "1 script: 1 pass; all as expected"
 
 # On no text it does nothing, and a script tells it what to do.
 ANOTHER = """#!/usr/bin/env bash
@@ -79,11 +78,12 @@ def timeless(line: str) -> str:
     return re.sub(r" +[0-9]+\.[0-9]{3}s(?=[ ,]|$)", " T", line, count=times).rstrip(" ")
 
 
-def must_be_table(ended: Ended, status: int, *lines: str) -> None:
+def must_be_table(ended: Ended, status: int, *lines: str, columns: tuple[str, ...] = ("result",)) -> None:
     """What was printed is the head, a line for each script, in whichever order they were done, and the last."""
     ended.must_say_nothing(status)
     head, *found = ended.text.removesuffix("\n").split("\n")
-    must(HEAD.fullmatch(head), f"the head is {head!r}")
+    wanted = ["script", *columns, "run time", "reason"]
+    must(re.fullmatch(" +".join(wanted), head), f"the head is {head!r}")
     must(found[-2:] == [TIMES, lines[-1]], f"the last lines are{shown(chr(10).join(found[-2:]))}")
     wrong = difference("\n".join(sorted(lines[:-1])), "\n".join(sorted(found[:-2])))
     must(not wrong, f"other lines are wanted{shown(wrong)}")

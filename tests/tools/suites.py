@@ -17,6 +17,7 @@ from pathlib import Path
 sys.dont_write_bytecode = True
 
 import other_suites
+import schedule_suites
 from suite_runs import SUITE, Suites, answer, kept, must_be_table
 from rule_cases import must
 from tool_calls import EXAMPLES, Group, case, example, onto_a_full_device, rules_must_hold, try_groups
@@ -30,8 +31,8 @@ NAMES = (
     "script_cut_inside_an_alt",
 )
 LOGIN, CUT = "scripts/login_is_answered.ttcn", "scripts/script_cut_inside_an_alt.ttcn"
-WAITS = "a waits, report line 11, behind: sent mtc.q 0 integer:9"
-BEHIND_PASS = "report line 3, behind: set pass"
+WAITS = "a waits, report line 11, after: sent mtc.q 0 integer:9"
+BEHIND_PASS = "report line 3, after: set pass"
 # Each script with its line.
 EVERY_RESULT = (
     f"scripts/halt_holds_back_what_comes_later.ttcn     error * T  {WAITS}"
@@ -41,12 +42,12 @@ EVERY_RESULT = (
     + kept("nobody_is_connected", "error"),
     "scripts/script_cut_inside_an_alt.ttcn             refused * T  10 Syntax, script line 9"
     + kept("script_cut_inside_an_alt", "refused", "printed"),
-    "scripts/system_under_test_answers.ttcn            fail * T  mtc set fail, report line 5, behind: set pass"
+    "scripts/system_under_test_answers.ttcn            fail * T  mtc set fail, report line 5, after: set pass"
     + kept("system_under_test_answers", "fail"),
-    "scripts/trigger_in_an_alt_comes_before_else.ttcn  inconc * T  mtc set inconc, report line 10, behind: else"
+    "scripts/trigger_in_an_alt_comes_before_else.ttcn  inconc * T  mtc set inconc, report line 10, after: else"
     + kept("trigger_in_an_alt_comes_before_else", "inconc"),
     "scripts/inner/none.ttcn                           none T",
-    "7 scripts: 1 none, 1 pass, 1 inconc, 1 fail, 2 error, 1 refused; 5 not as wanted (*)",
+    "7 scripts: 1 none, 1 pass, 1 inconc, 1 fail, 2 error, 1 refused; 5 not as expected (*)",
 )
 
 
@@ -60,7 +61,7 @@ def suites_of_scripts(room: Path, tpr: str, called: str) -> None:
         login = "scripts/login_is_answered.ttcn  pass T"
         none = "scripts/inner/none.ttcn         none T"
         ended = it.run(called, LOGIN, "scripts/inner")
-        must_be_table(ended, 0, login, none, "2 scripts: 1 none, 1 pass; all as wanted")
+        must_be_table(ended, 0, login, none, "2 scripts: 1 none, 1 pass; all as expected")
     with case("a suite with every result"):
         must_be_table(it.run(tpr, "scripts", "--junit", "all.xml", "--keep", "kept"), 5, *EVERY_RESULT)
     with case("the JUnit file of every result"):
@@ -91,9 +92,9 @@ def suites_that_want(it: Suites) -> None:
     xml, of_xml = it.file("wanted.xml"), ("--junit", "wanted.xml")
     with case("a suite in which all is wanted"):
         every = "none,pass,inconc,fail,error,refused"
-        it.run(it.tpr, "scripts", "--want", every, "--jobs", "1").must_show("all as wanted$")
+        it.run(it.tpr, "scripts", "--want", every, "--jobs", "1").must_show("all as expected$")
     with case("a suite in which pass isn't wanted"):
-        it.run(it.tpr, LOGIN, "--want", "fail", *of_xml).must_show(r"1 not as wanted \(\*\)$", 5)
+        it.run(it.tpr, LOGIN, "--want", "fail", *of_xml).must_show(r"1 not as expected \(\*\)$", 5)
     with case("its JUnit file"):
         rules_must_hold("junit", xml, "1", "1", "0")
     with case("a suite in which a refusal is wanted"):
@@ -131,7 +132,7 @@ def suites_that_cannot_be(room: Path, tpr: str) -> None:
     suites_that_are_asked_wrongly(it, file)
     with case("a line of progress on a terminal"):
         both = (file, str(example("script_cut_inside_an_alt.ttcn")))
-        it.rules("terminal", str(SUITE), *both, program=tpr).must_show("1 of 2 done, 0 not as wanted; last ")
+        it.rules("terminal", str(SUITE), *both, program=tpr).must_show("1 of 2 done, 0 not as expected; last ")
 
 
 WRONG_WORDS = (
@@ -158,12 +159,12 @@ def suites_of_what_is_wanted(room: Path, tpr: str) -> None:
     for name in BESIDE:
         it.copy(name, name)
     with case("scripts beside which nothing is said"):
-        it.run(tpr, *BESIDE).must_show(r"; 2 not as wanted \(\*\)$", 5)
+        it.run(tpr, *BESIDE).must_show(r"; 2 not as expected \(\*\)$", 5)
     it.copy("login_is_answered.expected", "login_is_answered.expected")
     it.write("script_cut_inside_an_alt.wanted", "\n  refused 10 Syntax line 9\n")
     it.write("system_under_test_answers.wanted", "fail\ninconc\n")
     with case("a folder that passes, fails and is refused, as is wanted"):
-        it.run(tpr, *BESIDE).must_show("; all as wanted$")
+        it.run(tpr, *BESIDE).must_show("; all as expected$")
     suites_of_what_is_not_wanted(it)
     suites_of_expected_reports(it)
     suites_of_wrong_wishes(it)
@@ -179,11 +180,11 @@ def suites_of_what_is_not_wanted(it: Suites) -> None:
         must_be_table(
             it.run(it.tpr, *BESIDE, "--junit", "j.xml"),
             5,
-            "login_is_answered.ttcn          pass * T  not as login_is_answered.expected has it: report line 4 is "
-            "'set pass', and there 'set fail'",
+            "login_is_answered.ttcn          pass * T  differs from login_is_answered.expected: report line 4 is "
+            "'set pass', expected 'set fail'",
             "script_cut_inside_an_alt.ttcn   refused * T  10 Syntax, script line 9",
-            "system_under_test_answers.ttcn  fail * T  mtc set fail, report line 5, behind: set pass",
-            "3 scripts: 1 pass, 1 fail, 1 refused; 3 not as wanted (*)",
+            "system_under_test_answers.ttcn  fail * T  mtc set fail, report line 5, after: set pass",
+            "3 scripts: 1 pass, 1 fail, 1 refused; 3 not as expected (*)",
         )
     with case("its JUnit file, of what isn't wanted"):
         rules_must_hold("junit", it.file("j.xml"), "3", "2", "1")
@@ -194,11 +195,11 @@ def suites_of_expected_reports(it: Suites) -> None:
     it.write("told.ttcn", f"cat {answer(two)}\n")
     it.copy(one, "told.expected.1")
     with case("a report that is another one"):
-        form = "not as told.expected.1 has it: report line 4 is "
+        form = "differs from told.expected.1: report line 4 is "
         it.run(it.another, "told.ttcn").must_show(form, 5)
     it.copy(two, "told.expected.2")
     with case("a report that is one of two"):
-        it.run(it.another, "told.ttcn").must_show("; all as wanted$")
+        it.run(it.another, "told.ttcn").must_show("; all as expected$")
     it.write("told.ttcn", f"cat {answer(two)}; exit 7\n")
     with case("a program that breaks off behind the report"):
         it.run(it.another, "told.ttcn").must_show(r"broken \* T  ended with status 7$", 5)
@@ -207,7 +208,7 @@ def suites_of_expected_reports(it: Suites) -> None:
 def suites_of_wrong_wishes(it: Suites) -> None:
     it.write("told.wanted", "pass\ngood\n")
     with case("a word that is no result"):
-        said = "suite: told.wanted, line 2: 'good' is none of none, pass,"
+        said = "suite: told.wanted, line 2: 'good' isn't one of none, pass,"
         it.run(it.another, "told.ttcn").must_say(said, 2)
     it.write("told.wanted", "")
     with case("nothing that is wanted"):
@@ -227,7 +228,8 @@ def main() -> int:
             Group(partial(other_suites.of_another_program, room, tpr), 8, "suites of another program"),
             Group(partial(suites_that_cannot_be, room, tpr), 19, "suites that can't be"),
             Group(partial(suites_of_what_is_wanted, room, tpr), 9, "suites of what is wanted"),
-            Group(partial(other_suites.that_lose_nothing, room, tpr), 19, "suites that lose nothing"),
+            Group(partial(schedule_suites.of_the_schedule, room, tpr), 21, "suites of the schedule"),
+            Group(partial(other_suites.that_lose_nothing, room, tpr), 20, "suites that lose nothing"),
         ]
     )
 

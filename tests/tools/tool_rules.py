@@ -10,7 +10,7 @@
     tool_rules.py random NUMBER            so many reports at random are read, drawn and compared
     tool_rules.py parts NUMBER             so do parts of the charts of so many reports
     tool_rules.py linear                   the time of an order goes with the lines, not the components
-    tool_rules.py junit XML T F E          valid, with so many tests, failures and errors
+    tool_rules.py junit XML T F E [S]      valid, with so many tests, failures, errors and skipped ones
     tool_rules.py interrupted FILE COMMAND.. what it prints if Ctrl-C comes once there is the file
     tool_rules.py terminal COMMAND..       what the command says on a terminal, its status at the end
 
@@ -75,6 +75,8 @@ def check_drawing(report: str, svg: str) -> None:
         must(len(arrows) == wanted, f"{len(arrows)} arrows, and {wanted} lines {word}")
         must(all(arrow.get("marker-end") for arrow in arrows), f"an arrow {word} has no end")
     check_texts(root, lines)
+    check_strokes(root)
+    check_legend(root)
 
 
 def number_of(element: xml.Element, name: str) -> float:
@@ -122,6 +124,53 @@ def check_width(text: xml.Element, width: float) -> None:
     left = x - long if "end" in (text.get("class") or "").split() else x
     left = x - long / 2 if "middle" in (text.get("class") or "").split() else left
     must(left >= -2 and left + long <= width + 2, f"{text.text!r} is clipped")
+
+
+def check_strokes(root: xml.Element) -> None:
+    """No arrow that goes over several rows strikes through a text or a badge: where it is as high as its middle, it is
+    beside it."""
+    middles = [middle_of(text) for text in root.iter(f"{SVG}text") if "halo" in (text.get("class") or "")]
+    for badge in root.iter(f"{SVG}rect"):
+        if badge.get("rx") == "9":
+            x, y, width = (number_of(badge, name) for name in ("x", "y", "width"))
+            middles.append((x, x + width, y + 9, "a badge"))
+    for path in root.iter(f"{SVG}path"):
+        if path.get("class") in ENDS:
+            for left, right, y, told in middles:
+                at = place_at(path.get("d") or "", y)
+                must(at is None or not left < at < right, f"an arrow strikes through {told}: {path.get('d')}")
+
+
+def middle_of(text: xml.Element) -> tuple[float, float, float, str]:
+    """Where it begins and ends, how high its middle is, and what it says."""
+    classes = (text.get("class") or "").split()
+    long = len(text.text or "") * (6.65 if "small" in classes else 7.25)
+    x = number_of(text, "x") - (long if "end" in classes else long / 2 if "middle" in classes else 0)
+    return x, x + long, number_of(text, "y") - 4, text.text or ""
+
+
+def place_at(way: str, y: float) -> Optional[float]:
+    """Where an arrow is at this height, if it goes down there."""
+    if found := re.fullmatch(r"M([-0-9.]+) ([-0-9.]+)L([-0-9.]+) ([-0-9.]+)", way):
+        x, top, to_x, foot = map(float, found.groups())
+        return x + (to_x - x) * (y - top) / (foot - top) if top < y < foot else None
+    if found := re.fullmatch(r"M([-0-9.]+) ([-0-9.]+)h([-0-9.]+)V([-0-9.]+)H[-0-9.]+", way):
+        x, top, far, foot = map(float, found.groups())
+        return x + far if top < y < foot else None
+    return None
+
+
+def check_legend(root: xml.Element) -> None:
+    """What a sign means stands below a chart in which it occurs, and in no other."""
+    classes = [path.get("class") or "" for path in root.iter(f"{SVG}path")]
+    arrows = [path.get("d") or "" for path in root.iter(f"{SVG}path") if path.get("class") in (*ENDS, "discarded")]
+    texts = [text.text or "" for text in root.iter(f"{SVG}text")]
+    for word in (*ENDS[1:], "discarded"):
+        must((word in classes) == (f"{word} key" in classes), f"what {word} means is told wrongly")
+    has_stubs = any("m0 -4v8M" in way for way in arrows)
+    must(has_stubs == ("took key" in classes), "what an arrow of two ends means is told wrongly")
+    has_numbers = any(re.search(r"^to \w+ #\d+ ", text) or re.search(r" from \w+ #\d+$", text) for text in texts)
+    must(has_numbers <= ("#0" in texts), "what the number of a message means isn't told")
 
 
 def check_orders(*files: str) -> None:
@@ -275,8 +324,11 @@ ELEMENTS: dict[str, tuple[set[str], set[str], set[str]]] = {
     "testcase": (
         {"name", "classname", "time"},
         {"assertions", "status"},
-        {"skipped", "error", "failure", "system-out", "system-err"},
+        {"properties", "skipped", "error", "failure", "system-out", "system-err"},
     ),
+    "properties": (set(), set(), {"property"}),
+    "property": ({"name", "value"}, set(), set()),
+    "skipped": ({"message"}, set(), set()),
     "failure": ({"message", "type"}, set(), set()),
     "error": ({"message", "type"}, set(), set()),
     "system-out": (set(), set(), set()),
@@ -286,7 +338,7 @@ SECONDS = re.compile(r"[0-9]+\.[0-9]{3}")
 DATE = re.compile(r"[0-9]{4}-[01][0-9]-[0-3][0-9]T[0-2][0-9]:[0-5][0-9]:[0-5][0-9]")
 
 
-def check_junit(file: str, tests: str, failures: str, errors: str) -> None:
+def check_junit(file: str, tests: str, failures: str, errors: str, skipped: str = "0") -> None:
     root = xml.parse(file).getroot()
     must(root.tag == "testsuites", "it is no list of suites")
     for element in root.iter():
@@ -295,6 +347,8 @@ def check_junit(file: str, tests: str, failures: str, errors: str) -> None:
     must([root.get(name) for name in ("tests", "failures", "errors")] == [tests, failures, errors], f"{root.attrib}")
     for suite in root:
         check_counts(suite, list(suite))
+        must(number_of(suite, "skipped") == len(suite.findall("testcase/skipped")), "other cases are skipped")
+    must(skipped == str(len(list(root.iter("skipped")))), f"{skipped} cases are skipped")
     names = [(case.get("classname"), case.get("name")) for case in root.iter("testcase")]
     must(len(set(names)) == len(names), f"two cases are alike: {names}")
 
@@ -313,9 +367,10 @@ def check_element(element: xml.Element) -> None:
     if element.tag == "testcase":
         tags = [child.tag for child in element]
         must(len(set(tags) & {"failure", "error", "skipped"}) <= 1, "a case has two outcomes")
-        order = ["error", "failure", "system-out", "system-err"]
+        order = ["properties", "skipped", "error", "failure", "system-out", "system-err"]
         must(tags == [tag for tag in order if tag in tags], f"{tags} isn't the order of a case's parts")
-        must(tags.count("system-out") == 1, "a case has its report, once")
+        reports = 0 if "skipped" in tags else 1
+        must(tags.count("system-out") == reports, "a case that was done has its report, once")
 
 
 def check_counts(element: xml.Element, cases: Iterable[xml.Element]) -> None:

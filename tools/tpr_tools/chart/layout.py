@@ -3,14 +3,16 @@ from __future__ import annotations
 
 from dataclasses import dataclass
 
+from .geometry import LETTER, SMALL, width_of
+from .legend import Legend, legend_of
 from .sequence import Arrow, Sequence, Step
 
-LETTER = 7.25  # the width of a letter of a label, of 12 pixels, in the widest of the usual fonts
-SMALL = 6.65  # and of one of 11 pixels
 ROW = 27
 REPEAT = 40  # after so many rows the names of the components are written again
 STRIP = 30  # the height of that
-LOOP = 26  # how far the arrow of a message to the component itself goes to the right
+LOOP = 26  # how far the arrow of a message to the component itself goes to the right, where no badge is in its way
+LANES = 5  # side by side, for those that go round several rows
+LANE = 4
 STEM = 0.62  # how much of the way one end of a long arrow takes
 TITLE_LETTER = 11.2
 BESIDE_TITLE = 190  # what stands beside the title, with the margins
@@ -24,19 +26,20 @@ _TOP = 112
 _FOOT_LINE = 17
 
 
-def width_of(text: str, letter: float = LETTER) -> float:
-    return len(text) * letter
+def letters_in(width: float, letter: float) -> int:
+    """How many find room. A width that was made for a text has room for all of it, however it was rounded."""
+    return int(width / letter + 1e-6)
 
 
 def cut(text: str, width: float, letter: float = LETTER) -> str:
     """The text, with its end left out where it doesn't fit."""
-    most = max(int(width / letter), 1)
+    most = max(letters_in(width, letter), 1)
     return text if len(text) <= most else text[: most - 1] + "…"
 
 
 def cut_middle(text: str, width: float, letter: float = LETTER) -> str:
     """The text, with its middle left out where it doesn't fit: names often differ at their ends."""
-    most = max(int(width / letter), 3)
+    most = max(letters_in(width, letter), 3)
     if len(text) <= most:
         return text
     behind = (most - 1) // 2
@@ -51,8 +54,10 @@ class Layout:
     boxes: tuple[float, ...]  # the width of the box at its head and at its foot
     spaces: tuple[float, ...]  # to the left of each life line, and behind the last
     width: float
+    reaches: tuple[float, ...]  # how far the arrows of each component to itself go to the right
     rows: int
     foot_lines: int
+    legend: Legend
 
     def y(self, row: int) -> float:
         """The height of a row, of which the names stand above some."""
@@ -69,12 +74,15 @@ class Layout:
         return 46 + (8 + _FOOT_LINE * self.foot_lines if self.foot_lines else 0)
 
     def height(self) -> float:
+        return self.legend_top() + self.legend.height()
+
+    def legend_top(self) -> float:
         return self.foot() + self.foot_height() + 62
 
     def room(self, arrow: Arrow) -> float:
         """The width for the text of the arrow's message."""
         if arrow.sender == arrow.receiver:
-            return self.spaces[arrow.sender + 1] - LOOP - 34
+            return self.spaces[arrow.sender + 1] - self.reaches[arrow.sender] - 34
         way = abs(self.columns[arrow.receiver] - self.columns[arrow.sender]) - 30
         return way * STEM if arrow.is_long() else way
 
@@ -93,7 +101,8 @@ def outer_space(arrow: Arrow) -> int:
 
 def layout_of(sequence: Sequence) -> Layout:
     most_gap = min(max(960 / max(len(sequence.names) - 1, 1), 150), 470)
-    needs = _needs(sequence, most_gap)
+    reaches = _reaches(sequence)
+    needs = _needs(sequence, most_gap, reaches)
     boxes = [_box(sequence, place, most_gap) for place in range(len(sequence.names))]
     spaces = [_MOST_MARGIN if need > _MOST_MARGIN else need for need in needs]
     for place in range(1, len(spaces) - 1):
@@ -107,8 +116,22 @@ def layout_of(sequence: Sequence) -> Layout:
         behind += space
         columns.append(behind)
     foot_lines = max(min(len(foot.left), MOST_LEFT + 1) for foot in sequence.feet)
-    rows = len(sequence.steps)
-    return Layout(tuple(columns), tuple(boxes), tuple(spaces), behind + spaces[-1], rows, foot_lines)
+    width, rows = behind + spaces[-1], len(sequence.steps)
+    legend = legend_of(sequence, width)
+    return Layout(tuple(columns), tuple(boxes), tuple(spaces), width, reaches, rows, foot_lines, legend)
+
+
+def _reaches(sequence: Sequence) -> tuple[float, ...]:
+    """An arrow round several rows goes round the badges in these rows too."""
+    reaches = [float(LOOP)] * len(sequence.names)
+    loops = {arrow for step in sequence.steps for arrow in step.ends if arrow.is_loop()}
+    badges = [(step.row, step.badge) for step in sequence.steps if step.badge]
+    for arrow in loops:
+        for row, badge in badges:
+            if badge.column == arrow.sender and arrow.start < row < arrow.stop:
+                reach = width_of(badge.text) / 2 + 18 + LANE * (LANES - 1)
+                reaches[badge.column] = max(reaches[badge.column], reach)
+    return tuple(reaches)
 
 
 def _widen(spaces: list[float], least: float) -> None:
@@ -127,31 +150,31 @@ def _box(sequence: Sequence, place: int, most_gap: float) -> float:
     return min(max(width_of(text) for text in texts) + 34, most_gap - 18)
 
 
-def _needs(sequence: Sequence, most: float) -> list[float]:
+def _needs(sequence: Sequence, most: float, reaches: tuple[float, ...]) -> list[float]:
     """How wide each space would have to be for all that stands in it."""
     needs = [0.0] * (len(sequence.names) + 1)
     for step in sequence.steps:
-        for space, width in _needs_of(step, most):
+        for space, width in _needs_of(step, most, reaches):
             needs[space] = max(needs[space], width)
     return needs
 
 
-def _needs_of(step: Step, most: float) -> list[tuple[int, float]]:
+def _needs_of(step: Step, most: float, reaches: tuple[float, ...]) -> list[tuple[int, float]]:
     needs = []
     if step.badge:
         half = width_of(step.badge.text) / 2 + 26
         needs += [(step.badge.column, half), (step.badge.column + 1, half)]
     if step.sends:
-        needs += _needs_of_text(step.sends, most)
+        needs += _needs_of_text(step.sends, most, reaches)
     for arrow in step.ends:
         needs.append((outer_space(arrow), width_of(arrow.at_receiver(), SMALL) + 32))
     return needs
 
 
-def _needs_of_text(arrow: Arrow, most: float) -> list[tuple[int, float]]:
+def _needs_of_text(arrow: Arrow, most: float, reaches: tuple[float, ...]) -> list[tuple[int, float]]:
     """The text of a message lies over all the spaces between sender and receiver."""
     if arrow.sender == arrow.receiver:
-        return [(arrow.sender + 1, min(width_of(arrow.at_sender()) + LOOP + 50, most))]
+        return [(arrow.sender + 1, min(width_of(arrow.at_sender()) + reaches[arrow.sender] + 50, most))]
     first, last = sorted((arrow.sender, arrow.receiver))
     width = width_of(arrow.at_sender()) / (STEM if arrow.is_long() else 1) + 44
     return [(space, min(width / (last - first), most)) for space in range(first + 1, last + 1)]

@@ -54,7 +54,7 @@ def _rows_of(sequence: Sequence, asked: Asked) -> tuple[int, int]:
     if asked.around is not None:
         row = next((step.row for step in sequence.steps if asked.around in step.numbers), None)
         if row is None:
-            raise NoSuchPart(f"line {asked.around} of the report is no entry of a history")
+            raise NoSuchPart(f"line {asked.around} of the report isn't an entry of a history")
         return max(row - AROUND, 0), min(row + AROUND + 1, rows)
     if asked.rows is None:
         return 0, rows

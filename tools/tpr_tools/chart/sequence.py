@@ -39,6 +39,7 @@ class Arrow(NamedTuple):
     start: int
     stop: int
     mark: str = ""
+    is_split: bool = False  # its way would strike through something
 
     def outside(self) -> str:
         """What stands beside the receiver's life line, on the side away from the sender."""
@@ -46,7 +47,11 @@ class Arrow(NamedTuple):
 
     def is_long(self) -> bool:
         """Whether it is drawn as its two ends."""
-        return self.stop - self.start > LONG and self.sender != self.receiver
+        return self.is_split or self.stop - self.start > LONG
+
+    def is_loop(self) -> bool:
+        """Whether it goes round several rows of one component, to the component itself."""
+        return self.sender == self.receiver and self.start < self.stop and not self.is_long()
 
     def is_far(self) -> bool:
         """Whether who sees one end may not see the other, so that each names the other."""
@@ -114,8 +119,13 @@ class Sequence:
 
 def sequence_of(report: Report, title: str, marks: Optional[Marks] = None) -> Sequence:
     """The chart of a report; NotAReport where its components don't agree, or no order is one."""
-    deliveries, marks = deliveries_of(report), marks or Marks()
-    rows = rows_of(deliveries)
+    deliveries = deliveries_of(report)
+    return sequence_in(deliveries, rows_of(deliveries), title, marks or Marks())
+
+
+def sequence_in(deliveries: Deliveries, rows: list[Row], title: str, marks: Marks) -> Sequence:
+    """The chart of these rows."""
+    report = deliveries.report
     for message in deliveries.messages:
         message.text += marks.at(message.sent)
     steps = _Steps(deliveries, _split(deliveries, rows), marks)

@@ -1,1 +1,1 @@
-"""Shows a run of each verdict that `tpr verdicts` names, and where two runs part."""
+"""Shows a run of each verdict that `tpr verdicts` names, and where two runs diverge."""

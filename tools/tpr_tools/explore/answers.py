@@ -56,3 +56,11 @@ def read_answer(printed: str) -> Optional[Answer]:
         states=int(found["states"]),
         orders=tuple((verdict, tuple(names.split())) for verdict, names in lines),
     )
+
+
+def first_line(answer: Answer) -> str:
+    """The verdicts, and whether there are others."""
+    told = " or ".join(answer.verdicts)
+    if answer.decided:
+        return told if len(answer.verdicts) > 1 else f"always {told}"
+    return f"undecided, seen {told}" if told else "undecided"

@@ -66,7 +66,7 @@ def _end_of(process: subprocess.Popen[bytes], most_seconds: Optional[float]) -> 
 
 def broken(program: str, status: Optional[int], printed: str) -> Stop:
     """The end of the tool, where the program doesn't do what is asked of it."""
-    ended = "came to no end of its own" if status is None else f"ended with status {status}"
+    ended = "was killed or took too long" if status is None else f"ended with status {status}"
     return Stop(NOT_BUILT, f"{program} {ended}: {' '.join(printed[-200:].split())}")
 
 

@@ -1,5 +1,5 @@
 """What is shown of the verdicts that `tpr verdicts` answers: for each a run by an order of steps, and where two runs
-part. A run is forced on the program that forces orders, and told in the words of the script by the model of runs."""
+diverge. A run is forced on the program that forces orders, and told in the words of the script by the model of runs."""
 from __future__ import annotations
 
 from dataclasses import dataclass
@@ -57,11 +57,11 @@ class Exploration:
         try:
             told = Told(self.case, forced_order_of(self.case, order))
         except NoEnd as why:
-            shown.fault = f"by its order the model of runs comes to no end: {why}"
+            shown.fault = f"the model of runs reaches no end by its order: {why}"
         else:
             shown.told = told
             if (result := result_of(told.run)) != verdict:
-                shown.fault = f"by its order the model of runs comes to {result}"
+                shown.fault = f"the model of runs reaches {result} by its order"
         return shown
 
     def paired(self) -> Iterator[tuple[Shown, Shown]]:
@@ -101,7 +101,7 @@ class Exploration:
         return [*self.shown, *(better for better, _ in self.pairs if all(it is not better for it in self.shown))]
 
     def faults(self) -> list[str]:
-        return [f"{it.verdict}: a fault of tpr or of its tools: {it.fault}" for it in self.all_shown() if it.fault]
+        return [f"{it.verdict}: a fault in tpr or its tools: {it.fault}" for it in self.all_shown() if it.fault]
 
     def partings(self) -> list[Parted]:
         """Where two runs part, of those that can be told."""
@@ -116,8 +116,8 @@ def note(shown: Shown, told: Told, run: ForcedRun) -> None:
     elif run.outcome is not Outcome.REPORT:
         shown.missing = run.outcome.value
     elif run.result() != shown.verdict:
-        shown.fault = f"the run of its order came to {run.result()}"
+        shown.fault = f"the run by its order reached {run.result()}"
     elif run.text != told.run.report():
-        shown.fault = "the run of its order came to another report than the model of runs"
+        shown.fault = "the run by its order has a different report from the model of runs"
     else:
         shown.report = run.text

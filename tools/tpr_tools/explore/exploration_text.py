@@ -1,20 +1,12 @@
-"""What is said of an exploration, as text and as JSON."""
+"""An exploration as text and as JSON."""
 from __future__ import annotations
 
 import shlex
 from typing import Optional
 
 from ..origins import Origins
-from .answers import Answer
+from .answers import first_line
 from .exploration import Exploration, Parted, Shown
-
-
-def first_line(answer: Answer) -> str:
-    """The verdicts, and whether there are others."""
-    told = " or ".join(answer.verdicts)
-    if answer.decided:
-        return told if len(answer.verdicts) > 1 else f"always {told}"
-    return f"undecided, seen {told}" if told else "undecided"
 
 
 def text_of(exploration: Exploration, script: str) -> str:
@@ -67,8 +59,8 @@ def _end_of(name: str, lines: list[str]) -> str:
 def _text_of_partings(partings: list[Parted], origins: Origins) -> str:
     pieces = [f"\n{origins.heading()}"] if origins.files else []
     for it in partings:
-        pieces.append(f"\nWhat parts {it.better.verdict} from {it.worse.verdict}:\n")
-        where = "nothing that a component did\n" if it.where is None else it.where.text(origins)
+        pieces.append(f"\nWhere the runs diverge ({it.better.verdict} and {it.worse.verdict}):\n")
+        where = "no component did anything different\n" if it.where is None else it.where.text(origins)
         pieces.append(_indented(where))
         if it.better.report and it.worse.report:
             pieces += [f"  {shown.verdict}: {_order_of(shown)}\n" for shown in (it.better, it.worse)]
@@ -86,7 +78,7 @@ def _indented(text: str) -> str:
 
 def _text_of_report(shown: Shown, script: str) -> str:
     again = f"echo {shlex.quote(_order_of(shown) or '')} | tools/explore {shlex.quote(script)} --order /dev/stdin"
-    return f"A run that comes to {shown.verdict}; again: {again}\n{_indented(shown.report)}"
+    return f"A run with the verdict {shown.verdict}; to repeat it: {again}\n{_indented(shown.report)}"
 
 
 def json_of(exploration: Exploration, script: str) -> str:

@@ -40,7 +40,7 @@ def look_for_end(run: Run) -> None:
     """There must be no step more."""
     for name, who in run.case.places.items():
         if takes_step(run, who):
-            raise NoEnd(f"{name} has a step behind the order")
+            raise NoEnd(f"{name} has a step after the order")
 
 
 def some_order(run: Run) -> list[str]:

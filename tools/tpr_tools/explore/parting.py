@@ -1,4 +1,4 @@
-"""Where two runs of a script part: the first thing that a component did in one of them and not in the other, in the
+"""Where two runs of a script diverge: the first thing that a component did in one of them and not in the other, in the
 words of the script."""
 from __future__ import annotations
 
@@ -74,8 +74,8 @@ def _place_as_json(line: Optional[int], origins: Origins) -> dict[str, object]:
 
 def _unordered(one: Line, other: Line) -> str:
     if one == other:
-        return f"nothing says which component is first at line {one}"
-    return f"nothing makes line {one} wait for line {other}, nor line {other} for line {one}"
+        return f"either component can be first at line {one}"
+    return f"line {one} and line {other} can come in either order"
 
 
 class Told:
@@ -241,7 +241,7 @@ def _deed(told: Told, who: int, at: int) -> Deed:
     if (line := told.failed_at(who)) is not None:
         return Deed(line, f"ended by {told.run.end(who)}")
     line = told.waits_at(who)
-    return Deed(line, "came to its end" if line is None else "waits for good")
+    return Deed(line, "ended" if line is None else "waits for good")
 
 
 def _words(told: Told, step: Done) -> str:
@@ -256,14 +256,15 @@ def _operation(told: Told, control: Control, step: Done) -> str:
     port = control.port or "all port"
     messages = " and ".join(_message(told, name, it) for name, (_, it) in zip(step.names(), step.touched))
     if control.operation == "halt":
-        return f"halted {port} behind {messages}" if messages else f"halted {port} with nothing ahead of the mark"
+        return f"halted {port} after {messages}" if messages else f"halted {port} with no message ahead of the mark"
     word = {"start": "started", "clear": "cleared"}.get(control.operation, "stopped")
     return f"{word} {port}, which discarded {messages or 'nothing'}"
 
 
 def _look(told: Told, step: Done) -> str:
     deeds = {"took": "took", "found": "found", "dropped": "discarded"}
-    words = [deeds.get(line.split(" ", 1)[0], "found nothing that it wanted and chose [else]") for line in step.lines]
+    otherwise = "found no message that it accepts and chose [else]"
+    words = [deeds.get(line.split(" ", 1)[0], otherwise) for line in step.lines]
     messages = [f" {_message(told, name, it)}" for name, (_, it) in zip(step.names(), step.touched)]
     return ", then ".join(word + message for word, message in zip(words, [*messages, ""]))
 

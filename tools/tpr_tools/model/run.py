@@ -211,7 +211,7 @@ class Run:
         me = self.components[who]
         if me.ports[send.port].status != "started":
             return Refusal.NOT_SENDING
-        if send.type is None and me.variables[send.message] is None:
+        if send.type is None and self.held(me, send.message) is None:
             return Refusal.UNSET_VARIABLE
         receiver = send.receiver
         if receiver is not None and receiver != EVERYONE and self.receiver(who, receiver) is None:
@@ -246,10 +246,19 @@ class Run:
         """The one place where a component changes another."""
         self.components[component].ports[port].queue.append(message)
 
+    def held(self, me: Component, name: str) -> tuple[str, Any] | None:
+        """The type and the value that are sent by this name alone; None where the variable has no value. A loop
+        variable holds an integer."""
+        if name in me.variables:
+            held: tuple[str, Any] | None = me.variables[name]
+            return held
+        return "integer", me.loops[name]
+
     def message(self, me: Component, send: Send) -> tuple[str, Any]:
         """The type and the value that are sent."""
         if send.type is None:
-            held: tuple[str, Any] = me.variables[send.message]
+            held = self.held(me, send.message)
+            assert held is not None, "a send of a variable without a value fails"
             return held
         return send.type, filled(send.message, send.type, self.case.script, me.loops)
 

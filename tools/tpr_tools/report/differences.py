@@ -20,7 +20,7 @@ from typing import Optional
 from ..words import counted
 from .report import Component, Entry, Line, Received, Report, Sent
 
-EQUAL, ORDER, DIFFERENT = "equal", "equal but for the order between senders", "different"
+EQUAL, ORDER, DIFFERENT = "equal", "equal except for the order between senders", "different"
 
 
 @dataclass(frozen=True)

@@ -17,8 +17,8 @@ from __future__ import annotations
 from dataclasses import dataclass
 from typing import Optional
 
-from .deliveries import Deliveries, Place
-from .report import NotAReport
+from .deliveries import Deliveries, Message, Place
+from .report import NotAReport, Operation
 from .search import Search
 
 _MOST_TRIES = 20_000
@@ -46,6 +46,25 @@ def rows_of(deliveries: Deliveries) -> list[Row]:
     for messages in deliveries.discarded.values():
         messages.sort(key=lambda message: search.moment[message.index])
     return _paired(deliveries, search.order)
+
+
+def rows_in(deliveries: Deliveries, order: list[Place], apart: int) -> list[Row]:
+    """All entries in an order that is known, as that of a run that was forced. What an emptying discards is settled in
+    the deliveries too. No row has an entry before the place `apart` together with one from there on."""
+    columns = {name: place for place, name in enumerate(deliveries.report.names())}
+    queues: dict[tuple[int, str], list[Message]] = {}
+    for place in order:
+        message, entry = deliveries.message(place), deliveries.entry(place)
+        if message is not None:
+            queue = queues.setdefault((columns[message.route.receiver], message.route.port), [])
+            if message.sent == place:
+                queue.append(message)
+            elif message.gone == place:
+                queue.remove(message)
+        elif isinstance(entry, Operation) and entry.word in ("cleared", "started"):
+            for discarded in queues.pop((place.component, entry.port), []):
+                deliveries.discard(discarded, place)
+    return _paired(deliveries, order[:apart]) + _paired(deliveries, order[apart:])
 
 
 def _find(search: Search) -> None:

@@ -75,6 +75,9 @@ class _Reader:
             return NotAReport(len(self.lines) + 1, f"the text ends where {wanted} is needed")
         if self.place == 0 and _NO_REPORT.fullmatch(line.text):
             return NotAReport(line.number, f"{line.text!r} is an answer of tpr, and no report")
+        if line.text.startswith("came "):
+            told = "this is a trace, as `tpr trace` prints it for `tpr judge`; a report of `tpr run` is needed"
+            return NotAReport(line.number, told)
         return NotAReport(line.number, f"{wanted} is needed, and {_short(line.text)} is there")
 
     def take(self, form: re.Pattern[str], wanted: str) -> tuple[Line, re.Match[str]]:
@@ -101,7 +104,7 @@ class _Reader:
         line, found = self.take(re.compile(r"component ([^ ]+)"), "a component")
         name = found[1]
         if not is_component_name(name):
-            raise NotAReport(line.number, f"{_short(name)} is no name of a component")
+            raise NotAReport(line.number, f"{_short(name)} isn't the name of a component")
         entries = self.entries()
         end = self.end()
         verdict_line, verdict = self.take(_VERDICT, "the component's verdict")
@@ -179,13 +182,13 @@ _LONGEST_KNOWN, _MOST_KNOWN = 2_000, 20_000
 
 def _check_message(line: Line, port: str, number: str, message: str) -> None:
     if not is_name(port):
-        raise NotAReport(line.number, f"{_short(port)} is no name of a port")
+        raise NotAReport(line.number, f"{_short(port)} isn't the name of a port")
     if int(number) >= MOST_ON_A_ROUTE:
         raise NotAReport(line.number, f"no message has the number {number}")
     if message in _KNOWN:
         return
     if not is_message(message):
-        raise NotAReport(line.number, f"{_short(message)} is no message")
+        raise NotAReport(line.number, f"{_short(message)} isn't a message")
     if len(message) < _LONGEST_KNOWN and len(_KNOWN) < _MOST_KNOWN:
         _KNOWN.add(message)
 
@@ -240,7 +243,7 @@ def _check_components(report: Report) -> None:
         if (component.name == "mtc") != (place == 0):
             raise NotAReport(number, "the first component is mtc, and no other")
         if "system" in seen:
-            raise NotAReport(number, "no component stands behind system")
+            raise NotAReport(number, "no component follows system")
         if component.name in seen:
             raise NotAReport(number, f"there are two components {component.name}")
         if place >= MOST_COMPONENTS:

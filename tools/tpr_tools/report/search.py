@@ -333,9 +333,9 @@ class Search:
     def need_of_operation(self, place: Place, entry: Operation) -> tuple[Place, str]:
         if not entry.empties():
             behind = self.deliveries.behind_mark[place]
-            return behind.sent, f"since {entry.port} delivers that message behind this halt"
+            return behind.sent, f"since {entry.port} delivers that message after this halt"
         queue = self.queues[place.component, entry.port]
-        return self.due_of(queue).sent, "since that message is neither got nor left, and nothing behind discards it"
+        return self.due_of(queue).sent, "since that message is neither got nor left, and nothing after it discards it"
 
     def need_of_sending(self, message: Message) -> tuple[Place, str]:
         queue = self.queue_of[message.index]

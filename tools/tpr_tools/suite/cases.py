@@ -8,8 +8,12 @@ from typing import Callable, Optional
 from ..command import REFUSED, Stop
 from ..words import counted, shown
 from .judging import RESULTS, Reason
+from .schedule import Schedule
 from .wanted import ENDING
 from .workers import Run
+
+
+_ANSWER = 14  # the width of what is said of a schedule
 
 
 @dataclass
@@ -18,7 +22,7 @@ class Case:
 
     script: str
     runs: list[Run] = field(default_factory=list)
-    explored: str = ""  # what tools/explore says first of it, if it is asked
+    is_done: bool = False
 
     def name(self) -> str:
         return os.path.basename(self.script).removesuffix(ENDING)
@@ -31,7 +35,15 @@ class Case:
             drop(other.kept)
             self.runs[self.runs.index(other)] = replace(other, kept=())
 
+    def schedule(self) -> Optional[Schedule]:
+        """What was answered of its schedule, if that was asked."""
+        return next((run.schedule for run in self.runs if run.schedule is not None), None)
+
     def is_wanted(self) -> bool:
+        schedule = self.schedule()
+        return self.has_wanted_results() and (schedule is None or not schedule.fault)
+
+    def has_wanted_results(self) -> bool:
         return all(run.is_wanted for run in self.runs)
 
     def worst(self) -> Run:
@@ -61,6 +73,8 @@ class Case:
         worst = self.worst()
         kept = [run for run in self.runs if run.kept and run.digest == worst.digest]
         reasons = [*worst.reasons]
+        if (schedule := self.schedule()) is not None and schedule.fault:
+            reasons.append(Reason(schedule.fault))
         if kept and not self.is_wanted():
             reasons.append(Reason(f"kept: {shown(kept[0].kept[0])}"))
         return "; ".join([*self.counts(), *(reason.text(most) for reason in reasons)])
@@ -89,30 +103,50 @@ def _scripts_in(folder: str) -> list[str]:
 
 
 class Table:
-    """A line for each case, with a star where its result isn't wanted."""
+    """A line for each case, with a star where its result, or its answer on the schedule, isn't expected."""
 
-    def __init__(self, scripts: list[str], most: Optional[int]):
+    def __init__(self, scripts: list[str], most: Optional[int], with_schedules: bool = False):
+        self.with_schedules = with_schedules
         self.width = max(len("script"), *(len(shown(script)) for script in scripts))
         self.most = most  # letters of an entry, where it is for a terminal
 
     def head(self) -> str:
-        return f"{'script':{self.width}}  {'result':9}  {'run time':>9}  reason\n"
+        schedule = f"  {'verdicts':{_ANSWER}}" if self.with_schedules else ""
+        return f"{'script':{self.width}}  {'result':9}{schedule}  {'run time':>9}  reason\n"
 
     def line(self, case: Case) -> str:
-        result = case.worst().result + ("" if case.is_wanted() else " *")
-        told = f"{shown(case.script):{self.width}}  {result:9}  {case.seconds():8.3f}s  "
+        result = case.worst().result + ("" if case.has_wanted_results() else " *")
+        schedule = f"  {_answer_of(case):{_ANSWER}}" if self.with_schedules else ""
+        told = f"{shown(case.script):{self.width}}  {result:9}{schedule}  {case.seconds():8.3f}s  "
         return f"{told}{shown(case.reason(self.most))}".rstrip() + "\n"
+
+
+def _answer_of(case: Case) -> str:
+    schedule = case.schedule()
+    return "-" if schedule is None else schedule.answer + (" *" if schedule.fault else "")
 
 
 def summary_of(cases: list[Case], all_scripts: int) -> str:
     """How many there are of each result, the time of the runs, and that of judging them."""
     results = [case.worst().result for case in cases]
     counts = [f"{results.count(result)} {result}" for result in RESULTS if result in results]
-    unwanted = sum(not case.is_wanted() for case in cases)
-    wanted = "all as wanted" if unwanted == 0 else f"{unwanted} not as wanted (*)"
     runs, judging = sum(case.seconds() for case in cases), sum(case.judging() for case in cases)
     of = counted(all_scripts, "script")
     if len(cases) < all_scripts:
         of = f"interrupted, {len(cases)} of {of}"
-    told = f"{of}: {', '.join(counts) or 'none done'}; {wanted}"
-    return f"the runs took {runs:.3f}s, judging them {judging:.3f}s\n{told}\n"
+    told = "; ".join([", ".join(counts) or "none done", *_depending(cases), _expected(cases, all_scripts)])
+    return f"the runs took {runs:.3f}s, judging them {judging:.3f}s\n{of}: {told}\n"
+
+
+def _depending(cases: list[Case]) -> list[str]:
+    """How many verdicts are known to depend on the schedule."""
+    schedules = [schedule for case in cases if (schedule := case.schedule()) is not None]
+    number = sum(schedule.depends() for schedule in schedules)
+    return [f"{counted(number, 'verdict')} {'depends' if number == 1 else 'depend'} on the schedule"] if number else []
+
+
+def _expected(cases: list[Case], all_scripts: int) -> str:
+    unwanted, skipped = sum(not case.is_wanted() for case in cases), all_scripts - len(cases)
+    told = [f"{unwanted} not as expected (*)"] if unwanted else []
+    told += [f"{skipped} skipped"] if skipped else []
+    return ", ".join(told) or "all as expected"

@@ -32,7 +32,7 @@ class Reason:
         if not self.behind:
             return self.what
         is_cut = most is not None and len(self.behind) > most
-        return f"{self.what}, behind: {self.behind[:most - 2] + '..' if is_cut and most else self.behind}"
+        return f"{self.what}, after: {self.behind[:most - 2] + '..' if is_cut and most else self.behind}"
 
 
 @dataclass(frozen=True)
@@ -66,7 +66,7 @@ def _judge(run: Printed) -> Judged:
         report = read_report(run.printed)
         _look_for_order(report)
     except NotAReport as fault:
-        return _other("broken", f"what was printed is no report of tpr, report {fault}", run)
+        return _other("broken", f"what was printed isn't a report of tpr, report {fault}", run)
     return Judged(report.result, reasons_of(report), report)
 
 

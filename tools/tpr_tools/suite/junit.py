@@ -1,7 +1,8 @@
 """The cases of a suite as JUnit XML, for a build server.
 
-A result that isn't wanted is a failure, where it is a verdict that the test case came to; it is an
-error, where the test case didn't come to one: the result error, a script that is refused, a fault.
+A result that isn't wanted is a failure if it is a verdict of the test case, and so is a verdict that depends on the
+schedule. It is an error if the test case has no verdict: the result error, a script that is refused, a fault. A script
+that wasn't done when the suite ended is skipped.
 """
 from __future__ import annotations
 
@@ -14,6 +15,7 @@ from ..words import counted, readable
 from .cases import Case
 
 _FAILURES = ("none", "pass", "inconc", "fail")
+_SKIPPED = "the suite ended before this script was done"
 
 
 def look_whether_written(file: str) -> None:
@@ -48,7 +50,7 @@ def _alone(name: str, taken: set[str]) -> str:
 
 def _suite(folder: str, cases: list[Case], began: datetime, class_name: str) -> xml.Element:
     suite = xml.Element("testsuite", _counts(cases, readable(folder or ".")))
-    suite.set("skipped", "0")
+    suite.set("skipped", str(sum(not case.is_done for case in cases)))
     suite.set("timestamp", began.strftime("%Y-%m-%dT%H:%M:%S"))
     suite.set("hostname", "localhost")
     taken: set[str] = set()
@@ -69,28 +71,48 @@ def _counts(cases: list[Case], name: str) -> dict[str, str]:
 
 
 def _kind(case: Case) -> str:
-    """failure, error, or nothing."""
-    if case.is_wanted():
+    """failure, error, or nothing, as of a case that was skipped."""
+    if not case.is_done or case.is_wanted():
         return ""
-    return "failure" if case.worst().result in _FAILURES else "error"
+    schedule = case.schedule()
+    is_broken = case.has_wanted_results() and schedule is not None and schedule.is_broken
+    return "failure" if case.worst().result in _FAILURES and not is_broken else "error"
 
 
 def _case(case: Case, class_name: str, name: str) -> xml.Element:
     made = xml.Element("testcase", name=name, classname=class_name)
     made.set("time", f"{case.seconds():.3f}")
+    if not case.is_done:
+        xml.SubElement(made, "skipped", message=_SKIPPED)
+        return made
+    if (schedule := case.schedule()) is not None:
+        _add_properties(made, {"verdicts": schedule.answer, "explored": schedule.explored})
     kind, worst = _kind(case), case.worst()
-    if case.explored:
-        properties = xml.SubElement(made, "properties")
-        xml.SubElement(properties, "property", name="explored", value=readable(case.explored))
     if kind:
-        reason = readable(case.reason() or "this result isn't wanted")
-        told = xml.SubElement(made, kind, message=f"{worst.result}: {reason}", type=worst.result)
+        reason = readable(case.reason() or "this result isn't expected")
+        of_schedule = case.has_wanted_results()
+        message, of = (reason, "schedule") if of_schedule else (f"{worst.result}: {reason}", worst.result)
+        told = xml.SubElement(made, kind, message=message, type=of)
         run = f", run {worst.number} of {counted(len(case.runs), 'run')}" if len(case.runs) > 1 else ""
-        told.text = f"{readable(case.script)}{run}\nresult {worst.result}\n{reason}\n"
+        told.text = f"{readable(case.script)}{run}\nresult {worst.result}\n{reason}\n{_explained(case)}"
     xml.SubElement(made, "system-out").text = readable(worst.printed)
     if worst.said:
         xml.SubElement(made, "system-err").text = readable(worst.said)
     return made
+
+
+def _add_properties(made: xml.Element, values: dict[str, str]) -> None:
+    properties = xml.SubElement(made, "properties")
+    for name, value in values.items():
+        if value:
+            xml.SubElement(properties, "property", name=name, value=readable(value))
+
+
+def _explained(case: Case) -> str:
+    """What the other tools say of it: first of the result, then of the schedule."""
+    schedule = case.schedule()
+    told = [case.worst().explained, schedule.text() if schedule is not None and schedule.fault else ""]
+    return "".join(f"\n{readable(piece)}" for piece in told if piece)
 
 
 def _class_name(folder: str) -> str:

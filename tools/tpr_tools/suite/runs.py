@@ -1,4 +1,4 @@
-"""Runs one script in a process of its own, within a bound of time and of what it prints."""
+"""Runs one command on a script in a process of its own, within a bound of time and of what it prints."""
 from __future__ import annotations
 
 import os
@@ -9,7 +9,7 @@ import subprocess
 import time
 from dataclasses import dataclass
 from enum import Enum
-from typing import Optional
+from typing import Mapping, Optional, Sequence
 
 from ..command import NOT_BUILT, Stop
 
@@ -68,7 +68,7 @@ def _is_same(file: str, other: str) -> bool:
 
 
 class Runner:
-    """Runs the program, one script at a time."""
+    """Runs the program, or a tool that asks it, one script at a time."""
 
     def __init__(self, program: str, bound: float, megabytes: int):
         self.program = program
@@ -78,8 +78,12 @@ class Runner:
         self.process: Optional[subprocess.Popen[bytes]] = None
 
     def run(self, script: str) -> Printed:
+        return self.ended(self.program, "run", script)
+
+    def ended(self, *words: str, variables: Optional[Mapping[str, str]] = None) -> Printed:
+        """What comes of a command, within the bounds."""
         began = time.monotonic()
-        process = self.start(script)
+        process = self.start(words, variables)
         reading = _Reading(process, began + self.bound, self.megabytes * _MEGABYTE)
         try:
             stopped, status = reading.read(), None
@@ -110,18 +114,19 @@ class Runner:
             return f"ended with status {status}, and {held}"
         return f"not done within {self.bound:g} seconds"
 
-    def start(self, script: str) -> subprocess.Popen[bytes]:
+    def start(self, words: Sequence[str], variables: Optional[Mapping[str, str]]) -> subprocess.Popen[bytes]:
         """Each in a group of its own, so that all that it has started can be stopped."""
         try:
             self.process = subprocess.Popen(
-                [self.program, "run", script],
+                words,
                 stdin=subprocess.DEVNULL,
                 stdout=subprocess.PIPE,
                 stderr=subprocess.PIPE,
                 start_new_session=True,
+                env=variables,
             )
         except OSError as error:
-            raise Stop(NOT_BUILT, f"{self.program} can't be run: {error.strerror}") from None
+            raise Stop(NOT_BUILT, f"{words[0]} can't be run: {error.strerror}") from None
         if self.stopping:
             self.stop()
         return self.process

@@ -1,20 +1,21 @@
-"""What is wanted of a script: what stands beside it, or else what the command line says.
+"""What is expected of a script: by a file beside it, or else by the command line.
 
-`NAME.wanted` has the results that are wanted of `NAME.ttcn`, a line for each: a result, or the whole line
-of a refusal. Where there is no such file but `NAME.expected` or `NAME.expected.N`, what is printed must be
-one of these texts.
+`NAME.wanted` has the results that are expected of `NAME.ttcn`, a line for each: a result, or the whole line of a
+refusal. A line such as `pass or fail` is the expected answer of `tpr verdicts`, and its verdicts are expected results.
+If there is no such file but `NAME.expected` or `NAME.expected.N`, what is printed must be one of these texts.
 """
 from __future__ import annotations
 
 import glob
 import os
 from dataclasses import dataclass, field
-from typing import Optional
+from typing import Optional, Sequence
 
 from ..command import REFUSED, Stop, read_bytes
-from ..words import VERDICTS
+from ..words import VERDICTS, counted
 
 CAN_BE_WANTED = (*VERDICTS, "refused")
+ALWAYS = "always"  # can be wanted on the command line besides: a verdict that doesn't depend on the schedule
 ENDING = ".ttcn"
 
 
@@ -25,6 +26,7 @@ class Wanted:
     results: frozenset[str]
     lines: frozenset[str] = frozenset()
     texts: tuple[str, ...] = field(default=())  # their files
+    answers: frozenset[str] = frozenset()  # of `tpr verdicts`
 
     def fault(self, result: str, printed: bytes) -> Optional[str]:
         """Why what came isn't wanted, or nothing. It is empty where the result says it."""
@@ -47,18 +49,28 @@ def wanted_of(script: str, results: frozenset[str]) -> Wanted:
 
 
 def _read(file: str) -> Wanted:
-    results, refusals = set(), set()
+    results, refusals, answers = set(), set(), set()
     for number, line in enumerate(read_bytes(file).decode("utf-8", "replace").split("\n"), 1):
         word = line.strip()
         if word in CAN_BE_WANTED:
             results.add(word)
         elif word.startswith("refused "):
             refusals.add(word)
+        elif verdicts := _verdicts_of(word):
+            results.update(verdicts)
+            answers.add(word)
         elif word:
-            raise Stop(REFUSED, f"{file}, line {number}: {word!r} is none of {', '.join(CAN_BE_WANTED)}")
+            raise Stop(REFUSED, f"{file}, line {number}: {word!r} isn't one of {', '.join(CAN_BE_WANTED)}")
     if not results and not refusals:
         raise Stop(REFUSED, f"{file} names no result")
-    return Wanted(frozenset(results), frozenset(refusals))
+    return Wanted(frozenset(results), frozenset(refusals), answers=frozenset(answers))
+
+
+def _verdicts_of(line: str) -> Sequence[str]:
+    """The verdicts of an answer of `tpr verdicts` as it stands in its first line; none where it is no such line."""
+    verdicts = line.removeprefix("always ").split(" or ")
+    is_answer = line.startswith("always ") == (len(verdicts) == 1) and all(it in VERDICTS for it in verdicts)
+    return verdicts if is_answer else ()
 
 
 def _difference(printed: bytes, files: tuple[str, ...]) -> Optional[str]:
@@ -73,9 +85,9 @@ def _difference(printed: bytes, files: tuple[str, ...]) -> Optional[str]:
         same = next((n for n, (a, b) in enumerate(zip(ours, theirs)) if a != b), min(len(ours), len(theirs)))
         if same > best:
             best = same
-            told = f"not as {os.path.basename(file)} has it: report line {same + 1} is {_line(ours, same)}"
-            told += f", and there {_line(theirs, same)}"
-    more = f"; nor is it one of {len(files) - 1} other reports" if len(files) > 1 else ""
+            told = f"differs from {os.path.basename(file)}: report line {same + 1} is {_line(ours, same)}"
+            told += f", expected {_line(theirs, same)}"
+    more = f"; {counted(len(files) - 1, 'other expected report')} differ too" if len(files) > 1 else ""
     return told + more
 
 

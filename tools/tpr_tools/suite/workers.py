@@ -14,9 +14,11 @@ from multiprocessing.connection import Connection, wait
 from typing import Iterator, Optional, Union
 
 from ..command import NOT_BUILT, Stop
+from .explained import explained
 from .judging import Reason, judge
 from .kept import keep
 from .runs import Runner
+from .schedule import Asked, Schedule, schedule_of
 from .wanted import Wanted
 
 _CUT_WANTED, _CUT_UNWANTED = 2_000, 1_000_000
@@ -32,7 +34,8 @@ class Task:
     wanted: Wanted
     folder: Optional[str]  # where its report is kept
     title: str
-    known: frozenset[str]  # the texts of its runs that are kept already
+    known: frozenset[str]  # the texts of its runs that are done
+    asked: Asked  # of its schedule, once for all runs
 
 
 @dataclass(frozen=True)
@@ -50,6 +53,8 @@ class Run:
     printed: str
     said: str
     kept: tuple[str, ...]
+    explained: str
+    schedule: Optional[Schedule]
 
 
 class Workers:
@@ -140,8 +145,13 @@ def _do(task: Task, runner: Runner, with_texts: bool) -> Run:
     reasons = judged.reasons + ((Reason(fault),) if fault else ())
     most = 0 if not with_texts else _CUT_WANTED if fault is None else _CUT_UNWANTED
     texts = (_text(run.printed, most), _text(run.said, most))
+    is_explained = with_texts and fault is not None and digest not in task.known
+    told_why = explained(task.path, run, judged) if is_explained else ""
+    schedule = None
+    if task.number == 1 and task.asked.anything() and judged.result != "refused":
+        schedule = schedule_of(runner, task.path, task.asked, task.wanted)
     told = (task.script, task.number, judged.result, reasons, fault is None, digest)
-    return Run(*told, run.seconds, judged.seconds, *texts, kept)
+    return Run(*told, run.seconds, judged.seconds, *texts, kept, told_why, schedule)
 
 
 def _text(data: bytes, most: int) -> str:

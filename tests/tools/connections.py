@@ -1,0 +1,148 @@
+#!/usr/bin/env python3
+"""tools/chart --connections: each component, port and connection of a script is drawn, and no line runs through a
+component.
+
+    tests/tools/connections.py
+
+It prints a line `passed NAME` for each case, or lines that begin with `FAILED: NAME`.
+"""
+from __future__ import annotations
+
+import re
+import sys
+import tempfile
+import xml.etree.ElementTree as xml
+from collections.abc import Iterator
+from pathlib import Path
+
+sys.dont_write_bytecode = True
+
+from rule_cases import Wrong, must
+from tool_calls import EXAMPLES, ROOT, Group, case, run, try_groups
+from tool_rules import SVG, check_inside, number_of
+
+CHART = ROOT / "tools" / "chart"
+LOGIN = EXAMPLES / "login_is_answered.ttcn"
+PARTS = 40  # of a line, at whose ends it is looked at
+
+# Two components at each side of a third, one that is connected to itself, one to nothing, and the system.
+NET = """module Net {
+    type port P message { inout integer; }
+    type component C { port P left, right, up; }
+    function f() runs on C { }
+    function sut() runs on C { }
+    testcase t() runs on C system C {
+        var C a := C.create; var C b := C.create; var C c := C.create; var C lonely := C.create;
+        connect(self:left, a:left); connect(mtc:left, b:left); connect(a:right, c:left); connect(b:right, c:right);
+        connect(a:up, b:up); connect(c:up, c:left); map(self:up, system:up);
+        a.start(f()); b.start(f()); c.start(f()); lonely.start(f());
+        all component.done;
+    }
+}
+"""
+UNUSED = "6 ports without a connection: mtc.right, lonely.left, lonely.right and 3 more"
+
+
+def right_scripts() -> list[Path]:
+    found = [*EXAMPLES.glob("*.ttcn"), *(ROOT / "tests" / "orders").glob("*/*.ttcn")]
+    return sorted(found)
+
+
+def drawn(script: Path) -> xml.Element:
+    return xml.fromstring(run(CHART, "--connections", script).must_say_nothing().printed)
+
+
+def connections_of_scripts() -> None:
+    for script in right_scripts():
+        with case(f"the connections of {script.stem}"):
+            must_be_drawn(drawn(script), script.read_text(encoding="latin-1"))
+
+
+def must_be_drawn(root: xml.Element, script: str) -> None:
+    """What the script's text has stands in the picture."""
+    check_inside(root)
+    text = re.sub(r"//[^\n]*", "", script)
+    created = re.findall(r"\bvar\s+(\w+)\s+(\w+)\s*:=\s*\w+\.create", text)
+    texts = [it.text for it in root.iter(f"{SVG}text")]
+    for type_name, name in created:
+        must(name in texts and type_name in texts, f"{name} of {type_name} isn't drawn")
+    written = re.findall(r"\b(connect|map)\s*\(\s*(\w+)\s*:\s*(\w+)\s*,\s*(\w+)\s*:\s*(\w+)\s*\)", text)
+    joined = [f"{word}({mtc(a)}:{p}, {mtc(b)}:{q})" for word, a, p, b, q in written]
+    told = [it.findtext(f"{SVG}title") for it in lines_of(root)]
+    must(sorted(told, key=str) == sorted(joined), f"the lines are {told}")
+    must_run_beside(root)
+
+
+def mtc(name: str) -> str:
+    return "mtc" if name == "self" else name
+
+
+def lines_of(root: xml.Element) -> list[xml.Element]:
+    return [it for it in root.iter(f"{SVG}path") if it.find(f"{SVG}title") is not None]
+
+
+def must_run_beside(root: xml.Element) -> None:
+    """A line touches components at its ends alone."""
+    boxes = []
+    for box in root.iter(f"{SVG}rect"):
+        if box.get("class") == "box":
+            x, y, wide, high = (number_of(box, name) for name in ("x", "y", "width", "height"))
+            boxes.append((x + 1, y + 1, x + wide - 1, y + high - 1))
+    for line in lines_of(root):
+        for x, y in points_of(line.get("d") or ""):
+            inside = any(left < x < right and top < y < foot for left, top, right, foot in boxes)
+            must(not inside, f"a line runs through a component: {line.get('d')}")
+
+
+def points_of(way: str) -> Iterator[tuple[float, float]]:
+    """Points of a line of four."""
+    numbers = [float(it) for it in re.findall(r"-?[0-9.]+", way)]
+    if len(numbers) != 8:
+        raise Wrong(f"no such line is known: {way}")
+    for at in range(PARTS + 1):
+        there = at / PARTS
+        shares = [(1 - there) ** 3, 3 * there * (1 - there) ** 2, 3 * there**2 * (1 - there), there**3]
+        x, y = (sum(share * it for share, it in zip(shares, numbers[axis::2])) for axis in (0, 1))
+        yield x, y
+
+
+def connections_of_a_net(room: Path) -> None:
+    script = room / "net.ttcn"
+    script.write_text(NET, encoding="ascii")
+    with case("the connections of a net"):
+        root = drawn(script)
+        must_be_drawn(root, NET)
+        texts = [it.text for it in root.iter(f"{SVG}text")]
+        must(UNUSED in texts, f"it says {texts[-1]}")
+        must("dashed line: mapped to the system" in texts, "it isn't said what a dashed line means")
+        mapped = [it.findtext(f"{SVG}title") for it in lines_of(root) if it.get("class") == "found"]
+        must(mapped == ["map(mtc:up, system:up)"], f"dashed are {mapped}")
+    script.write_text(NET.replace("lonely.start(f());", ""), encoding="ascii")
+    with case("the connections of a script that is refused"):
+        said = f"chart: {script}, line 7: the script is refused; tools/explain says what is wrong"
+        run(CHART, "--connections", script).must_say(said, 2)
+
+
+def connections_that_cannot_be() -> None:
+    login = str(LOGIN)
+    calls: tuple[list[str], ...] = ([], ["--only", "mtc", login], ["--script", login, login], ["--text", login])
+    for words in (*calls, ["--title", "x", login]):
+        with case(f"connections with the words {' '.join(words)}"):
+            run(CHART, "--connections", *words).must_complain("^usage: chart", 4)
+    with case("the connections of a report"):
+        run(CHART, "--connections", EXAMPLES / "login_is_answered.expected").must_complain("the script is refused", 2)
+
+
+def main() -> int:
+    with tempfile.TemporaryDirectory() as room:
+        return try_groups(
+            [
+                Group(connections_of_scripts, len(right_scripts()), "connections of scripts"),
+                Group(lambda: connections_of_a_net(Path(room)), 2, "connections of a net"),
+                Group(connections_that_cannot_be, 6, "connections that can't be"),
+            ]
+        )
+
+
+if __name__ == "__main__":
+    sys.exit(main())

@@ -1,0 +1,77 @@
+"""Texts, boxes and lines of a picture, and where they meet, in pixels."""
+from __future__ import annotations
+
+from html import escape
+from typing import NamedTuple
+
+LETTER = 7.25  # the width of a letter of a label, of 12 pixels, in the widest of the usual fonts
+SMALL = 6.65  # and of one of 11 pixels
+
+
+def width_of(text: str, letter: float = LETTER) -> float:
+    return len(text) * letter
+
+
+def pixels(value: float) -> str:
+    return f"{value:.1f}".rstrip("0").rstrip(".")
+
+
+def escaped(text: str) -> str:
+    return escape(text, quote=False)
+
+
+class Box(NamedTuple):
+    """What nothing should strike through."""
+
+    left: float
+    top: float
+    right: float
+    bottom: float
+
+
+class Line(NamedTuple):
+    """A straight one."""
+
+    x: float
+    y: float
+    to_x: float
+    to_y: float
+
+    def hits(self, box: Box) -> bool:
+        """Whether some of it lies in the box: how much of the line does is cut down by one side of the box after
+        the other."""
+        first, last = 0.0, 1.0
+        wide, high = self.to_x - self.x, self.to_y - self.y
+        for way, room in (
+            (-wide, self.x - box.left),
+            (wide, box.right - self.x),
+            (-high, self.y - box.top),
+            (high, box.bottom - self.y),
+        ):
+            if way == 0:
+                if room < 0:
+                    return False
+            elif way < 0:
+                first = max(first, room / way)
+            else:
+                last = min(last, room / way)
+        return first < last
+
+
+class Text(NamedTuple):
+    """A text at its place."""
+
+    x: float
+    y: float
+    text: str
+    classes: str = ""
+
+    def drawn(self) -> str:
+        kind = f' class="{self.classes}"' if self.classes else ""
+        return f'<text x="{pixels(self.x)}" y="{pixels(self.y)}"{kind}>{escaped(self.text)}</text>'
+
+    def box(self) -> Box:
+        classes = self.classes.split()
+        width = width_of(self.text, SMALL if "small" in classes else LETTER)
+        before = width if "end" in classes else width / 2 if "middle" in classes else 0
+        return Box(self.x - before, self.y - 8, self.x - before + width, self.y + 1)

@@ -1,0 +1,36 @@
+"""What the other tools say of a result that isn't expected, for whoever reads it in a build server: tools/explain of a
+script that is refused, tools/why of a report."""
+from __future__ import annotations
+
+from ..command import Stop
+from .judging import Judged
+from .runs import Printed
+
+
+def explained(script: str, run: Printed, judged: Judged) -> str:
+    """Its text, nothing where there is nothing to be said. A tool that breaks off leaves the result as it is."""
+    try:
+        if judged.result == "refused":
+            return _refusal(script, run)
+        return "" if judged.report is None else _reasons(script, judged)
+    except Stop as stop:
+        return stop.text
+    except Exception as error:
+        return f"it can't be explained: {type(error).__name__} {error}"
+
+
+def _refusal(script: str, run: Printed) -> str:
+    # Brought in here, as below: most suites have nothing to explain.
+    from ..explain.explaining import explain
+
+    with open(script, "rb") as opened:
+        data = opened.read()
+    return explain(script, data, run.printed.decode("utf-8", "replace").removesuffix("\n")).text()
+
+
+def _reasons(script: str, judged: Judged) -> str:
+    from ..why.beside import case_of, ways_of
+    from ..why.reasons import reasons_of
+
+    assert judged.report is not None
+    return reasons_of(ways_of(case_of(script), judged.report, f"the report of {script}"))
