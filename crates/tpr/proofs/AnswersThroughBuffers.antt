@@ -1,6 +1,9 @@
 -- What is answered, and what comes of it through a buffer.
-use Rattle.std.proofs.Common.{◌≡◌, ℕ, Bool, true, false, Option, Some, None, List, [], ◌++◌, IsTrue, inl, inr, refl, sym, ap, ◌∙◌, subst}
-use Rattle.std.specs.Prelude.{IfNone, IfSome, MatchOption, OnSome}
+use Rattle.std.proofs.Common.{◌≡◌, ℕ, Bool, true, false, Option, Some, None, Result, Ok, Err, List, [], ◌++◌, IsTrue, inl, inr, refl, sym, ap, ◌∙◌, append_assoc, subst}
+use Rattle.std.specs.Prelude.{MatchOption}
+use Rattle.std.specs.Global.{Global}
+use Rattle.std.specs.declared.io.buffered.BufWriter.{BufWriter}
+use Rattle.std.specs.Io.Buffered.{writer_contents}
 use Rattle.std.specs.Io.KnownBytes.{Appends, Keeps, append_known}
 use Rattle.tp_text.specs.declared.watched.Watched.{Watched}
 use Rattle.tp_text.specs.Watching.{AppendsFront, HasFailed, Writes, reader_left}
@@ -8,7 +11,8 @@ use Rattle.tp_text.proofs.WatchedWriterGrowth.{not_both, writes_first}
 use Rattle.tp_port.specs.declared.replay.QueueFault.{QueueFault}
 use Rattle.tp_port.specs.declared.replay.QueueFault.TheVariants as q
 use Rattle.tp_port.specs.Faults.{HasFault, IsReplayed}
-use Rattle.tpr.specs.Handed.{BeginsWith, IsAnswered, IsHanded, IsJust}
+use Rattle.tpr.specs.declared.handing.FailedWriter.{FailedWriter}
+use Rattle.tpr.specs.Handed.{BeginsWith, IsAnswered, IsFinished, IsHanded, IsJust}
 use Rattle.tpr.specs.FaultLines.{HasLine, IsQueueAnswer, fault_status, fault_text}
 
 module _ {W : Type 0} (contents : W → Option (List ℕ)) where
@@ -37,25 +41,17 @@ module _ {W : Type 0} (contents : W → Option (List ℕ)) where
   answered_more may more old new given allows h =
       record { text = h.text; status = h.status; allowed = allows h.text h.status h.allowed; written = h.written; told = h.told }
 
-  -- what is behind a buffer has got what was printed into it
-  pub handed : (may : List ℕ → ℕ → Type 0) (old new : Watched W) (before after : W) (got : Option (List ℕ)) (given handed_on : Option ℕ)
-      → old.inner ≡ before → after ≡ new.inner → IsAnswered contents may old new given → IfSome handed_on (λ s. given ≡ Some s)
-      → OnSome handed_on (Keeps (contents after) got) → IfNone handed_on (BeginsWith (contents after) got)
-      → IsHanded may (contents before) got handed_on
-  handed may old new before after got given None first last h status kept front =
-      record {
-        text = h.text;
-        status = h.status;
-        allowed = h.allowed;
-        told = (
-          contents new.inner,
-          subst (λ (w : W). AppendsFront (contents w) (contents new.inner) h.text) first h.written.front,
-          subst (λ (w : W). BeginsWith (contents w) got) last front,
-        );
-      }
-  handed may old new before after got given (Some s) first last h status kept front =
-      let told : MatchOption (Some s) (HasFailed new) (λ r. (r ≡ h.status) × (new.failed ≡ false)) =
-      subst (λ (o : Option ℕ). MatchOption o (HasFailed new) (λ r. (r ≡ h.status) × (new.failed ≡ false))) status h.told in
+-- what is behind a buffer has got what was printed into it
+module _ {W : Type 0} (contents : W → Option (List ℕ)) (may : List ℕ → ℕ → Type 0) (before : BufWriter W Global) (old new : Watched (BufWriter W Global))
+    (given : Option ℕ) (first : old.inner ≡ before) (h : IsAnswered (writer_contents contents) may old new given) where
+  no_status : given ≡ None → HasFailed new
+  no_status none = subst (λ (o : Option ℕ). MatchOption o (HasFailed new) (λ r. (r ≡ h.status) × (new.failed ≡ false))) none h.told
+
+  pub handed : (result : Result (ℕ × W) (FailedWriter W)) → IsFinished contents new given result
+      → IsHanded contents may (writer_contents contents before) result
+  handed (Ok (s, w)) finished =
+      let told : (s ≡ h.status) × (new.failed ≡ false) =
+      subst (λ (o : Option ℕ). MatchOption o (HasFailed new) (λ r. (r ≡ h.status) × (new.failed ≡ false))) finished.0 h.told in
       record {
         text = h.text;
         status = h.status;
@@ -63,23 +59,42 @@ module _ {W : Type 0} (contents : W → Option (List ℕ)) where
         told = (
           told.0,
           (
-            contents new.inner,
-            subst (λ (w : W). Appends (contents w) (contents new.inner) h.text) first (h.written.whole told.1),
-            subst (λ (w : W). Keeps (contents w) got) last kept,
+            writer_contents contents new.inner,
+            subst (λ (b : BufWriter W Global). Appends (writer_contents contents b) (writer_contents contents new.inner) h.text) first (h.written.whole told.1),
+            finished.1,
           ),
         );
       }
+  handed (Err failed) finished = record {
+    text = h.text;
+    status = h.status;
+    allowed = h.allowed;
+    told = (
+      finished.0 no_status,
+      (
+        writer_contents contents new.inner,
+        subst (λ (b : BufWriter W Global). AppendsFront (writer_contents contents b) (writer_contents contents new.inner) h.text) first h.written.front,
+        finished.1,
+      ),
+    );
+  }
 
 -- what a buffer holds begins with what its writer has got
 pub begins_with_got : (got : Option (List ℕ)) (bytes : List ℕ) → BeginsWith (append_known got bytes) got
 begins_with_got None bytes = tt
 begins_with_got (Some got) bytes = (bytes, refl)
 
-pub begins_as_kept : (old new got : Option (List ℕ)) → Keeps old new → BeginsWith new got → BeginsWith old got
-begins_as_kept None new got kept begins = tt
-begins_as_kept (Some a) None got kept begins = absurd kept
-begins_as_kept (Some a) (Some b) None kept begins = begins
-begins_as_kept (Some a) (Some b) (Some got) kept begins = (begins.0, sym kept ∙ begins.1)
+-- and with what it gets of the buffer's own bytes: all of them, or a front
+pub keeps_appended : (old new : Option (List ℕ)) (bytes : List ℕ) → Appends old new bytes → Keeps (append_known old bytes) new
+keeps_appended None new bytes is = tt
+keeps_appended (Some a) None bytes is = absurd is
+keeps_appended (Some a) (Some b) bytes is = is
+
+pub begins_appended : (old new : Option (List ℕ)) (bytes : List ℕ) → AppendsFront old new bytes → BeginsWith (append_known old bytes) new
+begins_appended None new bytes is = tt
+begins_appended (Some a) None bytes is = absurd is.added
+begins_appended (Some a) (Some b) bytes is =
+    (is.rest, ap (λ x. a ++ x) is.is ∙ sym (append_assoc a is.front is.rest) ∙ ap (λ x. x ++ is.rest) (sym is.added))
 
 failed_again : (given : Option ℕ) (code other : ℕ) (failed : Bool) → IsTrue failed → MatchOption given (IsTrue failed) (λ s. (s ≡ code) × (failed ≡ false))
     → MatchOption given (IsTrue failed) (λ s. (s ≡ other) × (failed ≡ false))

@@ -1,8 +1,13 @@
 -- What is printed of what a mode may print, and what the writer behind a buffer has got of it.
-use Rattle.std.specs.Prelude.{◌≡◌, ℕ, false, Option, Some, None, List, ◌++◌, MatchOption}
+use Rattle.std.specs.Prelude.{◌≡◌, ℕ, false, Option, Some, None, List, ◌++◌, MatchOption, MatchResult, Result}
+use Rattle.std.specs.Global.{Global}
+use Rattle.std.specs.declared.io.buffered.BufWriter.{BufWriter}
+use Rattle.std.specs.Io.Buffered.{writer_contents}
 use Rattle.std.specs.Io.KnownBytes.{Appends, Keeps}
 use Rattle.tp_text.specs.declared.watched.Watched.{Watched}
 use Rattle.tp_text.specs.Watching.{AppendsFront, HasFailed, Writes}
+use Rattle.tpr.specs.declared.handing.FailedWriter.{FailedWriter}
+use Rattle.tpr.specs.declared.handing.FailedWriter.TheVariants as failed_writer
 
 -- this text and this status, and no other
 abbrev pub IsJust : List ℕ → ℕ → List ℕ → ℕ → Type 0
@@ -32,10 +37,31 @@ BeginsWith (Some held) (Some got) = (rest : List ℕ) × (held ≡ got ++ rest)
 abbrev pub HasGotFront : Option (List ℕ) → Option (List ℕ) → List ℕ → Type 0
 HasGotFront old got text = (held : Option (List ℕ)) × AppendsFront old held text × BeginsWith held got
 
--- one text that may be printed has come through a buffer: all of it where there is a status, which is the text's, and else
--- a front of it
-pub record IsHanded (may : List ℕ → ℕ → Type 0) (old got : Option (List ℕ)) (given : Option ℕ) : Type 0 where
+-- what the writer behind the buffer has got
+abbrev pub got_by : {W : Type 0} → (W → Option (List ℕ)) → FailedWriter W → Option (List ℕ)
+got_by contents (failed_writer.Buffer b) = contents b.inner.inner
+got_by contents (failed_writer.Writer w) = contents w.inner
+
+-- it answered an error, or took no byte
+abbrev pub IsFailed : {W : Type 0} → FailedWriter W → Type 0
+IsFailed (failed_writer.Buffer b) = HasFailed b
+IsFailed (failed_writer.Writer w) = HasFailed w
+
+-- what the buffer held was handed on, with the status; or its writer has failed, or the buffer had, and got a front of it
+abbrev pub IsFinished : {W : Type 0} → (W → Option (List ℕ)) → Watched (BufWriter W Global) → Option ℕ
+    → Result (ℕ × W) (FailedWriter W) → Type 0
+IsFinished contents buffer status given = MatchResult given
+    (λ handed. (status ≡ Some handed.0) × Keeps (writer_contents contents buffer.inner) (contents handed.1))
+    (λ failed. ((status ≡ None → HasFailed buffer) → IsFailed failed)
+    × BeginsWith (writer_contents contents buffer.inner) (got_by contents failed))
+
+-- one text that may be printed has come through a buffer: all of it with the text's status; or, only if the buffer or
+-- its writer has failed, a front of it
+pub record IsHanded {W : Type 0} (contents : W → Option (List ℕ)) (may : List ℕ → ℕ → Type 0) (old : Option (List ℕ))
+    (given : Result (ℕ × W) (FailedWriter W)) : Type 0 where
   pub text : List ℕ
   pub status : ℕ
   pub allowed : may text status
-  pub told : MatchOption given (HasGotFront old got text) (λ s. (s ≡ status) × HasGot old got text)
+  pub told : MatchResult given
+      (λ handed. (handed.0 ≡ status) × HasGot old (contents handed.1) text)
+      (λ failed. IsFailed failed × HasGotFront old (got_by contents failed) text)

@@ -5,3 +5,4 @@ pub mod Ran
 pub mod Judged
 pub mod Handed
 pub mod Decided
+pub mod Modes

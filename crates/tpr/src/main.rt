@@ -6,19 +6,17 @@
 //! status is 3.
 #![tactic(auto)]
 
-ghost use Rattle.std.specs.Prelude.{◌≡◌, IfNone, IfSome, OnSome, Some};
+ghost use Rattle.std.specs.Prelude.{◌≡◌};
 ghost use Rattle.std.specs.Io.Buffered.{writer_contents};
-ghost use Rattle.std.specs.Io.KnownBytes.{Keeps};
 ghost use Rattle.tp_text.specs.Watching.{reader_left};
-ghost use Rattle.tpr.specs.Checked.{IsCheckAnswer};
-ghost use Rattle.tpr.specs.Decided.{IsAlwaysKept, IsVerdictsAnswer};
-ghost use Rattle.tpr.specs.Handed.{BeginsWith, IsAnswered, IsHanded, IsJust};
-ghost use Rattle.tpr.specs.Judged.{IsJudgeAnswer};
-ghost use Rattle.tpr.specs.FaultLines.{IsQueueAnswer, unread_text};
-ghost use Rattle.tpr.specs.Ran.{IsRunAnswer, IsTraceAnswer};
+ghost use Rattle.tpr.specs.Decided.{IsAlwaysKept};
+ghost use Rattle.tpr.specs.FaultLines.{unread_text};
+ghost use Rattle.tpr.specs.Handed.{IsAnswered, IsHanded, IsJust};
+ghost use Rattle.tpr.specs.Modes.{IsAnswerOf};
 
 mod checking;
 mod deciding;
+mod handing;
 mod judging;
 mod line;
 mod modes;
@@ -26,6 +24,7 @@ mod running;
 
 use checking::answer_check;
 use deciding::answer_verdicts;
+use handing::{FailedWriter, finish};
 use judging::answer_judge;
 use line::{Mode, mode_and_file};
 use modes::{FAULTED, answer_fault, answer_queue};
@@ -59,18 +58,8 @@ fn answer<T: AllocGlobal + Threads + Wait + Sync, R: Read, W: Write>(
     reader: &mut Watched<R>,
     writer: &mut Watched<W>,
 ) -> Option<u8>
-    ensures queue { mode ≡ Mode.Queue → IsAnswered W.contents
-        (IsQueueAnswer R.remaining reader.old reader.new) writer.old writer.new result }
-    ensures check { mode ≡ Mode.Check → IsAnswered W.contents
-        (IsCheckAnswer R.remaining reader.old reader.new) writer.old writer.new result }
-    ensures run { mode ≡ Mode.Run → IsAnswered W.contents
-        (IsRunAnswer R.remaining reader.old reader.new) writer.old writer.new result }
-    ensures trace { mode ≡ Mode.Trace → IsAnswered W.contents
-        (IsTraceAnswer R.remaining reader.old reader.new) writer.old writer.new result }
-    ensures judge { mode ≡ Mode.Judge → IsAnswered W.contents
-        (IsJudgeAnswer R.remaining reader.old reader.new) writer.old writer.new result }
-    ensures verdicts { mode ≡ Mode.Verdicts → IsAnswered W.contents
-        (IsVerdictsAnswer R.remaining reader.old reader.new) writer.old writer.new result }
+    ensures answer { IsAnswered W.contents (IsAnswerOf mode R.remaining reader.old reader.new)
+        writer.old writer.new result }
     ensures always { mode ≡ Mode.Verdicts → IsAnswered W.contents
         (IsAlwaysKept (reader_left R.remaining reader.old)) writer.old writer.new result }
 {
@@ -84,72 +73,46 @@ fn answer<T: AllocGlobal + Threads + Wait + Sync, R: Read, W: Write>(
     }
 }
 
-/// The writer behind this buffer. What the buffer still holds is written nowhere.
-fn behind<W: Write + Drop>(buffer: BufWriter<W>) -> W
-    ensures { BeginsWith (writer_contents W.contents buffer) (W.contents result) }
-{
-    let (writer, _unwritten) = buffer.into_parts();
-    writer
-}
-
-/// The status, and the writer behind this buffer, which has got all that the buffer held. No status
-/// where there is none, or the writer failed; then it has got a front of that, and nothing is
-/// written behind it.
-fn emptied<W: Write + Drop>(buffer: BufWriter<W>, status: Option<u8>) -> (Option<u8>, W)
-    ensures status { IfSome result.0 (λ given. status ≡ Some given) }
-    ensures got { OnSome result.0
-        (Keeps (writer_contents W.contents buffer) (W.contents result.1)) }
-    ensures front { IfNone result.0
-        (BeginsWith (writer_contents W.contents buffer) (W.contents result.1)) }
-{
-    if status.is_none() {
-        return (None, behind(buffer));
-    }
-    match buffer.into_inner() {
-        Ok(writer) => (status, writer),
-        Err(failed) => (None, behind(failed.into_inner())),
-    }
-}
-
 /// Answers in this mode through this buffer: the status, and the writer behind the buffer, which
-/// has got all that was printed. No status where the writer failed; then it has got a front of an
-/// answer, and nothing is written behind that.
+/// has got all that was printed. If the buffer or the writer fails, the writer has got a front of
+/// an answer.
 fn answer_through<T: AllocGlobal + Threads + Wait + Sync, R: Read, W: Write + Drop>(
     rt: &T,
     mode: Mode,
     reader: &mut Watched<R>,
     buffer: BufWriter<W>,
-) -> (Option<u8>, W)
-    ensures queue { mode ≡ Mode.Queue → IsHanded (IsQueueAnswer R.remaining reader.old reader.new)
-        (writer_contents W.contents buffer) (W.contents result.1) result.0 }
-    ensures check { mode ≡ Mode.Check → IsHanded (IsCheckAnswer R.remaining reader.old reader.new)
-        (writer_contents W.contents buffer) (W.contents result.1) result.0 }
-    ensures run { mode ≡ Mode.Run → IsHanded (IsRunAnswer R.remaining reader.old reader.new)
-        (writer_contents W.contents buffer) (W.contents result.1) result.0 }
-    ensures trace { mode ≡ Mode.Trace → IsHanded (IsTraceAnswer R.remaining reader.old reader.new)
-        (writer_contents W.contents buffer) (W.contents result.1) result.0 }
-    ensures judge { mode ≡ Mode.Judge → IsHanded (IsJudgeAnswer R.remaining reader.old reader.new)
-        (writer_contents W.contents buffer) (W.contents result.1) result.0 }
-    ensures verdicts { mode ≡ Mode.Verdicts → IsHanded
-        (IsVerdictsAnswer R.remaining reader.old reader.new)
-        (writer_contents W.contents buffer) (W.contents result.1) result.0 }
+) -> Result<(u8, W), FailedWriter<W>>
+    ensures answer { IsHanded W.contents (IsAnswerOf mode R.remaining reader.old reader.new)
+        (writer_contents W.contents buffer) result }
     ensures always { mode ≡ Mode.Verdicts
-        → IsHanded (IsAlwaysKept (reader_left R.remaining reader.old))
-        (writer_contents W.contents buffer) (W.contents result.1) result.0 }
+        → IsHanded W.contents (IsAlwaysKept (reader_left R.remaining reader.old))
+        (writer_contents W.contents buffer) result }
 {
     let mut writer = Watched::new(buffer);
     let status = answer(rt, mode, reader, &mut writer);
-    emptied(writer.into_inner(), status)
+    finish(writer, status)
 }
 
 /// Answers that the text could not be read, through this buffer, as [`answer_through`] does.
-fn answer_unread<W: Write + Drop>(buffer: BufWriter<W>) -> (Option<u8>, W)
-    ensures { IsHanded (IsJust unread_text 2)
-        (writer_contents W.contents buffer) (W.contents result.1) result.0 }
+fn answer_unread<W: Write + Drop>(buffer: BufWriter<W>) -> Result<(u8, W), FailedWriter<W>>
+    ensures { IsHanded W.contents (IsJust unread_text 2) (writer_contents W.contents buffer) result }
 {
     let mut writer = Watched::new(buffer);
     let status = answer_fault(&mut writer, QueueFault::Read);
-    emptied(writer.into_inner(), status)
+    finish(writer, status)
+}
+
+/// The status, if the answer was written. What a failed buffer holds is written nowhere: to let
+/// go of the buffer would try it again.
+fn status_of<W: Write + Drop>(answered: Result<(u8, W), FailedWriter<W>>) -> Option<u8> {
+    match answered {
+        Ok((status, _)) => Some(status),
+        Err(FailedWriter::Writer(_)) => None,
+        Err(FailedWriter::Buffer(writer)) => {
+            let (_, _unwritten) = writer.into_inner().into_parts();
+            None
+        }
+    }
 }
 
 /// Answers that memory was refused, without a buffer. `None` where the writer failed.
@@ -166,14 +129,13 @@ where
     let Ok(buffer) = BufWriter::new(rt.alloc(), io::writer(rt)) else {
         return answer_memory(rt);
     };
-    let (status, _) = match file {
-        None => answer_through(rt, mode, &mut Watched::new(rt.reader()), buffer),
+    match file {
+        None => status_of(answer_through(rt, mode, &mut Watched::new(rt.reader()), buffer)),
         Some(path) => match File::open(rt, path) {
-            Ok(reader) => answer_through(rt, mode, &mut Watched::new(reader), buffer),
-            Err(_) => answer_unread(buffer),
+            Ok(reader) => status_of(answer_through(rt, mode, &mut Watched::new(reader), buffer)),
+            Err(_) => status_of(answer_unread(buffer)),
         },
-    };
-    status
+    }
 }
 
 /// The words after the program's name.

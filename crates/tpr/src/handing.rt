@@ -1,0 +1,49 @@
+//! What a buffer still holds is handed on to its writer when an answer is complete.
+ghost use Rattle.std.specs.Prelude.{◌≡◌, MatchResult};
+ghost use Rattle.std.specs.Io.Buffered.{writer_contents};
+ghost use Rattle.std.specs.Io.KnownBytes.{Keeps};
+ghost use Rattle.tpr.specs.Handed.{BeginsWith, IsFailed, IsFinished, got_by};
+
+use std::io::{BufWriter, Write};
+use tp_text::watched::{Watched, write_bytes};
+
+/// What failed while an answer was written.
+#[derive(Drop)]
+pub enum FailedWriter<W: Write + Drop> {
+    /// The buffer, as it answered the mode.
+    Buffer(Watched<BufWriter<W>>),
+    /// The writer behind the buffer, as it was handed the last bytes.
+    Writer(Watched<W>),
+}
+
+/// Hands on what the buffer holds: the status, and the writer, which has got all of that. If the
+/// writer fails it has got a front of that, and nothing more is written.
+fn hand_on<W: Write + Drop>(buffer: BufWriter<W>, status: u8) -> Result<(u8, W), FailedWriter<W>>
+    ensures { MatchResult result
+        (λ handed. (handed.0 ≡ status)
+        × Keeps (writer_contents W.contents buffer) (W.contents handed.1))
+        (λ failed. IsFailed failed
+        × BeginsWith (writer_contents W.contents buffer) (got_by W.contents failed)) }
+{
+    let (inner, held) = buffer.into_parts();
+    let mut writer = Watched::new(inner);
+    write_bytes(held.as_slice(), &mut writer);
+    if writer.has_failed() {
+        return Err(FailedWriter::Writer(writer));
+    }
+    Ok((status, writer.into_inner()))
+}
+
+/// Hands on what an answer with this status has left in its buffer. Without a status the buffer
+/// has failed, and nothing more is written.
+pub fn finish<W: Write + Drop>(
+    writer: Watched<BufWriter<W>>,
+    status: Option<u8>,
+) -> Result<(u8, W), FailedWriter<W>>
+    ensures { IsFinished W.contents writer status result }
+{
+    match status {
+        Some(status) => hand_on(writer.into_inner(), status),
+        None => Err(FailedWriter::Buffer(writer)),
+    }
+}
