@@ -2,7 +2,7 @@
 """Says what each function cost in the first check of a crate.
 
     tools/costs.py CRATE_FOLDER [COUNT]
-    tools/costs.py -h | --help
+    tools/costs.py -h | --help | --version
 
 Prints the seconds of each, the dearest first: COUNT of them, or 25. Before it, in the crate's
 folder, on a machine without other work:
@@ -91,6 +91,9 @@ def main() -> int:
     words = sys.argv[1:]
     if words in (["-h"], ["--help"]):
         command.write_out(__doc__)
+        return command.DONE
+    if words == ["--version"]:
+        command.write_out(command.version_line("costs.py"))
         return command.DONE
     folder, most = [*words, MOST_TOLD][:2] if len(words) in (1, 2) else ("", "")
     if folder.startswith("-") or not re.fullmatch("[1-9][0-9]{0,8}", most):

@@ -16,7 +16,7 @@ forced_orders() {
     set_up "tpr_ordered is built" [ -x "$ordered" ] || return
     at_least 60 forced_of_each
     if is_script "$ordered"; then
-        leave_out "calls that fail in tpr_ordered, since TPR_ORDERED names a script"
+        leave_out "calls that fail in tpr_ordered, because TPR_ORDERED names a script"
     else
         at_least 7 failed_of_each
     fi

@@ -1,4 +1,4 @@
-# What a whole gate leaves in out/gate where it passes, for tools/release.
+# What a whole gate leaves in out/gate if it passes, for tools/release.
 
 # The commit of the work tree, and nothing where that isn't just as committed.
 clean_commit() {
@@ -13,10 +13,11 @@ begin_gate() {
 
 # Only where the sources were those of one commit from the beginning to the end, and the toolchain says which it is.
 keep_gate() { # LAST LINES
-    local toolchain program
+    local toolchain program ordered
     if [[ -z $commit_of_gate || $commit_of_gate != "$(clean_commit)" ]]; then return; fi
-    if ! toolchain=$(rt version) || ! program=$(sha256sum <crates/tpr/out/tpr); then
-        echo "test: out/gate isn't kept: rt version, or the sum of the program, failed" >&2
+    if ! toolchain=$(rt version) || ! program=$(sha256sum <crates/tpr/out/tpr) ||
+        ! ordered=$(sha256sum <crates/tpr_ordered/out/tpr_ordered); then
+        echo "test: out/gate isn't kept: rt version, or the sum of a program, failed" >&2
         return 1
     fi
     mkdir -p out
@@ -24,6 +25,7 @@ keep_gate() { # LAST LINES
         echo "commit $commit_of_gate"
         echo "toolchain $toolchain"
         echo "program ${program%% *}"
+        echo "tpr_ordered ${ordered%% *}"
         echo
         cat -- "$1"
     } >out/gate.begun && mv -- out/gate.begun out/gate

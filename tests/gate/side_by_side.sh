@@ -3,6 +3,7 @@
 # a part that ends without it ended early, and has failed. `is_tried` is that of listed_parts.sh.
 
 declare -A at_work=() # by its process, when each part that is at work began, and its room
+last_times=           # the file that keeps how long each part took the last time, if ./test names one
 ending=(TERM KILL)    # the signals that end what is at work
 takes_signals=(env --default-signal=HUP,INT,PIPE,TERM) # before a command, so that it ignores none of them
 
@@ -62,6 +63,35 @@ begin_part() { # NAME COMMAND..
     (do_part "$its_room" "${@:2}") </dev/null >"$its_room.printed" 2>&1 &
     set +m
     at_work[$!]="$SECONDS $its_room"
+    tell_what_is_at_work
+}
+
+# On a terminal: which parts are at work, and how long each took the last time.
+tell_what_is_at_work() {
+    local process its_room name parts=()
+    [[ -t 2 ]] || return 0
+    for process in "${!at_work[@]}"; do
+        read -r _ its_room <<<"${at_work[$process]}"
+        name=${its_room##*/}
+        name=${name%.*}
+        parts+=("$name$(last_time_of "$name")")
+    done
+    printf '%s\n' "${parts[@]}" | sort | paste -s -d , | sed -e 's/^/test: at work: /' -e 's/,/, /g' >&2
+}
+
+last_time_of() { # NAME
+    if [[ ! -r $last_times ]]; then return; fi
+    awk -v name="$1" '$1 == name { printf " (%d s the last time)", $2 }' "$last_times"
+}
+
+# The next run tells it. No part fails because it can't be kept.
+keep_time_of() { # NAME SECONDS
+    if [[ ! $last_times ]]; then return; fi
+    {
+        mkdir -p -- "$(dirname -- "$last_times")" && touch -- "$last_times" &&
+            awk -v name="$1" '$1 != name' "$last_times" >"$last_times.begun" &&
+            echo "$1 $2" >>"$last_times.begun" && mv -- "$last_times.begun" "$last_times"
+    } 2>/dev/null
 }
 
 # What a part does in its subshell. By its folder for temporary files all that it starts can be found again. It ignores
@@ -109,6 +139,7 @@ take_back() { # ROOM PROCESS STATUS SECONDS
     fi
     ((passed += right, failed += wrong, runs_of_all += runs, refused_of_all += refused))
     echo "$name $((right + wrong)) $wrong $4" >>"$room_of_all/parts"
+    keep_time_of "$name" "$4"
     echo "part $name: $((right + wrong)) cases, $wrong failed, $4 seconds"
 }
 

@@ -10,9 +10,13 @@ It prints a line `passed NAME` for each case, or lines that begin with `FAILED: 
 from __future__ import annotations
 
 import argparse
+import contextlib
 import itertools
+import os
+import pty
 import re
 import signal
+import subprocess
 import sys
 import tempfile
 from functools import partial
@@ -166,6 +170,15 @@ the built program, by parts: cases failed seconds
 ignores 1 0
 examples: 1 passed, 0 failed; 0 and 0
 """
+# What is said on a terminal as a part begins.
+TELLING = r"""
+last_times=kept/times
+slow() { sleep 1; count 0; }
+part slow slow
+part quick count 0
+#: slow 1
+#: quick 1
+"""
 
 
 class SmallGate:
@@ -283,8 +296,40 @@ def signals_that_are_ignored(gate: SmallGate) -> None:
         gate.cases.must(f"a part of a gate that {name}", gate.run(IGNORING, start), wanted(0, IGNORED))
 
 
+def said_on_a_terminal(gate: SmallGate) -> str:
+    """What the gate says there, with 1 in place of each other number of seconds."""
+    ours, theirs = pty.openpty()
+    words = gate.words(TELLING)
+    done = subprocess.run(
+        words,
+        cwd=gate.folder,
+        env={**os.environ, **gate.variables},
+        stdin=subprocess.DEVNULL,
+        stdout=subprocess.DEVNULL,
+        stderr=theirs,
+        check=False,
+    )
+    os.close(theirs)
+    said = b""
+    with contextlib.suppress(OSError):
+        while piece := os.read(ours, 1 << 16):
+            said += piece
+    os.close(ours)
+    return re.sub(r"\d+ s ", "1 s ", said.decode().replace("\r\n", "\n")) + f"status {done.returncode}\n"
+
+
+def parts_at_work(gate: SmallGate) -> None:
+    """On a terminal: which parts are at work, and from the second run on how long they took the last time."""
+    first = "test: at work: slow\ntest: at work: quick, slow\nstatus 0\n"
+    gate.cases.must_be("what a first gate says on a terminal", said_on_a_terminal(gate), first)
+    second = re.sub(r"(quick|slow)", r"\1 (1 s the last time)", first)
+    gate.cases.must_be("what a second gate says on a terminal", said_on_a_terminal(gate), second)
+    gate.cases.must_be("and elsewhere", gate.run(TELLING).said, b"")
+
+
 GROUPS = (
     (2, parts_that_end),
+    (3, parts_at_work),
     (2, parts_beside_each_other),
     (20, gates_that_are_interrupted),
     (1, no_part),

@@ -23,11 +23,14 @@ from calling import Ended, wait_until
 from tree_of_crates import ALL, NAME, WITHOUT_RT, Tree, end_of, has_begun, is_gone, lines
 
 BUILD = f"{NAME}/build"
-USAGE = "usage: ./build [tpr_ordered] [--jobs N] | ./build is_built | ./build lanes\n"
-AGAIN = "a source is newer than the last build of the program, which is built again"
-LOW, SIDE, LAST = (
-    f"crate {number} of 3, {name}; 0 minutes so far" for number, name in enumerate(("low", "side", "tpr"), 1)
-)
+USAGE = "usage: ./build [tpr_ordered] [--jobs N] | ./build is_built | ./build lanes | ./build clear\n"
+AGAIN = "building the program again, because a source is newer than its last build"
+# Two crates of a minute each, side by side, and then the program, for which 250 seconds are foreseen.
+NONE_PROVED = "0 of 3 proved, about 5 minutes left"
+# All that is foreseen took next to nothing here, and for more than that no machine is taken.
+ONE, TWO, THREE = "1 of 3 proved, about 2 minutes left", "2 of 3 proved, about 1 minute left", "3 of 3 proved"
+LAST_LEFT, LOW_LEFT = "2 of 3 proved, about 4 minutes left", "1 of 3 proved, about 5 minutes left"
+LAST, LOW, EACH = (LAST_LEFT, THREE), (LOW_LEFT, TWO, THREE), (NONE_PROVED, ONE, TWO, THREE)
 ASKED_LAST = "rt was asked in tpr: run --jobs 1 -- queue"
 
 
@@ -41,8 +44,8 @@ class Building:
 
     def __init__(self, tree: Tree):
         self.tree, self.cases, self.crates = tree, tree.cases, tree.crates
-        self.log = f"what the build says is written to {tree.out}/build.log"
-        self.failed = f"tpr: the build failed; all that it said is in {tree.out}/build.log"
+        self.log = f"the output of the build is written to {tree.out}/build.log"
+        self.failed = f"tpr: the build failed; its whole output is in {tree.out}/build.log"
 
     def build(self, *words: str, commands: Sequence[str] = ALL) -> Ended:
         return self.tree.call([BUILD, *words], commands)
@@ -74,14 +77,13 @@ class Building:
 
 def first_build(building: Building) -> None:
     """Without the toolchain nothing is built; with it two crates side by side, and then the program."""
-    name, no_rt = "a first build without the toolchain", "the toolchain's command rt is not on PATH"
+    name, no_rt = "a first build without the toolchain", "the toolchain's command `rt` is not on PATH"
     without_rt = building.build("--jobs", "2", commands=WITHOUT_RT)
     building.tree.must_end(name, without_rt, 1, "", of_tpr(f"the program has to be built, and {no_rt}"))
     building.answers("nothing is built yet", ["is_built"], 1)
     building.touch("meet")
-    minutes = f"A first build proves it too and takes about {building.tree.minutes} minutes"
-    first = f"building the program. {minutes}"
-    building.builds("a first build, of two crates side by side", first, building.log, LOW, SIDE, LAST)
+    first = f"proving and building the program; the first time this takes about {building.tree.minutes} minutes"
+    building.builds("a first build, of two crates side by side", first, building.log, *EACH)
     building.remove("meet")
     building.must_be_in_the_log(
         "what rt was asked, and what each crate took",
@@ -106,9 +108,9 @@ def words_of_a_build(building: Building) -> None:
 
 def other_program(building: Building) -> None:
     """The program that tools/explore runs."""
-    words, last = ["tpr_ordered", "--jobs", "2"], "crate 3 of 3, tpr_ordered; 0 minutes so far"
-    other = "building tpr_ordered, and what it stands on where that isn't built yet"
-    building.answers("the program for tools/explore", words, 0, of_tpr(other, building.log, last))
+    words, last = ["tpr_ordered", "--jobs", "2"], (TWO, THREE)
+    other = "building tpr_ordered, and the crates that it uses if they aren't built yet"
+    building.answers("the program for tools/explore", words, 0, of_tpr(other, building.log, *last))
     script = building.tree.path / "examples/login_is_answered.ttcn"
     building.must_be_in_the_log(
         "what rt was asked for it",
@@ -118,7 +120,7 @@ def other_program(building: Building) -> None:
     building.answers("it is built", words, 0)
     building.touch("tpr_ordered/src/lib.rt")
     building.builds("a newer source of the other program")
-    building.answers("and it is built again", words, 0, of_tpr(AGAIN, building.log, last))
+    building.answers("and it is built again", words, 0, of_tpr(AGAIN, building.log, *last))
 
 
 def what_is_newer(building: Building) -> None:
@@ -130,18 +132,18 @@ def what_is_newer(building: Building) -> None:
     building.touch("low/proofs/Lib.antt")
     building.builds("a newer proof")
     building.touch("tpr/specs/Lib.antt")
-    building.builds("a newer definition of tpr", AGAIN, log, LAST)
+    building.builds("a newer definition of tpr", AGAIN, log, *LAST)
     building.touch("low/src/lib.rt")
     building.answers("a source is newer", ["is_built"], 1)
-    building.builds("a newer source below tpr", AGAIN, log, LOW, LAST)
+    building.builds("a newer source below tpr", AGAIN, log, *LOW)
     building.remove("low/src/more.rt")
-    building.builds("a source taken away", AGAIN, log, LOW, LAST)
+    building.builds("a source taken away", AGAIN, log, *LOW)
     building.touch("../crates.txt")
-    building.builds("a newer list of crates", AGAIN, log, LOW, SIDE, LAST)
+    building.builds("a newer list of crates", AGAIN, log, *EACH)
     building.touch("edits", "tpr/src/lib.rt")
     edited = "a source below tpr is edited while tpr is built"
-    building.answers(edited, ["--jobs", "2"], 0, of_tpr(AGAIN, log, LAST))
-    building.builds("and counts as newer", AGAIN, log, LOW, LAST)
+    building.answers(edited, ["--jobs", "2"], 0, of_tpr(AGAIN, log, *LAST))
+    building.builds("and counts as newer", AGAIN, log, *LOW)
     building.touch("beside/src/lib.rt")
     building.builds("a newer crate on which tpr doesn't stand")
 
@@ -150,16 +152,16 @@ def failed_builds(building: Building) -> None:
     """A build that failed isn't taken for one, and is begun again."""
     log, listed = building.log, building.tree.path / "crates.txt"
     building.touch("refused in low", "low/src/lib.rt")
-    said = (*of_tpr(AGAIN, log, LOW).splitlines(), "rt was asked in low: lib --jobs 2", building.failed)
+    said = (*of_tpr(AGAIN, log, LOW_LEFT).splitlines(), "rt was asked in low: lib --jobs 2", building.failed)
     building.fails("a crate below tpr is refused", *said)
     building.remove("refused in low")
-    building.builds("once it is no longer", AGAIN, log, LOW, LAST)
+    building.builds("once it is no longer", AGAIN, log, *LOW)
     building.touch("fails in tpr", "tpr/src/lib.rt")
-    said = (*of_tpr(AGAIN, log, LAST).splitlines(), ASKED_LAST, building.failed)
+    said = (*of_tpr(AGAIN, log, LAST_LEFT).splitlines(), ASKED_LAST, building.failed)
     building.fails("the program is made, and its first run fails", *said)
     building.fails("and fails again", *said)
     building.remove("fails in tpr")
-    building.builds("once it fails no longer", AGAIN, log, LAST)
+    building.builds("once it fails no longer", AGAIN, log, *LAST)
     kept = listed.rename(listed.with_name("list"))
     building.fails("no list of crates", f"tpr: there is no crate tpr in {listed}")
     kept.rename(listed)
@@ -173,12 +175,37 @@ def interrupted_build(building: Building) -> None:
         wait_until(lambda: has_begun(hanging), "rt is at work")
         process.send_signal(signal.SIGINT)
         ended = end_of(process)
-    building.tree.must_end("a build that is interrupted", ended, 130, "", of_tpr(AGAIN, log, LOW))
+    building.tree.must_end("a build that is interrupted", ended, 130, "", of_tpr(AGAIN, log, LOW_LEFT))
     building.cases.must_come("rt is ended", partial(is_gone, hanging))
     left = os.listdir(building.crates / "low/out"), (building.tree.out / "rooms").exists()
     building.cases.must_be("what was kept of the crate is back, and its room is gone", left, (["rlib"], False))
     building.remove("hangs in low")
-    building.builds("once it hangs no longer", AGAIN, log, LOW, LAST)
+    building.builds("once it hangs no longer", AGAIN, log, *LOW)
+
+
+def killed_build(building: Building) -> None:
+    """A build that is killed ends no `rt` and gives nothing back: the kernel tells `rt` to end, and `clear` or the next
+    build puts back what was kept."""
+    hanging, out, kept = building.crates / "hanging", building.tree.out, building.crates / "low/out"
+    building.touch("hangs in low", "low/src/lib.rt")
+    for name in ("clear", "another build"):
+        hanging.unlink(missing_ok=True)
+        with building.tree.started(BUILD, "--jobs", "2") as process:
+            wait_until(lambda: has_begun(hanging), "rt is at work")
+            process.kill()
+            ended = end_of(process)
+        said = of_tpr(AGAIN, building.log, LOW_LEFT)
+        building.tree.must_end(f"a build that is killed, and then {name}", ended, -signal.SIGKILL, "", said)
+        building.cases.must_come(f"rt is ended before {name}", partial(is_gone, hanging))
+        building.cases.must_be(f"what was kept is away before {name}", kept.exists(), False)
+        if name == "clear":
+            building.answers("what is set aside is put back", ["clear"], 0)
+            left = os.listdir(kept), (out / "rooms").exists()
+            building.cases.must_be("what was kept is back, and no room is left", left, (["rlib"], False))
+    building.remove("hangs in low")
+    (out / "rooms/low/crates/low/out/a file").touch()
+    building.builds("a build after one that was killed", AGAIN, building.log, *LOW)
+    building.cases.must_be("which begins with what was kept", (kept / "a file").exists(), True)
 
 
 # Each group, with how many cases it has at least. Each begins with the tree that the one before it leaves.
@@ -189,6 +216,7 @@ GROUPS = (
     (what_is_newer, 19),
     (failed_builds, 8),
     (interrupted_build, 5),
+    (killed_build, 11),
 )
 
 

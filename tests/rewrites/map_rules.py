@@ -93,7 +93,7 @@ def parted(program: str, folder: str) -> None:
     with open(module, "w", encoding="utf-8") as opened:
         opened.write(text.replace("\n\n", "\n", 1))
     found = tool(program, "why", "--annotate", output, beside=folder)
-    told = "why: parted.ttcn:8:11: the map has a statement there, and nothing stands there; rewrite it anew\n"
+    told = "why: parted.ttcn:8:11: the map names a statement there, but the line has none; run tools/rewrite again\n"
     judged("a module that was changed", found == told, found)
 
 

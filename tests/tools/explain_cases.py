@@ -10,6 +10,7 @@ TEXTS says how many texts the tables of tests/checking/ have that grammar.py and
 from __future__ import annotations
 
 import argparse
+import json
 import re
 import shlex
 import shutil
@@ -22,6 +23,7 @@ sys.dont_write_bytecode = True
 
 import explain_rules
 from explained_texts import NUMBERS, PLACES
+from explained_words import BEGINNING, MANY_SENDS, SENTENCES, WARNINGS
 from rule_cases import must
 from tool_runs import (
     ROOT,
@@ -54,7 +56,7 @@ WITH_NO_FAULT = "module M {\n  type component C { }\n  testcase t() runs on C { 
 DONE = "where there is one, `all component.done` ends the test case"
 NO_FILE = "the file isn't there, is a folder, or can't be read"
 ONE_SIDE = "exactly one is a port of `system`"
-UNSURE = "a rule is broken, and it isn't sure where"
+UNSURE = "a rule is broken, but explain can't tell where"
 LISTED = (
     "it is in the port's list of sent types for a send, of received types for a receiving operation; in `sut` the"
     " two lists are exchanged"
@@ -91,7 +93,7 @@ class Explaining:
         head = "rule" if len(rules) == 1 else "one of these rules"
         lines = (
             f"FILE:{place} refused {number} {word}: {sentence}",
-            f"  no place is shown, since explain itself reads: {reading}",
+            f"  no place is shown, because explain itself reads: {reading}",
             *(f"  {head}: {it}" for it in rules),
         )
         return self.by_another(name, 2, answer, "".join(f"{it}\n" for it in lines))
@@ -157,7 +159,7 @@ def example(asked: Explaining) -> Iterator[Case]:
     yield case("README.md shows what is said", [kitchen], 2, prints(shown))
     both = prints(f"{asked.room}/{first}\n{EXAMPLE}: accepted\n")
     yield case("the first line of each", ["--short", kitchen, EXAMPLE], 2, both)
-    yield case("a script that is right", [EXAMPLE], 0, prints(f"{EXAMPLE}: accepted\n"))
+    yield case("a valid script", [EXAMPLE], 0, prints(f"{EXAMPLE}: accepted\n"))
     folder.mkdir()
     for script in (ROOT / EXAMPLE, kitchen):
         shutil.copy(script, folder)
@@ -176,6 +178,35 @@ def places(asked: Explaining) -> Iterator[Case]:
         yield judged(it.name, asked.of_text(it.asked.encode()), 2, prints(it.told))
 
 
+def words(asked: Explaining) -> Iterator[Case]:
+    """What is said in the first line, and what is to be written instead."""
+    for it in SENTENCES:
+        ended = asked.of_text(f"{BEGINNING}{it.asked}".encode())
+        first, *others = ended.printed.splitlines() or [""]
+        told = "".join(f"{one}\n" for one in (first.partition(": refused ")[2], *others) if has_words(one, it.told))
+        yield it.name, None if (ended.status, told) == (2, it.told) else ended.shown()
+
+
+def has_words(line: str, told: str) -> bool:
+    """Whether it is the sentence, or a line of a kind that is told."""
+    kinds = {one.partition(":")[0] for one in told.splitlines() if one.startswith("  ")}
+    return not line.startswith(" ") and "|" not in line or line.partition(":")[0] in kinds
+
+
+def warnings(asked: Explaining) -> Iterator[Case]:
+    """Of scripts that are accepted: no warning changes the status."""
+    for it in WARNINGS:
+        yield judged(it.name, asked.of_text(it.asked.encode()), 0, prints(f"FILE: accepted\n{it.told}"))
+    first = asked.of_text(WARNINGS[0].asked.encode(), "--short")
+    yield judged("warnings aren't told in short", first, 0, prints("FILE: accepted\n"))
+    [told] = json.loads(asked.of_text(WARNINGS[0].asked.encode(), "--json").printed)
+    sentences = [it["sentence"] for it in told["warnings"]]
+    wanted = re.findall("warning: (.*)", WARNINGS[0].told)
+    yield "warnings in JSON", None if sentences == wanted != [] else f"{sentences}"
+    many = asked.of_text(MANY_SENDS.encode())
+    yield judged("many warnings are counted", many, 0, lambda ended: ended.printed.endswith("FILE: 5 more warnings\n"))
+
+
 # Input that isn't as usual
 
 
@@ -183,14 +214,14 @@ def texts_that_are_none(asked: Explaining) -> Iterator[Case]:
     missing = asked.room / "missing"
     told = f"{missing}: refused 2 Read: {NO_FILE}\n  rule: {NO_FILE}\n"
     yield asked.tool.case("a missing file", [missing], 2, prints(told))
-    ends = prints("FILE:1:1: refused 10 Syntax: the text ends here, where more is needed\n")
+    ends = prints("FILE:1:1: refused 10 Syntax: unexpected end of the text at the beginning\n")
     yield judged("an empty file", asked.of_text(b"", "--short"), 2, ends)
     too_long = prints("FILE:0: refused 15 Limit: the text has more than 1,048,576 bytes\n")
     yield judged("2 MiB", asked.of_text(b" " * 2 * MEBIBYTE, "--short"), 2, too_long)
     with open(sys.executable, "rb") as program:
         no_text = program.read(65536)
     yield judged("bytes that are no text", asked.of_text(no_text), 2, says_nothing)
-    no_token = prints("FILE:1:1: refused 10 Syntax: the byte 255 begins no token\n")
+    no_token = prints("FILE:1:1: refused 10 Syntax: the byte 255 isn't a valid token\n")
     yield judged("a byte that begins no token", asked.of_text(b"\377\376\r\n\0module", "--short"), 2, no_token)
     empty = asked.room / "empty"
     empty.mkdir()
@@ -202,7 +233,7 @@ def calls(asked: Explaining) -> Iterator[Case]:
     """Command lines that are wrong, a full device, no program, and the help."""
     tool, missing = asked.tool, asked.room / "missing"
     yield tool.case("nothing to explain", [], 4, says_usage("explain"))
-    listed = "is none of 1, 2, 10, 11"
+    listed = "isn't one of 1, 2, 10, 11"
     yield tool.case("a number that isn't given", ["--number", "19"], 4, says_usage("explain", f"'19' {listed}"))
     yield tool.case("the number that is never printed", ["--number", "3"], 4, says_usage("explain", f"'3' {listed}"))
     yield tool.case("two forms", ["--short", "--json", RIGHT], 4, says_usage("explain"))
@@ -236,7 +267,8 @@ def other_answers(asked: Explaining) -> Iterator[Case]:
     too_long = "refused 15 Limit line 0"
     yield case("another number of a long text", "refused 14 Direction line 3", LISTED, too_long, LISTED)
     file_of(asked.script, WITH_NO_FAULT)
-    yield case("a script that is right", "refused 28 NotSystem line 3", ONE_SIDE, "accepted", ONE_SIDE)
+    refused = "refused 28 NotSystem line 3"
+    yield case("a valid script, refused by another program", refused, ONE_SIDE, "accepted", ONE_SIDE)
 
 
 def at_length(asked: Explaining) -> Iterator[Case]:
@@ -244,7 +276,7 @@ def at_length(asked: Explaining) -> Iterator[Case]:
     made = run(["bash", "-c", ". bench/explaining/script.sh && script_of_a_mebibyte"])
     must(len(made.printed) > MEBIBYTE - 1000, "the script is long")
     line = made.printed.count("\n") - 2
-    told = f"FILE:{line}:28: refused 13 WrongType: `2` is an integer, and `charstring` is wanted\n"
+    told = f"FILE:{line}:28: refused 13 WrongType: `2` is an integer, and `charstring` is expected\n"
     yield judged("1 MiB", asked.of_text(made.printed.encode(), "--short"), 2, prints(told))
 
 
@@ -252,7 +284,9 @@ GROUPS = (
     (tables, 7),
     (example, 4),
     (numbers, 7),
-    (places, 7),
+    (places, 10),
+    (words, 14),
+    (warnings, 12),
     (texts_that_are_none, 6),
     (calls, 7),
     (other_answers, 11),

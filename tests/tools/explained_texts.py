@@ -82,10 +82,10 @@ PLACES = (
         "a tab before the place stays one",
         "module M {\n\ttype set S { }\n}\n",
         """\
-FILE:2:7: refused 10 Syntax: a set isn't supported (ES 201 873-1, 6.2.2): `set` can't stand behind `type`
+FILE:2:7: refused 10 Syntax: a set isn't supported (ES 201 873-1, 6.2.2): unexpected `set` after `type`
    2 | \ttype set S { }
      | \t     ^^^
-  can stand here: `record`, `port`, `component`
+  expected here: `record`, `port`, `component`
   write instead: `type record`: its fields then stand in their order, or by their names
   more: docs/FROM_TTCN3.md, 6.2.2
 """,
@@ -94,10 +94,10 @@ FILE:2:7: refused 10 Syntax: a set isn't supported (ES 201 873-1, 6.2.2): `set` 
         "a letter of two bytes in a comment is one column",
         "module M { /* é */ x }",
         """\
-FILE:1:20: refused 10 Syntax: `x` can't stand behind `{`
+FILE:1:20: refused 10 Syntax: unexpected `x` after `{`
    1 | module M { /* é */ x }
      |                    ^
-  can stand here: `}`, a definition
+  expected here: `}`, a definition
 """,
     ),
     Explained(
@@ -111,11 +111,11 @@ module M {
 }
 """,
         """\
-FILE:4:11: refused 10 Syntax: a timer isn't supported (ES 201 873-1, 12, 23): `t` can't stand behind `timer`
+FILE:4:11: refused 10 Syntax: a timer isn't supported (ES 201 873-1, 12, 23): unexpected `t` after `timer`
    4 |     timer t;
      |     ~~~~~~^
-  can stand here: `.`, since `timer` is a name here
-  nothing instead: there is no time in a run. Leave the timer and its branches out: a wait that nobody answers ends \
+  expected here: `.`, because `timer` is a name here
+  no replacement: there is no time in a run. Leave the timer and its branches out: a wait that nobody answers ends \
 as `end waiting`, with the result `error`
   more: docs/FROM_TTCN3.md, 12, 23
 """,
@@ -151,7 +151,7 @@ module M {
 }
 """,
         """\
-FILE:5:5: refused 13 WrongType: `true` is a boolean, and `integer` is wanted
+FILE:5:5: refused 13 WrongType: `true` is a boolean, and `integer` is expected
    6 |       integer:true);
      |               ^^^^
   rule: the value or template fits the type
@@ -169,10 +169,76 @@ module M {
 }
 """,
         """\
-FILE:5:5: refused 10 Syntax: `setverdict` can't stand behind `)`: a `;` is missing
+FILE:5:5: refused 10 Syntax: unexpected `setverdict` after `)`: a `;` is missing
    5 |     setverdict(fail);
      |     ^^^^^^^^^^
-  can stand here: `;`, `}`
+  expected here: `;`, `}`
+""",
+    ),
+    Explained(
+        "a bracket that isn't closed, where a definition begins",
+        """\
+module M {
+  type component C { }
+  function f() runs on C {
+    setverdict(pass);
+
+  testcase t() runs on C { }
+}
+""",
+        """\
+FILE:6:3: refused 10 Syntax: unexpected `testcase` after `;`: the `{` in line 3 isn't closed
+   6 |   testcase t() runs on C { }
+     |   ^^^^^^^^
+   3 |   function f() runs on C {
+     |                          ^ isn't closed
+  expected here: `}`, a statement
+""",
+    ),
+    Explained(
+        "a bracket that isn't closed, where a branch begins",
+        """\
+module M {
+  type port P message { inout integer }
+  type component C { port P p }
+  testcase t() runs on C {
+    alt {
+      [] p.receive(integer:1) {
+        setverdict(pass);
+      [] p.receive { setverdict(fail); }
+    }
+  }
+}
+""",
+        """\
+FILE:8:7: refused 10 Syntax: unexpected `[` after `;`: the `{` in line 6 isn't closed
+   8 |       [] p.receive { setverdict(fail); }
+     |       ^
+   6 |       [] p.receive(integer:1) {
+     |                               ^ isn't closed
+  expected here: `}`, a statement
+""",
+    ),
+    Explained(
+        "a bracket that isn't closed, at the end of the text",
+        """\
+module M {
+  type port P message { inout integer }
+  type component C { port P p }
+  testcase t() runs on C {
+    for (var integer i := 0; i < 2; i := i + 1) {
+      p.send(integer:1);
+  }
+}
+""",
+        """\
+FILE:9:1: refused 10 Syntax: unexpected end of the text after `}`: judging by the indentation, the `{` in line 5 isn't \
+closed
+   9 |
+     | ^
+   5 |     for (var integer i := 0; i < 2; i := i + 1) {
+     |                                                 ^ isn't closed
+  expected here: `;`, `}`, a definition
 """,
     ),
     Explained(

@@ -96,7 +96,10 @@ def uses_runners_of_scripts(it: Installed) -> None:
         it.run("tpr-suite", "--jobs", "1", it.examples).must_show("; all as expected$")
     with case("tpr-explore, installed"):
         script = it.example("broadcast_is_overtaken_by_an_answer.ttcn")
-        it.run("tpr-explore", script).must_show('^  line 13: b took charstring:"begin" from mtc ', 5)
+        explored = it.run("tpr-explore", script)
+        explored.must_show('^  line 13: b took charstring:"begin" from mtc ', 5)
+    with case("tpr-explore has reports, by the tpr_ordered that is installed"):
+        explored.must_show("^ *component mtc$", 5)
     with case("tpr-suite --explore, installed"):
         it.run("tpr-suite", "--explore", "--junit", "explored.xml", it.example(f"{BELL}.ttcn")).must_end(0)
         told = (it.room / "explored.xml").read_text(encoding="utf-8")
@@ -135,12 +138,37 @@ def sorted_lines(names: Iterable[str]) -> str:
     return "".join(f"{it}\n" for it in sorted(names))
 
 
+def names_of_the_repository(folder: Path, tools: list[str]) -> list[str]:
+    """The commands that the documents below the folder name as only the repository has them."""
+    named = rf"(?<![\w/])(?:\./tpr|tools/(?:{'|'.join(tools)}))(?![\w/])"
+    documents = {it: it.read_text(encoding="utf-8") for it in folder.rglob("*.md")}
+    must(any("tpr-explain" in text for text in documents.values()), "no document names tpr-explain")
+    return [f"{found} in {it.name}" for it, text in documents.items() for found in re.findall(named, text)]
+
+
+def says_its_names(it: Installed, tools: list[str], version: str) -> None:
+    """A tool calls itself, and the others, as they are installed."""
+    with case("the version that each command says, installed"):
+        for tool in tools:
+            it.run(f"tpr-{tool}", "--version").must_print(f"tpr-{tool} (tpr) {version}\n")
+    with case("the usage of a command, installed"):
+        it.run("tpr-why").must_complain("^usage: tpr-why ", 4).must_complain("^tpr-why: ", 4)
+    with case("the help of a command, installed"):
+        text = it.run("tpr-why", "--help").must_show("^  tpr-why --annotate ").text
+        must("tools/" not in text and "./tpr" not in text, f"it names what isn't installed{shown(text)}")
+
+
 def installed_as_it_must(tree: Tree, it: Installed) -> None:
     """What is there, once all was used."""
     with case("the program that is installed"):
         must_be_same(tree.program, it.root / "usr/lib/tpr/tpr")
+        must_be_same(tree.ordered, it.root / "usr/lib/tpr/tpr_ordered")
     with case("the examples that are installed"):
-        run("diff", "-r", "-x", ".gitattributes", it.examples, tree.folder / "examples").must_print("")
+        others = ("-x", ".gitattributes", "-x", "README.md")
+        run("diff", "-r", *others, it.examples, tree.folder / "examples").must_print("")
+    with case("the documents name the commands as they are installed"):
+        others_names = names_of_the_repository(it.root / "usr/share/doc/tpr", tools_of(tree))
+        must(not others_names, f"they name {', '.join(others_names)}")
     with case("the manual page that is installed"):
         page = gzip.decompress((it.root / "usr/share/man/man1/tpr-suite.1.gz").read_bytes())
         must(page == (tree.folder / "docs" / "tpr.1").read_bytes(), "it isn't docs/tpr.1")
@@ -171,6 +199,7 @@ def package_is_installed(tree: Tree) -> None:
     uses_charts(it)
     uses_readers_of_scripts(it)
     uses_runners_of_scripts(it)
+    says_its_names(it, tools_of(tree), tree.version)
     installed_as_it_must(tree, it)
     if os.getuid() == 0:
         removed_as_it_must(it)
@@ -189,7 +218,7 @@ def must_be_unpacked(tree: Tree, folder: Path) -> None:
     shutil.unpack_archive(tree.made("made").archive, folder.parent, "gztar")
     others = ["-x", ".*", "-x", "crates", "-x", "out", "-x", "releas*", "-x", "costs.py"]
     name = folder.relative_to(tree.room)
-    wanted = "".join(f"Only in {name}: {it}\n" for it in ("GATE", "tpr"))
+    wanted = "".join(f"Only in {name}: {it}\n" for it in ("GATE", "tpr", "tpr_ordered"))
     run("diff", "-r", *others, "tree", name, folder=tree.room).must_print(wanted, 1)
 
 
@@ -212,12 +241,35 @@ def archive_is_used(tree: Tree) -> None:
 # The manual page
 
 
+def options_of(tree: Tree, tool: str) -> list[str]:
+    """The options that the tool's help has, but for those that all have."""
+    said = run(tree.folder / "tools" / tool, "--help").must_end(0).text
+    named = re.findall(r"^ +(-{1,2}[a-z-]+)", said.partition("\noptions:\n")[2], re.MULTILINE)
+    must(len(named) > 1, f"its help has no options{shown(said)}")
+    return [it for it in named if it not in ("-h", "--version")]
+
+
+def options_in(lines: list[str], tool: str) -> list[str]:
+    """The options that the page's synopsis has for the tool, as they are typed."""
+    synopsis = lines[lines.index(".Sh SYNOPSIS") : lines.index(".Sh DESCRIPTION")]
+    found, is_of_it = [], False
+    for line in synopsis:
+        if line.startswith(".Nm"):
+            is_of_it = line == f".Nm tpr-{tool}"
+        elif is_of_it:
+            found += [f"-{it}" for it in re.findall(r"(?:\bFl|\|) (-?[a-z][a-z-]*)", line)]
+    return found
+
+
 def manual_page(tree: Tree) -> None:
     page = tree.folder / "docs" / "tpr.1"
     lines = page.read_text(encoding="utf-8").splitlines()
     for tool in tools_of(tree):
         with case(f"the manual page names tpr-{tool}"):
             must({f".Nm tpr-{tool}", f".Nm tpr-{tool} ,"} & {*lines}, "it doesn't")
+        with case(f"the manual page names each option of tpr-{tool}"):
+            missing = [it for it in options_of(tree, tool) if it not in options_in(lines, tool)]
+            must(not missing, f"it lacks {', '.join(missing)}")
     if shutil.which("man"):
         ended = run("man", "--warnings", "-E", "UTF-8", "-l", page)
         with case("the manual page"):
@@ -225,7 +277,7 @@ def manual_page(tree: Tree) -> None:
         with case("the manual page tells the modes"):
             ended.must_show(re.escape("tpr check | run | trace | queue | judge | verdicts [file]"))
     else:
-        print("left out the manual page, since there is no man", flush=True)
+        print("left out the manual page, because there is no man", flush=True)
     if shutil.which("mandoc"):
         with case("the manual page by mandoc"):
             must(not run("mandoc", "-T", "lint", page).must_end(0).printed, "it has something to say")

@@ -6,7 +6,7 @@ pages() {
     python3 "$root/tests/tools/pages.py" "$room/pages" >"$room/printed" 2>"$room/said"
     status=$?
     if ((status == 3)); then
-        leave_out "charts as pages, since there is no chromium"
+        leave_out "charts as pages, because there is no chromium"
         return
     fi
     at_least 50 cases_of_pages

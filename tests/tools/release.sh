@@ -3,5 +3,5 @@
 
 release() {
     mkdir -- "$room/release"
-    told "$room/told_of_releases" tests/tools/releases.py "$tpr" "$room/release"
+    told "$room/told_of_releases" tests/tools/releases.py "$tpr" "$ordered" "$room/release"
 }

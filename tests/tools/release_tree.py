@@ -12,6 +12,7 @@ from tool_calls import ROOT, Ended, run
 from rule_cases import must
 
 PLACES = ("CHANGELOG.md", "LICENSE", "README.md", "VERSION", "docs", "examples", "tools")
+UNRELEASED = "## [Unreleased]\n"
 # The time of the commit in the tests, as tar prints it.
 COMMITTED = "2026-01-02 03:04:05"
 WHO = ("-c", "user.name=A Tester", "-c", "user.email=tester@tpr.example", "-c", "commit.gpgsign=false")
@@ -29,17 +30,21 @@ class Made(NamedTuple):
 class Tree:
     """The repository, in a room in which releases are made."""
 
-    def __init__(self, room: Path, program: Path):
-        self.room, self.program, self.folder = room, program, room / "tree"
-        self.built = self.folder / "crates" / "tpr" / "out" / "tpr"
+    def __init__(self, room: Path, program: Path, ordered: Path):
+        self.room, self.program, self.ordered, self.folder = room, program, ordered, room / "tree"
+        self.built, self.built_ordered = (
+            self.folder / "crates" / it / "out" / it for it in ("tpr", "tpr_ordered")
+        )
         self.version = (ROOT / "VERSION").read_text(encoding="utf-8").partition("\n")[0]
 
     def make(self) -> None:
         for name in OF_ANOTHER:
             os.environ.pop(name, None)
-        self.built.parent.mkdir(parents=True)
+        for built in (self.built, self.built_ordered):
+            built.parent.mkdir(parents=True)
         (self.folder / "out").mkdir()
         self.copy_places()
+        self.release_changes()
         self.build()
         (self.folder / ".gitignore").write_text("out/\n", encoding="utf-8")
         self.git("init", "-q")
@@ -52,10 +57,17 @@ class Tree:
             else:
                 shutil.copy2(ROOT / place, self.folder / place)
 
+    def release_changes(self) -> None:
+        """As in the commit of a release, CHANGELOG.md has no changes that are not released."""
+        path = self.folder / "CHANGELOG.md"
+        before, _, rest = path.read_text(encoding="utf-8").partition(UNRELEASED)
+        path.write_text(before + rest[rest.index(f"## [{self.version}]") :] if rest else before, encoding="utf-8")
+
     def build(self) -> None:
-        """The program is the one that is tested."""
-        shutil.copyfile(self.program, self.built)
-        self.built.chmod(0o755)
+        """The programs are those that are tested."""
+        for program, built in ((self.program, self.built), (self.ordered, self.built_ordered)):
+            shutil.copyfile(program, built)
+            built.chmod(0o755)
 
     def git(self, *words: str) -> str:
         ended = run("git", "-C", self.folder, *words).must_end(0)
@@ -88,12 +100,16 @@ class Tree:
 
     def made(self, folder: str) -> Made:
         """The two that it makes into the folder."""
-        place = self.room / folder
-        return Made(place / f"tpr-{self.version}-amd64.tar.gz", place / f"tpr_{self.version}_amd64.deb")
+        return Made(*(self.room / folder / it for it in names_of_both(self.version)))
 
     def said_in(self, made: Made, file: str) -> Ended:
         """What stands in a file of the archive."""
         return run("tar", "-xzOf", made.archive, f"tpr-{self.version}/{file}")
+
+
+def names_of_both(version: str) -> tuple[str, str]:
+    """Those of the archive and of the package."""
+    return f"tpr-{version}-amd64.tar.gz", f"tpr_{version}_amd64.deb"
 
 
 class Item(NamedTuple):
@@ -124,7 +140,7 @@ def item_of(file: Path, path: str) -> Item:
 
 def in_the_tree(tree: Tree) -> list[Item]:
     """What is handed out of the repository, by where it stands there."""
-    items = [Item("x", "tpr"), Item("f", "GATE")]
+    items = [Item("x", "tpr"), Item("x", "tpr_ordered"), Item("f", "GATE")]
     for place in PLACES:
         found = [(it, str(it.relative_to(tree.folder))) for it in paths_below(tree.folder / place)]
         items += [item_of(file, path) for file, path in found if not is_kept_back(path)]
@@ -133,7 +149,7 @@ def in_the_tree(tree: Tree) -> list[Item]:
 
 def tools_of(tree: Tree) -> list[str]:
     """The commands beside the program."""
-    return [it.path.removeprefix("tools/") for it in in_the_tree(tree) if it.kind == "x" and it.path != "tpr"]
+    return [it.path.removeprefix("tools/") for it in in_the_tree(tree) if it.kind == "x" and "/" in it.path]
 
 
 def place_in_package(path: str, kind: str) -> str:
@@ -149,6 +165,7 @@ def in_the_package(tree: Tree) -> list[Item]:
     items = [Item(it.kind, place_in_package(it.path, it.kind)) for it in in_the_tree(tree) if it.kind != "d"]
     items += [Item("f", f"usr/share/doc/tpr/{it}") for it in ("changelog.gz", "copyright")]
     items.append(Item("f", "usr/share/lintian/overrides/tpr"))
+    items.append(Item("f", "usr/lib/tpr/VERSION"))
     items.append(Item("l", "usr/bin/tpr", "../lib/tpr/tpr"))
     for tool in tools_of(tree):
         items.append(Item("l", f"usr/bin/tpr-{tool}", f"../lib/tpr/tools/{tool}"))

@@ -1,7 +1,7 @@
 #!/usr/bin/env python3
 """What is handed out: what a gate leaves for tools/release, and the archive and the package that this makes.
 
-    tests/tools/releases.py PROGRAM FOLDER
+    tests/tools/releases.py PROGRAM TPR_ORDERED FOLDER
 
 Both are looked at, made of trees in which there is a fault, refused, installed into an empty root, and used there. All
 is written into the FOLDER. It prints a line `passed NAME` for each case, `left out NAME: WHY` for what this machine
@@ -12,6 +12,7 @@ from __future__ import annotations
 import argparse
 import hashlib
 import os
+import re
 import shutil
 import sys
 from functools import partial
@@ -22,7 +23,7 @@ sys.dont_write_bytecode = True
 
 from installed_release import archive_is_used, manual_page, package_by_lintian, package_is_installed
 from release_contents import wrong_with
-from release_tree import Tree
+from release_tree import COMMITTED, UNRELEASED, Made, Tree, names_of_both
 from rule_cases import must
 from tool_calls import ROOT, Ended, Group, case, run, shown, try_groups
 
@@ -137,8 +138,10 @@ def keeps_gate(tree: Tree) -> None:
         ended.must_say("test: out/gate isn't kept: ", 1)
     with case("what a gate leaves"):
         gate(tree, whole).must_print("")
-        head, program = tree.git("rev-parse", "HEAD"), hashlib.sha256(tree.program.read_bytes()).hexdigest()
-        wanted = f"commit {head}\ntoolchain a toolchain\nprogram {program}\n\n{LAST_LINES}"
+        head = tree.git("rev-parse", "HEAD")
+        program, ordered = (hashlib.sha256(it.read_bytes()).hexdigest() for it in (tree.program, tree.ordered))
+        sums = f"program {program}\ntpr_ordered {ordered}\n"
+        wanted = f"commit {head}\ntoolchain a toolchain\n{sums}\n{LAST_LINES}"
         run("cat", kept).must_print(wanted)
     with case("a release of a gate that passed"):
         tree.release("gated").must_print("".join(f"{it.relative_to(tree.room)}\n" for it in tree.made("gated")))
@@ -173,13 +176,15 @@ def refusals_of_gates(tree: Tree) -> None:
     (tree.folder / "docs" / "new").touch()
     refuses(tree, "a file that came behind the gate", "the work tree isn't what the gate passed on: docs/new")
     (tree.folder / "docs" / "new").unlink()
-    with open(tree.built, "ab") as file:
-        file.write(b"\n")
-    refuses(tree, "another program than the gate tried", "the program isn't the one that the gate tried")
-    tree.build()
-    with case("a program of one's own, with a gate"):
-        ended = tree.release("--program", str(tree.program))
-        ended.must_complain("^release: --program needs --unchecked", 4)
+    for name, built in (("tpr", tree.built), ("tpr_ordered", tree.built_ordered)):
+        with open(built, "ab") as file:
+            file.write(b"\n")
+        refuses(tree, f"another {name} than the gate tried", f"{name} isn't the program that the gate tried")
+        tree.build()
+    for option in ("--program", "--ordered"):
+        with case(f"a program of one's own, by {option}, with a gate"):
+            ended = tree.release(option, str(tree.program))
+            ended.must_complain("^release: --program and --ordered need --unchecked", 4)
     tree.append("README.md", "more\n")
     tree.commit()
     refuses(tree, "a commit behind the gate", f"the gate passed on commit {commit}, and this is ")
@@ -189,23 +194,45 @@ def refusals_of_gates(tree: Tree) -> None:
 def refusals_of_versions(tree: Tree) -> None:
     version = tree.folder / "VERSION"
     version.write_text("0.9\n", encoding="utf-8")
-    refuses(tree, "a version that is none", "'0.9' in VERSION is no version", "--unchecked")
+    refuses(tree, "a version that is none", "'0.9' in VERSION isn't a version", "--unchecked")
     version.write_text("0.8.999\n", encoding="utf-8")
     name = "a version that CHANGELOG.md doesn't tell of"
     refuses(tree, name, "VERSION says 0.8.999, and", "--unchecked")
     tree.restore()
     tree.change("CHANGELOG.md", rf"^## \[{tree.version}\]", r"## [99.0.0] - 2026-01-02\n\n\g<0>")
-    said = f"VERSION says {tree.version}, and CHANGELOG.md tells of 99.0.0"
+    said = f"VERSION says {tree.version}, and the newest version in CHANGELOG.md is 99.0.0"
     refuses(tree, "a version that isn't the newest there", said, "--unchecked")
     tree.restore()
 
 
+def between_releases(tree: Tree) -> None:
+    """While CHANGELOG.md has changes that are not released, the day and the commit follow the number."""
+    number = re.escape(tree.version)
+    for changes, is_between in (("\n", False), ("\n### Fixed\n\n- **More.**\n\n", True)):
+        tree.change("CHANGELOG.md", rf"^## \[{number}\]", f"{UNRELEASED}{changes}\\g<0>".replace("\n", r"\n"))
+        wanted = tree.version
+        if is_between:
+            wanted += f"+git{COMMITTED[:10].replace('-', '')}.{tree.git('rev-parse', 'HEAD')[:8]}"
+        name = "with changes that are not released" if is_between else "with a heading for such changes alone"
+        with case(f"the version of a release {name}"):
+            made = Made(*(tree.room / "between" / it for it in names_of_both(wanted)))
+            tree.release("--unchecked", "between").must_print("".join(f"{it.relative_to(tree.room)}\n" for it in made))
+            run("tar", "-xzOf", made.archive, f"tpr-{wanted}/VERSION").must_print(f"{wanted}\n")
+        with case(f"the version that a tool says {name}"):
+            ended = run(tree.folder / "tools" / "why", "--version")
+            ended.must_print(f"why (tpr) {tree.version}{'+git' if is_between else ''}\n")
+        tree.restore()
+        shutil.rmtree(tree.room / "between", ignore_errors=True)
+
+
 def refusals_of_releases(tree: Tree) -> None:
     refusals_of_gates(tree)
-    refuses(tree, "no program", "missing can't be read", "--unchecked", "--program", "missing")
-    said = "ldd doesn't know the program"
+    for option in ("--program", "--ordered"):
+        refuses(tree, f"no program, by {option}", "missing can't be read", "--unchecked", option, "missing")
+    said = "ldd doesn't take a program for one"
     refuses(tree, "a program that is none", said, "--unchecked", "--program", "tree/README.md")
     refusals_of_versions(tree)
+    between_releases(tree)
     tree.git("rm", "-q", "--cached", "docs/tpr.1")
     refuses(tree, "no manual page", "there is no docs/tpr.1", "--unchecked")
     tree.git("reset", "-q", "--hard")
@@ -222,31 +249,32 @@ def groups(tree: Tree) -> list[Group]:
     found = [
         Group(partial(makes_both, tree), 4, "releases"),
         Group(partial(tells_planted, tree, OF_RELEASES), 8, "planted releases"),
-        Group(partial(refusals_of_releases, tree), 20, "refusals of releases"),
-        Group(partial(manual_page, tree), 4, "the manual page"),
+        Group(partial(refusals_of_releases, tree), 27, "refusals of releases"),
+        Group(partial(manual_page, tree), 12, "the manual page"),
         Group(partial(archive_is_used, tree), 4, "the archive that is used"),
     ]
     if not shutil.which("dpkg-deb") or not os.access("/usr/bin/python3", os.X_OK):
-        print("left out the package, since there is no dpkg-deb, or no /usr/bin/python3", flush=True)
+        print("left out the package, because there is no dpkg-deb, or no /usr/bin/python3", flush=True)
         return found
     found.append(Group(partial(tells_planted, tree, of_packages(tree.version)), 3, "planted packages"))
-    found.append(Group(partial(package_is_installed, tree), 18, "the package that is installed"))
+    found.append(Group(partial(package_is_installed, tree), 22, "the package that is installed"))
     if shutil.which("lintian"):
         found.append(Group(partial(package_by_lintian, tree), 1, "the package by lintian"))
     else:
-        print("left out the package by lintian, since there is none", flush=True)
+        print("left out the package by lintian, because there is none", flush=True)
     return found
 
 
 def main() -> int:
     words = argparse.ArgumentParser(description="What tools/release makes.")
     words.add_argument("program", metavar="PROGRAM", type=Path)
+    words.add_argument("ordered", metavar="TPR_ORDERED", type=Path)
     words.add_argument("folder", metavar="FOLDER", type=Path, help="where all is written")
     asked = words.parse_args()
     if not shutil.which("git") or asked.program.read_bytes()[:4] != b"\x7fELF":
-        print("left out what tools/release makes, since there is no git, or TPR names no program of the machine")
+        print("left out what tools/release makes, because there is no git, or TPR names no program of the machine")
         return 0
-    tree = Tree(asked.folder.resolve(), asked.program.resolve())
+    tree = Tree(asked.folder.resolve(), asked.program.resolve(), asked.ordered.resolve())
     tree.make()
     return try_groups(groups(tree))
 

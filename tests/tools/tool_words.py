@@ -8,6 +8,7 @@ It prints a line `passed NAME` for each case, or lines that begin with `FAILED: 
 from __future__ import annotations
 
 import os
+import re
 import sys
 
 sys.dont_write_bytecode = True
@@ -32,8 +33,20 @@ def words_that_nobody_gets() -> None:
         with case(f"wrong words for {tool}, and a closed standard error"):
             ended = run("sh", "-c", 'exec "$0" --nothing 2>&-', command).must_end(4)
             must(not ended.printed, "it printed something")
+    version_that_each_says()
     what_titan_cannot_read()
     memory_that_is_refused()
+
+
+def version_that_each_says() -> None:
+    version = (ROOT / "VERSION").read_text(encoding="utf-8").removesuffix("\n")
+    for tool in (*TOOLS, "costs.py"):
+        with case(f"the version that {tool} says"):
+            ended = run(ROOT / "tools" / tool, "--version").must_say_nothing()
+            form = rf"{re.escape(tool)} \(tpr\) {re.escape(version)}(\+git)?\n"
+            ended.must(re.fullmatch(form, ended.text), f"a line of the form {form!r} is to be printed")
+    with case("the version onto a full device"):
+        onto_a_full_device(ROOT / "tools" / "why", "--version").must_say("why: the answer can't be written", 3)
 
 
 def what_titan_cannot_read() -> None:
@@ -47,10 +60,10 @@ def what_titan_cannot_read() -> None:
 def memory_that_is_refused() -> None:
     with case("a tool that is refused memory"):
         ended = run("python3", "-B", "-c", NEEDS_MUCH, more={"PYTHONPATH": str(ROOT / "tools")})
-        ended.must_say("tool: memory was refused", 1)
+        ended.must_say("tool: out of memory", 1)
 
 
 if __name__ == "__main__":
     # Without it what can't be written stays, and is tried again at the very end.
     os.environ.pop("PYTHONUNBUFFERED", None)
-    sys.exit(try_groups([Group(words_that_nobody_gets, 29, "words that nobody gets")]))
+    sys.exit(try_groups([Group(words_that_nobody_gets, 40, "words that nobody gets")]))

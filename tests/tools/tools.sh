@@ -10,5 +10,5 @@ tools() {
     at_least 238 refused_reports
     at_least 91 suites
     at_least $((open_examples + 13)) told "$room/told_of_comparisons" tests/tools/comparisons.py "$room/comparisons"
-    at_least 29 told "$room/told_of_words" tests/tools/tool_words.py
+    at_least 40 told "$room/told_of_words" tests/tools/tool_words.py
 }

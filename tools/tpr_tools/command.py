@@ -1,14 +1,15 @@
 """What the command lines of the tools have in common.
 
-The statuses are those of tpr and ./tpr, with one more: 5, where what was asked isn't so.
+The statuses are those of tpr and ./tpr, with one more: 5, if what was asked isn't so.
 """
 from __future__ import annotations
 
 import argparse
 import gc
 import os
+import re
 import sys
-from typing import TYPE_CHECKING, Callable, NoReturn, Optional
+from typing import TYPE_CHECKING, Callable, NoReturn, Optional, Sequence
 
 if TYPE_CHECKING:
     from .report.report import NotAReport, Report
@@ -23,6 +24,26 @@ _MEANINGS = {
     NOT_WRITTEN: "the answer can't be written",
     WRONG_USAGE: "the command line is wrong",
 }
+
+_ROOT = os.path.dirname(os.path.dirname(os.path.dirname(os.path.realpath(__file__))))
+
+
+def called(name: str) -> str:
+    """The name by which the tool is called: `tpr-why` for an installed `why`."""
+    installed = f"tpr-{name}"
+    return installed if sys.argv and os.path.basename(sys.argv[0]) == installed else name
+
+
+def as_called(name: str, text: str) -> str:
+    """The text with the names of commands as they are installed, if the tool is called so."""
+    return with_installed_names(text) if called(name) != name else text
+
+
+def with_installed_names(text: str) -> str:
+    """`tpr-why` in place of `tools/why`, and `tpr` in place of `./tpr`. A path keeps its name, and so does what isn't
+    installed."""
+    text = re.sub(r"(?<![\w/.-])tools/(?!release\b)([a-z]+)(?![\w/]|\.\w)", r"tpr-\1", text)
+    return re.sub(r"(?<![\w/.])\./tpr(?![\w/])", "tpr", text)
 
 
 def statuses(*numbers: int, **others: str) -> str:
@@ -46,12 +67,13 @@ class Arguments(argparse.ArgumentParser):
 
     def __init__(self, name: str, description: str, statuses: str):
         super().__init__(
-            prog=name,
-            description=description,
-            epilog=statuses,
+            prog=called(name),
+            description=as_called(name, description),
+            epilog=as_called(name, statuses),
             formatter_class=argparse.RawDescriptionHelpFormatter,
             allow_abbrev=False,
         )
+        self.add_argument("--version", action=_Version, help="print which version of tpr this is")
 
     def print_help(self, file: object = None) -> None:
         """It is an answer as any other, so where it can't be written the tool ends so."""
@@ -60,6 +82,25 @@ class Arguments(argparse.ArgumentParser):
     def error(self, message: str) -> NoReturn:
         say(self.format_usage())
         raise Stop(WRONG_USAGE, message)
+
+
+class _Version(argparse.Action):
+    """Prints the version and ends, as --help does."""
+
+    def __init__(self, option_strings: Sequence[str], dest: str, help: Optional[str] = None):
+        super().__init__(option_strings, dest, nargs=0, default=argparse.SUPPRESS, help=help)
+
+    def __call__(self, parser: argparse.ArgumentParser, *_: object) -> NoReturn:
+        write_out(version_line(parser.prog))
+        parser.exit(DONE)
+
+
+def version_line(name: str) -> str:
+    """Such as `why (tpr) 0.9.0`."""
+    # Hardly a call asks for it, and the start of a tool is short.
+    from .version import version_in
+
+    return f"{name} (tpr) {version_in(_ROOT) or 'of no known version'}\n"
 
 
 def read_bytes(file: Optional[str]) -> bytes:
@@ -125,10 +166,10 @@ def run(name: str, tool: Callable[[], int], at_once: bool = False) -> NoReturn:
     try:
         status = tool()
     except Stop as stop:
-        say(f"{name}: {stop.text}\n")
+        say(f"{called(name)}: {stop.text}\n")
         status = stop.status
     except MemoryError:
-        say(f"{name}: memory was refused\n")
+        say(f"{called(name)}: out of memory\n")
         status = NOT_BUILT
     except KeyboardInterrupt:
         status = INTERRUPTED

@@ -1,11 +1,19 @@
-"""The program that a tool asks, and what it prints."""
+"""The program that a tool asks, and what it prints. Whatever is started here is ended when the tool is interrupted."""
 from __future__ import annotations
 
 import os
+import re
+import signal
 import subprocess
-from typing import Optional
+import sys
+from types import FrameType
+from typing import Any, Optional, Sequence
 
-from .command import NOT_BUILT, Stop
+from .command import NOT_BUILT, Stop, say
+
+_ENDING = (signal.SIGINT, signal.SIGTERM, signal.SIGHUP)
+# ./build puts back what it has set aside, and `rt` removes its folders: on a busy machine that takes seconds.
+_MOST_SECONDS_TO_END = 30
 
 
 class NoProgram(Stop):
@@ -20,12 +28,118 @@ def program_of(named: Optional[str], root: str) -> str:
     return os.path.abspath(named or os.environ.get("TPR") or os.path.join(root, "tpr"))
 
 
+def ordered_program_of(root: str) -> str:
+    """The program that forces orders: that of TPR_ORDERED; in a release the one beside tpr; else the one that
+    `./build tpr_ordered` makes."""
+    released = os.path.join(root, "tpr_ordered")
+    made = os.path.join(root, "crates", "tpr_ordered", "out", "tpr_ordered")
+    return os.path.abspath(os.environ.get("TPR_ORDERED") or (released if os.path.exists(released) else made))
+
+
 def printed_by(program: str, *words: str, given: bytes = b"") -> bytes:
     """What it prints of these words, and of what it is given on standard input."""
     try:
-        run = subprocess.run([program, *words], input=given, stdout=subprocess.PIPE, check=False)
+        run = ended([program, *words], given, stdout=subprocess.PIPE)
     except (OSError, ValueError) as error:
         raise NoProgram(f"{program} can't be run: {getattr(error, 'strerror', None) or error}") from None
     if run.returncode == NOT_BUILT:
         raise NoProgram(f"{program} can't be built")
     return run.stdout
+
+
+class _Interrupts:
+    """Raises KeyboardInterrupt for the first signal that ends a tool, once what the tool starts is known. Signals that
+    the tool ignores stay ignored."""
+
+    def __init__(self) -> None:
+        self.came = False
+        self.are_held = True
+        heard = [it for it in _ENDING if signal.getsignal(it) not in (signal.SIG_IGN, None)]
+        try:
+            self.before = {it: signal.signal(it, self._take) for it in heard}
+        except ValueError:  # tools/rewrite works in a thread, which can't take signals
+            self.before = {}
+
+    def _take(self, _number: int, _frame: Optional[FrameType]) -> None:
+        self.came = True
+        if not self.are_held:
+            self.are_held = True
+            raise KeyboardInterrupt
+
+    def release(self) -> None:
+        self.are_held = False
+        if self.came:
+            self.are_held = True
+            raise KeyboardInterrupt
+
+    def forget(self) -> None:
+        for number, handler in self.before.items():
+            signal.signal(number, handler)
+
+
+def ended(command: Sequence[str], given: bytes = b"", **how: Any) -> subprocess.CompletedProcess[bytes]:
+    """Runs a command that may start others, such as ./tpr and ./build. It has a session of its own, so that Ctrl-C in
+    a terminal reaches the tool alone. The tool then tells the command to end, and waits until it has cleared up. Without
+    signals to hand on, the command stays in the session of the tool, where Ctrl-C reaches it too."""
+    interrupts = _Interrupts()
+    process: Optional[subprocess.Popen[bytes]] = None
+    try:
+        process = subprocess.Popen(command, stdin=subprocess.PIPE, start_new_session=bool(interrupts.before), **how)
+        interrupts.release()
+        printed, said = process.communicate(given)
+        return subprocess.CompletedProcess(process.args, process.returncode, printed or b"", said or b"")
+    except BaseException:
+        interrupts.are_held = True
+        if process is not None:
+            end(process, bool(interrupts.before))
+        raise
+    finally:
+        interrupts.forget()
+
+
+def end(process: subprocess.Popen[bytes], has_session: bool = True) -> None:
+    """Tells a process to end, and waits for it. What is left of its session then is ended too, and so is a process that
+    doesn't end."""
+    process.terminate()
+    try:
+        process.wait(_MOST_SECONDS_TO_END)
+    except subprocess.TimeoutExpired:
+        process.kill()
+    finally:
+        if has_session:
+            _kill_session(process)
+        process.wait()
+
+
+def _kill_session(process: subprocess.Popen[bytes]) -> None:
+    try:
+        os.killpg(process.pid, signal.SIGKILL)
+    except (ProcessLookupError, PermissionError):
+        pass
+
+
+def build_if_wanted(root: str) -> None:
+    """Builds nothing that takes minutes unasked: asks on a terminal, and refuses elsewhere."""
+    build = f"{root}/build"
+    if ended([build, "is_built"]).returncode == 0:
+        return
+    lacks = "the program isn't built, or is older than its sources"
+    takes = f"`./build` builds it, the first time in about {_minutes_of_a_first_build(build)} minutes"
+    if not _is_wanted(f"{lacks}; {takes}. Build it now? [y/N] "):
+        raise Stop(NOT_BUILT, f"{lacks}: {takes}; TPR names another program")
+    if ended([build]).returncode != 0:
+        raise Stop(NOT_BUILT, f"{build} has not built the program")
+
+
+def _minutes_of_a_first_build(build: str) -> str:
+    with open(build, encoding="utf-8") as file:
+        found = re.search(r"(?m)^MINUTES_OF_A_FIRST_BUILD = (\d+)", file.read())
+    return found[1] if found else "some"
+
+
+def _is_wanted(question: str) -> bool:
+    """Whether somebody is at a terminal who says so."""
+    if not all(stream is not None and stream.isatty() for stream in (sys.stdin, sys.stderr)):
+        return False
+    say(question)
+    return sys.stdin.readline().strip().lower() in ("y", "yes")

@@ -1,4 +1,4 @@
-"""Which construct of the full language stands where no token begins: a sign that the profile hasn't."""
+"""Which construct of the full language stands where no token begins: a sign that isn't in the profile."""
 from __future__ import annotations
 
 import re
@@ -58,7 +58,7 @@ def _begin_of(text: Text, place: int) -> int:
 
 
 def _of_statement(text: Text, fault: GrammarFault) -> Optional[Found]:
-    """A statement that the profile hasn't at all, or a loop or a guard of another form."""
+    """A statement that isn't in the profile at all, or a loop or a guard of another form."""
     signs = Signs(text, fault)
     if signs.first() in _WITH_EXPRESSIONS:
         return signs.make(_known(signs), fault.begin)

@@ -1,4 +1,4 @@
-"""From a script and the answer of `tpr check` to what is said of it."""
+"""Explains the answer of `tpr check` to a script."""
 from __future__ import annotations
 
 import re
@@ -7,18 +7,21 @@ from typing import Any, Callable, NamedTuple, Optional, Union
 
 from ..refusals import Refusal
 from ..script.checks import check_script
-from ..script.cursor import GrammarFault
+from ..script.cursor import A_STATEMENT, A_VALUE, GrammarFault
 from ..script.faults import RuleFault
 from ..script.refusal_rules import BEYOND_SCRIPTS, RULES_OF, Rule
 from ..script.tokens import MOST_BYTES, Text, TokenFault, is_name
 from ..words import RESERVED, RESERVED_ELSEWHERE
+from .brackets import unclosed_at
 from .construct_letters import construct_of_rest
 from .construct_signs import Found, Signs, construct_of_name
-from .explanation import Answer, Explanation, Shown
+from .explanation import Answer, Explanation, Shown, Warned
+from .warnings import warnings_of
 
 _REFUSED = re.compile(r"refused ([0-9]{1,9}) ([A-Za-z]+)(?: line ([0-9]{1,9}))?")
 _FAULT = re.compile(r"fault ([0-9]+) [A-Za-z]+")
 _CLAUSES = "ES 201 873-1"
+_MOST_WARNINGS = 20  # of one script: the others are counted
 
 Fault = Union[TokenFault, GrammarFault, RuleFault]
 
@@ -26,7 +29,7 @@ Fault = Union[TokenFault, GrammarFault, RuleFault]
 def explain(file: str, data: Optional[bytes], said: str) -> Explanation:
     """`said` is what `tpr check` printed. There are no data where the file can't be read."""
     if said == "accepted":
-        return Explanation(file, Answer.ACCEPTED, said)
+        return _accepted(file, data)
     refused = _REFUSED.fullmatch(said)
     if refused is None or int(refused[1]) not in RULES_OF or refused[2] != Refusal(int(refused[1])).word:
         answer = Answer.FAULT if _FAULT.fullmatch(said) else Answer.BROKEN
@@ -46,8 +49,24 @@ def explain(file: str, data: Optional[bytes], said: str) -> Explanation:
     return explanation
 
 
+def _accepted(file: str, data: Optional[bytes]) -> Explanation:
+    explanation = Explanation(file, Answer.ACCEPTED, "accepted")
+    text = Text(data) if data is not None and len(data) <= MOST_BYTES else None
+    if text is None or text.fault():
+        return explanation
+    try:
+        warnings = warnings_of(text)
+    except (GrammarFault, RuleFault):
+        return explanation
+    explanation.more_warnings = len(warnings[_MOST_WARNINGS:])
+    for found in warnings[:_MOST_WARNINGS]:
+        places = [_show(text, found.place), *(_show(text, *other) for other in found.others)]
+        explanation.warnings.append(Warned(found.sentence, places))
+    return explanation
+
+
 class Reading(NamedTuple):
-    """What `tpr check` prints where it finds what is found here, and the fault in the text."""
+    """What `tpr check` prints if it finds the same as explain, and the fault in the text."""
 
     answer: str
     text: Optional[Text] = None
@@ -88,12 +107,12 @@ def _by_rules(explanation: Explanation) -> None:
     """The rules of the number, and nothing of the script."""
     rules = list(RULES_OF[Refusal(explanation.number or 0)])
     is_one = len(rules) == 1
-    explanation.sentence = _sentence(rules[0]) if is_one else "a rule is broken, and it isn't sure where"
+    explanation.sentence = _sentence(rules[0]) if is_one else "a rule is broken, but explain can't tell where"
     explanation.rules = rules
 
 
 def _sentence(rule: Rule) -> str:
-    return rule.value.partition(". ")[0]
+    return rule.told().partition(". ")[0]
 
 
 def _of_long_text(explanation: Explanation) -> None:
@@ -133,30 +152,83 @@ def _of_grammar(explanation: Explanation, text: Text, fault: GrammarFault) -> No
         explanation.rules = [Rule.POSITIVE_NUMBER if is_number else Rule.FEW_BRACKETS]
         return
     explanation.can_stand = fault.wanted[:6]
+    if _of_type_alone(explanation, text, fault) or _of_open_bracket(explanation, text, fault):
+        return
     found = Signs(text, fault).found()
     explanation.sentence = fault.sentence or _refused_token(text, fault, found is not None)
     if fault.wanted == ["`.`"] and is_name(text.spelling(fault.place - 1)):
-        explanation.can_stand = [f"`.`, since `{text.spelling(fault.place - 1)}` is a name here"]
+        explanation.can_stand = [f"`.`, because `{text.spelling(fault.place - 1)}` is a name here"]
     if found:
         _add_construct(explanation, found, explanation.sentence)
         _add_start(explanation, text, found, fault.place)
 
 
+# What stands for a value of these types, where somebody wrote the type alone.
+_VALUES = {"integer": "1", "boolean": "true", "charstring": '".."'}
+
+
+def _of_type_alone(explanation: Explanation, text: Text, fault: GrammarFault) -> bool:
+    """`receive(TYPE)` and `send(TYPE)`: what is missing is a template or a value. Whether the fault is that one."""
+    word, before, how = (text.spelling(fault.place - number) for number in (0, 2, 3))
+    type_name = text.spelling(fault.place - 1)
+    if (word, before) != (")", "(") or how not in ("receive", "trigger", "send"):
+        return False
+    if type_name not in _VALUES and not _is_message_type(text, type_name):
+        return False
+    what = "a value" if how == "send" else "a template, such as `?` for any value,"
+    explanation.sentence = f"{_unexpected(text, fault.place)}: {what} is missing after the type"
+    value = _VALUES.get(type_name, "{..}") if how == "send" else "?"
+    explanation.instead = f"`{type_name}:{value}`"
+    return True
+
+
+def _is_message_type(text: Text, name: str) -> bool:
+    """Whether the text defines a record or a record of with this name."""
+    tokens = text.tokens
+    if any(it == ("record", name) for it in zip(tokens, tokens[1:])):
+        return True
+    fours = zip(*(tokens[at:] for at in range(4)))
+    return any(it[:2] == ("record", "of") and it[3] == name for it in fours)
+
+
+def _of_open_bracket(explanation: Explanation, text: Text, fault: GrammarFault) -> bool:
+    """A bracket that isn't closed is named with its line. Whether the fault is that there is one."""
+    unclosed = unclosed_at(text, fault.place)
+    if unclosed is None:
+        return False
+    line = text.line(unclosed.place)
+    told = f"the `{text.spelling(unclosed.place)}` in line {line} isn't closed"
+    if unclosed.is_guess:
+        told = f"judging by the indentation, {told}"
+    explanation.sentence = f"{_unexpected(text, fault.place)}: {told}"
+    explanation.places.append(_show(text, unclosed.place, "isn't closed"))
+    return True
+
+
+def _unexpected(text: Text, place: int) -> str:
+    """Such as: unexpected `;` after `(`."""
+    word, before = text.spelling(place), text.spelling(place - 1)
+    after = f"after `{before}`" if before else "at the beginning"
+    return f"unexpected `{word}` {after}" if word else f"unexpected end of the text {after}"
+
+
 def _refused_token(text: Text, fault: GrammarFault, is_named: bool) -> str:
-    """Which word can't stand there, and what of it is plain."""
-    word, before = text.spelling(fault.place), text.spelling(fault.place - 1)
+    """Which word is unexpected there, and why if that is plain."""
+    word, before, behind = (text.spelling(fault.place + number) for number in (0, -1, 1))
+    told = _unexpected(text, fault.place)
     if not word:
-        return "the text ends here, where more is needed"
+        return told
     is_on_new_line = fault.place > 0 and text.line(fault.place) > text.line(fault.place - 1)
     if "`;`" in fault.wanted and is_on_new_line and before != "}":
-        return f"`{word}` can't stand behind `{before}`: a `;` is missing"
-    told = f"`{word}` can't stand " + (f"behind `{before}`" if before else "at the beginning")
+        return f"{told}: a `;` is missing"
     if is_named:
         return told
-    if word in RESERVED and any("name" in kind for kind in fault.wanted):
-        return f"{told}: it is a reserved word, and no name"
+    is_name_wanted = any("name" in kind for kind in fault.wanted)
+    is_used_as_name = behind in (".", ":=") and {A_STATEMENT, A_VALUE} & {*fault.wanted}
+    if word in RESERVED and (is_name_wanted or is_used_as_name):
+        return f"{told}: `{word}` is a reserved word, so it can't be a name"
     if word in RESERVED_ELSEWHERE:
-        return f"{told}: it is a word of the full language that isn't in the profile"
+        return f"{told}: `{word}` is a word of the full language that isn't in the profile"
     return told
 
 
@@ -171,7 +243,7 @@ def _add_start(explanation: Explanation, text: Text, found: Found, place: int = 
     """Shows where the construct begins, if that isn't the place that is shown already."""
     if found.start == place:
         return
-    begin, shown = _show(text, found.start, "here it begins"), explanation.places[0]
+    begin, shown = _show(text, found.start, "it begins here"), explanation.places[0]
     if begin.position.line == shown.position.line and begin.position.column < shown.position.column:
         explanation.places = [replace(shown, begin=begin.position.column)]
     else:
@@ -206,7 +278,7 @@ def rules_text(number: int) -> str:
     refusal = Refusal(number)
     lines = [refusal.told()]
     if beyond := BEYOND_SCRIPTS.get(refusal):
-        lines += [f"  {beyond.rule.value}", f"  what to do: {beyond.remedy}"]
+        lines += [f"  {beyond.rule.told()}", f"  what to do: {beyond.remedy}"]
     else:
-        lines += [f"  {rule.value}" for rule in RULES_OF[refusal]]
+        lines += [f"  {rule.told()}" for rule in RULES_OF[refusal]]
     return "\n".join(lines) + "\n"

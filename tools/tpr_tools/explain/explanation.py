@@ -1,4 +1,4 @@
-"""What is said of one script: its refusal, the places of it, and what to write."""
+"""The explanation of one script: its refusal, the places of it, and what to write."""
 from __future__ import annotations
 
 from dataclasses import dataclass, field
@@ -7,9 +7,10 @@ from typing import Any, Optional
 
 from ..script.refusal_rules import Rule
 from ..script.tokens import Position
+from ..words import counted
 
 
-# What a construct has for which there is nothing to write begins so.
+# So begins the text of a construct that nothing replaces.
 NOTHING = "nothing: "
 
 
@@ -35,9 +36,23 @@ class Shown:
     begin: Optional[int] = None
 
 
+@dataclass(frozen=True)
+class Warned:
+    """What an accepted script does in vain, and where."""
+
+    sentence: str
+    places: list[Shown]
+
+    def text(self, file: str) -> list[str]:
+        position = self.places[0].position
+        width = max(4, *(len(str(shown.position.line)) for shown in self.places))
+        lines = [f"{file}:{position.line}:{position.column}: warning: {self.sentence}"]
+        return lines + [line for shown in self.places for line in _shown_lines(shown, width)]
+
+
 @dataclass
 class Explanation:
-    """All that is said. `line` is that of `tpr check`; there is a column where the own reading agrees."""
+    """The whole explanation. `line` is that of `tpr check`; there is a column if explain's own reading agrees."""
 
     file: str
     answer: Answer
@@ -53,10 +68,12 @@ class Explanation:
     clause: str = ""
     instead: str = ""
     rules: list[Rule] = field(default_factory=list)
-    # What the own reading comes to, where that isn't what `tpr check` said: then no place is known.
+    # What explain's own reading finds, if that isn't what `tpr check` said: then no place is known.
     own_reading: str = ""
-    # Where the line comes from, in a script that tools/rewrite wrote.
+    # Where the line comes from, if tools/rewrite wrote the script.
     origin: str = ""
+    warnings: list[Warned] = field(default_factory=list)
+    more_warnings: int = 0
 
     def first_line(self) -> str:
         place = self.file
@@ -76,17 +93,21 @@ class Explanation:
         for shown in self.places:
             lines += _shown_lines(shown, max(width, 4))
         if self.can_stand:
-            lines.append(f"  can stand here: {', '.join(self.can_stand)}")
+            lines.append(f"  expected here: {', '.join(self.can_stand)}")
         if self.instead.startswith(NOTHING):
-            lines.append(f"  nothing instead: {self.instead.removeprefix(NOTHING)}")
+            lines.append(f"  no replacement: {self.instead.removeprefix(NOTHING)}")
         elif self.instead:
             lines.append(f"  write instead: {self.instead}")
         if self.construct:
             lines.append(f"  more: docs/FROM_TTCN3.md, {self.clause}")
         if self.own_reading:
-            lines.append(f"  no place is shown, since explain itself reads: {self.own_reading}")
+            lines.append(f"  no place is shown, because explain itself reads: {self.own_reading}")
         word = "rule" if len(self.rules) == 1 else "one of these rules"
-        lines += [f"  {word}: {rule.value}" for rule in self.rules]
+        lines += [f"  {word}: {rule.told()}" for rule in self.rules]
+        for warned in self.warnings:
+            lines += warned.text(self.file)
+        if self.more_warnings:
+            lines.append(f"{self.file}: {counted(self.more_warnings, 'more warning')}")
         return "\n".join(lines) + "\n"
 
     def as_json(self) -> dict[str, Any]:
@@ -107,6 +128,10 @@ class Explanation:
             "instead": self.instead or None,
             "rules": [rule.value for rule in self.rules],
             "own_reading": self.own_reading or None,
+            "warnings": [
+                {"sentence": it.sentence, "places": [_place(shown) for shown in it.places]} for it in self.warnings
+            ],
+            "more_warnings": self.more_warnings,
         }
 
 

@@ -9,6 +9,7 @@ import subprocess
 from typing import IO, Iterator, Optional, Sequence, Union
 
 from ..command import NOT_BUILT, NOT_WRITTEN, REFUSED, Stop
+from ..program import end
 from .answers import Answer, read_answer
 
 
@@ -47,8 +48,7 @@ def printed_by(
         raise Stop(NOT_BUILT, f"{command[0]} can't be run: {error.strerror}") from None
     finally:
         if process is not None and process.returncode is None:
-            _kill(process)
-            process.wait()
+            end(process)
 
 
 def _end_of(process: subprocess.Popen[bytes], most_seconds: Optional[float]) -> tuple[Optional[int], str]:

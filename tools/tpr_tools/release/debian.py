@@ -10,10 +10,10 @@ import tempfile
 from dataclasses import replace
 from datetime import datetime, timezone
 
-from ..command import NOT_BUILT, REFUSED, Stop
+from ..command import NOT_BUILT, REFUSED, Stop, with_installed_names
 
 from .archives import ar_of, gzip_of, tar_of
-from .tree import MANUAL, Entry, Release
+from .tree import MANUAL, PROGRAMS, Entry, Release
 
 _HOME = "usr/lib/tpr"
 _PAGES = "usr/share/man/man1"
@@ -72,12 +72,19 @@ tpr ({version}) unstable; urgency=medium
  -- {maintainer}  {date}
 """
 
-# What lintian tells and is meant to be so.
+# Below the title of README.md.
+_OF_THE_PACKAGE = """
+This is the copy of the Debian package, which names the commands as they are installed. `./build`, `./test`, `./try` and
+`crates/` are in the repository alone, and need not be run: the package has the programs that they make.
+"""
+
+# What lintian reports and is meant to be so.
 _OVERRIDES = """\
 # README.md links to it, and not each system has Debian's common licences.
 tpr: extra-license-file [usr/share/doc/tpr/LICENSE]
 # It is the program that the gate tried, byte by byte.
 tpr: unstripped-binary-or-object [usr/lib/tpr/tpr]
+tpr: unstripped-binary-or-object [usr/lib/tpr/tpr_ordered]
 """
 
 
@@ -107,6 +114,8 @@ def _placed(release: Release) -> list[Entry]:
         Entry(f"{_DOCS}/copyright", _COPYRIGHT.encode()),
         Entry("usr/share/lintian/overrides/tpr", _OVERRIDES.encode()),
         Entry("usr/bin/tpr", target="../lib/tpr/tpr"),
+        # For --version, which looks beside the tools.
+        Entry(f"{_HOME}/VERSION", f"{release.version}\n".encode()),
     ]
     entries += [Entry(f"usr/bin/tpr-{tool}", target=f"../lib/tpr/tools/{tool}") for tool in release.tools()]
     entries += [Entry(f"{_PAGES}/tpr-{tool}.1.gz", target="tpr.1.gz") for tool in release.tools()]
@@ -117,9 +126,19 @@ def _place(entry: Entry) -> Entry:
     """The program and its tools stand beside each other, as in the repository, so that these find it."""
     if entry.path == MANUAL:
         return Entry(f"{_PAGES}/tpr.1.gz", gzip_of(entry.data))
-    if entry.path == "tpr" or entry.path.startswith("tools/") and not entry.path.endswith(".md"):
+    if entry.path in PROGRAMS or entry.path.startswith("tools/") and not entry.path.endswith(".md"):
         return replace(entry, path=f"{_HOME}/{entry.path}", data=_with_debians_python(entry.data))
-    return replace(entry, path=f"{_DOCS}/{entry.path}")
+    data = _with_installed_names(entry.path, entry.data) if entry.path.endswith(".md") else entry.data
+    return replace(entry, path=f"{_DOCS}/{entry.path}", data=data)
+
+
+def _with_installed_names(path: str, data: bytes) -> bytes:
+    """A document that names the commands as the package installs them."""
+    text = with_installed_names(data.decode("utf-8", "surrogateescape"))
+    if path == "README.md":
+        title, _, rest = text.partition("\n")
+        text = f"{title}\n{_OF_THE_PACKAGE}{rest}"
+    return text.encode("utf-8", "surrogateescape")
 
 
 def _with_debians_python(data: bytes) -> bytes:
@@ -137,22 +156,23 @@ def _control_of(release: Release, entries: list[Entry]) -> str:
         version=release.version,
         maintainer=release.maintainer,
         kilobytes=kilobytes,
-        depends=", ".join([*_libraries_of(release.program), f"python3 (>= {_OLDEST_PYTHON})"]),
+        depends=", ".join([*_libraries_of(release.programs), f"python3 (>= {_OLDEST_PYTHON})"]),
     )
 
 
-def _libraries_of(program: bytes) -> list[str]:
-    """The packages of the libraries that the program is linked with, each as new as the newest version of
-    a symbol that the program asks of it."""
-    needed = {}
-    for library in _linked_with(program):
-        if library not in _PACKAGES:
-            raise Stop(REFUSED, f"the program needs {library}, and it isn't known which package has that")
-        package, beginning = _PACKAGES[library]
-        asked = re.findall(rb"\0%b([0-9]+(?:\.[0-9]+)+)(?=\0)" % beginning, program)
-        versions = [tuple(map(int, it.split(b"."))) for it in asked]
-        needed[package] = ".".join(map(str, max(versions))) if versions else ""
-    return [f"{package} (>= {least})" if least else package for package, least in sorted(needed.items())]
+def _libraries_of(programs: tuple[bytes, ...]) -> list[str]:
+    """The packages of the libraries that the programs are linked with, each as new as the newest version of
+    a symbol that a program asks of it."""
+    needed: dict[str, list[tuple[int, ...]]] = {}
+    for program in programs:
+        for library in _linked_with(program):
+            if library not in _PACKAGES:
+                raise Stop(REFUSED, f"a program needs {library}, and it isn't known which package has that")
+            package, beginning = _PACKAGES[library]
+            asked = re.findall(rb"\0%b([0-9]+(?:\.[0-9]+)+)(?=\0)" % beginning, program)
+            needed.setdefault(package, []).extend(tuple(map(int, it.split(b"."))) for it in asked)
+    least = {package: ".".join(map(str, max(versions, default=()))) for package, versions in needed.items()}
+    return [f"{package} (>= {least[package]})" if least[package] else package for package in sorted(needed)]
 
 
 def _linked_with(program: bytes) -> list[str]:
@@ -167,6 +187,6 @@ def _linked_with(program: bytes) -> list[str]:
             raise Stop(NOT_BUILT, f"ldd can't be run: {error.strerror}") from None
     lines = ran.stdout.decode("utf-8", "replace").splitlines()
     if ran.returncode != 0 or not lines:
-        raise Stop(REFUSED, "ldd doesn't know the program for one")
+        raise Stop(REFUSED, "ldd doesn't take a program for one")
     named = [os.path.basename(line.split()[0]) for line in lines if "statically linked" not in line]
     return [name for name in named if name != _OF_THE_KERNEL]

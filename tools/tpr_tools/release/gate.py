@@ -19,14 +19,14 @@ def git(root: str, *words: str) -> str:
     return ran.stdout.decode("utf-8", "surrogateescape")
 
 
-def passed_gate(root: str, program: bytes) -> str:
-    """What the gate said that passed on this very commit and tried this very program, as ./test has kept
+def passed_gate(root: str, programs: dict[str, bytes]) -> str:
+    """What the gate said that passed on this very commit and tried these very programs, as ./test has kept
     it: lines of a word and what it names, an empty line, and the gate's last lines."""
     try:
         with open(f"{root}/out/gate", encoding="utf-8") as file:
             said = file.read()
     except OSError:
-        raise Stop(REFUSED, "no gate has passed here: ./test leaves out/gate where it passes on a commit") from None
+        raise Stop(REFUSED, "no gate has passed here: ./test leaves out/gate when it passes on a commit") from None
     named = dict(line.partition(" ")[::2] for line in said.partition("\n\n")[0].split("\n"))
     commit = git(root, "rev-parse", "HEAD").strip()
     if named.get("commit") != commit:
@@ -34,6 +34,7 @@ def passed_gate(root: str, program: bytes) -> str:
     changed = git(root, "status", "--porcelain").split("\n")[0]
     if changed:
         raise Stop(REFUSED, f"the work tree isn't what the gate passed on: {changed[3:]}")
-    if named.get("program") != hashlib.sha256(program).hexdigest():
-        raise Stop(REFUSED, "the program isn't the one that the gate tried")
+    for word, program in programs.items():
+        if named.get(word) != hashlib.sha256(program).hexdigest():
+            raise Stop(REFUSED, f"{'tpr' if word == 'program' else word} isn't the program that the gate tried")
     return said

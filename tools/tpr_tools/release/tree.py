@@ -4,8 +4,10 @@ from __future__ import annotations
 import os
 import re
 from dataclasses import dataclass
+from datetime import datetime, timezone
 
 from ..command import REFUSED, Stop
+from ..version import has_later_changes, is_number, newest_in
 
 from .gate import git
 
@@ -14,6 +16,7 @@ _PLACES = ("CHANGELOG.md", "LICENSE", "README.md", "VERSION", "docs", "examples"
 _KEPT_BACK = ("examples/.gitattributes", "tools/costs.py", "tools/release", "tools/tpr_tools/release/")
 
 MANUAL = "docs/tpr.1"
+PROGRAMS = ("tpr", "tpr_ordered")  # the second is the one that tools/explore runs
 
 
 @dataclass(frozen=True)
@@ -31,7 +34,7 @@ class Release:
     version: str
     time: int  # that of the commit, which every file is given
     maintainer: str
-    program: bytes
+    programs: tuple[bytes, ...]  # those of PROGRAMS
     entries: tuple[Entry, ...]  # by the paths that they have in the repository
 
     def tools(self) -> list[str]:
@@ -40,16 +43,18 @@ class Release:
         return [it[1] for it in found if it]
 
 
-def release_of(root: str, program: bytes, said: str) -> Release:
-    """The program, with what of the repository belongs to it, and what the gate said."""
+def release_of(root: str, programs: tuple[bytes, ...], said: str) -> Release:
+    """The programs, with what of the repository belongs to them, and what the gate said."""
     time, maintainer = git(root, "log", "-1", "--format=%ct %an <%ae>").strip().split(" ", 1)
     tracked = git(root, "ls-files", "-z", *_PLACES).split("\0")
     paths = [path for path in tracked if path and not path.startswith(_KEPT_BACK)]
     if MANUAL not in paths:
         raise Stop(REFUSED, f"there is no {MANUAL}")
-    entries = [Entry("GATE", said.encode()), Entry("tpr", program, 0o755)]
-    entries += [_entry(root, path) for path in paths]
-    return Release(version_of(root), int(time), maintainer, program, tuple(entries))
+    version = version_of(root, int(time))
+    entries = [Entry("GATE", said.encode()), *(Entry(*it, 0o755) for it in zip(PROGRAMS, programs))]
+    entries += [_entry(root, path) for path in paths if path != "VERSION"]
+    entries.append(Entry("VERSION", f"{version}\n".encode()))
+    return Release(version, int(time), maintainer, programs, tuple(entries))
 
 
 def _entry(root: str, path: str) -> Entry:
@@ -65,12 +70,17 @@ def bytes_of(file: str) -> bytes:
         raise Stop(REFUSED, f"{file} can't be read: {error.strerror}") from None
 
 
-def version_of(root: str) -> str:
-    """The version in VERSION, which is the newest that CHANGELOG.md tells of."""
+def version_of(root: str, time: int) -> str:
+    """The version in VERSION, which is the newest that CHANGELOG.md tells of. If that tells of later changes too, the
+    day and the commit follow: such as 0.9.0+git20261128.71076b9a, which is later than 0.9.0 and earlier than 0.9.1."""
     version = bytes_of(f"{root}/VERSION").decode("utf-8", "replace").removesuffix("\n")
-    if not re.fullmatch(r"[0-9]+\.[0-9]+\.[0-9]+", version):
-        raise Stop(REFUSED, f"{version!r} in VERSION is no version such as 1.0.0")
-    told = re.findall(r"(?m)^## \[([0-9.]+)\]", bytes_of(f"{root}/CHANGELOG.md").decode("utf-8", "replace"))
-    if told[:1] != [version]:
-        raise Stop(REFUSED, f"VERSION says {version}, and CHANGELOG.md tells of {' '.join(told[:1]) or 'no version'}")
-    return version
+    if not is_number(version):
+        raise Stop(REFUSED, f"{version!r} in VERSION isn't a version such as 1.0.0")
+    changes = bytes_of(f"{root}/CHANGELOG.md").decode("utf-8", "replace")
+    told = newest_in(changes)
+    if told != version:
+        raise Stop(REFUSED, f"VERSION says {version}, and the newest version in CHANGELOG.md is {told or 'none'}")
+    if not has_later_changes(changes):
+        return version
+    day = datetime.fromtimestamp(time, timezone.utc).strftime("%Y%m%d")
+    return f"{version}+git{day}.{git(root, 'rev-parse', 'HEAD').strip()[:8]}"

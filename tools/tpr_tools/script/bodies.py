@@ -4,7 +4,7 @@ from __future__ import annotations
 from typing import Optional
 
 from .constructs import Construct
-from .faults import RuleFault, listed, nearest
+from .faults import RuleFault, a, listed, nearest
 from .messages import MessageRules
 from .names import SUT, Names
 from .refusal_rules import Rule
@@ -37,8 +37,8 @@ def check_bodies(names: Names, setup: Setup) -> None:
     if total > MOST_STATEMENTS:
         start = names.case.start
         sentence = (
-            f"the components' bodies come to {total:,} statements, and {MOST_STATEMENTS:,} are the"
-            " most"
+            f"the components' bodies have {total:,} statements in all, and at most {MOST_STATEMENTS:,} are"
+            " allowed"
         )
         raise RuleFault(15, start, start, sentence, Rule.FEW_STATEMENTS)
 
@@ -79,7 +79,7 @@ class BodyRules:
         if not self._is_message_type(type_name) and type_name not in self.names.components:
             what = self.names.kind_of(type_name)
             sentence = f"there is no type `{type_name}`{nearest(type_name, self.names.types)}"
-            sentence = f"`{type_name}` is {what}, and no type of a variable" if what else sentence
+            sentence = f"`{type_name}` is {what}, not a type of a variable" if what else sentence
             raise RuleFault(11, variable.start, variable.type, sentence, Rule.VARIABLE_TYPE)
         self._check_new(variable.start, variable.name)
         self.variables[name] = variable
@@ -113,7 +113,7 @@ class BodyRules:
                 f" {listed(self.ports)}"
             )
             if name in self.variables or name in self.parameters or name in self.components:
-                sentence = f"`{name}` is no port: `{self.runs_on}` has {listed(self.ports)}"
+                sentence = f"`{name}` isn't a port: `{self.runs_on}` has {listed(self.ports)}"
             fault = RuleFault(11, told, place, sentence, Rule.BODY_PORT)
             runs_on = self.names.components[self.runs_on]
             raise fault.beside(runs_on.name, "the type that the body runs on")
@@ -141,7 +141,7 @@ class BodyRules:
 
     def _not_in_sut(self, told: int, what: str) -> None:
         if self.is_sut:
-            sentence = f"`sut` {what}: it plays the system, which sends and receives alone"
+            sentence = f"`sut` {what}: it plays the system, which only sends and receives"
             fault = RuleFault(16, told, told, sentence, Rule.NOT_IN_SUT)
             raise fault.beside(self.body.name, "`sut`")
 
@@ -164,7 +164,7 @@ class BodyRules:
     def _set_verdict(self, statement: SetVerdict) -> None:
         self._not_in_sut(statement.start, "sets no verdict")
         if self.names.word(statement.verdict) == "error":
-            sentence = "`error` can't be set: a run alone gives that verdict"
+            sentence = "`error` can't be set: only a run gives that verdict"
             fault = RuleFault(13, statement.start, statement.verdict, sentence, Rule.NOT_ERROR)
             raise fault.write("`setverdict(fail)` or `setverdict(inconc)`")
 
@@ -203,7 +203,7 @@ class BodyRules:
             f"`{name}` {verb} no `{type_name}`: its port type `{port_type}` lists"
             f" {listed(allowed, 'nothing')}"
         )
-        sentence += f" as `{way}`" + (", turned round in `sut`" if self.is_sut else "")
+        sentence += f" as `{way}`" + (", which is exchanged in `sut`" if self.is_sut else "")
         fault = RuleFault(14, told, place, sentence, Rule.LISTED)
         raise fault.beside(self.names.ports[port_type].name, "the port type")
 
@@ -212,7 +212,7 @@ class BodyRules:
         if not self._is_message_type(type_name):
             what = self.names.kind_of(type_name)
             sentence = f"there is no type `{type_name}`{nearest(type_name, self.names.types)}"
-            sentence = f"`{type_name}` is {what}, and no type of a message" if what else sentence
+            sentence = f"`{type_name}` is {what}, not a type of a message" if what else sentence
             raise RuleFault(11, told, message.type, sentence, Rule.BODY_TYPE)
         self._check_listed(told, message.type, port, type_name, is_sent)
         self._rules(told).check(type_name, message.value)
@@ -237,12 +237,12 @@ class BodyRules:
         if name in self.loops:
             if is_sent:
                 return "integer"
-            sentence = f"`{name}` is a loop variable, which nothing else sets"
+            sentence = f"`{name}` is a loop variable, which only its loop sets"
             fault = RuleFault(13, told, place, sentence, rule)
             raise fault.beside(self.loop_places[name], "the loop")
         type_name = self._type_of_variable(told, place, rule)
         if type_name in self.names.components:
-            sentence = f"`{name}` holds a component, and no message"
+            sentence = f"`{name}` holds a component, not a message"
             fault = RuleFault(13, told, place, sentence, rule)
             raise fault.beside(self.variable_places[name], "the variable")
         return type_name
@@ -254,12 +254,12 @@ class BodyRules:
         others = ((self.parameters, "a parameter"), (self.components, "a component variable"))
         for places, what in others:
             if name in places:
-                sentence = f"`{name}` is {what}, and no variable of this body"
+                sentence = f"`{name}` is {what}, not a variable of this body"
                 raise RuleFault(13, told, place, sentence, rule).beside(places[name], what)
         sentence = f"there is no variable `{name}` here{nearest(name, self.variables)}"
         fault = RuleFault(11, told, place, sentence, rule)
         if rule is Rule.SENT_VARIABLE:
-            instead = "the message itself with its type, `send(TYPE:{..})`: no template has a name here"
+            instead = "the message itself with its type, `send(TYPE:{..})`: templates have no names in the profile"
             fault.write(instead)
         raise fault
 
@@ -273,7 +273,7 @@ class BodyRules:
         name = self.names.word(place)
         if name not in self.loops and name in self.variables:
             if self.names.word(self.variables[name].type) not in self.names.components:
-                sentence = f"`{name}` holds a message, and no component to send to"
+                sentence = f"`{name}` holds a message, not a component to send to"
                 fault = RuleFault(13, told, place, sentence, Rule.PEER)
                 raise fault.beside(self.variable_places[name], "the variable")
         elif not self._is_reference(name):
@@ -284,10 +284,7 @@ class BodyRules:
         if self._is_reference(name):
             return
         if name in self.variables:
-            sentence = (
-                f"`{name}` is a variable, and behind `from` stands a component that is known at the"
-                " start"
-            )
+            sentence = f"`{name}` is a variable, and `from` needs a component that is known before the run"
             fault = RuleFault(13, told, place, sentence, Rule.PEER)
             raise fault.beside(self.variable_places[name], "the variable")
         raise self._no_peer(11, told, place)
@@ -300,7 +297,7 @@ class BodyRules:
             f" {listed(known + ['mtc', 'self'])}"
         )
         if name in self.loops:
-            sentence = f"`{name}` is a loop variable, and no component"
+            sentence = f"`{name}` is a loop variable, not a component"
         return RuleFault(number, told, place, sentence, Rule.PEER)
 
     def _receive(self, told: int, receive: Receive) -> None:
@@ -324,23 +321,23 @@ class BodyRules:
         if how == "check":
             operation = "check(receive({}:?) -> value {})"
         if wanted is None:
-            sentence = f"`-> value {name}` needs a template before it, which says the type that comes"
+            sentence = f"`-> value {name}` needs a template before it, which says the type of the message"
             fault = RuleFault(13, told, place, sentence, Rule.VALUE_TO)
             fault.write(f"`{self.names.word(receive.port)}.{operation.format(held, name)}`")
-            raise fault.beside(self.variables[name].type, f"`{name}` is a `{held}`")
+            raise fault.beside(self.variables[name].type, f"`{name}` is {a(held)}")
         if wanted != held:
-            sentence = f"`{name}` is a `{held}`, and a `{wanted}` is received"
+            sentence = f"`{name}` is {a(held)}, and {a(wanted)} is received"
             fault = RuleFault(13, told, place, sentence, Rule.VALUE_TO)
             raise fault.beside(self.variables[name].type, "the variable")
 
     def _sender_to(self, told: int, place: int) -> None:
         name = self.names.word(place)
         if name in self.loops:
-            sentence = f"`{name}` is a loop variable, and holds no component"
+            sentence = f"`{name}` is a loop variable, which can't hold a component"
             fault = RuleFault(13, told, place, sentence, Rule.SENDER_TO)
             raise fault.beside(self.loop_places[name], "the loop")
         held = self._type_of_variable(told, place, Rule.SENDER_TO)
         if held not in self.names.components:
-            sentence = f"`{name}` is a `{held}`, and the sender is a component"
+            sentence = f"`{name}` is {a(held)}, and the sender is a component"
             fault = RuleFault(13, told, place, sentence, Rule.SENDER_TO)
             raise fault.beside(self.variables[name].type, "the variable")

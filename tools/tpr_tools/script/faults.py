@@ -39,8 +39,13 @@ class RuleFault(Exception):
         return self
 
 
+def a(word: str) -> str:
+    """The word, quoted, after `a` or `an`."""
+    return f"{'an' if word[:1].lower() in ('a', 'e', 'i', 'o') else 'a'} `{word}`"
+
+
 def nearest(name: str, known: Iterable[str]) -> str:
-    """A question after the name that may be meant, or nothing."""
+    """A question about the name that may be meant, or nothing."""
     found = difflib.get_close_matches(name, list(known)[:500], 1, 0.7)
     return f" (is `{found[0]}` meant?)" if found else ""
 

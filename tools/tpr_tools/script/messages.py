@@ -3,7 +3,8 @@ from __future__ import annotations
 
 from typing import Optional
 
-from .faults import RuleFault, listed, nearest
+from ..words import counted
+from .faults import RuleFault, a, listed, nearest
 from .names import BASE_TYPES, Names
 from .refusal_rules import Rule
 from .tree import ListType, Record, Value, ValueKind
@@ -39,8 +40,8 @@ class MessageRules:
             self._check_name(type_name, value)
         elif kind is ValueKind.ANY_OR_NONE:
             sentence = (
-                "`*` stands only among the elements of a record of: what has a value is matched by"
-                " `?`"
+                "`*` is only for elements of a record of: a field or an element that has a value is"
+                " matched by `?`"
             )
             raise self.fault(13, value.start, sentence).write("`?`")
         elif kind in (ValueKind.ONE_OF, ValueKind.COMPLEMENT):
@@ -52,11 +53,11 @@ class MessageRules:
     def _check_fixed(self, type_name: str, value: Value, owner: Optional[int]) -> None:
         wanted = _FIXED[value.kind]
         if wanted != type_name:
-            what = "an integer" if wanted == "integer" else f"a {wanted}"
+            what = a(wanted).replace("`", "")
             shown = f"`{self._shown(value)}`"
             if value.kind in (ValueKind.RANGE, ValueKind.PATTERN):
                 shown = f"{value.kind.value}"
-            fault = self.fault(13, value.start, f"{shown} is {what}, and `{type_name}` is wanted")
+            fault = self.fault(13, value.start, f"{shown} is {what}, and `{type_name}` is expected")
             raise self._of(fault, type_name, owner)
         if value.kind is ValueKind.RANGE:
             lower, upper = (self._number(bound) for bound in value.bounds)
@@ -66,7 +67,7 @@ class MessageRules:
     def _of(self, fault: RuleFault, type_name: str, owner: Optional[int]) -> RuleFault:
         """Shows the field that the value is for, or else the type."""
         if owner is not None:
-            return fault.beside(owner, f"a `{type_name}`")
+            return fault.beside(owner, a(type_name))
         if type_name in self.names.types:
             return fault.beside(self.names.types[type_name].name, "the type")
         return fault
@@ -82,18 +83,16 @@ class MessageRules:
         name = self.names.word(value.start)
         if name in self.loops:
             if type_name != "integer":
-                sentence = f"the loop variable `{name}` is an integer, and `{type_name}` is wanted"
+                sentence = f"the loop variable `{name}` is an integer, and `{type_name}` is expected"
                 raise self.fault(13, value.start, sentence)
             return
         if name in self.variables:
-            sentence = f"`{name}` is a variable, and none stands in a value or a template"
+            sentence = f"`{name}` is a variable, which a value or a template can't have in it"
             fault = self.fault(13, value.start, sentence).beside(self.variables[name], "the variable")
-            holds = f"`send({name})` to send what `{name}` holds"
-            raise fault.write(f"{holds}; a template has its values written out")
-        sentence = (
-            f"there is no `{name}` that stands in a value: loop variables alone"
-            f" do{nearest(name, self.loops)}"
-        )
+            holds = f"`send({name})` to send the value of `{name}`"
+            raise fault.write(f"{holds}; in a template, the value itself")
+        meant = nearest(name, self.loops)
+        sentence = f"`{name}` isn't a loop variable, and a value can have no other name in it{meant}"
         raise self.fault(11, value.start, sentence)
 
     def _check_braces(self, type_name: str, value: Value, owner: Optional[int]) -> None:
@@ -118,10 +117,7 @@ class MessageRules:
         fields = record.fields
         if len(fields) != len(value.members):
             missing = [self.names.word(field.name) for field in fields[len(value.members) :]]
-            sentence = (
-                f"`{type_name}` has {_fields(len(fields))}, and here are {len(value.members)}"
-                " values"
-            )
+            sentence = f"`{type_name}` has {counted(len(fields), 'field')}, and {_are(len(value.members), 'value')}"
             if missing:
                 sentence += f": {listed(missing)} {'is' if len(missing) == 1 else 'are'} missing"
             place = value.start if missing else value.members[len(fields)].start
@@ -147,15 +143,13 @@ class MessageRules:
         missing = [name for name in fields if name not in given]
         if missing:
             is_or_are = "is" if len(missing) == 1 else "are"
-            sentence = (
-                f"{listed(missing)} of `{type_name}` {is_or_are} missing: every field stands in a"
-                " value"
-            )
+            sentence = f"{listed(missing)} of `{type_name}` {is_or_are} missing: a value has every field"
             raise self.fault(13, value.start, sentence).beside(fields[missing[0]].name, "the field")
         for place, member in zip(value.names, value.members):
             field = fields[self.names.word(place)]
             self.check(self.names.word(field.type), member, field.type)
 
 
-def _fields(count: int) -> str:
-    return f"{count} field" if count == 1 else f"{count} fields"
+def _are(count: int, what: str) -> str:
+    """`here is 1 value`, `here are 2 values`."""
+    return f"here {'is' if count == 1 else 'are'} {counted(count, what)}"

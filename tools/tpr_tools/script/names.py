@@ -89,7 +89,7 @@ class Names:
         sentence = f"`{self.word(definition.name)}` is a second test case, and a module has one"
         fault = RuleFault(12, definition.start, definition.name, sentence, Rule.ONE_TEST_CASE)
         fault.beside(self.case.name, "the first one")
-        return fault.write("a module, in a file of its own, for each")
+        return fault.write("a module for each, in a file of its own")
 
     def _check_inner(self, definition: Definition) -> None:
         """The names that a definition holds."""
@@ -131,7 +131,7 @@ class Names:
         if name in BASE_TYPES or name in self.types:
             return
         what = self.kind_of(name)
-        sentence = f"`{name}` is {what}, and no type of a message or a field"
+        sentence = f"`{name}` is {what}, not a type of a message or a field"
         if what is None:
             sentence = f"there is no type `{name}`{nearest(name, [*self.types, *BASE_TYPES])}"
         raise RuleFault(11, start, place, sentence, Rule.MESSAGE_TYPE)
@@ -142,12 +142,12 @@ class Names:
             if name not in self.ports:
                 sentence = f"there is no port type `{name}`{nearest(name, self.ports)}"
                 if what := self.kind_of(name):
-                    sentence = f"`{name}` is {what}, and no port type"
+                    sentence = f"`{name}` is {what}, not a port type"
                 raise RuleFault(11, definition.start, port.type, sentence, Rule.COMPONENT_TYPE)
         if len(definition.ports) > MOST_PORTS:
             count = (
-                f"`{self.word(definition.name)}` has {len(definition.ports)} ports, and"
-                f" {MOST_PORTS} are the most"
+                f"`{self.word(definition.name)}` has {len(definition.ports)} ports, and at most"
+                f" {MOST_PORTS} are allowed"
             )
             place = definition.ports[MOST_PORTS].name
             raise RuleFault(15, definition.start, place, count, Rule.FEW_PORTS)
@@ -158,7 +158,7 @@ class Names:
             return
         sentence = f"there is no component type `{name}`{nearest(name, self.components)}"
         if what := self.kind_of(name):
-            sentence = f"`{name}` is {what}, and no component type"
+            sentence = f"`{name}` is {what}, not a component type"
         raise RuleFault(11, start, place, sentence, Rule.COMPONENT_TYPE)
 
     def _check_function(self, function: Function) -> None:
@@ -173,14 +173,14 @@ class Names:
         if self.case.system is None:
             sentence = "`sut` plays the system, and the test case has no `system` clause"
             fault = RuleFault(16, function.start, function.name, sentence, Rule.SUT)
-            raise fault.beside(self.case.name, "behind its `runs on` a `system TYPE` is missing")
+            raise fault.beside(self.case.name, "`system TYPE` is missing after its `runs on`")
         system = self.word(self.case.system)
         if function.parameters:
-            sentence = "`sut` plays the system, and has no parameters"
+            sentence = "`sut` plays the system, so it can't have parameters"
             raise RuleFault(16, function.start, function.parameters[0].type, sentence, Rule.SUT)
         if self.word(function.runs_on) != system:
             sentence = (
-                f"`sut` plays the system, and runs on `{system}`, not on"
+                f"`sut` plays the system, so it runs on `{system}`, not on"
                 f" `{self.word(function.runs_on)}`"
             )
             fault = RuleFault(16, function.start, function.runs_on, sentence, Rule.SUT)

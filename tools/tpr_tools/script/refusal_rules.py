@@ -1,6 +1,7 @@
-"""The rules that a refusal speaks of, in the words of docs/REFUSALS.md and docs/PROFILE.md."""
+"""The rules that refusals are about, in the words of docs/REFUSALS.md and docs/PROFILE.md."""
 from __future__ import annotations
 
+import re
 from enum import Enum
 from typing import NamedTuple
 
@@ -9,6 +10,10 @@ from ..refusals import Refusal
 
 class Rule(Enum):
     """A rule as the documents word it."""
+
+    def told(self) -> str:
+        """The rule without the numbers of refusals, which the documents have in brackets."""
+        return re.sub(r" \([0-9]+\)", "", self.value)
 
     A_TOKEN = "a token that can't stand at its place"
     A_BYTE = "a byte that begins no token"

@@ -1,7 +1,8 @@
 """The third pass of the checks: the setup of the test case, and the starts of its components."""
 from __future__ import annotations
 
-from .faults import RuleFault, listed, nearest
+from ..words import counted
+from .faults import RuleFault, a, listed, nearest
 from .names import SUT, Names
 from .refusal_rules import Rule
 from .tree import ComponentStart, Creation, End, Function, Pair
@@ -61,16 +62,16 @@ class Setup:
                 "there is no component type"
                 f" `{type_name}`{nearest(type_name, self.names.components)}"
             )
-            sentence = f"`{type_name}` is {what}, and no component type" if what else sentence
+            sentence = f"`{type_name}` is {what}, not a component type" if what else sentence
             raise RuleFault(11, start, creation.type, sentence, Rule.CREATED_TYPE)
         created = self.names.word(creation.created)
         if created != type_name:
-            sentence = f"`{name}` is a `{type_name}`, and a `{created}` is created"
+            sentence = f"`{name}` is {a(type_name)}, and {a(created)} is created"
             fault = RuleFault(13, start, creation.created, sentence, Rule.CREATED_SAME)
             raise fault.beside(creation.type, "the type of the variable")
         if len(self.types) >= MOST_COMPONENTS:
             sentence = (
-                f"`{name}` is one component too many: {MOST_COMPONENTS} are the most,"
+                f"`{name}` is one component too many: at most {MOST_COMPONENTS} are allowed,"
                 f" {self._counted()} among them"
             )
             raise RuleFault(15, start, creation.name, sentence, Rule.FEW_COMPONENTS)
@@ -90,7 +91,7 @@ class Setup:
             if component == SYSTEM:
                 sentence = "the test case has no `system` clause"
             elif component in self._created_anywhere():
-                sentence = f"`{component}` is created only behind this line"
+                sentence = f"`{component}` is created only after this line"
             raise RuleFault(11, pair.start, end.component, sentence, Rule.KNOWN_COMPONENT)
         type_name = self.types[component]
         ports = self.names.ports_of(type_name)
@@ -113,7 +114,7 @@ class Setup:
         first, second = self._end(pair, pair.first), self._end(pair, pair.second)
         for port, end in ((first, pair.first), (second, pair.second)):
             if port[0] == SYSTEM:
-                sentence = f"`{told(port)}` is a port of `system`, which is mapped and not connected"
+                sentence = f"`{told(port)}` is a port of `system`, which is mapped, not connected"
                 fault = self._fault(25, pair, end, sentence, Rule.NO_SYSTEM_PORT)
                 raise fault.write(f"`map({told(first)}, {told(second)})`")
         if first == second:
@@ -241,7 +242,7 @@ class Setup:
             sentence = f"there is no function `{name}`{nearest(name, self.names.functions)}"
             raise RuleFault(11, start.start, start.function, sentence, Rule.STARTED_FUNCTION)
         if name == SUT:
-            sentence = "`sut` plays the system, and is started by nobody"
+            sentence = "`sut` plays the system, so no statement starts it"
             raise RuleFault(16, start.start, start.function, sentence, Rule.STARTED_FUNCTION)
         return function
 
@@ -249,7 +250,7 @@ class Setup:
         runs_on, type_name = self.names.word(function.runs_on), self.types[component]
         if runs_on != type_name:
             name = self.names.word(start.function)
-            sentence = f"`{name}` runs on `{runs_on}`, and `{component}` is a `{type_name}`"
+            sentence = f"`{name}` runs on `{runs_on}`, and `{component}` is {a(type_name)}"
             fault = RuleFault(13, start.start, start.function, sentence, Rule.STARTED_TYPE)
             fault.beside(function.runs_on, f"`{name}`")
             raise fault.beside(self.created[component].type, f"`{component}`")
@@ -258,8 +259,8 @@ class Setup:
         name, parameters = self.names.word(start.function), function.parameters
         if len(parameters) != len(start.arguments):
             sentence = (
-                f"`{name}` has {len(parameters)} parameters, and here are {len(start.arguments)}"
-                " arguments"
+                f"`{name}` has {counted(len(parameters), 'parameter')}, and here"
+                f" {'is' if len(start.arguments) == 1 else 'are'} {counted(len(start.arguments), 'argument')}"
             )
             fault = RuleFault(13, start.start, start.function, sentence, Rule.ARGUMENT_COUNT)
             raise fault.beside(function.name, f"`{name}`")
@@ -272,8 +273,8 @@ class Setup:
             wanted = self.names.word(parameter.type)
             if self.types[component] != wanted:
                 sentence = (
-                    f"the parameter `{self.names.word(parameter.name)}` is a `{wanted}`,"
-                    f" and `{word}` is a `{self.types[component]}`"
+                    f"the parameter `{self.names.word(parameter.name)}` is {a(wanted)},"
+                    f" and `{word}` is {a(self.types[component])}"
                 )
                 fault = RuleFault(13, start.start, argument, sentence, Rule.ARGUMENTS)
                 raise fault.beside(parameter.type, "the parameter")
@@ -281,12 +282,12 @@ class Setup:
     def _check_all_started(self) -> None:
         for name, creation in self.created.items():
             if name not in self.started:
-                sentence = f"`{name}` is created, and never started"
+                sentence = f"`{name}` is created, but never started"
                 fault = RuleFault(18, creation.start, creation.name, sentence, Rule.ALL_STARTED)
-                raise fault.write(f"`{name}.start(FUNCTION());` behind the setup")
+                raise fault.write(f"`{name}.start(FUNCTION());` after the setup")
         if self.created and not self.case.has_done:
             sentence = (
-                f"the test case creates {listed(self.created)}, and doesn't end with `all"
+                f"the test case creates {listed(self.created)}, but doesn't end with `all"
                 " component.done`"
             )
             fault = RuleFault(17, self.case.start, self.case.start, sentence, Rule.DONE)

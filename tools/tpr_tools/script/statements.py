@@ -159,7 +159,7 @@ class StatementReader(ValueReader):
         otherwise = self.otherwise(inner)
         self.begin = self.place
         if otherwise is not None and self.tokens[self.place] == "[":
-            self.refuse("`}`", sentence="no branch stands behind `[else]`")
+            self.refuse("`}`", sentence="no branch can follow `[else]`")
         self.expect("}")
         return Alt(start, branches, otherwise)
 
@@ -218,5 +218,6 @@ class StatementReader(ValueReader):
         """The name of the loop's variable again."""
         wanted = self.tokens[name]
         if is_name(self.tokens[self.place]) and self.tokens[self.place] != wanted:
-            self.refuse(quoted(wanted), sentence=f"the four names of a loop are one name, `{wanted}` here")
+            sentence = f"the four names in the head of a loop must be the same, here `{wanted}`"
+            self.refuse(quoted(wanted), sentence=sentence)
         self.expect(wanted)

@@ -77,7 +77,7 @@ class Text:
             sentence = f"the number has more than 64 bits: {GREATEST_NUMBER} is the greatest"
             return TokenFault(15, offset, len(token), sentence)
         if token[0].isalpha() and len(token) > LONGEST_NAME:
-            sentence = f"the name has {len(token)} characters, and {LONGEST_NAME} are the most"
+            sentence = f"the name has {len(token)} characters, and at most {LONGEST_NAME} are allowed"
             return TokenFault(15, offset, len(token), sentence)
         return None
 
@@ -146,16 +146,16 @@ def is_text(token: str) -> bool:
 
 
 def _fault_of_rest(rest: str, offset: int) -> TokenFault:
-    """What is wrong where no token begins."""
+    """Why no token begins there."""
     if rest[0] == '"':
         return TokenFault(10, offset, 1, _fault_of_text(rest))
     if rest.startswith("/*"):
-        return TokenFault(10, offset, 2, "the comment isn't closed: behind `/*` there is no `*/`")
+        return TokenFault(10, offset, 2, "the comment isn't closed: no `*/` follows")
     if offset == 0 and rest.startswith("\xef\xbb\xbf"):
-        return TokenFault(10, offset, 1, "the file begins with a byte order mark, which is no token")
+        return TokenFault(10, offset, 1, "the file begins with a byte order mark, which isn't a valid token")
     if rest[0].isprintable() and rest[0] < "\x7f":
-        return TokenFault(10, offset, 1, f"`{rest[0]}` begins no token")
-    return TokenFault(10, offset, 1, f"the byte {ord(rest[0])} begins no token")
+        return TokenFault(10, offset, 1, f"`{rest[0]}` isn't a valid token")
+    return TokenFault(10, offset, 1, f"the byte {ord(rest[0])} isn't a valid token")
 
 
 def _fault_of_text(rest: str) -> str:
@@ -165,4 +165,4 @@ def _fault_of_text(rest: str) -> str:
         return "the text isn't closed: a `\"` is missing"
     if behind[0] in "\r\n":
         return "the text isn't closed on its line: a `\"` is missing"
-    return f"a text holds characters 32 to 126 alone, and here is the byte {ord(behind[0])}"
+    return f"a text holds only the characters 32 to 126, and here is the byte {ord(behind[0])}"

@@ -64,7 +64,7 @@ class ValueReader(Cursor):
             self.refuse(A_TEXT)
         if bad := _NO_PATTERN.search(text[1:-1]):
             signs = "`?` is any one character, `*` any number of them"
-            self.refuse(sentence=f"a pattern holds no `{bad[0][:1]}` here: {signs}")
+            self.refuse(sentence=f"a pattern can't hold `{bad[0][:1]}`: {signs}")
         self.place += 1
         return Value(start, ValueKind.PATTERN)
 

@@ -12,6 +12,7 @@ from enum import Enum
 from typing import Mapping, Optional, Sequence
 
 from ..command import NOT_BUILT, Stop
+from ..program import build_if_wanted
 
 _MEGABYTE = 1_000_000
 _PIECE = 1 << 16
@@ -47,8 +48,7 @@ def built(program: str, root: str) -> str:
     that its ./build builds, since without one it would compile all sources for each script. What was
     released has the program itself there, and no ./build."""
     if os.path.exists(f"{root}/build") and _is_same(program, f"{root}/tpr"):
-        if subprocess.run([f"{root}/build"], stdin=subprocess.DEVNULL, check=False).returncode != 0:
-            raise Stop(NOT_BUILT, f"{root}/build has not built the program")
+        build_if_wanted(root)
         program = f"{root}/crates/tpr/out/tpr"
     try:
         nothing = subprocess.DEVNULL

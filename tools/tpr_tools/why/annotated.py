@@ -77,7 +77,7 @@ class Done:
             self.lines[line].times[statement] += 0  # a branch that discards, and isn't chosen
             self._note(walk, line, _word(entry))
         if walk.stop is not None and walk.stop.kind is StopKind.WAITS:
-            self._note(walk, self.case.line(walk.stop.start), "waits for good")
+            self._note(walk, self.case.line(walk.stop.start), "waits forever")
 
     def _note(self, walk: Walk, line: Line, word: str) -> None:
         self.lines[line].did.setdefault(walk.player.name, Counter())[word] += 1
@@ -142,7 +142,7 @@ def lines_in(file: str, origins: Origins) -> list[str]:
         text = lines[row.line - 1] if row.line <= len(lines) else ""
         if not text[row.column - 1 : row.column].strip():
             place = f"{shown(file)}:{row.line}:{row.column}"
-            raise Stop(REFUSED, f"{place}: the map has a statement there, and nothing stands there; rewrite it anew")
+            raise Stop(REFUSED, f"{place}: the map names a statement there, but the line has none; run tools/rewrite again")
     return lines
 
 

@@ -59,7 +59,7 @@ def _of_none(ways: Ways) -> list[str]:
     if not lines:
         return ["the script has no `setverdict`."]
     there = "there is one at" if len(lines) == 1 else "there are some at"
-    return [f"no component came to a `setverdict`; {there} {lines_told(lines)}."]
+    return [f"no component reached a `setverdict`; {there} {lines_told(lines)}."]
 
 
 # inconc and fail
@@ -84,15 +84,15 @@ def _set_by(ways: Ways, number: int) -> list[str]:
     head = f"{walk.component.name}, line {ways.line(Place(number, entry))}{turns_told(origin.turns)}: "
     chosen = origin.within
     if chosen is None:
-        return [f"{head}it stands in no branch; {_before(ways, walk, entry)}."]
+        return [f"{head}it isn't in a branch; {_before(ways, walk, entry)}."]
     line = ways.case.line(chosen.start())
     if chosen.branch is None:
         alt = ways.case.line(chosen.alt.start)
-        why = f"chosen since no other branch of the `alt` of line {alt} was open when it was looked at"
-        return [f"{head}it stands in the `[else]` of line {line}, {why}.", *_later(ways, walk, chosen)]
+        why = f"chosen because no other branch of the `alt` of line {alt} was open when it was looked at"
+        return [f"{head}it is in the `[else]` of line {line}, {why}.", *_later(ways, walk, chosen)]
     received = walk.component.entries[chosen.entry]
     assert isinstance(received, Received)
-    return [f"{head}it stands in the branch of line {line}, chosen by {_message(ways, walk, received)}."]
+    return [f"{head}it is in the branch of line {line}, chosen by {_message(ways, walk, received)}."]
 
 
 def _later(ways: Ways, walk: Walk, chosen: Chosen) -> list[str]:
@@ -102,7 +102,7 @@ def _later(ways: Ways, walk: Walk, chosen: Chosen) -> list[str]:
     for branch in chosen.alt.branches:
         if later := standing.later(branch.receive, chosen.entry):
             line = ways.case.line(branch.receive.start)
-            told.append(f"Line {line} wants {standing.wanted(branch.receive)}; {later}.")
+            told.append(f"Line {line} expects {standing.wanted(branch.receive)}; {later}.")
     return told
 
 
@@ -116,7 +116,7 @@ def _before(ways: Ways, walk: Walk, entry: int) -> str:
     """The message that the component got last."""
     got = [it for it in walk.component.entries[:entry] if isinstance(it, Received)]
     if not got:
-        return "the component had got no message before"
+        return "the component had received no message before"
     return f"the last message before it is {_message(ways, walk, got[-1])}"
 
 
@@ -140,8 +140,8 @@ def _stopped_at(ways: Ways, number: int) -> str:
     assert walk.stop is not None
     line, fault = ways.case.line(walk.stop.start), walk.component.end.fault
     if fault is None:
-        return f"{walk.component.name} waits for good at line {line}"
-    return f"{walk.component.name} ended at line {line} by a send, {fault.told()}"
+        return f"{walk.component.name} waits forever at line {line}"
+    return f"{walk.component.name} ended at line {line} because a send failed, {fault.told()}"
 
 
 def _stopped_by(ways: Ways, number: int) -> list[str]:
@@ -164,7 +164,7 @@ def _not_sending(ways: Ways, walk: Walk, stop: Stop, send: Send) -> str:
     port = walk.ports[name]
     assert port.since is not None
     since = ways.case.line(walk.origins[port.since].start)
-    return f"the port {name} was {port.status} at line {since}, and sends only once it is started again"
+    return f"the port {name} was {port.status} at line {since}, and it sends only after it is started again"
 
 
 def _no_route(ways: Ways, walk: Walk, stop: Stop, send: Send) -> str:
@@ -181,7 +181,7 @@ def _no_route(ways: Ways, walk: Walk, stop: Stop, send: Send) -> str:
 
 def _needs_to(ways: Ways, walk: Walk, stop: Stop, send: Send) -> str:
     others = and_(_partners(ways, walk, send))
-    return f"the port {ways.case.word(send.port)} leads to {others}, and no `to` says to which it is sent"
+    return f"the port {ways.case.word(send.port)} leads to {others}, and the send names no receiver by `to`"
 
 
 def _unset(ways: Ways, walk: Walk, stop: Stop, send: Send) -> str:
@@ -196,7 +196,7 @@ def _unset(ways: Ways, walk: Walk, stop: Stop, send: Send) -> str:
     if not lines:
         return f"`{name}` has no value, and nothing in this body sets it"
     sets = "sets" if len(lines) == 1 else "set"
-    return f"`{name}` has no value: {lines_told(lines)} {sets} it, and had got nothing before"
+    return f"`{name}` has no value: {lines_told(lines)} {sets} it, but had received nothing before"
 
 
 def receives_in(statements: Iterable[Statement]) -> list[Receive]:

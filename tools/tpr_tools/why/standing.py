@@ -81,8 +81,8 @@ class Standing:
         if not left:
             return ""
         more = f" and {len(left) - _MOST_TOLD} more" if len(left) > _MOST_TOLD else ""
-        stand = "stands" if len(left) == 1 else "stand"
-        return f"{', '.join(self.of(it) for it in left[:_MOST_TOLD])}{more} {stand} there"
+        are = "is" if len(left) == 1 else "are"
+        return f"{', '.join(self.of(it) for it in left[:_MOST_TOLD])}{more} {are} there"
 
     def first(self, receive: Receive, left: list[Received]) -> str:
         """What the top of a queue is, and what of it isn't wanted."""
@@ -91,12 +91,12 @@ class Standing:
         if self.walk.ports[top.port].status == "halted":
             told += f" {self.side_of_mark(top)}"
         else:
-            told += " stands first"
+            told += " is first there"
         if is_wanted:
             return told
         told += f": {self.unlike(receive, top)}"
         wanted = next((it for it in left if self.walker.wants(receive, it)), None)
-        return f"{told}; behind it stands {self.of(wanted)}" if wanted else told
+        return f"{told}; after it comes {self.of(wanted)}" if wanted else told
 
     def side_of_mark(self, top: Received) -> str:
         """Where the top of a halted port is: ahead of the mark it would be got, or be known to be found."""
@@ -104,10 +104,10 @@ class Standing:
         at_port = [it for it in self.waits if self.case.word(it.port) == top.port]
         would_be_got = any(self.walker.is_open(it, top) for it in at_port)
         if would_be_got or port.nothing_ahead or self.is_own(top, port, False):
-            return "came behind the mark"
+            return "came after the mark"
         if port.top is not None or self.is_own(top, port, True):
-            return "stands first, ahead of the mark"
-        return "stands first, ahead of the mark or behind it"
+            return "is first there, before the mark"
+        return "is first there, before the mark or after it"
 
     def is_own(self, top: Received, port: Watched, ahead: bool) -> bool:
         """Whether the component sent it to itself before the port was halted, or behind that. A `halt`
@@ -128,9 +128,9 @@ class Standing:
         return " and ".join(kinds)
 
     def elsewhere(self, receive: Receive, name: str) -> list[str]:
-        """What it wants, and what stands at another port."""
+        """What it wants, and what is at another port."""
         found = [it for it in self.component.left if it.port != name and self.walker.wants(receive, it)]
-        return [f"{self.of(it)} stands at another port, {it.port}" for it in found[:1]]
+        return [f"{self.of(it)} is at another port, {it.port}" for it in found[:1]]
 
     def later(self, receive: Receive, entry: int) -> str:
         """What the operation wants, and what the component got at its port only behind the entry."""

@@ -1,0 +1,147 @@
+"""What a script that is accepted does in vain, as far as the script alone shows it.
+
+Each warning is certain: it names what no run can carry out, or what stays in a queue in each run that comes to it. So a
+message that depends on a variable, or a queue that something empties, is not warned of.
+"""
+from __future__ import annotations
+
+import functools
+from typing import Iterator, NamedTuple, Union
+
+from ..script.case import Case, Player
+from ..script.checks import check_script
+from ..script.setup import SYSTEM
+from ..script.tokens import Text
+from ..script.tree import Alt, Control, Loop, Message, Receive, Send, Statement, Value, ValueKind
+from ..words import and_
+
+Operation = Union[Send, Receive]
+# Of a component so many receiving operations are looked at in all: a large script is explained in seconds too.
+_MOST_LOOKED = 100_000
+
+
+class Finding(NamedTuple):
+    """A place, and what is said of it; and another place with its label, if there is one to show."""
+
+    place: int
+    sentence: str
+    others: tuple[tuple[int, str], ...] = ()
+
+
+def warnings_of(text: Text) -> list[Finding]:
+    """The warnings in the order of the text, each place and sentence once; or GrammarFault or RuleFault. The tokens are
+    known to have no fault."""
+    case = Case(text, check_script(text))
+    players = {player.name: _Player(case, player) for player in case.players}
+    found = [it for player in players.values() for it in player.warnings(players)]
+    return sorted(dict.fromkeys(found), key=lambda it: it.place)
+
+
+def operations_of(statements: list[Statement]) -> Iterator[Union[Operation, Control]]:
+    """All sends, receiving operations and port operations, those of branches and loops too."""
+    for statement in statements:
+        if isinstance(statement, Loop):
+            yield from operations_of(statement.block)
+        elif isinstance(statement, Alt):
+            for branch in statement.branches:
+                yield branch.receive
+                yield from operations_of(branch.block)
+            yield from operations_of(statement.otherwise.block if statement.otherwise else [])
+        elif isinstance(statement, (Send, Receive, Control)):
+            yield statement
+
+
+class _Player:
+    """A component, and what it does."""
+
+    def __init__(self, case: Case, player: Player):
+        self.case, self.player = case, player
+        self.operations = [*operations_of(player.statements())]
+        self.variables = {case.word(it) for it in player.variables()}
+        self.looked = 0  # how many receiving operations were looked at for a message
+        self.receiving: dict[str, list[Receive]] = {}
+        for it in self.operations:
+            if isinstance(it, Receive):
+                self.receiving.setdefault(case.word(it.port), []).append(it)
+
+    def warnings(self, players: dict[str, _Player]) -> Iterator[Finding]:
+        leads_nowhere: set[str] = set()
+        for operation in self.operations:
+            if isinstance(operation, Control):
+                continue
+            port = self.case.word(operation.port)
+            if not self.partners(port):
+                if port not in leads_nowhere:
+                    yield self.not_connected(operation, port)
+                leads_nowhere.add(port)
+            elif isinstance(operation, Send):
+                yield from self.of_send(operation, port, players)
+
+    def partners(self, port: str) -> list[tuple[str, str]]:
+        return self.case.partners.get((self.player.name, port), [])
+
+    def not_connected(self, operation: Operation, port: str) -> Finding:
+        comes = "a send through it fails" if isinstance(operation, Send) else "no message ever comes there"
+        sentence = f"the port `{port}` of `{self.player.name}` is never connected or mapped, so {comes}"
+        return Finding(operation.port, sentence)
+
+    def of_send(self, send: Send, port: str, players: dict[str, _Player]) -> Iterator[Finding]:
+        """What it is to: a component that the port doesn't lead to; or receivers of which one never takes it."""
+        partners = self.partners(port)
+        if send.to is not None and self.case.word(send.to) != "all":
+            word = self.case.word(send.to)
+            if word in self.variables:
+                return
+            to = self.player.references[word]
+            if to not in [component for component, _ in partners]:
+                leads = and_(f"`{component}`" for component, _ in partners)
+                sentence = f"the port `{port}` of `{self.player.name}` isn't connected with `{to}`, so this send fails"
+                yield Finding(send.to, f"{sentence}: it leads to {leads}")
+                return
+            partners = [it for it in partners if it[0] == to]
+        elif send.to is None and len(partners) > 1:
+            return
+        if send.message is not None and not _has_name(send.message.value):
+            for component, there in partners:
+                yield from players[component].never_takes(send.message, there, self.player.name)
+
+    def never_takes(self, message: Message, port: str, sender: str) -> Iterator[Finding]:
+        # The system without `sut` isn't part of the script: it takes whatever it likes.
+        if self.player.name == SYSTEM and self.player.body is None or self.empties(port):
+            return
+        tried = self.receiving.get(port, [])
+        self.looked += len(tried)
+        if self.looked > _MOST_LOOKED and tried or any(self.may_take(it, message, sender) for it in tried):
+            return
+        told, name = self.case.forms.text_of(message, {}), self.player.name
+        why = f"no template there matches `{told}`" if tried else "it has no receiving operation there"
+        sentence = f"`{name}` never takes this message at its port `{port}`: {why}"
+        yield Finding(message.type, sentence, tuple((it.port, "it looks here") for it in tried[:1]))
+
+    @functools.lru_cache(maxsize=None)
+    def empties(self, port: str) -> bool:
+        """Whether a message may be meant to stay there, or to be discarded: `trigger` drops, `clear` and `start` discard
+        all, and a port that is stopped or halted is left as it is."""
+        if any(self.case.word(it.how) == "trigger" for it in self.receiving.get(port, [])):
+            return True
+        controls = [it for it in self.operations if isinstance(it, Control)]
+        return any(it.port is None or self.case.word(it.port) == port for it in controls)
+
+    def may_take(self, operation: Receive, message: Message, sender: str) -> bool:
+        if operation.sender is not None and self.player.references[self.case.word(operation.sender)] != sender:
+            return False
+        if operation.message is None:
+            return True
+        type_name = self.case.word(message.type)
+        if self.case.word(operation.message.type) != type_name:
+            return False
+        if _has_name(operation.message.value):
+            return True
+        forms = self.case.forms
+        value = forms.filled(message.value, type_name, {})
+        return forms.test_of(operation.message.value, type_name)(value, {})
+
+
+def _has_name(value: Value) -> bool:
+    """Whether it depends on a loop variable."""
+    return value.kind is ValueKind.NAME or any(_has_name(member) for member in value.members)
