@@ -17,7 +17,7 @@ pub struct Verdicts {
     pub found: Vec<FoundVerdict>,
     /// How many states were looked at.
     pub states: u32,
-    /// Whether none was missed. If not, there are more states than the limit, or more pairs of a
-    /// message and a template than are worked out.
+    /// Whether none was missed. If not, there are more states than the limit, or the program of the
+    /// test case would be too large.
     pub is_complete: bool,
 }
