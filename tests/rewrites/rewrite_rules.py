@@ -2,12 +2,14 @@
 
     tests/rewrites/rewrite_rules.py PROGRAM PART
 
-PART is `table`, `natural`, `same`, `broken`, `listed`, `lines`, `rows` or `faults`. It prints a line `passed ..` or
+PART is `table`, `natural`, `same`, `broken`, `listed`, `lines`, `rows`, `faults` or
+`instead`. It prints a line `passed ..` or
 `FAILED: ..` for each case.
 """
 from __future__ import annotations
 
 import argparse
+import ast
 import glob
 import json
 import os
@@ -69,12 +71,13 @@ def run(*words: str, data: bytes = b"") -> Ended:
     return Ended(done.returncode, printed, said)
 
 
-def carried(program: str, name: str, text: str, encodes: bool = False) -> Ended:
+def carried(program: str, name: str, text: str, encodes: bool = False, queues: bool = False) -> Ended:
     """What tools/rewrite would end with, asked in this process: a process for each script takes long."""
     from tpr_tools.rewrite.rewriting import rewrite
+    from tpr_tools.rewrite.run import Options
     from tpr_tools.rewrite.tokens import Source
 
-    found = rewrite([Source(name, text.encode())], encodes=encodes)
+    found = rewrite([Source(name, text.encode())], options=Options(encodes=encodes, queues_ended=queues))
     if found.refused:
         return Ended(2, "", "".join(f"{one.text()}\n" for one in found.refused))
     said = run(program, "check", data=found.text.encode()).printed
@@ -108,12 +111,13 @@ def table(program: str) -> None:
                 opened.write(case.script)
             is_of_tool = case.kind == "checked"
             encodes = case.kind in ("encoded", "not encoded")
-            tool = run(REWRITE, "--tpr", program, file) if is_of_tool else carried(program, file, case.script, encodes)
+            queues = case.kind == "queued"
+            tool = run(REWRITE, "--tpr", program, file) if is_of_tool else carried(program, file, case.script, encodes, queues)
             look_at(case, file, tool)
 
 
 def look_at(case: Case, file: str, ended: Ended) -> None:
-    if case.kind == "becomes":
+    if case.kind in ("becomes", "queued"):
         found = body_of(ended.printed)
         judged(case.name, ended.status == 0 and found == case.wanted, f"{ended.said}{found}")
     elif case.kind == "encoded":
@@ -124,7 +128,8 @@ def look_at(case: Case, file: str, ended: Ended) -> None:
         is_so = (ended.status, ended.printed, found) == (2, "", case.wanted)
         judged(case.name, is_so, f"status {ended.status}: {found}")
     else:
-        found = [line.removeprefix(f"rewrite: {file}:").replace(": ", " ", 1) for line in ended.said.splitlines()]
+        told = [line for line in ended.said.splitlines() if not line.startswith("  instead: ")]
+        found = [line.removeprefix(f"rewrite: {file}:").replace(": ", " ", 1) for line in told]
         judged(case.name, (ended.status, found) == (2, case.wanted), f"status {ended.status}: {found}")
 
 
@@ -159,6 +164,66 @@ def natural(program: str) -> None:
             judged(name, report.printed.endswith("\nresult pass\n"), report.printed)
             judged(f"the map of {name}", is_map(script, output), "it isn't of the script")
     several_modules(program)
+    held_back(program)
+    told_besides(program)
+
+
+def held_back(program: str) -> None:
+    """A natural script that isn't carried over: each reason is followed by what to do instead."""
+    ended = run(REWRITE, "--tpr", program, f"{FOLDER}/held_back/accounts_of_a_bank.ttcn")
+    lines = ended.said.splitlines()
+    is_so = ended.status == 2 and "no time in a run" in lines[0] and lines[1].startswith("  instead: leave the timer")
+    judged("a guard timer is refused, with what to do instead", is_so, ended.said)
+
+
+def told_besides(program: str) -> None:
+    """What is carried over and worth a word: a backslash, once, and a send to what may have ended."""
+    text = PRELUDE + """function f() runs on C { p.receive(charstring:"x"); }
+testcase t() runs on C { var C a := C.create; connect(self:p, a:p); a.start(f()); p.send("x"); p.send("a\\b"); p.send("c\\d"); a.done; }
+}
+"""
+    with tempfile.TemporaryDirectory() as folder:
+        file = f"{folder}/t.ttcn"
+        with open(file, "w", encoding="utf-8") as opened:
+            opened.write(text)
+        ended = run(REWRITE, "--tpr", program, "--ended=queued", file)
+    said = [line.removeprefix(f"{file}:").split(": ", 1) for line in ended.said.splitlines()]
+    is_once = sum("a backslash in a text" in line[1] for line in said) == 1
+    queued = [line[0] for line in said if line[1].endswith("(--ended=queued)")]
+    judged("a backslash is told of once", ended.status == 0 and is_once, ended.said)
+    judged("each send to what may have ended is told of", queued == ["3:98", "3:113"], ended.said)
+
+
+def reasons_in_sources() -> list[str]:
+    """All reasons in the sources of the tool, as they stand there."""
+    found: list[str] = []
+    for file in sorted(glob.glob(f"{TOOLS}/tpr_tools/rewrite/*.py")):
+        with open(file, encoding="utf-8") as opened:
+            calls = [node for node in ast.walk(ast.parse(opened.read())) if isinstance(node, ast.Call)]
+        for call in calls:
+            name = call.func.id if isinstance(call.func, ast.Name) else getattr(call.func, "attr", "")
+            if name in ("refuse", "refuse_open", "Refusal", "split", "settled"):
+                found += [text for text in map(text_of, call.args) if len(text) > 8]
+    return found
+
+
+def text_of(node: ast.expr) -> str:
+    if isinstance(node, ast.JoinedStr):
+        return "".join(str(part.value) if isinstance(part, ast.Constant) else "{}" for part in node.values)
+    return node.value if isinstance(node, ast.Constant) and isinstance(node.value, str) else ""
+
+
+def instead(_program: str) -> None:
+    """Each reason in the sources has a row in the table of what to do, but for what a compiler refuses too."""
+    from tpr_tools.rewrite.instead import instead_of
+
+    with open(f"{FOLDER}/of_a_compiler", encoding="utf-8") as opened:
+        of_a_compiler = set(opened.read().splitlines())
+    last = instead_of("")
+    reasons = dict.fromkeys(reasons_in_sources())
+    for reason in reasons:
+        judged(f"instead of: {reason}", (instead_of(reason) == last) is (reason in of_a_compiler), instead_of(reason))
+    judged("no reason of a compiler's that isn't there", of_a_compiler <= set(reasons), f"{of_a_compiler - set(reasons)}")
 
 
 def is_map(script: str, output: str) -> bool:
@@ -206,7 +271,7 @@ def same(program: str) -> None:
         if not os.path.exists(wanted) or run(program, "check", script).status != 0:
             continue
         with open(script, encoding="utf-8") as opened:
-            ended = carried(program, script, opened.read())
+            ended = carried(program, script, opened.read(), queues=True)
         with open(wanted, encoding="utf-8") as opened:
             # Of an `[else]` that stands alone nothing hangs on the look, so it isn't written.
             told = opened.read().replace("\nelse\n", "\n")
@@ -268,10 +333,11 @@ def answer_to(data: bytes, encodes: bool) -> str:
     an answer too, and its places are in the text."""
     from tpr_tools.rewrite.listing import constructs_of
     from tpr_tools.rewrite.rewriting import rewrite
+    from tpr_tools.rewrite.run import Options
     from tpr_tools.rewrite.tokens import Source
 
     try:
-        found = rewrite([Source("x", data)], encodes=encodes)
+        found = rewrite([Source("x", data)], options=Options(encodes=encodes))
         listed, faults = constructs_of("x", data)
     except Exception as error:  # A traceback of whatever kind is what this looks for.
         return f"{type(error).__name__}: {error}"
@@ -420,7 +486,7 @@ def row_script(script: str) -> str:
 
 
 def main() -> int:
-    parts = {one.__name__: one for one in (table, natural, same, broken, listed, lines, rows, faults)}
+    parts = {one.__name__: one for one in (table, natural, same, broken, listed, lines, rows, faults, instead)}
     words = argparse.ArgumentParser(description="What tools/rewrite makes of scripts, and what it refuses.")
     words.add_argument("program", metavar="PROGRAM", help="tpr")
     words.add_argument("part", metavar="PART", choices=parts, help=", ".join(parts))

@@ -23,16 +23,19 @@ from profile_runs import outcomes_of
 from programs import program_of
 from schedules import TooMany
 from tpr_tools.rewrite.rewriting import rewrite
+from tpr_tools.rewrite.run import Options
 from tpr_tools.rewrite.tokens import Source
 
 FIRST, COUNT = 1, 600
+# From this number on the programs compute with what they receive.
+FIRST_COMPUTING, COUNT_COMPUTING = 100_001, 600
 
 
 def look_at(seed: int) -> str:
     """`same`, why the program isn't compared, or what is wrong."""
     encodes = seed % 3 == 0
-    text = program_of(seed, encodes)
-    found = rewrite([Source("chance", text.encode())], encodes=encodes)
+    text = program_of(seed, encodes, seed >= FIRST_COMPUTING)
+    found = rewrite([Source("chance", text.encode())], options=Options(encodes, queues_ended=True))
     if found.refused:
         return "refused"
     try:
@@ -58,7 +61,10 @@ def main() -> None:
     given = words.parse_args()
     first, count = given.first, COUNT if given.count is None else given.count
     answers: Counter[str] = Counter()
-    for seed in range(first, first + count):
+    seeds = list(range(first, first + count))
+    if given.count is None:
+        seeds += range(FIRST_COMPUTING, FIRST_COMPUTING + COUNT_COMPUTING)
+    for seed in seeds:
         answer = look_at(seed)
         kind = answer.partition(":")[0]
         answers[kind] += 1

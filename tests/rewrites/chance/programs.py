@@ -37,6 +37,8 @@ class Maker:
         self.sent: Counter[str] = Counter()
         # Whether `p` leads to both components, so that a send says to whom.
         self.is_shared = False
+        # Whether it computes with what it receives.
+        self.computes = False
         self.known = ["c_one", "c_three"]
         self.names = 0
 
@@ -171,6 +173,8 @@ class Maker:
         nested = [self._loop, self._condition, self._selected, self._while]
         asking = [self._alternatives, self._told_apart, self._repeated, self._checked, self._interleaved]
         encoded = [self._told_apart] * 6 if self.encodes else []
+        if self.computes:
+            return [*flat, *nested, self._computed, self._alternatives, *[self._computed] * 8]
         return [*flat, *nested, *asking, *asking, self._alternatives, *encoded]
 
     def _called(self) -> list[str]:
@@ -229,6 +233,27 @@ class Maker:
             f"var {of} {name};", "alt {", f"[] {port}.{how}({of}:?) -> value {name} {{", f"if ({asked}) {{",
             *self.statements(0, 1), "} else {", *behind, "}", "}", f"[] {port}.receive {{ }}", "}",
         ]
+
+    def _computed(self) -> list[str]:
+        """What was received is computed with."""
+        name, port = self.name("x"), self.coming()
+        if not port or port == "e":
+            return self.sends()
+        of, number, changed = self.chance.choice([
+            ("integer", name, f"{name} := {name} * 2 - 1;"), ("Order", f"{name}.n", f"{name}.n := {name}.n + 1;"),
+            ("Order", f"lengthof({name}.s)", f'{name}.s := {name}.s & "b";'),
+            ("Order", f"f_value({name}.n)", f"{name} := {{ {name}.n - 1, \"b\" }};"),
+        ])
+        again = [changed] if self.is_so(0.5) else []
+        behind = [f"vc_count := vc_count + {number};"] if self.is_so(0.3) else []
+        self.known += [number] * 4
+        inner = [self.send(), *self.statements(1, 2)] if self.is_so(0.7) else self.statements(1, 2)
+        del self.known[-4:]
+        how = self.pick("receive", "receive", "receive", "trigger")
+        head = f"[] {port}.{how}({of}:?) -> value {name} {{"
+        if self.is_so(0.3):
+            return [f"var {of} {name};", head.removeprefix("[] ").removesuffix(" {") + ";", *again, *inner, *behind]
+        return [f"var {of} {name};", "alt {", head, *again, *inner, *behind, "}", f"[] {port}.receive {{ }}", "}"]
 
     def _encoded_apart(self, name: str) -> list[str]:
         if self.is_so(0.6):
@@ -319,10 +344,11 @@ FUNCTIONS = """  function f_value(integer p_n) return integer { return p_n + c_o
 """
 
 
-def program_of(seed: int, encodes: bool) -> str:
+def program_of(seed: int, encodes: bool, computes: bool = False) -> str:
     """The program with this number."""
     chance = Random(seed)
     of_case = Maker(chance, encodes, ("p",), {})
+    of_case.computes = computes
     count = chance.randint(1, 2)
     of_case.is_shared = count == 2 and chance.random() < 0.4
     if count == 2:
@@ -335,6 +361,7 @@ def program_of(seed: int, encodes: bool) -> str:
         comes = {"p": chance.randint(0, 3), "e": chance.randint(0, 2) * encodes}
         made = Maker(chance, encodes and number == 0, ("p",), comes)
         came = dict(made.comes)
+        made.computes = computes
         if number == 1:
             del made.comes["e"]
         made.known.append("p_n")

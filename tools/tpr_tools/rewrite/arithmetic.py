@@ -3,6 +3,7 @@ from __future__ import annotations
 
 from typing import Callable, Optional
 
+from .predefined import CONVERSIONS
 from .refusing import refuse
 from .tokens import Token
 from .values import Digits, Elements, Form, Mark, same
@@ -111,6 +112,7 @@ PREDEFINED: dict[str, tuple[int, Callable[[list[Form]], Optional[Form]]]] = {
     "int2str": (1, _text_of_number),
     "str2int": (1, _number_of_text),
     "substr": (3, _part_of_text),
+    **CONVERSIONS,
 }
 # They are asked of what a variable holds, whatever it is.
 ASKING = ("isbound", "isvalue", "ispresent", "ischosen", "match", "valueof")

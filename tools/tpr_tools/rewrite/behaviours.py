@@ -6,8 +6,9 @@ from typing import Callable, Optional
 
 from . import tree
 from .emitted import Verdict
-from .paths import Exit, Key, Path, Scope, Slot, joined
-from .refusing import Refusal, refuse
+from .hoisting import Communicates, key_of
+from .paths import Exit, Key, Path, Scope, Slot, State, joined
+from .refusing import Refusal, refuse, refuse_open, refuse_silently
 from .run import members_of
 from .tokens import Token
 from .tree import Declared, Expression, Leaving, Statement
@@ -144,6 +145,8 @@ class Follower(ListFollower):
 
     def store(self, key: Key, steps: tuple[int, ...], value: Form, path: Path, at: Token) -> None:
         slot = path.state.variables[key]
+        if steps and isinstance(slot.value, Received):
+            self.split(slot.value, at, "a part of what was received is assigned to")
         self.look_at_value_of(value, slot.type if not steps else None, at)
         changed = self._changed(slot.value, slot.type, steps, value, at)
         path.state.variables[key] = replace(slot, value=changed)
@@ -170,7 +173,7 @@ class Follower(ListFollower):
         else:
             refuse(at, "a part of this can't be assigned to")
         if isinstance(whole, Received):
-            refuse(at, "a part of what was received is assigned to")
+            self.split(whole, at, "a part of what was received is assigned to")
         items[step] = self._changed(items[step], inner, steps[1:], value, at)
         is_record = type.kind is Kind.RECORD
         return Fields(tuple(items)) if is_record else Elements(tuple(items))
@@ -220,7 +223,13 @@ class Follower(ListFollower):
         return paths
 
     def called_value(self, node: tree.Call, path: Path, scope: Optional[Scope]) -> Form:
-        """A call within an expression: it may write nothing, since that has no place there."""
+        """A call within an expression: it may write nothing, since that has no place there. Where it may, it is followed
+        before the statement."""
+        kept = path.state.variables.get(key_of(node))
+        if kept is not None:
+            return kept.value if kept.value is not Mark.LOST else refuse_silently(node.at)
+        if not self.is_looking and self.program.communicates(tree.word_called(node)):
+            raise Communicates(node)
         written, before = len(path.code), path.state.setup()
         variables = dict(path.state.variables)
         paths = self._quietly(node, path, scope)
@@ -234,8 +243,16 @@ class Follower(ListFollower):
         value = found.result
         path.state, path.result = found.state, None
         if value is None:
-            refuse(node.at, "this function returns nothing")
-        return value
+            self._look_at_return(tree.word_called(node), node.at)
+        return value if value is not None else Mark.LOST
+
+    def _look_at_return(self, name: str, at: Token) -> None:
+        """A function that came to no value: it has none, or its `return` is refused, which is told there."""
+        if self.program.functions[name].result is None:
+            refuse(at, "this function returns nothing")
+        if self.run.refused or self.run.lost is not None:
+            refuse_silently(at)
+        refuse(at, "this function may end without a `return`")
 
     def _quietly(self, node: tree.Call, path: Path, scope: Optional[Scope]) -> list[Path]:
         """A call that may come within a look at branches."""
@@ -308,7 +325,7 @@ class Follower(ListFollower):
     def _is_case(
         self, value: Form, item: Expression, path: Path, scope: Scope, type: Optional[Type]
     ) -> bool:
-        template = self.evaluate(item, path, scope, type)
+        template = self.settled(self.evaluate(item, path, scope, type), item.at)
         if isinstance(value, Received):
             return self.fits(value, template, item.at)
         self.look_at_value(value, item.at)
@@ -332,20 +349,42 @@ class Follower(ListFollower):
         self.frames.append(self.program.names_in(loop))
         finished: list[Path] = []
         is_asked = not is_first_done
+        before: Optional[State] = None
         while paths:
+            if len(paths) == 1 and paths[0].exit is Exit.ON:
+                if before is not None and before == paths[0].state:
+                    refuse_open(loop.at, "this loop never ends: a turn of it leaves all as it was")
+                before = paths[0].state.copy()
             turned: list[Path] = []
             for path in paths:
                 self.run.step(loop.at)
-                if is_asked and not self.truth(self.evaluate(condition, path, scope), condition.at):
-                    finished.append(path)
-                else:
-                    turned += self.block(block, path, scope)
+                for one, goes_on in self._asked_of(condition, path, scope) if is_asked else [(path, True)]:
+                    if one.exit is Exit.ON and goes_on:
+                        turned += self.block(block, one, scope)
+                    else:
+                        finished.append(one)
             is_asked = True
             # All ways are joined once for each turn, since there may be many.
             going_on = self._stepped(turned, step, scope, finished)
             paths = joined(going_on, self.live(), self.has_verdict)
         self.frames.pop()
         return finished
+
+    def _asked_of(self, condition: Expression, path: Path, scope: Scope) -> list[tuple[Path, bool]]:
+        """On each way, whether the condition of a loop holds; what it calls is followed before."""
+        depth = len(self.frames)
+        state = path.state.copy()
+        try:
+            return [(path, self.truth(self.evaluate(condition, path, scope), condition.at))]
+        except Communicates as met:
+            again = Path(path.code, state, path.fork)
+            found = self.hoisted(
+                met, [condition], again, scope, lambda one: self._asked_of(condition, one, scope), lambda one: (one, False)
+            )
+            del self.frames[depth:]
+            for one, _ in found:
+                one.state.variables.pop(key_of(met.call), None)
+            return found
 
     def _stepped(
         self, turned: list[Path], step: Optional[Statement], scope: Scope, finished: list[Path]

@@ -6,13 +6,13 @@ from typing import Optional
 from . import tree
 from .paths import Path, Scope
 from .refusing import refuse
-from .templates import Shaper
+from .settling import Settler
 from .tree import Expression
 from .types import Kind, Type
 from .values import Chosen, Elements, Fields, Form, Mark
 
 
-class BracesReader(Shaper):
+class BracesReader(Settler):
     def braces(self, node: tree.Braces, path: Path, scope: Optional[Scope], type: Optional[Type]) -> Form:
         kind = type.kind if type is not None else None
         if type is not None and kind is Kind.RECORD:

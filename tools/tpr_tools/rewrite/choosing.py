@@ -4,39 +4,29 @@ from __future__ import annotations
 from typing import Optional
 
 from . import tree
+from .closed import Awaited, Wanting
 from .lists import Plan
-from .emitted import Code, Got, GotDone, Message, Way, Ways, Who
+from .leaves import Leaf, without_barred
+from .narrowing import narrow
+from .emitted import Code, Failed, Got, GotDone, Message, Way, Ways, Who
 from .evaluating import SENDER
-from .fitting import open_alternatives, opened, type_at
+from .fitting import open_alternatives, type_at
 from .guards import Expander, Guard, is_repeat_alone, may_repeat
 from .paths import Exit, Fork, Path, Scope
-from .refusing import refuse
+from .refusing import refuse, refuse_open
 from .tokens import Token
 from .tree import Receiving
 from .types import Kind, Type
 from .values import (
-    Chosen, ComponentValue, Elements, Excluded, Facts, Fields, Form, Mark, Options, Received, Symbol, Wild, is_value,
-    narrowed,
+    Chosen, Coming, ComponentValue, Elements, Excluded, Facts, Fields, Form, Mark, Options, Received, Symbol, Wild,
+    is_value, narrowed,
 )
 
 MOST_TURNS = 30
-MOST_DEPTH = 60
-
-
-class Leaf:
-    """A branch as it is written: a guard, with what is asked of the message besides."""
-
-    def __init__(self, guard: Guard, facts: Facts, message: Optional[Message], sender: Optional[Who]):
-        self.guard = guard
-        self.facts = facts
-        self.message = message
-        self.sender = sender
-        self.how = guard.how
-        # What comes is discarded, and the `alt` begins anew.
-        self.is_discarding = False
-        # By what has come before it is never chosen.
-        self.is_never = False
-        self.got: Optional[Got] = None
+# Where it is known what comes.
+MOST_KNOWN_TURNS = 5_000
+# Each `alt` in a branch of another one opens four brackets more, and a script of the profile has 32 at most.
+MOST_DEPTH = 7
 
 
 class Chooser(Expander):
@@ -64,8 +54,9 @@ class Chooser(Expander):
         self, statement: tree.Alt, branches: list[tree.Branch], path: Path, scope: Scope, count: int
     ) -> list[Path]:
         """One waiting of an `alt`; `count` says how often it was repeated."""
-        if count > MOST_TURNS:
-            refuse(statement.at, f"this is repeated more than {MOST_TURNS} times")
+        most = MOST_TURNS if self.flows is None else MOST_KNOWN_TURNS
+        if count > most:
+            refuse_open(statement.at, f"this is repeated more than {most} times")
         expansion = self.expand(branches, path, scope)
         for guard in expansion.guards:
             guard.number = self.counted
@@ -75,6 +66,10 @@ class Chooser(Expander):
         found: list[Path] = []
         for leaf, one in self._written(statement, leaves, path):
             found += self._follow_leaf(statement, branches, leaf, one, scope, count)
+        if not found:
+            # Nothing can come to any branch: it waits for good.
+            path.exit = Exit.END
+            found = [path]
         self.frames.pop()
         for inner in expansion.scopes:
             found = self.left(inner, found)
@@ -88,25 +83,37 @@ class Chooser(Expander):
             refuse(statement.at, "no branch of this ever ends it")
         if leaves[0].guard.is_always:
             return [(leaves[0], path)]
-        leaves = self._triggered(leaves)
+        leaves = without_barred(self._triggered(leaves))
         if len(leaves) == 1:
+            if leaves[0].is_barred and self.ends_idle(statement, path):
+                return []
             self.emit(path, self._operation(leaves[0], path))
             return [(leaves[0], path)]
-        if path.fork is not None and path.fork.depth > MOST_DEPTH:
-            refuse(statement.at, "what follows from the branches is nested too deep")
+        going_on = [leaf for leaf in leaves if not leaf.is_discarding and not leaf.is_barred]
+        if not going_on and self.ends_idle(statement, path):
+            return []
+        depth = path.fork.depth + 1 if path.fork else 1
+        if depth > MOST_DEPTH:
+            refuse_open(statement.at, "what follows from the branches would be nested too deep")
         ways = Ways(statement.at, [])
         self.emit(path, ways)
-        going_on = [leaf for leaf in leaves if not leaf.is_discarding]
-        depth = path.fork.depth + 1 if path.fork else 1
-        fork = Fork(path.code, path.fork, len(going_on), depth)
+        # Where it is known what comes, what goes on in one branch alone goes on behind the `alt`.
+        is_only = len(going_on) == 1 and self.flows is not None
+        fork = path.fork if is_only else Fork(path.code, path.fork, len(going_on), depth)
         found: list[tuple[Leaf, Path]] = []
         for leaf in leaves:
             code: Code = []
             operation = None if leaf.guard.is_always else self._operation(leaf, path)
             ways.branches.append(Way(leaf.guard.at, operation, code))
-            if not leaf.is_discarding:
-                found.append((leaf, Path(code, path.state.copy(), fork)))
+            if leaf.is_barred:
+                code.append(Failed(leaf.guard.at))
+            elif not leaf.is_discarding:
+                found.append((leaf, Path(path.code if is_only else code, path.state.copy(), fork)))
         return found
+
+    def ends_idle(self, statement: tree.Alt, path: Path) -> bool:
+        """Where nothing can come any more: whether the behaviour ends there as well."""
+        return False
 
     def _triggered(self, leaves: list[Leaf]) -> list[Leaf]:
         """`[] p.receive(x) {..} [] p.receive { repeat; }` is `p.trigger(x)`."""
@@ -126,7 +133,7 @@ class Chooser(Expander):
         path.state.used |= {guard.port}
         if guard.port in path.state.left:
             refuse(guard.at, f"`{guard.port}` was disconnected or unmapped before this")
-        got = Got(guard.at, leaf.how.value, guard.port, leaf.message, leaf.sender)
+        got = Got(guard.at, leaf.how.value, guard.port, leaf.exact or leaf.message, leaf.sender)
         leaf.got = got
         return got
 
@@ -146,7 +153,23 @@ class Chooser(Expander):
                 # A `trigger` would discard what only the branches behind this one want.
                 leaf.how = Receiving.RECEIVE if leaf.how is Receiving.TRIGGER else leaf.how
             found += planned
+        if self.flows is not None:
+            self._bar(found, guards, path)
+            return found
         return self._counted(found, path) if count else found
+
+    def _bar(self, leaves: list[Leaf], guards: list[Guard], path: Path) -> None:
+        """What can come to each branch: of what can be next at its port what it wants, and none before it takes."""
+        discarded = {leaf.guard.port for leaf in leaves if leaf.is_discarding}
+        for leaf in leaves:
+            guard = leaf.guard
+            if guard.how is None or leaf.is_discarding:
+                continue
+            before: list[Wanting] = [one for one in guards[: guards.index(guard)] if one.port == guard.port and one.how]
+            is_dropping = guard.how is Receiving.TRIGGER or guard.port in discarded
+            leaf.awaited = Awaited(guard, leaf.facts, before, is_dropping)
+            leaf.coming = self.coming_to(leaf.awaited, path)
+            leaf.has_several_peers = len({end.component for end in self.peers_of(guard.port, path)}) > 1
 
     def _planned(
         self, guard: Guard, plan: Plan, facts: Facts, message: Optional[Message], sender: Optional[Who]
@@ -160,7 +183,7 @@ class Chooser(Expander):
             narrow_sender = asked.number
         else:
             assert message is not None
-            form = _narrow(message.form, message.type, steps, asked, guard.at)
+            form = narrow(message.form, message.type, steps, asked, guard.at)
             narrow_message = Message(message.type, form)
         held = {**facts, (steps, asked): True}
         missed = {**facts, (steps, asked): False}
@@ -210,12 +233,14 @@ class Chooser(Expander):
         self, statement: tree.Alt, branches: list[tree.Branch], leaf: Leaf, path: Path, scope: Scope, count: int
     ) -> list[Path]:
         guard = leaf.guard
-        if leaf.is_never:
+        if leaf.is_never or leaf.is_barred:
             path.exit = Exit.END
             return [path]
         if guard.component is not None:
             path.state.done |= {guard.component}
         elif guard.how is not None:
+            if leaf.coming is not None and leaf.awaited is not None:
+                self.note_got(leaf.awaited, leaf.coming, path)
             self._redirect(leaf, path, scope)
             if guard.how is not Receiving.CHECK:
                 taken = dict(path.state.taken)
@@ -276,7 +301,7 @@ class Chooser(Expander):
         value: Form = message.form
         if not is_value(value) and leaf.got is not None:
             symbol = Symbol(leaf.guard.number, message.type.root, message.form, "")
-            symbol.facts = leaf.facts
+            symbol.facts, symbol.coming = leaf.facts, tuple(leaf.coming or ())
             leaf.got.value = symbol
             value = Received(symbol)
         if redirect.value is not None:
@@ -297,7 +322,7 @@ class Chooser(Expander):
         if number is None:
             refuse(part.at, f"there is no field `{part.word}`")
         if type.root.fields[number].is_optional:
-            refuse(part.at, f"whether `{part.word}` was received is open here")
+            refuse_open(part.at, f"whether `{part.word}` was received is open here")
         return (*steps, number), type.root.fields[number].type
 
     def _store_message(
@@ -316,9 +341,15 @@ class Chooser(Expander):
         value: Form = Mark.UNSET
         if isinstance(leaf.sender, int):
             value = ComponentValue(leaf.sender)
+        elif leaf.only_sender is not None and leaf.got is not None:
+            leaf.got.sender = leaf.only_sender
+            value = ComponentValue(leaf.only_sender)
         elif leaf.got is not None:
             symbol = Symbol(leaf.guard.number, None, Wild.ANY, key[1])
             symbol.is_sender, symbol.facts = True, leaf.facts
+            symbol.coming = tuple(leaf.coming or ())
+            numbers = [end.component for end in self.peers_of(leaf.guard.port, path)]
+            symbol.peers = tuple(dict.fromkeys(numbers))
             leaf.got.sent_by = symbol
             value = Received(symbol, SENDER)
         self.store(key, steps, value, path, target.at)
@@ -335,39 +366,3 @@ def _has_no_more(message: Message, steps: tuple[int, ...], facts: Facts) -> bool
     """Whether each alternative of the union at these steps has a branch before."""
     type = type_at(message.type, steps)
     return type is not None and type.kind is Kind.UNION and not open_alternatives(facts, steps, type)
-
-
-def _narrow(form: Form, type: Type, steps: tuple[int, ...], asked: Form, at: Token) -> Form:
-    """The template, with what is asked at the end of these steps in it."""
-    found = _narrowed_at(form, type, steps, asked)
-    if found is None:
-        refuse(at, "what is asked of this message later isn't a template that can be written")
-    return found
-
-
-def _narrowed_at(form: Form, type: Optional[Type], steps: tuple[int, ...], asked: Form) -> Optional[Form]:
-    if not steps:
-        return narrowed(form, asked)
-    if type is None:
-        return None
-    if isinstance(form, Chosen):
-        return _narrowed_choice(form, type, steps, asked)
-    if form is Wild.ANY and type.kind is Kind.RECORD:
-        form = opened(type)
-    items: Optional[list[Form]] = list(form.items) if isinstance(form, (Fields, Elements)) else None
-    if items is None or steps[0] >= len(items):
-        return None
-    inner = type.root.fields[steps[0]].type if type.kind is Kind.RECORD else type.root.element
-    found = _narrowed_at(items[steps[0]], inner, steps[1:], asked)
-    if found is None:
-        return None
-    if found == Options(()):
-        return found
-    items[steps[0]] = found
-    return Fields(tuple(items)) if type.kind is Kind.RECORD else Elements(tuple(items))
-
-
-def _narrowed_choice(form: Chosen, type: Type, steps: tuple[int, ...], asked: Form) -> Optional[Form]:
-    field = type.root.fields[steps[0]]
-    found = _narrowed_at(form.value, field.type, steps[1:], asked) if field.name == form.name else None
-    return found if found is None or found == Options(()) else Chosen(form.name, found)

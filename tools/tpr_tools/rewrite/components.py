@@ -6,13 +6,13 @@ from typing import Optional
 from . import tree
 from .choosing import Chooser
 from .emitted import Operated, Sent, Told, Verdict
-from .paths import ActiveDefault, Created, End, Exit, Joined, Path, Scope, Started
-from .refusing import Refusal, refuse
+from .paths import ActiveDefault, Created, End, Exit, Joined, Path, Scope, Started, peers
+from .refusing import Refusal, refuse, refuse_open
 from .run import Run
 from .tokens import Token
 from .tree import Any, Expression, Finding, Joining, PortAct
 from .types import Kind, Type
-from .values import ComponentValue, DefaultValue, Form, Mark, PortValue, Reference, TimerValue, has_received
+from .values import ComponentValue, DefaultValue, Form, Mark, PortValue, Reference, TimerValue
 
 SYSTEM = -1
 MOST_COMPONENTS = 64
@@ -29,6 +29,11 @@ class Behaviour(Chooser):
         self.system: Optional[str] = None
         # What it knows of the others where it can't set them up.
         self.known_started: frozenset[int] = frozenset()
+        self.known_joins: tuple[Joined, ...] = ()
+
+    def peers_of(self, port: str, path: Path) -> list[End]:
+        joins = path.state.joins if self.can_set_up else self.known_joins
+        return peers(joins, End(self.own, port))
 
     # Sending
 
@@ -51,7 +56,7 @@ class Behaviour(Chooser):
 
     def operate(self, statement: tree.Operate, path: Path, scope: Scope) -> list[Path]:
         if statement.target is None:
-            self.emit(path, Operated(statement.at, list(self.ports), statement.act.value, True))
+            self._emit_operated(statement, list(self.ports), True, path)
             return [path]
         if statement.act is PortAct.STOP and isinstance(statement.target, tree.Special):
             return self._stop(statement, path)
@@ -59,7 +64,7 @@ class Behaviour(Chooser):
         if isinstance(value, PortValue):
             if statement.arguments:
                 refuse(statement.at, "an operation on a port has no arguments")
-            self.emit(path, Operated(statement.at, [value.name], statement.act.value, False))
+            self._emit_operated(statement, [value.name], False, path)
             return [path]
         if isinstance(value, TimerValue):
             self._operate_timer(statement, path, scope)
@@ -71,6 +76,11 @@ class Behaviour(Chooser):
         if value.number == self.own:
             return self._stop(statement, path)
         refuse(statement.at, f"`{statement.act.value}` of another component ends it from outside")
+
+    def _emit_operated(self, statement: tree.Operate, ports: list[str], is_all: bool, path: Path) -> None:
+        self.emit(path, Operated(statement.at, ports, statement.act.value, is_all))
+        if statement.act in (PortAct.CLEAR, PortAct.START):
+            self.note_discarded(ports, path)
 
     def _operated(self, statement: tree.Operate, path: Path, scope: Scope) -> Form:
         assert statement.target is not None
@@ -138,7 +148,7 @@ class Behaviour(Chooser):
         if not self.can_set_up:
             refuse(at, "components are created, connected and started by the test case's own body alone")
         if path.fork is not None:
-            refuse(at, "whether this is done hangs on a message; here it is done before all messages")
+            refuse_open(at, "whether this is done hangs on a message; here it is done before all messages")
 
     def join(self, statement: tree.Join, path: Path, scope: Scope) -> list[Path]:
         if statement.how in (Joining.DISCONNECT, Joining.UNMAP):
@@ -212,7 +222,8 @@ class Behaviour(Chooser):
             refuse(statement.at, "this component has a behaviour already")
         bound = self.bind(body.parameters, call.arguments, call.at, path, scope)
         for name, slot in bound:
-            if isinstance(slot.value, Reference) or has_received(slot.value):
+            self.settled(slot.value, call.at, f"the argument for `{name}` isn't known before the run")
+            if isinstance(slot.value, Reference):
                 refuse(call.at, f"the argument for `{name}` isn't known before the run")
         is_told = bool(path.state.awaited) or any(not isinstance(one, Verdict) for one in path.code)
         if is_told:

@@ -108,7 +108,13 @@ class Cursor:
         while self.token.kind is Kind.MODIFIER:
             if self.is_at("@lazy", "@fuzzy"):
                 self.fail(f"`{self.token.text}` isn't carried over: a value is evaluated where it is given")
-            self.note(Construct.MODIFIER, self.take())
+            self.known_modifier(())
+
+    def known_modifier(self, words: tuple[str, ...]) -> None:
+        """A modifier that changes nothing here is passed; any other is refused."""
+        if self.token.text not in words:
+            self.fail(f"the modifier `{self.token.text}` isn't carried over here")
+        self.note(Construct.MODIFIER, self.take())
 
     def deeper(self) -> None:
         self.nested += 1

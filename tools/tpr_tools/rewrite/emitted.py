@@ -59,6 +59,13 @@ class Told:
 
 
 @dataclass
+class Failed:
+    """What the script never comes to, by all that is known of it: a send that fails, so that a run would be an `error`."""
+
+    at: Token
+
+
+@dataclass
 class Way:
     """A branch; without an operation `[else]`."""
 
@@ -87,5 +94,5 @@ class Verdict:
     word: str
 
 
-Emitted = Union[Sent, Got, GotDone, Told, Ways, Operated, Verdict]
+Emitted = Union[Sent, Got, GotDone, Told, Ways, Operated, Verdict, Failed]
 Code = list[Emitted]

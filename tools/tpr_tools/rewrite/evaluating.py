@@ -10,6 +10,7 @@ from .fitting import open_alternatives, opened, template_at
 from .paths import Key, Path, Scope, Slot, Split
 from .program import Program
 from .refusing import refuse, Refusal
+from .settling import SENDER as SENDER
 from .tokens import Token
 from .tree import Expression, Sign
 from .types import Kind, Type
@@ -19,7 +20,6 @@ from .values import (
 )
 
 _MOST_NESTED = 60
-SENDER = (-1,)
 
 
 class Evaluator(BracesReader):
@@ -212,9 +212,10 @@ class Evaluator(BracesReader):
         if isinstance(node, tree.FieldOf):
             found = self._field(node, whole, of)
             if isinstance(found, Received) and not may_be_open and may_be_left_out(self.said_of(found)):
-                refuse(node.at, f"whether `{node.word}` was received is open here: ask `ispresent` before")
+                is_open = f"whether `{node.word}` was received is open here: ask `ispresent` before"
+                self.split(found, node.at, is_open)
             return found
-        index = self.evaluate(node.index, path, scope)
+        index = self.settled(self.evaluate(node.index, path, scope), node.at, "the index isn't known here")
         if isinstance(index, bool) or not isinstance(index, int) or index < 0:
             refuse(node.at, "the index isn't known here")
         if isinstance(whole, str):
@@ -231,7 +232,7 @@ class Evaluator(BracesReader):
         template = self.said_of(whole)
         items = template.items if isinstance(template, Elements) else ()
         if index >= len(items) or Wild.ANY_OR_NONE in items[: index + 1]:
-            refuse(at, "whether what was received has this element is open")
+            self.split(whole, at, "whether what was received has this element is open")
 
     def _is_module(self, name: tree.Name, path: Path, scope: Optional[Scope]) -> bool:
         is_module = any(module.name == name.word for module in self.program.modules)
@@ -254,7 +255,7 @@ class Evaluator(BracesReader):
         template = self.said_of(whole) if isinstance(whole, Received) else None
         if isinstance(whole, Received) and not isinstance(template, Chosen):
             if open_alternatives(whole.symbol.facts, whole.steps, of) != [node.word]:
-                refuse(node.at, "which alternative it has isn't known here: ask `ischosen` before")
+                self.split(whole, node.at, "which alternative it has isn't known here: ask `ischosen` before")
             self.fits(whole, Chosen(node.word, Wild.ANY), node.at)
         elif not isinstance(template, Chosen) or template.name != node.word:
             refuse(node.at, f"the alternative `{node.word}` isn't the chosen one")
@@ -269,7 +270,7 @@ class Evaluator(BracesReader):
         inner = node.value if isinstance(node, tree.Unary) else node
         if isinstance(inner, tree.Special) and inner.sign is Sign.INFINITY:
             return None
-        value = self.evaluate(node, path, scope)
+        value = self.settled(self.evaluate(node, path, scope), node.at)
         if isinstance(value, bool) or not isinstance(value, int):
             refuse(node.at, "the bounds of a range are integers that are known before")
         return value
@@ -299,8 +300,7 @@ class Evaluator(BracesReader):
             raise Refusal(at, "")
         if value is Mark.UNSET:
             refuse(at, "this has no value yet")
-        if has_received(value):
-            refuse(at, "this is computed from what was received")
+        self.settled(value, at)
         if not is_value(value):
             refuse(at, "this is no value")
 
@@ -311,18 +311,20 @@ class Evaluator(BracesReader):
             left, right = right, left
             sign = {"<": ">", ">": "<", "<=": ">=", ">=": "<="}.get(sign, sign)
         if not isinstance(left, Received) or has_received(right):
-            refuse(node.at, "two parts of what was received are compared")
+            self.settled(left, node.at, "two parts of what was received are compared")
+            self.settled(right, node.at, "two parts of what was received are compared")
+            raise Refusal(node.at, "")
         self.look_at_value(right, node.at)
         if sign in ("==", "!="):
             return self.fits(left, right, node.at) is (sign == "==")
         if isinstance(right, bool) or not isinstance(right, int):
-            refuse(node.at, "this is computed from what was received")
+            self.split(left, node.at)
         bounds = {
             "<": Bounds(None, right - 1), "<=": Bounds(None, right),
             ">": Bounds(right + 1, None), ">=": Bounds(right, None),
         }
         if sign not in bounds:
-            refuse(node.at, "this is computed from what was received")
+            self.split(left, node.at)
         return self.fits(left, bounds[sign], node.at)
 
     def fits(self, received: Received, template: Form, at: Token) -> bool:
@@ -399,7 +401,7 @@ class Evaluator(BracesReader):
         if isinstance(value, Received):
             if word == "ispresent" and value.steps != SENDER:
                 return self.fits(value, Wild.ANY, node.at)
-            return True if len(value.steps) == 0 else refuse(node.at, "this is computed from what was received")
+            return True if len(value.steps) == 0 else self.split(value, node.at)
         if word == "isbound":
             return value is not Mark.UNSET
         if word == "ispresent" and not is_value(value):
@@ -423,6 +425,7 @@ class Evaluator(BracesReader):
         return whole.name == name
 
     def _match(self, value: Form, template: Form, at: Token) -> bool:
+        self.settled(template, at)
         if not is_template(template):
             refuse(at, "the template isn't known here")
         if isinstance(value, Received):

@@ -3,20 +3,26 @@ from __future__ import annotations
 
 from collections import Counter
 from dataclasses import dataclass
-from typing import Iterable, Iterator, Optional
+from typing import Iterator, Optional
 
 from . import tree
 from .components import SYSTEM, Behaviour
+from .flowing import Flows, flow_from
 from .emitted import Code, Emitted, Got, GotDone, Operated, Sent, Told, Verdict, Ways
-from .paths import Created, End, Exit, Joined, Path, Started, State
-from .refusing import Refusal, refuse
+from .paths import End, Exit, Joined, Path, Started, State, peers
+from .refusing import Refusal, refuse, refuse_open
 from .run import Run
 from .tokens import Token
 from .types import Kind, Type
 from .values import VERDICTS
 
 MOST_ROUNDS = 8
+MOST_KNOWN_ROUNDS = 2_000
 _Counts = Counter[tuple[int, str]]
+
+
+class NotClosed(Exception):
+    """What can come isn't known: the system sends too."""
 
 
 @dataclass
@@ -30,6 +36,8 @@ class Part:
     behaviour: Behaviour
     code: Code
     started: Optional[Started] = None
+    # It is there when its behaviour has ended.
+    is_alive: bool = False
 
 
 @dataclass
@@ -60,6 +68,8 @@ class SystemBehaviour(Behaviour):
 
 def follow(run: Run, case: tree.TestCase) -> Followed:
     """All behaviours. Where a `repeat` counts what can come it is done anew until the counts hold."""
+    if run.flows is not None:
+        return _follow_flows(run, case, run.flows)
     for _ in range(MOST_ROUNDS):
         run.counted.clear()
         run.steps = run.written = 0
@@ -70,7 +80,27 @@ def follow(run: Run, case: tree.TestCase) -> Followed:
             return followed
         for key in short:
             run.most[key] = counts[key]
-    refuse(case.at, "how often a `repeat` is come to has no bound that is known before the run")
+    refuse_open(case.at, "how often a `repeat` is come to has no bound that is known before the run")
+
+
+def _follow_flows(run: Run, case: tree.TestCase, flows: Flows) -> Followed:
+    """All behaviours, anew until they send nothing more that isn't known to come."""
+    for _ in range(MOST_KNOWN_ROUNDS):
+        run.begin()
+        followed = _follow_once(run, case)
+        if not is_closed(run, followed):
+            raise NotClosed()
+        is_new = [flow_from(part.number, part.code, followed.joins, flows) for part in followed.parts]
+        if not any(is_new):
+            return followed
+    refuse(case.at, f"what the components send goes on and on: after {MOST_KNOWN_ROUNDS} rounds there is more")
+
+
+def is_closed(run: Run, followed: Followed) -> bool:
+    """Whether nothing comes from outside: `sut` plays the system, or nothing is mapped."""
+    if "sut" in run.program.functions:
+        return True
+    return all(SYSTEM not in (join.one.component, join.other.component) for join in followed.joins)
 
 
 def _follow_once(run: Run, case: tree.TestCase) -> Followed:
@@ -90,10 +120,10 @@ def _follow_once(run: Run, case: tree.TestCase) -> Followed:
         system = own
     parts = [Part(0, own, "mtc", case.at, behaviour, path.code)]
     started = dict(state.started)
-    for number, created in enumerate(state.components, 1):
-        parts.append(_part(run, number, created, started.get(number), frozenset(started)))
+    for number in range(1, len(state.components) + 1):
+        parts.append(_part(run, number, state, started))
     if system is not None:
-        parts += _system_part(run, system)
+        parts += _system_part(run, system, state)
     done = frozenset.intersection(*(way.state.done | way.state.awaited for way in ways))
     least = min((way.state.verdict for way in ways), key=VERDICTS.index)
     return Followed(case, parts, state.joins, system, done, least)
@@ -119,17 +149,18 @@ def _look_at_exits(run: Run, ways: list[Path], at: Token) -> None:
         run.tell(Refusal(at, "a `break`, `continue` or `repeat` stands outside of what it could leave"))
 
 
-def _part(
-    run: Run, number: int, created: Created, started: Optional[Started], others: frozenset[int]
-) -> Part:
+def _part(run: Run, number: int, state: State, started: dict[int, Started]) -> Part:
+    created = state.components[number - 1]
     behaviour = Behaviour(run, number, created.type, created.at)
-    behaviour.known_started = others - {number}
+    behaviour.known_started = frozenset(started) - {number}
+    behaviour.known_joins = state.joins
     path = Path([], State(), None)
-    part = Part(number, created.type, created.hint, created.at, behaviour, path.code, started)
-    if started is None:
+    own = started.get(number)
+    part = Part(number, created.type, created.hint, created.at, behaviour, path.code, own, created.is_alive)
+    if own is None:
         return part
     try:
-        _perform(run, behaviour, path, started)
+        _perform(run, behaviour, path, own)
     except Refusal as refusal:
         run.tell(refusal)
     return part
@@ -149,11 +180,12 @@ def _perform(run: Run, behaviour: Behaviour, path: Path, started: Started) -> No
     _look_at_exits(run, ways, started.at)
 
 
-def _system_part(run: Run, system: Type) -> list[Part]:
+def _system_part(run: Run, system: Type, state: State) -> list[Part]:
     function = run.program.functions.get("sut")
     if function is None:
         return []
     behaviour = SystemBehaviour(run, SYSTEM, system, function.at)
+    behaviour.known_joins = state.joins
     path = Path([], State(), None)
     started = Started(function, (), function.at, False)
     _perform(run, behaviour, path, started)
@@ -181,11 +213,6 @@ def _most(followed: Followed) -> _Counts:
             for end in peers(followed.joins, End(part.number, port)):
                 found[end.component, end.port] += count
     return found
-
-
-def peers(joins: Iterable[Joined], end: End) -> list[End]:
-    found = [join.other for join in joins if join.one == end]
-    return found + [join.one for join in joins if join.other == end and join.one != end]
 
 
 def _sends(code: Code) -> Counter[str]:
@@ -227,7 +254,7 @@ def look_at_ends(run: Run, followed: Followed) -> None:
         if part.started and part.number > 0 and part.number not in followed.done:
             reason = _reason_to_wait(followed, part)
             if reason:
-                run.tell(Refusal(part.started.at, f"{reason}: wait for its end with `.done`"))
+                run.tell(Refusal(part.started.at, f"{reason}: wait for its end with `.done`", True))
     for join in followed.joins:
         for end in (join.one, join.other):
             joined = by_number.get(end.component)

@@ -5,13 +5,14 @@ from dataclasses import dataclass, field
 from typing import Optional
 
 from . import tree
+from .closed import Closed
 from .emitted import Message, Who
-from .messages import Messages
-from .paths import ActiveDefault, Path, Scope
+from .evaluating import SENDER
+from .paths import ActiveDefault, Path, Scope, Split
 from .refusing import Refusal, refuse
 from .tokens import Token
 from .tree import Any, Expression, Leaving, Receiving
-from .values import Elements, Form, PortValue, TimerValue
+from .values import ComponentValue, Elements, Form, PortValue, Received, TimerValue
 
 MOST_GUARDS = 500
 
@@ -64,7 +65,7 @@ class Expansion:
         self.guards.append(guard)
 
 
-class Expander(Messages):
+class Expander(Closed):
     def expand(self, branches: list[tree.Branch], path: Path, scope: Scope) -> Expansion:
         """All branches in the order in which they are tried; behind one that is always open none is."""
         found = Expansion()
@@ -174,7 +175,25 @@ class Expander(Messages):
     def _senders(self, event: tree.Receive, path: Path, scope: Scope) -> list[Optional[Who]]:
         if not event.senders:
             return [None]
-        return [self.who(node, path, scope) for node in event.senders]
+        return [self._sender(node, path, scope) for node in event.senders]
+
+    def _sender(self, node: Expression, path: Path, scope: Scope) -> Who:
+        """Where it is the sender of an earlier message, that message gets a branch for each sender: behind `from` the
+        profile has no such variable."""
+        value = self.evaluate(node, path, scope)
+        if not isinstance(value, Received) or not value.symbol.is_sender:
+            return self.who(node, path, scope)
+        symbol = value.symbol
+        known = {asked: is_so for (steps, asked), is_so in symbol.facts.items() if steps == SENDER}
+        for asked, is_so in known.items():
+            if is_so and isinstance(asked, ComponentValue):
+                return asked.number
+        left = [number for number in symbol.peers if ComponentValue(number) not in known]
+        if not left or -1 in left:
+            refuse(node.at, "which component is meant isn't known here")
+        if len(left) == 1:
+            return left[0]
+        raise Split(symbol, SENDER, ComponentValue(left[0]), node.at)
 
     def _wanted(self, event: tree.Receive, port: str, path: Path, scope: Scope) -> Optional[Message]:
         if event.template is None:

@@ -5,8 +5,9 @@ from dataclasses import replace
 from typing import Optional
 
 from . import tree
-from .emitted import Emitted, GotDone, Verdict
+from .emitted import Emitted, Got, GotDone, Verdict, Ways
 from .evaluating import Evaluator
+from .hoisting import Communicates, Hoister, expressions_of, key_of, names_beside
 from .paths import Checkpoint, Exit, Path, Scope, Slot, Split, checkpoint, joined
 from .refusing import Refusal
 from .run import PortOf, Run, members_of
@@ -18,12 +19,13 @@ from .values import Form, Mark, PortValue, Reference
 Plan = Optional[tuple[tuple[int, ...], Form, "Plan", "Plan"]]
 
 
-class ListFollower(Evaluator):
+class ListFollower(Evaluator, Hoister):
     """One behaviour. `ports` are its component's; `plans` says of a receive into which branches it is split."""
 
     def __init__(self, run: Run, own: int, type: Type, at: Token):
         super().__init__(run.program, own)
         self.run = run
+        self.flows, self.most_values = run.flows, run.options.values
         self.parameters = run.parameters
         self.type = type
         self.members = members_of(self.types, type, at, self.size_of)
@@ -113,14 +115,62 @@ class ListFollower(Evaluator):
     def _guarded(self, statement: Statement, path: Path, scope: Scope) -> list[Path]:
         """What is refused is told, and the rest looked at as if it weren't there."""
         open_now = (len(self.frames), len(self.results), self.depth)
+        state, written = path.state.copy(), len(path.code)
         try:
             self.run.step(statement.at)
             return self.follow(statement, path, scope)
+        except Communicates as met:
+            self._close(open_now)
+            return self._before(met, statement, Path(path.code, state, path.fork), written, scope)
         except Refusal as refusal:
             self.run.tell(refusal)
             self._close(open_now)
             self._lose(statement, path, scope)
+            self._look_within(statement, path, scope)
             return [path]
+
+    def _look_within(self, statement: Statement, path: Path, scope: Scope) -> None:
+        """Of what is refused as a whole, what can't be carried over in it either; nothing of it is written."""
+        open_now = (len(self.frames), len(self.results), self.depth)
+        for block in _blocks_of(statement):
+            inner = Path([], path.state.copy(), None)
+            self.frames.append(self.program.names_in(statement))
+            try:
+                self.statements(block.statements, inner, self.new_scope(scope))
+            except (Refusal, Split):
+                # It hangs on what is refused already.
+                pass
+            self._close(open_now)
+
+    def _before(
+        self, met: Communicates, statement: Statement, path: Path, written: int, scope: Scope
+    ) -> list[Path]:
+        """The statement, behind a call in it that is followed first."""
+        listed = expressions_of(statement)
+        depth = len(self.frames)
+        try:
+            if listed is None or len(path.code) != written:
+                raise Refusal(met.at, met.reason)
+            found = self.hoisted(met, listed, path, scope, lambda one: self._guarded(statement, one, scope), lambda one: one)
+        except Refusal as refusal:
+            self.run.tell(refusal)
+            self._lose(statement, path, scope)
+            found = [path]
+        del self.frames[depth:]
+        for one in found:
+            one.state.variables.pop(key_of(met.call), None)
+        return found
+
+    def with_frame(self, names: frozenset[str]) -> None:
+        self.frames.append(names)
+
+    def is_apart(self, call: tree.Call, listed: list[Expression], path: Path) -> bool:
+        """Whether nothing beside the call speaks of what it may change."""
+        beside = {name for node in listed for name in names_beside(node, call)}
+        known = {name for _, name in path.state.variables}
+        changed = set(self.program.reached_by(tree.word_called(call))) & known
+        changed |= {name for item in call.arguments for name in names_beside(item.value, call)}
+        return not beside & changed
 
     def _lose(self, statement: Statement, path: Path, scope: Scope) -> None:
         if isinstance(statement, tree.Declaration):
@@ -153,6 +203,7 @@ class ListFollower(Evaluator):
         if not isinstance(statement, Verdict):
             self.flush(path, statement.at)
         self.run.write(statement.at)
+        self.run.has_waited = self.run.has_waited or isinstance(statement, (Got, Ways))
         path.code.append(statement)
 
     def flush(self, path: Path, at: Token) -> None:
@@ -169,6 +220,16 @@ class ListFollower(Evaluator):
 
     def declare(self, statement: tree.Declaration, path: Path, scope: Scope) -> list[Path]:
         raise NotImplementedError
+
+
+def _blocks_of(statement: Statement) -> list[tree.Block]:
+    if isinstance(statement, tree.Alt):
+        return [branch.block for branch in statement.branches if branch.block is not None]
+    if isinstance(statement, tree.If):
+        return [statement.then, *([statement.otherwise] if statement.otherwise else [])]
+    if isinstance(statement, tree.Select):
+        return [case.block for case in statement.cases]
+    return [statement.block] if isinstance(statement, (tree.For, tree.While)) else []
 
 
 def _extended(plan: Plan, facts: list[tuple[tuple[tuple[int, ...], Form], bool]], split: Split) -> Plan:

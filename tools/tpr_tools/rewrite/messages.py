@@ -8,14 +8,14 @@ from .arithmetic import length_of
 from .behaviours import Follower
 from .emitted import Message, Who
 from .fitting import fits_type
-from .paths import Path, Scope
+from .paths import End, Path, Scope
 from .refusing import Refusal, refuse
 from .tokens import Token
 from .tree import Expression
 from .types import MESSAGES, FieldOfType, Kind, Type
 from .values import (
-    Chosen, ComponentValue, Elements, Fields, Form, Mark, Options, PortValue, Received, Wild, has_received, is_template,
-    is_value, matches,
+    Chosen, ComponentValue, Elements, Fields, Form, Mark, Options, PortValue, Received, Wild, is_template, is_value,
+    matches,
 )
 
 
@@ -55,8 +55,7 @@ class Messages(Follower):
                 refuse(node.at, "what was received is sent as another type")
             form.symbol.is_used = True
             return Message(type, form)
-        if has_received(form):
-            refuse(node.at, "this is computed from what was received")
+        self.settled(form, node.at)
         self._look_at_sent(form, node.at)
         self._look_at_type(form, type, node.at)
         return Message(type, form)
@@ -90,7 +89,7 @@ class Messages(Follower):
                 refuse(node.at, f"{count} of the port's types fits what stands here: write the type before it")
             return fitting[0]
         for type in listed:
-            if type is declared or type.root is declared.root:
+            if type is declared or (type.root is declared.root and type.is_universal is declared.is_universal):
                 return type
         refuse(node.at, f"the port's list hasn't the type `{declared.name}`")
 
@@ -169,8 +168,7 @@ class Messages(Follower):
 
     def wanted(self, node: Expression, port: str, path: Path, scope: Scope) -> Message:
         type, form = self._evaluated(node, self.received_types(port), path, scope)
-        if has_received(form):
-            refuse(node.at, "this template is computed from what was received")
+        self.settled(form, node.at, "this template is computed from what was received")
         if not is_template(form):
             refuse(node.at, "this template has no value yet")
         form = Wild.ANY if form is Wild.ANY_OR_NONE else form
@@ -182,6 +180,9 @@ class Messages(Follower):
         return Message(type, form)
 
     # Components
+
+    def peers_of(self, port: str, path: Path) -> list[End]:
+        raise NotImplementedError
 
     def who(self, node: Expression, path: Path, scope: Scope) -> Who:
         value = self.evaluate(node, path, scope)

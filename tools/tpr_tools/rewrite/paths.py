@@ -6,13 +6,13 @@ from __future__ import annotations
 
 from dataclasses import dataclass, field, replace
 from enum import Enum
-from typing import Optional
+from typing import Iterable, Optional
 
 from . import tree
 from .emitted import Code
 from .tokens import Token
 from .types import Type
-from .values import Form, Mark, Reference, Symbol
+from .values import End as End, Form, Mark, Reference, Symbol
 
 Key = tuple[int, str]
 
@@ -54,14 +54,6 @@ class Created:
 
 
 @dataclass(frozen=True)
-class End:
-    """A port of a component, by the number of the component."""
-
-    component: int
-    port: str
-
-
-@dataclass(frozen=True)
 class Joined:
     is_map: bool
     one: End
@@ -69,6 +61,12 @@ class Joined:
     at: Token
     # The components that ran already: they may not have used these ports by then.
     running: frozenset[int]
+
+
+def peers(joins: Iterable[Joined], end: End) -> list[End]:
+    """The ports that a port is joined with."""
+    found = [join.other for join in joins if join.one == end]
+    return found + [join.one for join in joins if join.other == end and join.one != end]
 
 
 @dataclass(frozen=True)
@@ -95,9 +93,11 @@ class State:
     used: frozenset[str] = frozenset()
     left: frozenset[str] = frozenset()
     taken: tuple[tuple[str, int], ...] = ()
+    # How many messages it took at the least and at the most, by its port and the port that they were sent from.
+    got: dict[tuple[str, End], tuple[int, int]] = field(default_factory=dict)
 
     def copy(self) -> State:
-        return replace(self, variables=dict(self.variables))
+        return replace(self, variables=dict(self.variables), got=dict(self.got))
 
     def setup(self) -> tuple[object, ...]:
         """All but the variables and what is counted."""
@@ -227,6 +227,9 @@ def _common(group: list[Path], live: frozenset[str]) -> State:
     counts = [dict(path.state.taken) for path in group]
     ports = set(counts[0]).intersection(*counts[1:])
     state.taken = tuple(sorted((port, min(count[port] for count in counts)) for port in ports))
+    keys = dict.fromkeys(key for path in group for key in path.state.got)
+    spans = {key: [path.state.got.get(key, (0, 0)) for path in group] for key in keys}
+    state.got = {key: (min(low for low, _ in of), max(high for _, high in of)) for key, of in spans.items()}
     worst = {path.state.verdict for path in group}
     state.verdict = worst.pop() if len(worst) == 1 else "none"
     return state

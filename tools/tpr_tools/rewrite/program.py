@@ -11,6 +11,12 @@ from .types import Types
 _Body = Union[tree.Function, tree.Altstep, tree.TestCase, tree.TemplateDefinition, tree.Constant]
 
 
+# A function that has one of these does more than to compute.
+_WRITING = frozenset(
+    "send receive trigger check alt interleave setverdict start stop halt clear done killed create connect map".split()
+)
+
+
 class Program:
     def __init__(self, sources: list[Source]):
         self.faults: list[Refused] = []
@@ -25,6 +31,7 @@ class Program:
         self._types: dict[str, tree.TypeDefinition] = {}
         self._names: dict[int, frozenset[str]] = {}
         self._reached: dict[str, frozenset[str]] = {}
+        self._communicating: dict[str, bool] = {}
         for source in sources:
             self._read(source)
         self._look_at_imports()
@@ -88,6 +95,22 @@ class Program:
     def has_word(self, word: str) -> bool:
         """Whether a word stands anywhere in the modules."""
         return any(token.text == word for tokens in self._tokens.values() for token in tokens)
+
+    def communicates(self, name: str) -> bool:
+        """Whether a function, or one that it comes to, may do what is written."""
+        found = self._communicating.get(name)
+        if found is None:
+            bodies = [word for word in self.reached_by(name) if self._has_body(word)]
+            found = any(self._writes(word) for word in [name, *bodies])
+            self._communicating[name] = found
+        return found
+
+    def _writes(self, name: str) -> bool:
+        function = self.functions.get(name)
+        if function is None or function.body is None:
+            return name in self.altsteps
+        start, end = function.body.span
+        return any(token.text in _WRITING for token in self._tokens[function.at.file][start:end])
 
     def reached_by(self, name: str) -> frozenset[str]:
         return self._reach(frozenset([name]))

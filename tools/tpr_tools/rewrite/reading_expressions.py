@@ -139,6 +139,7 @@ class ExpressionReader(Cursor):
         if is_universal:
             self.accept("charstring")
             self.note(Construct.UNIVERSAL, token)
+            return self.maybe_typed(tree.Name(token, "universal charstring"))
         return self.maybe_typed(tree.Name(token, token.text))
 
     def maybe_typed(self, name: tree.Name) -> Expression:

@@ -172,7 +172,7 @@ class ModuleReader(StatementReader):
     def _function(self, module: tree.Module) -> None:
         self.take()
         while self.token.kind is Kind.MODIFIER:
-            self.note(Construct.MODIFIER, self.take())
+            self.known_modifier(("@deterministic", "@control"))
         name = self.name("the name of the function")
         parameters = self._parameters()
         runs_on = self._runs_on_alone()
@@ -272,7 +272,7 @@ class ModuleReader(StatementReader):
         self.note(Construct.EXTERNAL, self.take())
         self.expect("function")
         while self.token.kind is Kind.MODIFIER:
-            self.take()
+            self.known_modifier(("@deterministic", "@control"))
         name = self.name("the name of the function")
         parameters = self._parameters()
         module.definitions.append(

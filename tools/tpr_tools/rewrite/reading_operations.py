@@ -140,13 +140,14 @@ class OperationReader(TypeReader):
                 self._redirected_value(redirect)
             elif self.accept("sender"):
                 redirect.sender = self.reference()
-            elif self.token.kind is Kind.MODIFIER and self.token.text in ("@index", "@timestamp"):
+            elif self.token.kind is Kind.MODIFIER and self.token.text == "@index":
                 self.note(Construct.REDIRECT, self.take())
                 self.accept("value")
                 redirect.index = self.reference()
-            elif self.is_at("timestamp"):
-                self.take()
-                redirect.index = self.reference()
+            elif self.is_at("timestamp", "@timestamp"):
+                self.fail("a redirected time stamp isn't carried over: there is no time in a run")
+            elif self.token.kind is Kind.MODIFIER:
+                self.fail(f"`{self.token.text}` of a redirect isn't carried over")
             elif not self.accept(","):
                 return redirect
 
@@ -159,9 +160,7 @@ class OperationReader(TypeReader):
             target = self.reference()
             self.expect(":=")
             if self.token.kind is Kind.MODIFIER:
-                self.take()
-                if self.is_at("("):
-                    self.skip_brackets()
+                self.fail(f"`{self.token.text}` of a redirect isn't carried over: nothing is decoded in a run")
             redirect.parts.append((target, self._postfix(self._primary())))
             if not self.accept(","):
                 break

@@ -99,7 +99,8 @@ class TypeReader(ExpressionReader):
             return tree.TypeDefinition(at, "address", tree.OtherBody(at, "addresses aren't carried over"))
         name = self.name("the name of the type").text
         fields = self._fields()
-        self.restriction()
+        if self.restriction() is not None:
+            self.fail(f"a list of the values of a {word.text} isn't carried over")
         return tree.TypeDefinition(at, name, self._body(word, fields))
 
     def _body(self, word: Token, fields: list[tree.FieldType]) -> tree.TypeBody:
@@ -140,7 +141,7 @@ class TypeReader(ExpressionReader):
     def _field(self) -> tree.FieldType:
         at = self.token
         if self.token.kind is Kind.MODIFIER:
-            self.take()
+            self.fail(f"the modifier `{self.token.text}` of a field isn't carried over")
         of = self._nested_type()
         name = self.name("the name of the field").text
         of.sizes = self.sizes()
@@ -173,8 +174,11 @@ class TypeReader(ExpressionReader):
             self.fail("`message` is wanted here")
         if kind.text != "message":
             self.note(Construct.PROCEDURE_PORT, kind)
-        while self.token.kind is Kind.MODIFIER or self.is_at("realtime"):
+        if self.is_at("realtime"):
+            # Only time stamps ask for it, and those are refused.
             self.take()
+        while self.token.kind is Kind.MODIFIER:
+            self.known_modifier(())
         body = tree.PortBody(at, kind.text == "message", [], [], False)
         self.expect("{")
         while not self.is_at("}"):

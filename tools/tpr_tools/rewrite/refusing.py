@@ -9,11 +9,22 @@ from .tokens import Token
 class Refusal(Exception):
     """A construct that can't be carried over; without a reason it follows from one that is told already."""
 
-    def __init__(self, at: Token, reason: str):
+    def __init__(self, at: Token, reason: str, is_open: bool = False):
         super().__init__(reason)
         self.at = at
         self.reason = reason
+        # It may be carried over where it is known what can come.
+        self.is_open = is_open
 
 
 def refuse(at: Token, reason: str) -> NoReturn:
     raise Refusal(at, reason)
+
+
+def refuse_silently(at: Token) -> NoReturn:
+    """What follows from what is told already."""
+    raise Refusal(at, "")
+
+
+def refuse_open(at: Token, reason: str) -> NoReturn:
+    raise Refusal(at, reason, True)

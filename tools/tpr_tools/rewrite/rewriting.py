@@ -1,24 +1,29 @@
 """From scripts of the full language to one of the profile, or to all that can't be carried over."""
 from __future__ import annotations
 
+import re
 from dataclasses import dataclass, field
 from typing import Optional
 
-from .following import follow, look_at_ends
+from .ended import EndedFinder
+from .flowing import Flows
+from .following import Followed, NotClosed, follow, look_at_ends
 from .parameters import expressions_of
 from .program import Program
 from .refusing import Refusal
-from .run import Run, TooMany
+from .run import Options, Run, TooMany
 from .tokens import Refused, Source, refused_at
+from .tree import TestCase
 from .writing import Lines, Writer
 
 
 @dataclass
 class Rewritten:
-    """The script, or what was refused."""
+    """The script, or what was refused; and what is worth a word though it is carried over."""
 
     lines: Lines
     refused: list[Refused] = field(default_factory=list)
+    notes: list[Refused] = field(default_factory=list)
 
     @property
     def text(self) -> str:
@@ -35,38 +40,85 @@ def rewrite(
     sources: list[Source],
     case: Optional[str] = None,
     parameters: Optional[dict[str, str]] = None,
-    encodes: bool = False,
+    options: Options = Options(),
 ) -> Rewritten:
     program = Program(sources)
     nowhere = sources[0].tokens[0]
-    if program.faults:
-        return Rewritten(Lines(), _sorted(program.faults))
     chosen = program.chosen_case(case)
     if isinstance(chosen, str):
-        return Rewritten(Lines(), [refused_at(nowhere, chosen)])
+        return Rewritten(Lines(), sorted_places(program.faults) or [refused_at(nowhere, chosen)])
     values, wrong = expressions_of(parameters or {}, program)
     if wrong:
-        return Rewritten(Lines(), wrong)
-    run = Run(program, values, encodes)
+        return Rewritten(Lines(), sorted_places([*program.faults, *wrong]))
+    files = [source.file for source in sources]
+    run = Run(program, values, options)
+    lines = written(run, chosen, files)
+    if run.open and not program.faults:
+        run, lines = with_what_comes(run, chosen, files)
+    if lines is not None and not program.faults:
+        return Rewritten(lines, notes=sorted_places([*run.notes, *_backslashes(sources)]))
+    if not run.refused and not program.faults:
+        run.tell(Refusal(run.lost or nowhere, "a value isn't known here"))
+    told = list(run.refused.values())
+    if program.faults:
+        # What couldn't be read isn't known where it is used.
+        told = [one for one in told if not _FOLLOWS.search(one.reason)]
+    return Rewritten(Lines(), sorted_places([*told, *program.faults]))
+
+
+def written(run: Run, chosen: TestCase, files: list[str]) -> Optional[Lines]:
+    """The script; None where something is refused, of which the run is told."""
+    followed: Optional[Followed] = None
     try:
         followed = follow(run, chosen)
         if not run.refused and run.lost is None:
             look_at_ends(run, followed)
-        if not run.refused and run.lost is None:
-            lines = Writer(run, followed, [source.file for source in sources]).write()
-            if not run.refused:
-                return Rewritten(lines)
+            look_at_sends(run, followed)
+        lines = Writer(run, followed, files).write()
+        return None if run.refused or run.lost is not None else lines
     except Refusal as refusal:
         run.tell(refusal)
     except TooMany:
         pass
     except RecursionError:
         run.tell(Refusal(chosen.at, "this test case is nested too deep to be followed"))
-    if not run.refused:
-        run.tell(Refusal(run.lost or nowhere, "a value isn't known here"))
-    return Rewritten(Lines(), _sorted(list(run.refused.values())))
+    return None
 
 
-def _sorted(refused: list[Refused]) -> list[Refused]:
+def with_what_comes(before: Run, chosen: TestCase, files: list[str]) -> tuple[Run, Optional[Lines]]:
+    """Anew, with what can come to each port, where nothing comes from outside. What was refused for another reason than
+    that it wasn't known stays refused, unless nothing comes to it."""
+    run = Run(before.program, before.parameters, before.options, flows=Flows())
+    try:
+        lines = written(run, chosen, files)
+    except NotClosed:
+        return before, None
+    if lines is None:
+        for place, told in before.refused.items():
+            if place not in before.open:
+                run.refused.setdefault(place, told)
+    return run, lines
+
+
+def look_at_sends(run: Run, followed: Followed) -> None:
+    """A send to what has ended is refused, or told of where that is asked for."""
+    for late in EndedFinder(followed).all():
+        if run.options.queues_ended:
+            run.notes.append(refused_at(late.at, f"{late.reason} (--ended=queued)"))
+            run.queued.add(late.at)
+        else:
+            run.tell(Refusal(late.at, late.reason))
+
+
+def _backslashes(sources: list[Source]) -> list[Refused]:
+    """The first text with a backslash: of what it means tools say different things."""
+    reason = "a backslash in a text stands for itself, as in the standard; Eclipse Titan reads the start of an escape"
+    return [refused_at(source.escaped, reason) for source in sources if source.escaped is not None][:1]
+
+
+_FOLLOWS = re.compile(r"isn't known|is no |no value|returns nothing|without a `return`|there is no |no branch")
+
+
+def sorted_places(refused: list[Refused]) -> list[Refused]:
     once = {(one.file, one.line, one.column): one for one in reversed(refused)}
     return [once[place] for place in sorted(once)]

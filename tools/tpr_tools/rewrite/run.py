@@ -1,10 +1,12 @@
 """What all behaviours of a rewrite share: the program, what was refused, and the counts that bound the work."""
 from __future__ import annotations
 
+import time
 from dataclasses import dataclass, field
 from typing import Callable, NoReturn, Optional
 
 from . import tree
+from .flowing import Flows
 from .program import Program
 from .refusing import Refusal, refuse
 from .tokens import Refused, Token, refused_at
@@ -13,7 +15,8 @@ from .types import Kind, Type, Types
 from .values import Elements, Form, PortValue
 
 MOST_STEPS = 150_000
-MOST_WRITTEN = 40_000
+# What tpr check takes at most.
+MOST_STATEMENTS = 100_000
 MOST_REFUSALS = 100
 MOST_PORTS = 64
 
@@ -22,15 +25,41 @@ class TooMany(Exception):
     """So much is refused that the rest isn't looked at."""
 
 
+@dataclass(frozen=True)
+class Options:
+    """What was asked for, and the bounds."""
+
+    encodes: bool = False
+    # A send to a component that has ended is carried over, though its message stays queued here.
+    queues_ended: bool = False
+    # The most values that a receive is split by, statements that are written, and seconds.
+    values: int = 64
+    statements: int = 40_000
+    seconds: int = 60
+    # Who is told each second how far it is.
+    tell: Callable[[str], None] = lambda told: None
+
+
 @dataclass
 class Run:
     program: Program
     parameters: dict[str, Expression]
-    encodes: bool = False
+    options: Options = Options()
     # The most messages that can come to a port, by the number of its component and its name.
     most: dict[tuple[int, str], int] = field(default_factory=dict)
     refused: dict[tuple[str, int, int], Refused] = field(default_factory=dict)
+    # The places at which it may be carried over where it is known what can come.
+    open: set[tuple[str, int, int]] = field(default_factory=set)
+    # What can come, where that is looked at.
+    flows: Optional[Flows] = None
     lost: Optional[Token] = None
+    # What is told of though it is carried over, and the sends to what may have ended among it.
+    notes: list[Refused] = field(default_factory=list)
+    queued: set[Token] = field(default_factory=set)
+    begun: float = field(default_factory=time.process_time)
+    told_seconds: int = 0
+    # Whether anything was waited for: else what comes changes nothing.
+    has_waited: bool = False
     steps: int = 0
     written: int = 0
     # The ports at which a `repeat` counts what can come.
@@ -41,24 +70,56 @@ class Run:
             self.lost = self.lost or refusal.at
             return
         told = refused_at(refusal.at, refusal.reason)
-        self.refused.setdefault((told.file, told.line, told.column), told)
+        place = (told.file, told.line, told.column)
+        self.refused.setdefault(place, told)
+        if refusal.is_open:
+            self.open.add(place)
         if len(self.refused) >= MOST_REFUSALS:
             raise TooMany()
 
     def step(self, at: Token) -> None:
         self.steps += 1
+        if self.steps % 256 == 0:
+            self._look_at_time(at)
         if self.steps > MOST_STEPS:
             self._stop(at, f"to follow the script to here takes more than {MOST_STEPS:,} steps")
 
+    def _look_at_time(self, at: Token) -> None:
+        """A word of what is done, to who waits for it; and an end where it takes too long."""
+        took = int(time.process_time() - self.begun)
+        most = self.options.seconds
+        if took >= most:
+            self._stop(at, f"this takes more than {most} seconds: --seconds {2 * most} gives it twice as many")
+        if took > self.told_seconds:
+            self.told_seconds = took
+            self.options.tell(
+                f"{took} s of {most}: line {at.line}, {self.written:,} of {self.options.statements:,} statements"
+            )
+
     def write(self, at: Token) -> None:
         self.written += 1
-        if self.written > MOST_WRITTEN:
-            self._stop(at, f"more than {MOST_WRITTEN:,} statements would be written")
+        if self.written > self.options.statements:
+            self._stop(at, self._too_many())
+
+    def _too_many(self) -> str:
+        most = self.options.statements
+        reason = f"more than {most:,} statements would be written"
+        if most >= MOST_STATEMENTS:
+            return f"{reason}, and a script of the profile has no more"
+        return f"{reason}: --statements {min(2 * most, MOST_STATEMENTS)} lets it write more"
 
     def _stop(self, at: Token, reason: str) -> NoReturn:
         """What comes behind such a place isn't looked at."""
-        self.tell(Refusal(at, reason))
+        self.tell(Refusal(at, reason, self.has_waited))
         raise TooMany()
+
+    def begin(self) -> None:
+        """Forgets what an earlier round came to."""
+        self.counted.clear()
+        self.refused.clear()
+        self.open.clear()
+        self.lost = None
+        self.steps = self.written = 0
 
 
 @dataclass(frozen=True)

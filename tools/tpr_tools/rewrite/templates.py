@@ -7,6 +7,7 @@ from typing import Optional
 from . import tree
 from .emitted import Code
 from .paths import Key, Path, Scope, Slot, State
+from .predefined import CONVERSIONS, RESULTS
 from .program import Program
 from .reading_expressions import NOT_IN_PATTERNS
 from .refusing import Refusal, refuse
@@ -49,6 +50,9 @@ class Shaper:
     ) -> Form:
         raise NotImplementedError
 
+    def settled(self, form: Form, at: Token, otherwise: str = "") -> Form:
+        raise NotImplementedError
+
     # Types
 
     def type_of(self, node: Expression, path: Path, scope: Optional[Scope]) -> Optional[Type]:
@@ -84,7 +88,8 @@ class Shaper:
         if word == "valueof" and node.arguments:
             return self.type_of(node.arguments[0].value, path, scope)
         base = {"int2str": "charstring", "substr": "charstring", "lengthof": "integer", "str2int": "integer"}
-        return self.types.named(base[word], node.at) if word in base else None
+        result = RESULTS.get(word.partition("2")[2]) if word in CONVERSIONS else base.get(word)
+        return self.types.named(result, node.at) if result else None
 
     def _type_of_part(
         self, node: tree.FieldOf | tree.IndexOf, path: Path, scope: Optional[Scope]
@@ -152,7 +157,7 @@ class Shaper:
             return key, ()
         if isinstance(node, tree.IndexOf):
             key, steps = self.target(node.value, path, scope)
-            index = self.evaluate(node.index, path, scope)
+            index = self.settled(self.evaluate(node.index, path, scope), node.at, "the index isn't known here")
             if isinstance(index, bool) or not isinstance(index, int) or not 0 <= index < 10_000:
                 refuse(node.at, "the index isn't known here")
             return key, (*steps, index)

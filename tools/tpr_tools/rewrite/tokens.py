@@ -5,6 +5,7 @@ import re
 from bisect import bisect_right
 from dataclasses import dataclass
 from enum import Enum
+from typing import Optional
 
 from ..words import RESERVED, RESERVED_ELSEWHERE
 
@@ -84,6 +85,8 @@ class Source:
         # Names that begin with `_`: they are read as names, and refused.
         self.begun: list[Token] = []
         self.tokens: list[Token] = []
+        # The first text that has a backslash.
+        self.escaped: Optional[Token] = None
         self._starts = [0] + [found.end() for found in re.finditer("\n", self.text)]
         self._read()
 
@@ -106,6 +109,8 @@ class Source:
         if kind is Kind.NAME and text in KEYWORDS:
             kind = Kind.KEYWORD
         self.tokens.append(Token(kind, text, line, column, self.file))
+        if kind is Kind.TEXT and "\\" in text and self.escaped is None:
+            self.escaped = self.tokens[-1]
         if group == "BEGUN":
             self.begun.append(self.tokens[-1])
 

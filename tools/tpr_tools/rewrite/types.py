@@ -61,11 +61,16 @@ class Type:
             found = found.above
         return found
 
+    @property
+    def is_universal(self) -> bool:
+        return self.name == UNIVERSAL or (self.above is not None and self.above.is_universal)
+
     def field_number(self, name: str) -> Optional[int]:
         names = [item.name for item in self.root.fields]
         return names.index(name) if name in names else None
 
 
+UNIVERSAL = "universal charstring"
 _BASES = {
     "integer": Kind.INTEGER, "boolean": Kind.BOOLEAN, "charstring": Kind.CHARSTRING, "float": Kind.FLOAT,
     "bitstring": Kind.BITS, "hexstring": Kind.BITS, "octetstring": Kind.BITS,
@@ -90,10 +95,12 @@ class Types:
             return known
         definition = self.definitions.get(word)
         if definition is None:
-            reason = "universal charstrings aren't carried over: a charstring's characters are 32 to 126"
+            if word == UNIVERSAL:
+                # Of its characters a message has those that a charstring has.
+                self._known[word] = Type(Kind.CHARSTRING, word, above=self._known["charstring"])
+                return self._known[word]
             is_word = word in ("anytype", "address")
-            other = f"`{word}` isn't carried over" if is_word else f"the type `{word}` isn't known"
-            refuse(at, reason if word.startswith("universal") else other)
+            refuse(at, f"`{word}` isn't carried over" if is_word else f"the type `{word}` isn't known")
         found = Type(Kind.OTHER, word, definition.at)
         self._known[word] = found
         self._fill(found, definition.body)

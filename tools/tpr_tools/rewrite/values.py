@@ -7,7 +7,7 @@ from __future__ import annotations
 import re
 from dataclasses import dataclass
 from enum import Enum
-from typing import Optional, Union
+from typing import NamedTuple, Optional, Union
 
 
 class Wild(Enum):
@@ -126,6 +126,22 @@ class Reference:
     steps: tuple[int, ...] = ()
 
 
+@dataclass(frozen=True)
+class End:
+    """A port of a component, by the number of the component."""
+
+    component: int
+    port: str
+
+
+class Coming(NamedTuple):
+    """A message that can come: the port that it is sent from, its type and its value."""
+
+    sender: End
+    type: object
+    form: Form
+
+
 class Symbol:
     """A message that was received: what its template and the branches say of it, and no more."""
 
@@ -138,6 +154,10 @@ class Symbol:
         self.is_used = False
         self.name = ""
         self.is_sender = False
+        # Of a sender, the components that it may be.
+        self.peers: tuple[int, ...] = ()
+        # All that it can be, where that is known.
+        self.coming: tuple[Coming, ...] = ()
 
 
 @dataclass(frozen=True)

@@ -6,11 +6,11 @@ from dataclasses import dataclass, field
 from typing import Optional
 
 from .encoding import Encoder
-from .emitted import Code, Emitted, Got, GotDone, Message, Operated, Sent, Told, Verdict, Way, Ways, Who
-from .following import Followed, Part, peers, statements_of, tells_of
+from .emitted import Code, Emitted, Failed, Got, GotDone, Message, Operated, Sent, Told, Verdict, Way, Ways, Who
+from .following import Followed, Part, statements_of, tells_of
 from .layout import Names, form_text, type_text
-from .paths import End, Joined
-from .refusing import refuse
+from .paths import End, Joined, peers
+from .refusing import refuse, refuse_open
 from .run import PortOf, Run, members_of
 from .tokens import Token
 from .types import Type
@@ -57,6 +57,8 @@ class Shape:
     type_name: str = ""
     loops: dict[str, str] = field(default_factory=dict)
     controls: dict[int, str] = field(default_factory=dict)
+    # A port that is connected with nothing: what is sent there fails.
+    nowhere: str = ""
 
 
 class Writer:
@@ -67,7 +69,7 @@ class Writer:
         self.lines = Lines(has_files=len(files) > 1)
         self.files = files
         self.shapes: dict[int, Shape] = {}
-        self.encoder = Encoder(run.program.types, self.names.free, run.encodes)
+        self.encoder = Encoder(run.program.types, self.names.free, run.options.encodes)
         self.types = TypeWriter(run.program.types, self.encoder, run.tell, followed.case.at)
         self.control_type = ""
         self.system_name = ""
@@ -78,6 +80,8 @@ class Writer:
         for part in self.followed.parts:
             self._add_loops(part)
             self._add_controls(part)
+            if any(isinstance(one, Failed) for one in statements_of(part.code)):
+                self.shapes[part.number].nowhere = self.names.free("nowhere_control")
         case = self.followed.case
         self._head()
         self.lines.add(f"module {self.module_name} {{")
@@ -156,7 +160,7 @@ class Writer:
         system = self._system_ports() if self.followed.system is not None else {}
         ports.update({port.type.root: port.type for port in system.values()})
         self.types.write(list(ports.values()), self._messages(), self.lines.add)
-        if any(shape.controls for shape in shapes):
+        if any(shape.controls or shape.nowhere for shape in shapes):
             self.control_type = self.names.free("Control")
             self.lines.add(f"  type port {self.control_type} message {{ inout boolean; }}")
         self._component_types(shapes, system)
@@ -173,7 +177,7 @@ class Writer:
     def _component_types(self, shapes: list[Shape], system: dict[str, PortOf]) -> None:
         written: dict[tuple[Type, tuple[str, ...]], str] = {}
         for shape in shapes:
-            extra = [*shape.loops.values(), *shape.controls.values()]
+            extra = [*shape.loops.values(), *shape.controls.values(), *filter(None, [shape.nowhere])]
             key = (shape.part.type.root, tuple(extra))
             if key not in written:
                 wanted = shape.part.type.root.name
@@ -190,7 +194,8 @@ class Writer:
         behaviour = shape.part.behaviour
         members = _listed(behaviour.ports)
         members += [(loop, behaviour.ports[port].type.root.name) for port, loop in shape.loops.items()]
-        members += [(control, self.control_type) for control in shape.controls.values()]
+        controls = [*shape.controls.values(), *filter(None, [shape.nowhere])]
+        members += [(control, self.control_type) for control in controls]
         if len(members) > 64:
             refuse(shape.part.at, "a component would have more than 64 ports")
         self.lines.add(f"  type component {name} {{{_members(members)}}}")
@@ -308,8 +313,10 @@ class Block:
         if isinstance(statement, Ways):
             self._ways(statement, depth)
             return
+        is_late = isinstance(statement, Sent) and statement.at in self.writer.run.queued
         for text in self._texts(statement):
-            self.lines.add(f"{'  ' * depth}{text};", statement.at)
+            behind = " // to what may have ended: queued" if is_late else ""
+            self.lines.add(f"{'  ' * depth}{text};{behind}", statement.at)
 
     def _texts(self, statement: Emitted) -> list[str]:
         if isinstance(statement, Sent):
@@ -320,13 +327,15 @@ class Block:
             return [f"{self.shape.controls[statement.component]}.send(boolean:true)"]
         if isinstance(statement, Operated):
             return self._operated(statement)
+        if isinstance(statement, Failed):
+            return [f"{self.shape.nowhere}.send(boolean:false)"]
         assert isinstance(statement, Verdict)
         return [f"setverdict({statement.word})"]
 
     def _ways(self, statement: Ways, depth: int) -> None:
         # Each `alt` has two brackets open, beside those of the module and the body.
         if 2 * depth + 4 > MOST_BRACKETS:
-            refuse(statement.at, f"what follows from the branches would have more than {MOST_BRACKETS} brackets open")
+            refuse_open(statement.at, f"what follows from the branches would have more than {MOST_BRACKETS} brackets open")
         space = "  " * depth
         self.lines.add(f"{space}alt {{", statement.at)
         for way in statement.branches:
@@ -379,7 +388,7 @@ class Block:
         return " -> " + " ".join(words) if words else ""
 
     def _operated(self, statement: Operated) -> list[str]:
-        if statement.is_all and not self.shape.controls:
+        if statement.is_all and not self.shape.controls and not self.shape.nowhere:
             return [f"all port.{statement.act}"]
         found = []
         for port in statement.ports:

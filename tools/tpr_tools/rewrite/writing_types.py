@@ -51,7 +51,7 @@ class TypeWriter:
     ) -> list[Type]:
         found: list[Type] = []
         for name in names:
-            if name.word in ("anytype", "address") or name.word.startswith("universal"):
+            if name.word in ("anytype", "address"):
                 continue
             type = self.types.named(name.word, name.at)
             root = self.encoder.type_of(type)

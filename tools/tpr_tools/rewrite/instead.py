@@ -1,0 +1,55 @@
+"""What to do about each reason for which something isn't carried over: one table, in the order in which it is looked up."""
+from __future__ import annotations
+
+import re
+
+_KNOWN = "write a value that is known before the run, or let a message tell the cases apart in the branches of an `alt`"
+_ORDER = "let the one wait for the other: for its message, or for its end with `.done`"
+_SMALLER = "split the test case into smaller ones, or let fewer messages decide how it goes on"
+_COMPILER = "correct the script as a compiler of TTCN-3 asks for it"
+_PLAIN = "leave it out, or say it with another construct: docs/FROM_TTCN3.md has one for each clause"
+_SETUP = "create, connect and start all components at the head of the test case, before a message is waited for"
+_TYPES = "write the type before the value, as `T:1`, or another type in the port's list"
+
+# A word of the reason, as a regular expression, and what to do.
+_TABLE = (
+    (r"--values|--statements|--seconds", "give the option the number that is named, or split the test case"),
+    (r"comes? after the end of|may come after the end", f"{_ORDER}; or give --ended=queued"),
+    (r"give one with --param", "give the parameter's value with --param NAME=VALUE"),
+    (r"--encode", "give the option --encode"),
+    (r"several test cases", "give the name of one with --case"),
+    (r"isn't among the files", "give the module's file too"),
+    (r"computed from what was received|what was received are compared|is open here|a part of what was received"
+     r"|which alternative it has|isn't a template that can be written|isn't known before the run", _KNOWN),
+    (r"hangs on a message|components are created|component is created|was used before it was joined"
+     r"|a component that runs already|the argument for", _SETUP),
+    (r"\.done|may end before|still waits|may still send|was disconnected", _ORDER),
+    (r"more than|nested too deep|no bound|goes on and on|repeated|seconds|comes to itself|too many", _SMALLER),
+    (r"time|timer|timeout", "leave the timer and its branches out: a wait that nobody answers ends with `error`"),
+    (r"from outside|ends behaviours|testcase.stop|kill", "let each behaviour come to its own end, by a message that tells it to"),
+    (r"of a procedure|of procedures|signature", "send a record for the call, and one for its reply, at a message port"),
+    (r"outside the script|outside the run|`action`", "let a function `sut` play the system, and send messages to it"),
+    (r"`alive`|killed|alive", "wait for the component's end with `.done`"),
+    (r"interleave", "write an `alt`, and in each branch an `alt` for what is still missing"),
+    (r"goto|a label", "write a `for` around what is done again, or the statements once more"),
+    (r"does more than to compute|no function is called|function is called|each look at|called through"
+     r"|changes a variable|returns nothing|without a `return`|`return` in an altstep",
+     "call the function before this, in a statement of its own, and use a variable with its value"),
+    (r"pattern|length|permutation|range|bound that|modifier|`@|redirect|decoded|subset|superset", _PLAIN),
+    (r"asked by the test case|connected with itself and|an altstep that has parameters|has a behaviour already"
+     r"|part of a variable|may be gone by then|array of ports|has at most", _PLAIN),
+    (r"the (index|size of the array|template|type of the component) isn't known|a value isn't known|is compared with"
+     r"|this is present|this element is open", _KNOWN),
+    (r"never ends|ever ends it", "write a `for` with as many turns as are needed, or a branch that ends it"),
+    (r"which (component|port|default|ports)|this redirect|who is meant", "name it by a variable that is set before the run"),
+    (r"of the port's types|the port's list|doesn't fit the type|one type here|no message has the type"
+     r"|allows less|subtype|sent as another type|hasn't the type", _TYPES),
+    (r"isn't evaluated|isn't computed|asks for what only a run|the verdict isn't known|`error` isn't set", _KNOWN),
+    (r"isn't carried over|aren't carried over|no place in the profile|has no parameters", _PLAIN),
+    (r"", _COMPILER),
+)
+_PATTERNS = tuple((re.compile(words), text) for words, text in _TABLE)
+
+
+def instead_of(reason: str) -> str:
+    return next(text for pattern, text in _PATTERNS if pattern.search(reason))

@@ -1,0 +1,65 @@
+"""A value that was received, where what follows is computed with it: its message gets a branch for each that can come."""
+from __future__ import annotations
+
+from typing import NoReturn, Optional
+
+from .flowing import Flows, part_at
+from .narrowing import narrowed_at
+from .paths import Split
+from .refusing import Refusal, refuse, refuse_open
+from .templates import Shaper
+from .tokens import Token
+from .types import Type
+from .values import Chosen, Coming, ComponentValue, Elements, Excluded, Fields, Form, IfPresent, Options, Received
+
+SENDER = (-1,)
+COMPUTED = "this is computed from what was received"
+
+
+class Settler(Shaper):
+    # What can come, where that is looked at, and the most values that a receive is split by.
+    flows: Optional[Flows] = None
+    most_values = 0
+
+    def settled(self, form: Form, at: Token, otherwise: str = COMPUTED) -> Form:
+        """The form, in which nothing was received."""
+        received = received_in(form)
+        if received is not None:
+            self.split(received, at, otherwise)
+        return form
+
+    def split(self, received: Received, at: Token, otherwise: str = COMPUTED) -> NoReturn:
+        """Asks for one of the values that it can have; the others are asked for when it isn't that."""
+        symbol, steps = received.symbol, received.steps
+        if self.flows is None:
+            refuse_open(at, otherwise)
+        values = list(dict.fromkeys(_value_of(one, steps) for one in symbol.coming))
+        if not values:
+            # Nothing that can come is left: what is looked at here isn't come to.
+            raise Refusal(at, "")
+        if len(values) > self.most_values:
+            count = len(values)
+            refuse(at, f"{otherwise}, and {count} values can come there: --values {count} splits it by them")
+        asked = values[0]
+        type = symbol.type if isinstance(symbol.type, Type) else None
+        if steps != SENDER and narrowed_at(symbol.template, type, steps, asked) is None:
+            steps, asked = (), symbol.coming[0].form
+        raise Split(symbol, steps, asked, at)
+
+
+def _value_of(one: Coming, steps: tuple[int, ...]) -> Form:
+    if steps == SENDER:
+        return ComponentValue(one.sender.component)
+    return part_at(one.form, one.type if isinstance(one.type, Type) else None, steps)
+
+
+def received_in(form: Form) -> Optional[Received]:
+    """The first part that was received."""
+    if isinstance(form, Received):
+        return form
+    inner: tuple[Form, ...] = ()
+    if isinstance(form, (Fields, Elements, Options, Excluded)):
+        inner = form.items
+    elif isinstance(form, (Chosen, IfPresent)):
+        inner = (form.value if isinstance(form, Chosen) else form.form,)
+    return next((found for found in map(received_in, inner) if found is not None), None)
