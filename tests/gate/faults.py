@@ -30,7 +30,7 @@ ROOT = os.path.dirname(os.path.dirname(os.path.dirname(os.path.realpath(__file__
 LIST = f"{ROOT}/tests/gate/parts"
 # What this tries must be built: TPR names no other program to it.
 OF_THE_BUILT, BUILT = "refused_in_tests", f"{ROOT}/crates/tp_tests/out/tp_tests_tests"
-OF_ORDERED = ("orders", "forced_orders", "exploring", "soak")
+OF_ORDERED = ("orders", "forced_orders", "exploring", "language_server", "soak")
 ITSELF = "planted_faults"
 MOST_SECONDS_OF_SOME = 30
 

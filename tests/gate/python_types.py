@@ -25,6 +25,7 @@ FOLDERS = {
     "tests/exploring": ("orders", "program", "tools"),
     "tests/forced": ("program",),
     "tests/gate": ("checking", "program"),
+    "tests/lsp": ("tools", "program"),
     "tests/orders": (),
     "tests/program": ("traces",),
     "tests/rewrites": (),

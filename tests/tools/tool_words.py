@@ -16,7 +16,7 @@ sys.dont_write_bytecode = True
 from rule_cases import must
 from tool_calls import ROOT, Group, case, onto_a_full_device, run, try_groups
 
-TOOLS = ("chart", "compare", "explain", "explore", "release", "rewrite", "suite", "titan", "why")
+TOOLS = ("chart", "compare", "explain", "explore", "lsp", "release", "rewrite", "suite", "titan", "why")
 NEEDS_MUCH = """from tpr_tools import command
 command.run("tool", lambda: len(bytes(1 << 62)))"""
 

@@ -1,0 +1,105 @@
+"""A text that is open in the editor, and everything that is known of this version of it."""
+from __future__ import annotations
+
+import os
+from dataclasses import dataclass, field
+from typing import Optional, Union
+from urllib.parse import unquote, urlsplit
+
+from ..explore.answers import Answer, read_answer
+from .diagnostics import Found
+from .frames import Json
+from .jobs import Job
+from .outline import Outline
+from .positions import Lines, without_halves
+
+SHOW_RUNS = "tpr.showDivergingRuns"
+
+
+@dataclass(frozen=True)
+class Held:
+    """A request that waits for a program: what it asks for, and when it waits no longer; None if it always waits."""
+
+    number: Union[int, str]
+    wants: str
+    until: Optional[float]
+
+
+@dataclass
+class Document:
+    uri: str
+    version: Optional[int]
+    lines: Lines
+    is_saved: bool = True
+    check_at: Optional[float] = None
+    # None until it is known whether this version is accepted.
+    is_accepted: Optional[bool] = None
+    found: list[Found] = field(default_factory=list)
+    verdict: str = ""
+    hints: Optional[list[Json]] = None
+    jobs: dict[str, Job] = field(default_factory=dict)
+    held: list[Held] = field(default_factory=list)
+    # Whether the editor has a lens of this version without the verdict.
+    has_early_lens: bool = False
+    _outline: Optional[Outline] = None
+
+    @property
+    def file(self) -> str:
+        """The name of the file, or the URI of a text that is in no file."""
+        parts = urlsplit(self.uri)
+        return unquote(parts.path) if parts.scheme == "file" else self.uri
+
+    @property
+    def data(self) -> bytes:
+        return self.lines.text.encode()
+
+    @property
+    def outline(self) -> Outline:
+        if self._outline is None:
+            self._outline = Outline(self.lines.text)
+        return self._outline
+
+    def change(self, version: Optional[int], text: str) -> None:
+        """A new version, of which nothing is known yet."""
+        self.version = version
+        self.lines = Lines(without_halves(text))
+        self.is_saved = False
+        self.is_accepted = self.hints = self._outline = None
+        self.verdict = ""
+        self.has_early_lens = False
+
+    def is_in_file(self) -> bool:
+        """Whether the file has the same bytes."""
+        try:
+            with open(self.file, "rb") as opened:
+                return os.path.isabs(self.file) and opened.read() == self.data
+        except (OSError, ValueError):
+            return False
+
+    def lenses(self) -> list[Json]:
+        """The verdict, above the test case of an accepted script."""
+        case = self.outline.case
+        if case is None or not self.is_accepted:
+            return []
+        name = self.outline.offsets[case.name]
+        shows: Json = {"title": self.verdict or "the verdicts are being computed", "command": ""}
+        if " or " in self.verdict:
+            shows.update(command=SHOW_RUNS, arguments=[self.uri])
+        return [{"range": self.lines.region(name, self.outline.end(case.name)), "command": shows}]
+
+
+def verdict_told(printed: str, why: str) -> str:
+    """The title of the lens, from what `tpr verdicts` printed."""
+    answer = read_answer(printed)
+    if answer is None or answer.fault() is not None:
+        return f"no verdicts: {why or printed.partition(chr(10))[0] or 'the program printed nothing'}"
+    return _title(answer)
+
+
+def _title(answer: Answer) -> str:
+    told = " or ".join(answer.verdicts)
+    if not answer.decided:
+        return f"undecided after {answer.states:,} states" + (f", seen: {', '.join(answer.verdicts)}" if told else "")
+    if len(answer.verdicts) == 1:
+        return f"always {told}"
+    return f"{told}: show where the runs diverge"

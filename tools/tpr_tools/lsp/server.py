@@ -1,0 +1,484 @@
+"""The language server: one thread handles messages, the ends of programs, and what is due, in the order in which they
+come. A second thread reads messages, so that a request can be cancelled before its turn."""
+from __future__ import annotations
+
+import os
+import queue
+import re
+import sys
+import threading
+import time
+from dataclasses import dataclass
+from typing import Any, BinaryIO, Callable, Optional, Union
+
+from . import frames
+from .diagnostics import explained, found_in, listed_of, with_constructs
+from .documents import SHOW_RUNS, Document, Held, verdict_told
+from .frames import BrokenFrame, Json, Writer
+from .hovering import definition_of, flat, hover_of, symbols_of
+from .jobs import Job
+from .positions import Lines, without_halves
+from .shown_runs import ShownRuns
+
+_CHECK_SECONDS = 5.0
+_LISTING_SECONDS = 60.0
+_RUN_SECONDS = 5.0
+_HOLD_SECONDS = 2.0  # for which a request waits for a program
+
+
+class NotPossible(Exception):
+    """A request that is refused."""
+
+    def __init__(self, code: int, text: str):
+        super().__init__(text)
+        self.code = code
+        self.text = text
+
+
+class EndOfInput:
+    """The client has closed its end."""
+
+
+@dataclass(frozen=True)
+class Settings:
+    """The program to ask, the folder round the tools, and how many seconds a change waits for the next one."""
+
+    program: str
+    root: str
+    delay: float
+
+
+Event = Union[dict[str, Json], BrokenFrame, EndOfInput, Job]
+
+
+class Server:
+    def __init__(self, settings: Settings, source: BinaryIO, target: BinaryIO):
+        self.settings = settings
+        self.source = source
+        self.client = Writer(target)
+        self.events: queue.Queue[Event] = queue.Queue()
+        self.documents: dict[str, Document] = {}
+        self.runs = ShownRuns()
+        self.cancelled: set[Union[int, str]] = set()
+        self.status: Optional[int] = None
+        self.is_initialized = self.is_shut_down = False
+        self.can: Json = {}
+        # A program that can't be asked isn't asked at each change, but again when a text is saved.
+        self.program_fails = False
+        self.ends: dict[str, Callable[[Document, Job], None]] = {
+            "check": self._checked,
+            "constructs": self._listed,
+            "verdicts": self._decided,
+            "ways": self._ran,
+            "runs": self._explored,
+        }
+
+    def serve(self) -> int:
+        """Works until the client ends it; the status of the process."""
+        threading.Thread(target=self._read, daemon=True).start()
+        try:
+            while self.status is None:
+                try:
+                    self._handle(self.events.get(timeout=self._pause()))
+                except queue.Empty:
+                    pass
+                if self.events.empty():
+                    self._do_what_is_due()
+        finally:
+            for document in self.documents.values():
+                self._cancel_jobs(document)
+            self.runs.remove()
+        return self.status
+
+    # Events
+
+    def _read(self) -> None:
+        was_broken = False
+        while True:
+            try:
+                message = frames.read_message(self.source)
+            except BrokenFrame as broken:
+                # Bytes without any frame are refused once, however many they are.
+                if not was_broken:
+                    self.events.put(broken)
+                was_broken = broken.code == frames.PARSE_ERROR
+                continue
+            except (OSError, ValueError):
+                message = None
+            was_broken = False
+            if message is None:
+                self.events.put(EndOfInput())
+                return
+            if message.get("method") == "$/cancelRequest":
+                number = (message.get("params") or {}).get("id") if isinstance(message.get("params"), dict) else None
+                if isinstance(number, (int, str)):
+                    self.cancelled.add(number)
+            self.events.put(message)
+
+    def _pause(self) -> Optional[float]:
+        """How long nothing is due."""
+        due = [it.check_at for it in self.documents.values() if it.check_at is not None]
+        due += [held.until for it in self.documents.values() for held in it.held if held.until is not None]
+        return max(0.0, min(due) - time.monotonic()) if due else None
+
+    def _handle(self, event: Event) -> None:
+        if isinstance(event, EndOfInput):
+            self.status = 0 if self.is_shut_down else 1
+        elif isinstance(event, BrokenFrame):
+            self.client.refuse(None, event.code, event.text)
+        elif isinstance(event, Job):
+            self._job_ended(event)
+        else:
+            self._message(event)
+
+    def _message(self, message: dict[str, Json]) -> None:
+        number, method = message.get("id"), message.get("method")
+        number = number if isinstance(number, (int, str)) else None
+        if not isinstance(method, str):
+            if "result" not in message and "error" not in message:
+                self.client.refuse(None, frames.INVALID_REQUEST, "a message has neither a method nor a result")
+            return
+        try:
+            if number is not None and number in self.cancelled:
+                raise NotPossible(frames.CANCELLED, "the request was cancelled")
+            result = self._called(method, message.get("params"), number)
+            if number is not None and not isinstance(result, Held):
+                self.client.answer(number, result)
+        except NotPossible as refused:
+            self._refuse(number, refused)
+        except BrokenPipeError:
+            raise
+        except Exception as error:  # A fault of the server must not end the session.
+            self._refuse(number, NotPossible(frames.INTERNAL_ERROR, f"{method}: {type(error).__name__}: {error}"))
+        if number is not None:
+            self.cancelled.discard(number)
+
+    def _refuse(self, number: Union[int, str, None], refused: NotPossible) -> None:
+        if number is not None:
+            self.client.refuse(number, refused.code, refused.text)
+        elif refused.code != frames.METHOD_NOT_FOUND and self.is_initialized:
+            self._log(refused.text)
+
+    def _called(self, method: str, params: Json, number: Union[int, str, None]) -> Any:
+        """The result of a request; that of a notification is dropped."""
+        if method == "exit":
+            self.status = 0 if self.is_shut_down else 1
+            return None
+        if method == "initialize" and not self.is_initialized:
+            return self._initialize(params)
+        if not self.is_initialized:
+            raise NotPossible(frames.NOT_INITIALIZED, "the first request must be `initialize`")
+        if self.is_shut_down or method == "initialize":
+            raise NotPossible(frames.INVALID_REQUEST, f"`{method}` isn't possible now")
+        if method not in _METHODS:
+            raise NotPossible(frames.METHOD_NOT_FOUND, f"there is no method `{method}`")
+        return _METHODS[method](self, params, number)
+
+    def _initialize(self, params: Json) -> Json:
+        self.is_initialized = True
+        self.can = params.get("capabilities") if isinstance(params, dict) else {}
+        capabilities = {
+            "positionEncoding": "utf-16",
+            "textDocumentSync": {"openClose": True, "change": 2, "save": {"includeText": False}},
+            "hoverProvider": True,
+            "definitionProvider": True,
+            "documentSymbolProvider": True,
+            "codeLensProvider": {"resolveProvider": False},
+            "inlayHintProvider": True,
+            "executeCommandProvider": {"commands": [SHOW_RUNS]},
+        }
+        return {"capabilities": capabilities, "serverInfo": {"name": "tpr"}}
+
+    def _client_can(self, *names: str) -> bool:
+        return bool(at(self.can, *names))
+
+    def _log(self, text: str) -> None:
+        self.client.notify("window/logMessage", {"type": 2, "message": text})
+
+    # Texts
+
+    def did_open(self, params: Json, _: object) -> None:
+        item = wanted(params, dict, "textDocument")
+        uri, text = wanted(item, str, "uri"), wanted(item, str, "text")
+        if uri in self.documents:
+            self._forget(self.documents[uri])
+        document = Document(uri, item.get("version"), Lines(without_halves(text)))
+        self.documents[uri] = document
+        self._check_soon(document)
+
+    def did_change(self, params: Json, _: object) -> None:
+        document = self._document(params)
+        text = document.lines.text
+        for change in wanted(params, list, "contentChanges"):
+            piece = wanted(change, str, "text")
+            if at(change, "range") is None:
+                text = piece
+                continue
+            lines = Lines(text)
+            start, end = (_offset(lines, at(change, "range", it)) for it in ("start", "end"))
+            text = text[:start] + piece + text[max(start, end) :]
+        self._cancel_jobs(document)
+        self._refuse_held(document)
+        document.change(at(params, "textDocument", "version"), text)
+        self._check_soon(document)
+
+    def did_save(self, params: Json, _: object) -> None:
+        document = self._document(params)
+        document.is_saved = True
+        if self.program_fails:
+            self.program_fails = False
+            self._check_soon(document)
+        elif document.is_accepted:
+            self._start_ways(document)
+
+    def did_close(self, params: Json, _: object) -> None:
+        document = self._document(params)
+        self._forget(document)
+        del self.documents[document.uri]
+        self.client.notify("textDocument/publishDiagnostics", {"uri": document.uri, "diagnostics": []})
+
+    def _document(self, params: Json) -> Document:
+        uri = wanted(params, str, "textDocument", "uri")
+        if uri not in self.documents:
+            raise NotPossible(frames.INVALID_PARAMS, f"`{uri}` isn't open")
+        return self.documents[uri]
+
+    def _forget(self, document: Document) -> None:
+        self._cancel_jobs(document)
+        self._refuse_held(document)
+
+    def _check_soon(self, document: Document) -> None:
+        document.check_at = time.monotonic() + self.settings.delay
+
+    def _do_what_is_due(self) -> None:
+        now = time.monotonic()
+        for document in list(self.documents.values()):
+            if document.check_at is not None and document.check_at <= now:
+                document.check_at = None
+                if self.program_fails:
+                    self._publish(document, None)
+                else:
+                    self._start(document, "check", [self.settings.program, "check"], _CHECK_SECONDS)
+            for held in [it for it in document.held if it.until is not None and it.until <= now]:
+                self._answer_held(document, held)
+
+    # Programs
+
+    def _start(self, document: Document, name: str, command: list[str], seconds: Optional[float]) -> None:
+        if name in document.jobs:
+            document.jobs[name].cancel()
+        document.jobs[name] = Job(command, document.data, seconds, self.events.put)
+
+    def _worker(self, *words: str) -> list[str]:
+        return [sys.executable, "-B", os.path.join(self.settings.root, "tools", "lsp"), "--work", *words]
+
+    def _start_ways(self, document: Document) -> None:
+        words = self._worker("ways", self.settings.program, str(_RUN_SECONDS))
+        self._start(document, "ways", words, 2 * _RUN_SECONDS)
+
+    def _cancel_jobs(self, document: Document) -> None:
+        for job in document.jobs.values():
+            job.cancel()
+        document.jobs.clear()
+
+    def _job_ended(self, job: Job) -> None:
+        """One that was cancelled belongs to no document any more."""
+        for document in self.documents.values():
+            for name, it in document.jobs.items():
+                if it is job:
+                    del document.jobs[name]
+                    self.ends[name](document, job)
+                    return
+
+    def _checked(self, document: Document, job: Job) -> None:
+        said = job.ended.printed.removesuffix("\n")
+        if re.fullmatch(r"accepted|refused [^\n]+", said):
+            self._publish(document, said)
+            return
+        self.program_fails = True
+        why = job.ended.why or said[:200] or f"its status is {job.ended.status}"
+        self._log(f"tpr check gives no answer, so the server's own reading decides: {why}")
+        self._publish(document, None)
+
+    def _publish(self, document: Document, said: Optional[str]) -> None:
+        """Shows the diagnostics, and starts what needs the answer."""
+        explanation = explained(document.file, document.data, said)
+        document.found = found_in(document.lines, explanation)
+        document.is_accepted = explanation.number is None
+        self._send_diagnostics(document)
+        if not document.is_accepted:
+            self._start(document, "constructs", self._worker("constructs", document.file), _LISTING_SECONDS)
+        elif said is not None:
+            self._start(document, "verdicts", [self.settings.program, "verdicts"], None)
+            if document.is_saved:
+                self._start_ways(document)
+        else:
+            document.verdict = "no verdicts: tpr can't be asked"
+        self._answer_ready(document)
+        _ = document.outline  # A hover then finds it made.
+
+    def _send_diagnostics(self, document: Document) -> None:
+        found = [it.as_json(document.uri) for it in document.found]
+        params: Json = {"uri": document.uri, "diagnostics": found}
+        if document.version is not None:
+            params["version"] = document.version
+        self.client.notify("textDocument/publishDiagnostics", params)
+
+    def _listed(self, document: Document, job: Job) -> None:
+        listed = listed_of(job.ended.printed)
+        if listed:
+            document.found = with_constructs(document.lines, document.found, listed)
+            self._send_diagnostics(document)
+
+    def _decided(self, document: Document, job: Job) -> None:
+        document.verdict = verdict_told(job.ended.printed, job.ended.why)
+        if document.has_early_lens and self._client_can("workspace", "codeLens", "refreshSupport"):
+            self.client.request("workspace/codeLens/refresh")
+        self._answer_ready(document)
+
+    def _ran(self, document: Document, job: Job) -> None:
+        document.hints = [_hint(document.lines, line, label) for line, label in listed_of(job.ended.printed)]
+        if self._client_can("workspace", "inlayHint", "refreshSupport"):
+            self.client.request("workspace/inlayHint/refresh")
+        self._answer_ready(document)
+
+    def _explored(self, document: Document, job: Job) -> None:
+        text = job.ended.printed or f"tools/explore printed nothing: {job.ended.why or job.ended.status}\n"
+        uri = self.runs.write(document.file, text)
+        if self._client_can("window", "showDocument", "support"):
+            self.client.request("window/showDocument", {"uri": uri, "takeFocus": True})
+        for held in [it for it in document.held if it.wants == "runs"]:
+            document.held.remove(held)
+            self.client.answer(held.number, {"uri": uri, "text": text})
+
+    # Requests
+
+    def hover(self, params: Json, _: object) -> Json:
+        document = self._document(params)
+        offset = _offset(document.lines, at(params, "position"))
+        return hover_of(document.outline, document.lines, offset, document.found)
+
+    def definition(self, params: Json, _: object) -> Json:
+        document = self._document(params)
+        offset = _offset(document.lines, at(params, "position"))
+        return definition_of(document.outline, document.lines, offset, document.uri)
+
+    def symbols(self, params: Json, _: object) -> Json:
+        document = self._document(params)
+        found = symbols_of(document.outline, document.lines)
+        names = ("textDocument", "documentSymbol", "hierarchicalDocumentSymbolSupport")
+        return found if self._client_can(*names) else flat(found, document.uri)
+
+    def lenses(self, params: Json, number: Union[int, str]) -> Any:
+        return self._held_or_ready(self._document(params), number, "lenses")
+
+    def hints(self, params: Json, number: Union[int, str]) -> Any:
+        return self._held_or_ready(self._document(params), number, "hints")
+
+    def execute(self, params: Json, number: Union[int, str]) -> Any:
+        if wanted(params, str, "command") != SHOW_RUNS:
+            raise NotPossible(frames.INVALID_PARAMS, f"the only command is `{SHOW_RUNS}`")
+        uri = next(iter(wanted(params, list, "arguments")), None)
+        document = self._document({"textDocument": {"uri": uri}})
+        file = document.file if document.is_in_file() else "/dev/stdin"
+        explore = os.path.join(self.settings.root, "tools", "explore")
+        self._start(document, "runs", [sys.executable, "-B", explore, file], None)
+        return self._hold(document, Held(number, "runs", None))
+
+    def cancel(self, params: Json, _: object) -> None:
+        number = at(params, "id")
+        for document in self.documents.values():
+            for held in [it for it in document.held if it.number == number]:
+                document.held.remove(held)
+                self.client.refuse(held.number, frames.CANCELLED, "the request was cancelled")
+                if held.wants == "runs" and "runs" in document.jobs:
+                    document.jobs.pop("runs").cancel()
+        self.cancelled.discard(number)
+
+    def nothing(self, *_: object) -> None:
+        """A notification that changes nothing here."""
+
+    # Requests that wait
+
+    def _hold(self, document: Document, held: Held) -> Held:
+        document.held.append(held)
+        return held
+
+    def _held_or_ready(self, document: Document, number: Union[int, str], wants: str) -> Any:
+        if self._is_ready(document, wants):
+            return self._result(document, wants)
+        return self._hold(document, Held(number, wants, time.monotonic() + _HOLD_SECONDS))
+
+    def _is_ready(self, document: Document, wants: str) -> bool:
+        if wants == "runs" or document.is_accepted is None:
+            return False
+        if wants == "lenses":
+            return not document.is_accepted or bool(document.verdict)
+        return document.hints is not None or "ways" not in document.jobs
+
+    def _result(self, document: Document, wants: str) -> Json:
+        return document.lenses() if wants == "lenses" else document.hints or []
+
+    def _answer_held(self, document: Document, held: Held) -> None:
+        document.held.remove(held)
+        is_early = held.wants == "lenses" and not self._is_ready(document, "lenses")
+        document.has_early_lens = document.has_early_lens or is_early
+        self.client.answer(held.number, self._result(document, held.wants))
+
+    def _answer_ready(self, document: Document) -> None:
+        for held in [it for it in document.held if self._is_ready(document, it.wants)]:
+            self._answer_held(document, held)
+
+    def _refuse_held(self, document: Document) -> None:
+        for held in document.held:
+            self.client.refuse(held.number, frames.CONTENT_MODIFIED, "the text has changed")
+        document.held.clear()
+
+
+def _shut_down(server: Server, *_: object) -> None:
+    server.is_shut_down = True
+
+
+_METHODS: dict[str, Callable[..., Any]] = {
+    "initialized": Server.nothing,
+    "$/setTrace": Server.nothing,
+    "$/cancelRequest": Server.cancel,
+    "textDocument/didOpen": Server.did_open,
+    "textDocument/didChange": Server.did_change,
+    "textDocument/didSave": Server.did_save,
+    "textDocument/didClose": Server.did_close,
+    "textDocument/hover": Server.hover,
+    "textDocument/definition": Server.definition,
+    "textDocument/documentSymbol": Server.symbols,
+    "textDocument/codeLens": Server.lenses,
+    "textDocument/inlayHint": Server.hints,
+    "workspace/executeCommand": Server.execute,
+    "shutdown": _shut_down,
+}
+
+
+def at(value: Json, *names: str) -> Json:
+    """What is at the end of the names; None if there is nothing."""
+    for name in names:
+        value = value.get(name) if isinstance(value, dict) else None
+    return value
+
+
+def wanted(value: Json, kind: type, *names: str) -> Any:
+    found = at(value, *names)
+    if not isinstance(found, kind):
+        raise NotPossible(frames.INVALID_PARAMS, f"`{'.'.join(names)}` is missing, or has the wrong type")
+    return found
+
+
+def _offset(lines: Lines, position: Json) -> int:
+    line, character = wanted(position, int, "line"), wanted(position, int, "character")
+    if line < 0 or character < 0:
+        raise NotPossible(frames.INVALID_PARAMS, "a position is negative")
+    return lines.offset(line, character)
+
+
+def _hint(lines: Lines, line: int, label: str) -> Json:
+    """A label after the last character of a line."""
+    end = lines.whole_line(line)["end"]
+    return {"position": end, "label": label, "paddingLeft": True}
