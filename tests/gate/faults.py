@@ -31,6 +31,7 @@ LIST = f"{ROOT}/tests/gate/parts"
 # What this tries must be built: TPR names no other program to it.
 OF_THE_BUILT, BUILT = "refused_in_tests", f"{ROOT}/crates/tp_tests/out/tp_tests_tests"
 OF_ORDERED = ("orders", "forced_orders", "exploring", "language_server", "soak")
+OF_THE_LIBRARY = ("embedding", "titan_ports")
 ITSELF = "planted_faults"
 MOST_SECONDS_OF_SOME = 30
 
@@ -82,6 +83,11 @@ def change(path: str, sed: str) -> bool:
         return file.read() != before
 
 
+def port() -> str:
+    """The folder of the library for C and C++."""
+    return os.path.abspath(os.environ.get("TP_PORT") or f"{ROOT}/out/port")
+
+
 def untold(fault: Fault, program: str, ordered: str) -> Optional[str]:
     """Why the fault isn't told, None where it is."""
     with tempfile.TemporaryDirectory() as folder:
@@ -92,6 +98,8 @@ def untold(fault: Fault, program: str, ordered: str) -> Optional[str]:
         elif not change(f"{tree}/{fault.file}", fault.sed):
             return f"{fault.sed} changes nothing in {fault.file}"
         programs = {"TPR": program, **({"TPR_ORDERED": ordered} if os.access(ordered, os.X_OK) else {})}
+        if os.path.exists(f"{port()}/lib/libtp_port.a"):
+            programs["TP_PORT"] = port()
         # Not by subprocess.run, which kills where it is interrupted: ./test ends what it has started.
         done = subprocess.Popen(
             [f"{tree}/test", "part", fault.part],
@@ -112,6 +120,8 @@ def untold(fault: Fault, program: str, ordered: str) -> Optional[str]:
 def why_left_out(fault: Fault, ordered: str) -> Optional[str]:
     if fault.part == OF_THE_BUILT and not os.access(BUILT, os.X_OK):
         return "nothing is built"
+    if fault.part in OF_THE_LIBRARY and not os.path.exists(f"{port()}/lib/libtp_port.a"):
+        return "there is no library for C and C++"
     if fault.part in OF_ORDERED and not os.access(ordered, os.X_OK):
         return "there is no tpr_ordered"
     return None

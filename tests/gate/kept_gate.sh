@@ -13,11 +13,12 @@ begin_gate() {
 
 # Only where the sources were those of one commit from the beginning to the end, and the toolchain says which it is.
 keep_gate() { # LAST LINES
-    local toolchain program ordered
+    local toolchain program ordered library
     if [[ -z $commit_of_gate || $commit_of_gate != "$(clean_commit)" ]]; then return; fi
     if ! toolchain=$(rt version) || ! program=$(sha256sum <crates/tpr/out/tpr) ||
-        ! ordered=$(sha256sum <crates/tpr_ordered/out/tpr_ordered); then
-        echo "test: out/gate isn't kept: rt version, or the sum of a program, failed" >&2
+        ! ordered=$(sha256sum <crates/tpr_ordered/out/tpr_ordered) ||
+        ! library=$(sha256sum <out/port/lib/libtp_port.a); then
+        echo "test: out/gate isn't kept: rt version, or the sum of a program or of the library, failed" >&2
         return 1
     fi
     mkdir -p out
@@ -26,6 +27,7 @@ keep_gate() { # LAST LINES
         echo "toolchain $toolchain"
         echo "program ${program%% *}"
         echo "tpr_ordered ${ordered%% *}"
+        echo "library ${library%% *}"
         echo
         cat -- "$1"
     } >out/gate.begun && mv -- out/gate.begun out/gate

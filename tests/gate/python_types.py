@@ -20,8 +20,10 @@ ROOT = Path(__file__).resolve().parents[2]
 # Each folder, and those of tests/ whose modules it uses. All use tools/.
 FOLDERS = {
     "tools": (),
+    "embedding": (),
     "tests/checking": (),
     "tests/documents": (),
+    "tests/embedding": (),
     "tests/exploring": ("orders", "program", "tools"),
     "tests/forced": ("program",),
     "tests/gate": ("checking", "program"),

@@ -8,6 +8,7 @@ import re
 import shutil
 from collections.abc import Iterable
 from pathlib import Path
+from typing import Optional
 
 from release_tree import Tree, in_the_package, tools_of
 from rule_cases import must
@@ -206,8 +207,12 @@ def package_is_installed(tree: Tree) -> None:
 
 
 def package_by_lintian(tree: Tree) -> None:
+    made = tree.made("made")
     with case("the package by lintian"):
-        run("lintian", "--allow-root", tree.made("made").package).must_print("")
+        run("lintian", "--allow-root", made.package).must_print("")
+    if tree.library:
+        with case("the package of the library by lintian"):
+            run("lintian", "--allow-root", made.library).must_print("")
 
 
 # The archive
@@ -216,9 +221,9 @@ def package_by_lintian(tree: Tree) -> None:
 def must_be_unpacked(tree: Tree, folder: Path) -> None:
     """The folder has the tree's files, but for those of whoever changes tpr, and besides GATE and the program alone."""
     shutil.unpack_archive(tree.made("made").archive, folder.parent, "gztar")
-    others = ["-x", ".*", "-x", "crates", "-x", "out", "-x", "releas*", "-x", "costs.py"]
+    others = ["-x", ".*", "-x", "crates", "-x", "embedding", "-x", "out", "-x", "releas*", "-x", "costs.py"]
     name = folder.relative_to(tree.room)
-    wanted = "".join(f"Only in {name}: {it}\n" for it in ("GATE", "tpr", "tpr_ordered"))
+    wanted = "".join(f"Only in {name}: {it}\n" for it in ("GATE", "port", "tpr", "tpr_ordered"))
     run("diff", "-r", *others, "tree", name, folder=tree.room).must_print(wanted, 1)
 
 
@@ -236,6 +241,32 @@ def archive_is_used(tree: Tree) -> None:
     with case("tools/suite, unpacked"):
         ended = run("tools/suite", "--jobs", "1", script, folder=folder, only=path)
         ended.must_show("^1 script: 1 pass; all as expected$")
+
+
+# The library for C and C++
+
+
+def uses_library(tree: Tree, name: str, *words: str, more: Optional[dict[str, str]] = None) -> None:
+    """A program in C is linked with the library by these words, or those that pkg-config gives, and runs."""
+    program = ROOT / "tests" / "embedding" / "programs" / "calls.c"
+    with case(name):
+        run("sh", "-c", f"{' '.join(words)} -o calls && ./calls", program, folder=tree.room, more=more).must_print("")
+
+
+def library_is_used(tree: Tree) -> None:
+    if not tree.library or not shutil.which("cc"):
+        print("left out a program with the library of the release, because there is no library, or no cc", flush=True)
+        return
+    port, root = tree.room / "port" / f"tpr-{tree.version}" / "port", tree.room / "library"
+    shutil.unpack_archive(tree.made("made").archive, port.parent.parent, "gztar")
+    uses_library(tree, "the library that is unpacked", f'cc "$0" -I{port}/include {port}/lib/libtp_port.a')
+    if shutil.which("pkg-config"):
+        more = {"PKG_CONFIG_PATH": f"{port}/lib/pkgconfig"}
+        uses_library(tree, "the same by pkg-config", 'cc "$0" $(pkg-config --cflags --libs tp_port)', more=more)
+    if shutil.which("dpkg-deb"):
+        run("dpkg-deb", "-x", tree.made("made").library, root).must_end(0)
+        there = f"-I{root}/usr/include {root}/usr/lib/x86_64-linux-gnu/libtp_port.a"
+        uses_library(tree, "the library of the package", f'cc "$0" {there}')
 
 
 # The manual page

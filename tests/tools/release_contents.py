@@ -1,4 +1,4 @@
-"""What the archive and the package of a release hold, whose it is, and of which time: beside what they must hold."""
+"""What the archive and the packages of a release hold, whose it is, and of which time: beside what they must hold."""
 from __future__ import annotations
 
 import re
@@ -6,7 +6,7 @@ import shutil
 from collections.abc import Iterable
 from pathlib import PurePosixPath
 
-from release_tree import COMMITTED, Item, Made, Tree, in_the_package, in_the_tree
+from release_tree import COMMITTED, Item, Made, Tree, in_the_archive, in_the_library_package, in_the_package
 from tool_calls import difference, run
 
 RIGHTS = {"f": "-rw-r--r--", "x": "-rwxr-xr-x", "d": "drwxr-xr-x", "l": "lrwxrwxrwx"}
@@ -47,7 +47,7 @@ def lines_of(archive: bytes) -> str:
 
 def wrong_archive(tree: Tree, made: Made) -> str:
     unpacked = run("gzip", "-dc", made.archive).must_end(0).printed
-    found = difference(lines_to_be(in_the_tree(tree), f"tpr-{tree.version}/"), lines_of(unpacked))
+    found = difference(lines_to_be(in_the_archive(tree), f"tpr-{tree.version}/"), lines_of(unpacked))
     version = (tree.folder / "VERSION").read_bytes()
     return found or difference(version, tree.said_in(made, "VERSION").must_end(0).printed)
 
@@ -61,8 +61,28 @@ def wrong_package(tree: Tree, made: Made) -> str:
     return difference(f"Package: tpr\nVersion: {tree.version}\nArchitecture: amd64\n", said.printed)
 
 
+def wrong_library(tree: Tree, made: Made) -> str:
+    """How the package of the library differs from what it must be, and the library in both from what was built."""
+    files = run("dpkg-deb", "--fsys-tarfile", made.library).must_end(0).printed
+    found = difference(lines_to_be(in_the_library_package(), "./"), lines_of(files))
+    if found:
+        return found
+    said = run("dpkg-deb", "-f", made.library, "Package", "Version", "Architecture").must_end(0)
+    head = f"Package: libtp-port-dev\nVersion: {tree.version}\nArchitecture: amd64\n"
+    path = "./usr/lib/x86_64-linux-gnu/libtp_port.a"
+    packed = run("tar", "-xOf", "-", path, input=files).must_end(0).printed
+    unpacked = tree.said_in(made, "port/lib/libtp_port.a").must_end(0).printed
+    built = tree.built_library.read_bytes()
+    page = run("tar", "-xOf", "-", "./usr/share/doc/libtp-port-dev/EMBEDDING.md", input=files).must_end(0).text
+    if "tpr-titan --port" not in page or "tools/titan --port" in page:
+        return "+EMBEDDING.md without the installed names\n"
+    return difference(head, said.printed) or ("" if packed == unpacked == built else "+another libtp_port.a\n")
+
+
 def wrong_with(tree: Tree, made: Made) -> str:
     """How both differ from what they must be, whose and of when, and which version they say; nothing where they
     don't. Without dpkg-deb the archive alone is looked at."""
     found = wrong_archive(tree, made)
-    return found if found or not shutil.which("dpkg-deb") else wrong_package(tree, made)
+    if found or not shutil.which("dpkg-deb"):
+        return found
+    return wrong_package(tree, made) or wrong_library(tree, made)

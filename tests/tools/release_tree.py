@@ -6,11 +6,14 @@ import re
 import shutil
 from collections.abc import Iterator
 from pathlib import Path
-from typing import NamedTuple
+from typing import NamedTuple, Optional
 
 from tool_calls import ROOT, Ended, run
 from rule_cases import must
 
+HEADERS = ("embedding/tp_port.h", "embedding/tp_port.hpp")
+# The library where none is given: the releases are looked at, and no program is linked with it.
+STAND_IN = b"!<arch>\n"
 PLACES = ("CHANGELOG.md", "LICENSE", "README.md", "VERSION", "docs", "examples", "tools")
 UNRELEASED = "## [Unreleased]\n"
 # The time of the commit in the tests, as tar prints it.
@@ -25,24 +28,26 @@ class Made(NamedTuple):
 
     archive: Path
     package: Path
+    library: Path
 
 
 class Tree:
     """The repository, in a room in which releases are made."""
 
-    def __init__(self, room: Path, program: Path, ordered: Path):
-        self.room, self.program, self.ordered, self.folder = room, program, ordered, room / "tree"
+    def __init__(self, room: Path, program: Path, ordered: Path, library: Optional[Path] = None):
+        self.room, self.program, self.ordered, self.library = room, program, ordered, library
+        self.folder = room / "tree"
         self.built, self.built_ordered = (
             self.folder / "crates" / it / "out" / it for it in ("tpr", "tpr_ordered")
         )
+        self.built_library = self.folder / "out" / "port" / "lib" / "libtp_port.a"
         self.version = (ROOT / "VERSION").read_text(encoding="utf-8").partition("\n")[0]
 
     def make(self) -> None:
         for name in OF_ANOTHER:
             os.environ.pop(name, None)
-        for built in (self.built, self.built_ordered):
+        for built in (self.built, self.built_ordered, self.built_library):
             built.parent.mkdir(parents=True)
-        (self.folder / "out").mkdir()
         self.copy_places()
         self.release_changes()
         self.build()
@@ -56,6 +61,9 @@ class Tree:
                 shutil.copytree(ROOT / place, self.folder / place, symlinks=True)
             else:
                 shutil.copy2(ROOT / place, self.folder / place)
+        (self.folder / "embedding").mkdir()
+        for header in HEADERS:
+            shutil.copy2(ROOT / header, self.folder / header)
 
     def release_changes(self) -> None:
         """As in the commit of a release, CHANGELOG.md has no changes that are not released."""
@@ -64,10 +72,11 @@ class Tree:
         path.write_text(before + rest[rest.index(f"## [{self.version}]") :] if rest else before, encoding="utf-8")
 
     def build(self) -> None:
-        """The programs are those that are tested."""
+        """The programs are those that are tested, and the library is the one that is given."""
         for program, built in ((self.program, self.built), (self.ordered, self.built_ordered)):
             shutil.copyfile(program, built)
             built.chmod(0o755)
+        self.built_library.write_bytes(self.library.read_bytes() if self.library else STAND_IN)
 
     def git(self, *words: str) -> str:
         ended = run("git", "-C", self.folder, *words).must_end(0)
@@ -99,17 +108,17 @@ class Tree:
         return run(self.folder / "tools" / "release", *words, folder=self.room)
 
     def made(self, folder: str) -> Made:
-        """The two that it makes into the folder."""
-        return Made(*(self.room / folder / it for it in names_of_both(self.version)))
+        """The three that it makes into the folder."""
+        return Made(*(self.room / folder / it for it in names_of_all(self.version)))
 
     def said_in(self, made: Made, file: str) -> Ended:
         """What stands in a file of the archive."""
         return run("tar", "-xzOf", made.archive, f"tpr-{self.version}/{file}")
 
 
-def names_of_both(version: str) -> tuple[str, str]:
-    """Those of the archive and of the package."""
-    return f"tpr-{version}-amd64.tar.gz", f"tpr_{version}_amd64.deb"
+def names_of_all(version: str) -> tuple[str, str, str]:
+    """Those of the archive, of the package, and of the package with the library."""
+    return f"tpr-{version}-amd64.tar.gz", f"tpr_{version}_amd64.deb", f"libtp-port-dev_{version}_amd64.deb"
 
 
 class Item(NamedTuple):
@@ -145,6 +154,26 @@ def in_the_tree(tree: Tree) -> list[Item]:
         found = [(it, str(it.relative_to(tree.folder))) for it in paths_below(tree.folder / place)]
         items += [item_of(file, path) for file, path in found if not is_kept_back(path)]
     return items
+
+
+# Where each file of the library is in the package, by its place in the archive.
+LIBRARY_PLACES = {
+    "port/include/tp_port.h": "usr/include/tp_port.h",
+    "port/include/tp_port.hpp": "usr/include/tp_port.hpp",
+    "port/lib/libtp_port.a": "usr/lib/x86_64-linux-gnu/libtp_port.a",
+    "port/lib/pkgconfig/tp_port.pc": "usr/lib/x86_64-linux-gnu/pkgconfig/tp_port.pc",
+}
+
+
+def in_the_archive(tree: Tree) -> list[Item]:
+    """What is handed out of the repository, and the library."""
+    return [*in_the_tree(tree), *(Item("f", it) for it in LIBRARY_PLACES)]
+
+
+def in_the_library_package() -> list[Item]:
+    docs = ("EMBEDDING.md", "changelog.gz", "copyright")
+    files = [*LIBRARY_PLACES.values(), *(f"usr/share/doc/libtp-port-dev/{it}" for it in docs)]
+    return [Item("f", it) for it in files]
 
 
 def tools_of(tree: Tree) -> list[str]:

@@ -1,9 +1,9 @@
 #!/usr/bin/env python3
-"""What is handed out: what a gate leaves for tools/release, and the archive and the package that this makes.
+"""What is handed out: what a gate leaves for tools/release, and the archive and the packages that this makes.
 
-    tests/tools/releases.py PROGRAM TPR_ORDERED FOLDER
+    tests/tools/releases.py PROGRAM TPR_ORDERED FOLDER [LIBRARY]
 
-Both are looked at, made of trees in which there is a fault, refused, installed into an empty root, and used there. All
+They are looked at, made of trees in which there is a fault, refused, installed into an empty root, and used there. All
 is written into the FOLDER. It prints a line `passed NAME` for each case, `left out NAME: WHY` for what this machine
 can't try, and lines that begin with `FAILED: NAME` for what is wrong.
 """
@@ -21,9 +21,9 @@ from typing import NamedTuple
 
 sys.dont_write_bytecode = True
 
-from installed_release import archive_is_used, manual_page, package_by_lintian, package_is_installed
+from installed_release import archive_is_used, library_is_used, manual_page, package_by_lintian, package_is_installed
 from release_contents import wrong_with
-from release_tree import COMMITTED, UNRELEASED, Made, Tree, names_of_both
+from release_tree import COMMITTED, UNRELEASED, Made, Tree, names_of_all
 from rule_cases import must
 from tool_calls import ROOT, Ended, Group, case, run, shown, try_groups
 
@@ -42,7 +42,7 @@ def must_be_whole(tree: Tree, folder: str) -> None:
 
 def makes_both(tree: Tree) -> None:
     made = tree.made("made")
-    with case("the archive and the package"):
+    with case("the archive and the packages"):
         names = "".join(f"{it.relative_to(tree.room)}\n" for it in made)
         tree.release("made", "--unchecked").must_print(names)
     with case("what they hold"):
@@ -91,6 +91,7 @@ def of_packages(version: str) -> tuple[Fault, ...]:
         Fault("no tool in the package", DEBIAN, r"^    entries = \[_pl.*", r"\g<0>[:1]", "./usr/lib/tpr/tools/chart"),
         Fault("a package of another version", DEBIAN, "^Version: ", r"\g<0>1", f"Version: 1{version}"),
         Fault("a link to nowhere", DEBIAN, r'\.\./lib/tpr/tpr"', '../lib/tpr"', "tpr -> ../lib/tpr"),
+        Fault("a library of another machine", DEBIAN, '"usr/lib/x86_64-', '"usr/lib/i386-', "./usr/lib/i386-linux-"),
     )
 
 
@@ -139,8 +140,8 @@ def keeps_gate(tree: Tree) -> None:
     with case("what a gate leaves"):
         gate(tree, whole).must_print("")
         head = tree.git("rev-parse", "HEAD")
-        program, ordered = (hashlib.sha256(it.read_bytes()).hexdigest() for it in (tree.program, tree.ordered))
-        sums = f"program {program}\ntpr_ordered {ordered}\n"
+        built = {"program": tree.program, "tpr_ordered": tree.ordered, "library": tree.built_library}
+        sums = "".join(f"{word} {hashlib.sha256(it.read_bytes()).hexdigest()}\n" for word, it in built.items())
         wanted = f"commit {head}\ntoolchain a toolchain\n{sums}\n{LAST_LINES}"
         run("cat", kept).must_print(wanted)
     with case("a release of a gate that passed"):
@@ -176,19 +177,28 @@ def refusals_of_gates(tree: Tree) -> None:
     (tree.folder / "docs" / "new").touch()
     refuses(tree, "a file that came behind the gate", "the work tree isn't what the gate passed on: docs/new")
     (tree.folder / "docs" / "new").unlink()
-    for name, built in (("tpr", tree.built), ("tpr_ordered", tree.built_ordered)):
-        with open(built, "ab") as file:
-            file.write(b"\n")
-        refuses(tree, f"another {name} than the gate tried", f"{name} isn't the program that the gate tried")
-        tree.build()
-    for option in ("--program", "--ordered"):
-        with case(f"a program of one's own, by {option}, with a gate"):
-            ended = tree.release(option, str(tree.program))
-            ended.must_complain("^release: --program and --ordered need --unchecked", 4)
+    refusals_of_builds(tree)
     tree.append("README.md", "more\n")
     tree.commit()
     refuses(tree, "a commit behind the gate", f"the gate passed on commit {commit}, and this is ")
     tree.git("reset", "-q", "--hard", commit)
+
+
+def refusals_of_builds(tree: Tree) -> None:
+    """A program or a library that isn't the one that the gate tried."""
+    tried = (("tpr", tree.built, "program"), ("tpr_ordered", tree.built_ordered, "program"))
+    for name, built, kind in (*tried, ("libtp_port.a", tree.built_library, "library")):
+        with open(built, "ab") as file:
+            file.write(b"\n")
+        refuses(tree, f"another {name} than the gate tried", f"{name} isn't the {kind} that the gate tried")
+        tree.build()
+    tree.built_library.unlink()
+    refuses(tree, "no library", f"{tree.built_library} can't be read")
+    tree.build()
+    for option in ("--program", "--ordered"):
+        with case(f"a program of one's own, by {option}, with a gate"):
+            ended = tree.release(option, str(tree.program))
+            ended.must_complain("^release: --program and --ordered need --unchecked", 4)
 
 
 def refusals_of_versions(tree: Tree) -> None:
@@ -215,7 +225,7 @@ def between_releases(tree: Tree) -> None:
             wanted += f"+git{COMMITTED[:10].replace('-', '')}.{tree.git('rev-parse', 'HEAD')[:8]}"
         name = "with changes that are not released" if is_between else "with a heading for such changes alone"
         with case(f"the version of a release {name}"):
-            made = Made(*(tree.room / "between" / it for it in names_of_both(wanted)))
+            made = Made(*(tree.room / "between" / it for it in names_of_all(wanted)))
             tree.release("--unchecked", "between").must_print("".join(f"{it.relative_to(tree.room)}\n" for it in made))
             run("tar", "-xzOf", made.archive, f"tpr-{wanted}/VERSION").must_print(f"{wanted}\n")
         with case(f"the version that a tool says {name}"):
@@ -249,14 +259,15 @@ def groups(tree: Tree) -> list[Group]:
     found = [
         Group(partial(makes_both, tree), 4, "releases"),
         Group(partial(tells_planted, tree, OF_RELEASES), 8, "planted releases"),
-        Group(partial(refusals_of_releases, tree), 27, "refusals of releases"),
+        Group(partial(refusals_of_releases, tree), 29, "refusals of releases"),
         Group(partial(manual_page, tree), 12, "the manual page"),
         Group(partial(archive_is_used, tree), 4, "the archive that is used"),
+        Group(partial(library_is_used, tree), 0, "the library that is used"),
     ]
     if not shutil.which("dpkg-deb") or not os.access("/usr/bin/python3", os.X_OK):
         print("left out the package, because there is no dpkg-deb, or no /usr/bin/python3", flush=True)
         return found
-    found.append(Group(partial(tells_planted, tree, of_packages(tree.version)), 3, "planted packages"))
+    found.append(Group(partial(tells_planted, tree, of_packages(tree.version)), 4, "planted packages"))
     found.append(Group(partial(package_is_installed, tree), 22, "the package that is installed"))
     if shutil.which("lintian"):
         found.append(Group(partial(package_by_lintian, tree), 1, "the package by lintian"))
@@ -270,11 +281,13 @@ def main() -> int:
     words.add_argument("program", metavar="PROGRAM", type=Path)
     words.add_argument("ordered", metavar="TPR_ORDERED", type=Path)
     words.add_argument("folder", metavar="FOLDER", type=Path, help="where all is written")
+    words.add_argument("library", metavar="LIBRARY", type=Path, nargs="?", help="the library for C and C++")
     asked = words.parse_args()
     if not shutil.which("git") or asked.program.read_bytes()[:4] != b"\x7fELF":
         print("left out what tools/release makes, because there is no git, or TPR names no program of the machine")
         return 0
-    tree = Tree(asked.folder.resolve(), asked.program.resolve(), asked.ordered.resolve())
+    library = asked.library and asked.library.resolve()
+    tree = Tree(asked.folder.resolve(), asked.program.resolve(), asked.ordered.resolve(), library)
     tree.make()
     return try_groups(groups(tree))
 

@@ -13,11 +13,14 @@ from datetime import datetime, timezone
 from ..command import NOT_BUILT, REFUSED, Stop, with_installed_names
 
 from .archives import ar_of, gzip_of, tar_of
+from .port_library import LIBRARY, PKG_CONFIG, below_usr
 from .tree import MANUAL, PROGRAMS, Entry, Release
 
 _HOME = "usr/lib/tpr"
 _PAGES = "usr/share/man/man1"
 _DOCS = "usr/share/doc/tpr"
+_LIBRARIES = "usr/lib/x86_64-linux-gnu"
+_PAGE_OF_LIBRARY = "docs/EMBEDDING.md"
 
 _OLDEST_PYTHON = "3.9"  # for the tools
 # The package of each library that the program may be linked with, and how the versions of its symbols begin.
@@ -49,6 +52,23 @@ Description: message ports of TTCN-3 test components, proved
  draw and compare reports. They are not proved.
 """
 
+_LIBRARY_CONTROL = """\
+Package: libtp-port-dev
+Version: {version}
+Section: libdevel
+Priority: optional
+Architecture: amd64
+Multi-Arch: same
+Maintainer: {maintainer}
+Installed-Size: {kilobytes}
+Depends: libc6-dev
+Description: queue of a TTCN-3 message port for C and C++, proved
+ The queue of one message port of a TTCN-3 executor (ETSI ES 201 873), with
+ start, stop, halt and clear, as a static library with headers for C11 and
+ C++17. Its functions are proved to keep the rules of the standard in every
+ history. The headers are not proved.
+"""
+
 _COPYRIGHT = """\
 Format: https://www.debian.org/doc/packaging-manuals/copyright-format/1.0/
 Upstream-Name: tpr
@@ -65,7 +85,7 @@ License: Apache-2.0
 """
 
 _CHANGES = """\
-tpr ({version}) unstable; urgency=medium
+{package} ({version}) unstable; urgency=medium
 
   * What has changed stands in CHANGELOG.md.
 
@@ -90,9 +110,19 @@ tpr: unstripped-binary-or-object [usr/lib/tpr/tpr_ordered]
 
 def package_of(release: Release) -> bytes:
     entries = _placed(release)
-    time = release.time
+    return _package(_control_of(release, entries), entries, release.time)
+
+
+def library_package_of(release: Release) -> bytes:
+    """The library for C and C++ with its headers, where a compiler looks for them."""
+    entries = _placed_library(release)
+    facts = {"version": release.version, "maintainer": release.maintainer}
+    return _package(_LIBRARY_CONTROL.format(kilobytes=_kilobytes_of(entries), **facts), entries, release.time)
+
+
+def _package(control: str, entries: list[Entry], time: int) -> bytes:
     sums = "".join(f"{hashlib.md5(it.data).hexdigest()}  {it.path}\n" for it in entries if not it.target)
-    about = [Entry("control", _control_of(release, entries).encode()), Entry("md5sums", sums.encode())]
+    about = [Entry("control", control.encode()), Entry("md5sums", sums.encode())]
     members = [
         ("debian-binary", b"2.0\n"),
         ("control.tar.xz", lzma.compress(tar_of(_below_a_dot(about), time))),
@@ -107,10 +137,11 @@ def _below_a_dot(entries: list[Entry]) -> list[Entry]:
 
 def _placed(release: Release) -> list[Entry]:
     """The files where a package has them, links to the commands, and what Debian asks for."""
-    facts = {"version": release.version, "maintainer": release.maintainer, "date": _date_of(release.time)}
+    facts = {"package": "tpr", "version": release.version, "maintainer": release.maintainer}
+    changes = _CHANGES.format(date=_date_of(release.time), **facts).encode()
     entries = [_place(it) for it in release.entries]
     entries += [
-        Entry(f"{_DOCS}/changelog.gz", gzip_of(_CHANGES.format(**facts).encode())),
+        Entry(f"{_DOCS}/changelog.gz", gzip_of(changes)),
         Entry(f"{_DOCS}/copyright", _COPYRIGHT.encode()),
         Entry("usr/share/lintian/overrides/tpr", _OVERRIDES.encode()),
         Entry("usr/bin/tpr", target="../lib/tpr/tpr"),
@@ -151,13 +182,32 @@ def _date_of(time: int) -> str:
 
 
 def _control_of(release: Release, entries: list[Entry]) -> str:
-    kilobytes = sum((len(it.data) + 1023) // 1024 for it in entries)
     return _CONTROL.format(
         version=release.version,
         maintainer=release.maintainer,
-        kilobytes=kilobytes,
+        kilobytes=_kilobytes_of(entries),
         depends=", ".join([*_libraries_of(release.programs), f"python3 (>= {_OLDEST_PYTHON})"]),
     )
+
+
+def _kilobytes_of(entries: list[Entry]) -> int:
+    return sum((len(it.data) + 1023) // 1024 for it in entries)
+
+
+def _placed_library(release: Release) -> list[Entry]:
+    """Its files where a package has them, with its page and what Debian asks for."""
+    facts = {"package": "libtp-port-dev", "version": release.version, "maintainer": release.maintainer}
+    docs = f"usr/share/doc/{facts['package']}"
+    places = {LIBRARY: f"{_LIBRARIES}/libtp_port.a", PKG_CONFIG: f"{_LIBRARIES}/pkgconfig/tp_port.pc"}
+    entries = [replace(it, path=places.get(it.path, f"usr/{it.path}")) for it in release.library]
+    found = below_usr(release.version, _LIBRARIES).encode()
+    entries = [replace(it, data=found) if it.path == places[PKG_CONFIG] else it for it in entries]
+    page = next((it for it in release.entries if it.path == _PAGE_OF_LIBRARY), None)
+    if page is not None:
+        entries.append(Entry(f"{docs}/EMBEDDING.md", _with_installed_names(page.path, page.data)))
+    changes = _CHANGES.format(date=_date_of(release.time), **facts).encode()
+    entries += [Entry(f"{docs}/changelog.gz", gzip_of(changes)), Entry(f"{docs}/copyright", _COPYRIGHT.encode())]
+    return sorted(entries, key=lambda it: it.path)
 
 
 def _libraries_of(programs: tuple[bytes, ...]) -> list[str]:

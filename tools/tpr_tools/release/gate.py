@@ -3,8 +3,16 @@ from __future__ import annotations
 
 import hashlib
 import subprocess
+from collections.abc import Mapping
 
 from ..command import NOT_BUILT, REFUSED, Stop
+
+# For each word of out/gate with a sum: the beginning of the refusal if another file is built.
+_TRIED = {
+    "program": "tpr isn't the program",
+    "tpr_ordered": "tpr_ordered isn't the program",
+    "library": "libtp_port.a isn't the library",
+}
 
 
 def git(root: str, *words: str) -> str:
@@ -19,9 +27,9 @@ def git(root: str, *words: str) -> str:
     return ran.stdout.decode("utf-8", "surrogateescape")
 
 
-def passed_gate(root: str, programs: dict[str, bytes]) -> str:
-    """What the gate said that passed on this very commit and tried these very programs, as ./test has kept
-    it: lines of a word and what it names, an empty line, and the gate's last lines."""
+def passed_gate(root: str, built: Mapping[str, bytes]) -> str:
+    """What the gate said that passed on this very commit and tried these very programs and this very library, as
+    ./test has kept it: lines of a word and what it names, an empty line, and the gate's last lines."""
     try:
         with open(f"{root}/out/gate", encoding="utf-8") as file:
             said = file.read()
@@ -34,7 +42,7 @@ def passed_gate(root: str, programs: dict[str, bytes]) -> str:
     changed = git(root, "status", "--porcelain").split("\n")[0]
     if changed:
         raise Stop(REFUSED, f"the work tree isn't what the gate passed on: {changed[3:]}")
-    for word, program in programs.items():
-        if named.get(word) != hashlib.sha256(program).hexdigest():
-            raise Stop(REFUSED, f"{'tpr' if word == 'program' else word} isn't the program that the gate tried")
+    for word, data in built.items():
+        if named.get(word) != hashlib.sha256(data).hexdigest():
+            raise Stop(REFUSED, f"{_TRIED[word]} that the gate tried")
     return said

@@ -10,6 +10,7 @@ from ..command import REFUSED, Stop
 from ..version import has_later_changes, is_number, newest_in
 
 from .gate import git
+from .port_library import HEADERS, LIBRARY, PKG_CONFIG, below_its_folder
 
 # What of the repository is handed out, and what of that isn't: it is for whoever changes tpr.
 _PLACES = ("CHANGELOG.md", "LICENSE", "README.md", "VERSION", "docs", "examples", "tools")
@@ -36,6 +37,7 @@ class Release:
     maintainer: str
     programs: tuple[bytes, ...]  # those of PROGRAMS
     entries: tuple[Entry, ...]  # by the paths that they have in the repository
+    library: tuple[Entry, ...]  # the library for C and C++, by the paths below its folder
 
     def tools(self) -> list[str]:
         """The commands beside the program, by their names."""
@@ -43,8 +45,8 @@ class Release:
         return [it[1] for it in found if it]
 
 
-def release_of(root: str, programs: tuple[bytes, ...], said: str) -> Release:
-    """The programs, with what of the repository belongs to them, and what the gate said."""
+def release_of(root: str, programs: tuple[bytes, ...], library: bytes, said: str) -> Release:
+    """The programs and the library, with what of the repository belongs to them, and what the gate said."""
     time, maintainer = git(root, "log", "-1", "--format=%ct %an <%ae>").strip().split(" ", 1)
     tracked = git(root, "ls-files", "-z", *_PLACES).split("\0")
     paths = [path for path in tracked if path and not path.startswith(_KEPT_BACK)]
@@ -54,7 +56,12 @@ def release_of(root: str, programs: tuple[bytes, ...], said: str) -> Release:
     entries = [Entry("GATE", said.encode()), *(Entry(*it, 0o755) for it in zip(PROGRAMS, programs))]
     entries += [_entry(root, path) for path in paths if path != "VERSION"]
     entries.append(Entry("VERSION", f"{version}\n".encode()))
-    return Release(version, int(time), maintainer, programs, tuple(entries))
+    return Release(version, int(time), maintainer, programs, tuple(entries), _library(root, library, version))
+
+
+def _library(root: str, library: bytes, version: str) -> tuple[Entry, ...]:
+    headers = [Entry(place, bytes_of(f"{root}/{file}")) for place, file in HEADERS.items()]
+    return (*headers, Entry(LIBRARY, library), Entry(PKG_CONFIG, below_its_folder(version).encode()))
 
 
 def _entry(root: str, path: str) -> Entry:

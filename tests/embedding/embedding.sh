@@ -1,0 +1,26 @@
+# The queue in programs of C and C++ (docs/EMBEDDING.md): the proofs of the exports are those of their template, the
+# header is that of the library, and the programs of `programs/` and of the page run, by gcc and clang, with sanitizers.
+# Eclipse Titan runs the examples with its own queue and with ours.
+
+# The library, in `port`: the folder that TP_PORT names, or what `embedding/build` makes of this tree.
+build_port() {
+    port=${TP_PORT-$root/out/port}
+    if [[ -z ${TP_PORT-} ]] && ! in_a_group env --default-signal=INT embedding/build >"$room/port" 2>&1; then
+        tail -n 20 -- "$room/port"
+        return 1
+    fi
+    [[ -e $port/lib/libtp_port.a ]]
+}
+
+embedding() {
+    told "$room/walks" tests/embedding/walks.py
+    told "$room/headers" tests/embedding/headers.py
+    told "$room/port_classes" tests/embedding/port_classes.py
+    mkdir -- "$room/programs"
+    told "$room/embedded" tests/embedding/embedded.py "$port" "$room/programs"
+}
+
+titan_ports() {
+    mkdir -- "$room/titan"
+    told "$room/told" tests/embedding/titan_ports.py "$port" "$room/titan"
+}

@@ -1,0 +1,258 @@
+#!/usr/bin/env python3
+"""The port class of `tools/titan --port`: the scripts that Eclipse Titan compiles, run by it with its own queue and
+with that of libtp_port.a. With ours each verdict is one of the script's reports. With its own it is too, but where
+Titan departs from the standard. `titan/Ports.ttcn` has what the examples don't show, and is run in single mode too.
+
+    tests/embedding/titan_ports.py PORT FOLDER [NAME..]
+
+PORT is a folder that `embedding/build` has made, all is built into the FOLDER, and NAME is a script to try in place of
+all. It prints a line `passed NAME`, `left out NAME: WHY` or `FAILED: NAME: WHY` for each script.
+"""
+from __future__ import annotations
+
+import argparse
+import os
+import re
+import shutil
+import subprocess
+import sys
+from concurrent.futures import ThreadPoolExecutor
+from pathlib import Path
+from typing import Dict, NamedTuple, Optional, Tuple
+
+sys.dont_write_bytecode = True
+
+ROOT = Path(__file__).resolve().parents[2]
+NEEDS = ("compiler", "mctr_cli", "g++")
+HEADERS = Path("/usr/include/titan")
+LIBRARIES = "/usr/lib/titan"
+RUN = ROOT / "bench" / "running" / "titan"
+SECONDS_OF_A_CASE = 5
+MOST_SECONDS = 900
+OF_TITAN = ("-lcrypto", "-lxml2", "-ldl", "-lpthread", "-lrt")
+OWN, OURS = "Titans", "our"
+SINGLE, PARALLEL = "single", "parallel"
+# The verdict of each test case, by its module and its name.
+Verdicts = Dict[Tuple[str, str], str]
+
+PORTS = Path(__file__).resolve().with_name("titan") / "Ports.ttcn"
+# A verdict may depend on the schedule: one that isn't as wanted is looked for in so many further runs.
+MORE_RUNS = 2
+
+# Where Titan's own queue departs from ES 201 873-1: the clause, what it does, and the verdict that it comes to.
+DEPARTURES = {"stopped_port_queues": ("22.5.3", "ends with an error where a message comes to a stopped port", "error")}
+_CONNECTIONS = "Titan ends the connections of a component that has ended, so with either queue the verdict varies"
+LEFT_OUT = dict.fromkeys(
+    (
+        "ended_component_is_still_sent_to",
+        "orders_of_two_senders_and_a_halt",
+        "send_that_names_no_receiver",
+        "two_senders_to_one_that_ended",
+    ),
+    _CONNECTIONS,
+)
+
+CONFIGURATION = """\
+[MAIN_CONTROLLER]
+TCPPort := 0
+NumHCs := 1
+UnixSocketsEnabled := Yes
+[LOGGING]
+LogFile := "{folder}/{which}.%r.log"
+FileMask := TESTCASE | STATISTICS | VERDICTOP | ERROR
+ConsoleMask := LOG_NOTHING
+[EXECUTE]
+{controls}
+"""
+
+
+class Script(NamedTuple):
+    """A script as a module of a name that no other has."""
+
+    name: str
+    module: str
+    text: str
+    verdicts: frozenset[str]  # those of its reports
+
+    def port_types(self) -> list[str]:
+        return re.findall(r"type port (\w+) message", self.text)
+
+    def cases(self) -> list[str]:
+        return re.findall(r"\bexecute\((\w+)\(\)", self.text)
+
+
+def script_of(file: Path, number: int) -> tuple[Optional[Script], str]:
+    """The script, or why it isn't tried."""
+    reports = [it.read_text(encoding="utf-8") for it in sorted(file.parent.glob(f"{file.stem}.expected*"))]
+    text = file.read_text(encoding="utf-8")
+    if any(it.startswith(("refused", "fault")) for it in reports):
+        return None, ""
+    if file.stem in LEFT_OUT:
+        return None, LEFT_OUT[file.stem]
+    if re.search(r"\b(map|sut)\b", text):
+        return None, "it has a system under test, for which the class has no driver"
+    if any("\nend waiting\n" in it for it in reports):
+        return None, "a component waits for ever, which Titan doesn't end"
+    case = re.search(r"\btestcase (\w+)", text)
+    module = f"Module{number}"
+    renamed = re.sub(r"\bmodule \w+", f"module {module}", text, count=1)
+    control = f"control {{ execute({case[1] if case else ''}(), {SECONDS_OF_A_CASE}.0) }}\n}}"
+    whole = re.sub(r"\};?\s*\Z", control, renamed) + "\n"
+    return Script(file.stem, module, whole, frozenset(re.findall(r"^result (\w+)", "\n".join(reports), re.M))), ""
+
+
+def run(words: list[str], folder: Path, seconds: int = MOST_SECONDS) -> tuple[int, str]:
+    try:
+        ran = subprocess.run(
+            words, cwd=folder, stdin=subprocess.DEVNULL, stdout=subprocess.PIPE, stderr=subprocess.STDOUT,
+            timeout=seconds, check=False,
+        )
+    except subprocess.TimeoutExpired:
+        return 124, f"it took more than {seconds} seconds"
+    return ran.returncode, ran.stdout.decode("utf-8", "replace")
+
+
+class Room:
+    """Where the scripts are compiled, each in a folder of its own, and linked into one program for each queue."""
+
+    def __init__(self, port: Path, folder: Path):
+        self.port, self.folder = port, folder
+
+    def compile(self, script: Script, which: str) -> str:
+        """What is wrong with the compilation; nothing where it succeeds."""
+        folder = self.folder / which / script.module
+        folder.mkdir(parents=True)
+        text = script.text
+        if which == OWN:
+            text = re.sub(r"(type port \w+ message \{[^}]*\})", r'\1 with { extension "internal" }', text)
+        (folder / f"{script.module}.ttcn").write_text(text, encoding="utf-8")
+        status, said = run(["compiler", f"{script.module}.ttcn"], folder)
+        for name in script.port_types() if which == OURS and status == 0 else ():
+            words = [str(ROOT / "tools" / "titan"), "--port", name, f"{script.module}.hh"]
+            status, said = run(words, folder)
+            (folder / f"{name.replace('_', '__')}.hh").write_text(said, encoding="utf-8")
+            if status != 0:
+                return said
+        if status == 0:
+            flags = ["-c", "-O0", "-w", "-DLINUX", f"-I{HEADERS}", f"-I{self.port}/include"]
+            status, said = run(["g++", *flags, f"{script.module}.cc", "-o", "module.o"], folder)
+        return "" if status == 0 else (said or f"status {status}")[:1000]
+
+    def link(self, scripts: list[Script], which: str, mode: str) -> str:
+        objects = [f"{which}/{it.module}/module.o" for it in scripts]
+        library = "-lttcn3" if mode == SINGLE else "-lttcn3-parallel"
+        libraries = [f"-L{LIBRARIES}", library, f"{self.port}/lib/libtp_port.a", *OF_TITAN]
+        status, said = run(["g++", "-o", f"{which}.{mode}", *objects, *libraries], self.folder)
+        return "" if status == 0 else said[-1000:]
+
+    def verdicts(self, scripts: list[Script], which: str, mode: str) -> Verdicts:
+        """The verdict of each test case, in one run of all."""
+        controls = "\n".join(f"{it.module}.control" for it in scripts)
+        configuration = CONFIGURATION.format(folder=self.folder, which=f"{which}.{mode}", controls=controls)
+        (self.folder / f"{which}.cfg").write_text(configuration, encoding="utf-8")
+        words = [*([] if mode == SINGLE else [str(RUN)]), f"./{which}.{mode}", f"{which}.cfg"]
+        log = self.folder / f"{which}.{mode}.{'single' if mode == SINGLE else 'mtc'}.log"
+        log.unlink(missing_ok=True)
+        run(words, self.folder)
+        found: Verdicts = {}
+        module = ""
+        for line in log.read_text(encoding="utf-8", errors="replace").splitlines() if log.exists() else ():
+            if begun := re.search(r"control part in module (\w+) started", line):
+                module = begun[1]
+            elif ended := re.search(r"Test case (\w+) finished\. Verdict: (\w+)", line):
+                found[module, ended[1]] = ended[2]
+        return found
+
+
+def wanted_of(script: Script, case: str, which: str) -> frozenset[str]:
+    """The verdicts that a test case may come to with this queue."""
+    name = case if script.module == PORTS.stem else script.name
+    return frozenset((DEPARTURES[name][2],)) if which == OWN and name in DEPARTURES else script.verdicts
+
+
+def wrong_with(room: Room, scripts: list[Script], which: str, mode: str) -> dict[tuple[str, str], str]:
+    """What is wrong with each test case in each of the runs, by its script and its name."""
+    wrong: dict[tuple[str, str], str] = {}
+    left = scripts
+    for _ in range(1 + MORE_RUNS):
+        found = room.verdicts(left, which, mode)
+        wrong = {}
+        for it in left:
+            for case in it.cases():
+                wanted, verdict = wanted_of(it, case, which), found.get((it.module, case))
+                if verdict not in wanted:
+                    wrong[it.name, case] = f"with {which} queue it is {verdict}, and not {' or '.join(sorted(wanted))}"
+        left = [it for it in left if any(name == it.name for name, _ in wrong)]
+        if not left:
+            break
+    return wrong
+
+
+def scripts_of(names: list[str]) -> list[Script]:
+    """The scripts to try; tells those that are left out."""
+    found = []
+    files = [*sorted((ROOT / "examples").glob("*.ttcn")), *sorted((ROOT / "tests" / "golden").glob("*/*.ttcn"))]
+    for number, file in enumerate(files, 1):
+        script, why = script_of(file, number)
+        if names and file.stem not in names:
+            continue
+        if script is not None:
+            found.append(script)
+        elif why:
+            print(f"left out {file.stem} by Titan: {why}", flush=True)
+    if not names or PORTS.stem in names:
+        found.append(Script(PORTS.stem, PORTS.stem, PORTS.read_text(encoding="utf-8"), frozenset(("pass",))))
+    return found
+
+
+def try_scripts(room: Room, scripts: list[Script]) -> int:
+    with ThreadPoolExecutor(os.cpu_count()) as workers:
+        jobs = {(it, which): workers.submit(room.compile, it, which) for it in scripts for which in (OWN, OURS)}
+        refused = {it: said.result() for it, said in jobs.items()}
+    compiled = []
+    failed = 0
+    for it in scripts:
+        if refused[it, OWN]:
+            print(f"left out {it.name} by Titan: its compiler refuses the script", flush=True)
+        elif refused[it, OURS]:
+            print(f"FAILED: {it.name}: its port classes don't compile: {refused[it, OURS]}", flush=True)
+            failed += 1
+        else:
+            compiled.append(it)
+    modes = ((compiled, PARALLEL), ([it for it in compiled if it.module == PORTS.stem], SINGLE))
+    unlinked = [said for some, mode in modes for which in (OWN, OURS) if (said := room.link(some, which, mode))]
+    if unlinked:
+        print(f"FAILED: the scripts can't be linked: {unlinked[0]}", flush=True)
+        return failed + 1
+    return failed + sum(tell(room, some, mode) for some, mode in modes)
+
+
+def tell(room: Room, scripts: list[Script], mode: str) -> int:
+    """Runs them with both queues, tells what came of each test case, and returns how many failed."""
+    wrong = [wrong_with(room, scripts, which, mode) for which in (OWN, OURS)]
+    failed = 0
+    for it in scripts:
+        for case in it.cases():
+            said = "; ".join(found[it.name, case] for found in wrong if (it.name, case) in found)
+            name = f"{it.name}, {case} by Titan in {mode} mode"
+            print(f"FAILED: {name}: {said}" if said else f"passed {name}", flush=True)
+            failed += bool(said)
+    return failed
+
+
+def main() -> int:
+    words = argparse.ArgumentParser(description=(__doc__ or "").partition("\n")[0])
+    words.add_argument("port", metavar="PORT", type=Path)
+    words.add_argument("folder", metavar="FOLDER", type=Path)
+    words.add_argument("names", metavar="NAME", nargs="*")
+    asked = words.parse_args()
+    missing = [it for it in NEEDS if not shutil.which(it)] + ([] if HEADERS.is_dir() else [str(HEADERS)])
+    if missing:
+        print(f"left out the scripts by Titan, because there is no {missing[0]}")
+        return 0
+    room = Room(asked.port.resolve(), asked.folder.resolve())
+    return 1 if try_scripts(room, scripts_of(asked.names)) else 0
+
+
+if __name__ == "__main__":
+    sys.exit(main())

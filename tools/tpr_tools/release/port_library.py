@@ -1,0 +1,30 @@
+"""The library for C and C++ that is handed out: which files it has, and where."""
+from __future__ import annotations
+
+# The places below the folder of the library, which `embedding/build` makes.
+LIBRARY = "lib/libtp_port.a"
+PKG_CONFIG = "lib/pkgconfig/tp_port.pc"
+# The headers, each with its file of the repository.
+HEADERS = {"include/tp_port.h": "embedding/tp_port.h", "include/tp_port.hpp": "embedding/tp_port.hpp"}
+
+_PKG_CONFIG = """\
+prefix={prefix}
+includedir=${{prefix}}/include
+libdir={libdir}
+
+Name: tp_port
+Description: the queue of one TTCN-3 message port, proved
+Version: {version}
+Cflags: -I${{includedir}}
+Libs: -L${{libdir}} -ltp_port
+"""
+
+
+def below_its_folder(version: str) -> str:
+    """The file for pkg-config of a library that may be moved: all is found from where the file stands."""
+    return _PKG_CONFIG.format(prefix="${pcfiledir}/../..", libdir="${prefix}/lib", version=version)
+
+
+def below_usr(version: str, libraries: str) -> str:
+    """That of a Debian package, with its libraries in this folder."""
+    return _PKG_CONFIG.format(prefix="/usr", libdir=f"/{libraries}", version=version)
