@@ -48,7 +48,7 @@ def main() -> None:
     program = os.path.abspath(words.parse_args().program)
     with tempfile.TemporaryDirectory() as folder:
         output = f"{folder}/kitchen.ttcn"
-        tool(program, "rewrite", "kitchen.ttcn", "types.ttcn", "-o", output)
+        tool(program, "rewrite", "--ended=queued", "kitchen.ttcn", "types.ttcn", "-o", output)
         with open(f"{folder}/report", "w", encoding="utf-8") as opened:
             subprocess.run([program, "run", output], stdout=opened, check=False)
         look_at_why(program, output, f"{folder}/report")

@@ -68,9 +68,14 @@ def _of_statement(text: Text, fault: GrammarFault) -> Optional[Found]:
         return signs.make(_BEFORE_BRACKETS[before], opened - 1, word=before)
     if text.spelling(opened) == "[":
         return signs.make(Construct.GUARD, opened)
-    if ":=" in (signs.first(1), signs.first(2)):
+    if ":=" in (signs.first(1), signs.first(2)) and not _is_in_value(text, fault.begin):
         return signs.make(Construct.ASSIGNMENT, fault.begin)
     return None
+
+
+def _is_in_value(text: Text, begin: int) -> bool:
+    """Whether what begins here is a field of a value, and no statement: the brace before it opens a value."""
+    return begin > 1 and text.spelling(begin - 1) == "{" and text.spelling(begin - 2) in (":=", ":", "(", ",", "{")
 
 
 def _known(signs: Signs) -> Construct:
