@@ -12,3 +12,6 @@ tools() {
     at_least $((open_examples + 13)) told "$room/told_of_comparisons" tests/tools/comparisons.py "$room/comparisons"
     at_least 40 told "$room/told_of_words" tests/tools/tool_words.py
 }
+
+# tools/costs.py, and tests/gate/gate_times.py.
+costs() { told "$room/costs" tests/tools/costs_cases.py; }
