@@ -1,5 +1,5 @@
 -- What is answered, and what comes of it through a buffer.
-use Rattle.std.proofs.Common.{◌≡◌, ℕ, Bool, true, false, Option, Some, None, Result, Ok, Err, List, [], ◌++◌, IsTrue, inl, inr, refl, sym, ap, ◌∙◌, append_assoc, subst}
+use Rattle.std.proofs.Common.{◌≡◌, ℕ, Bool, false, Option, Some, None, Result, Ok, Err, List, [], ◌++◌, IsTrue, inl, inr, refl, sym, ap, ◌∙◌, append_assoc, subst}
 use Rattle.std.specs.Prelude.{MatchOption}
 use Rattle.std.specs.Global.{Global}
 use Rattle.std.specs.declared.io.buffered.BufWriter.{BufWriter}
