@@ -3,55 +3,15 @@
 # `called`, what is called on command lines, and `ordered`, tpr_ordered; `room`, a folder of the part's own, and
 # `room_of_all`, one of all parts; the counters `passed` and `failed`.
 
-# Runs a command, and keeps what it did for `judge`.
+# Runs a command, and keeps what it did for `tool_must`.
 observe() {
     "$@" >"$room/printed" 2>"$room/said"
     status=$?
 }
 
-# Whether the last run ended with the STATUS, printed what one of the FILEs holds, and said the
-# text SAID on standard error. Where it didn't, this is told under the NAME.
-judge() { # NAME STATUS SAID FILE..
-    local name=$1 wanted=$2 said=$3 file well=no
-    shift 3
-    for file in "$@"; do
-        if cmp -s -- "$file" "$room/printed"; then well=yes; fi
-    done
-    printf %s "$said" >"$room/to_be_said"
-    if [[ $well == yes && $status == "$wanted" ]] && cmp -s -- "$room/to_be_said" "$room/said"; then
-        return 0
-    fi
-    echo "FAILED: $name"
-    if [[ $status != "$wanted" ]]; then
-        echo "the status was $status, and $wanted is wanted"
-    fi
-    if (($# == 0)); then
-        echo "nothing says what it must print"
-    elif [[ $well == no ]]; then
-        diff -u --label wanted --label printed -- "$1" "$room/printed" | head -n 40
-        if (($# > 1)); then echo "(nor is it one of the other texts that are allowed)"; fi
-    fi
-    diff -u --label 'wanted on standard error' --label 'said on standard error' \
-        -- "$room/to_be_said" "$room/said" | head -n 20
-    return 1
-}
-
 # Counts a case, by the status of the command before it or of the one given.
 count() {
     if (($1 == 0)); then ((passed += 1)); else ((failed += 1)); fi
-}
-
-# Runs a case, and counts it.
-counted() { # COMMAND..
-    "$@"
-    count $?
-}
-
-# The last run is one case. What it must print is a text.
-must() { # NAME STATUS PRINTED SAID
-    printf %s "$3" >"$room/to_be_printed"
-    judge "$1" "$2" "$4" "$room/to_be_printed"
-    count $?
 }
 
 # Runs the cases of a table, of which there are so many at least: a table that lost its entries, or

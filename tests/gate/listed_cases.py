@@ -1,5 +1,5 @@
 #!/usr/bin/env python3
-"""The list of all examples, of all small scripts and of the tables of texts, tests/gate/cases.list, by which none is
+"""The list of all examples, of all small scripts and of the tables of texts, tests/cases.list, by which none is
 lost unseen.
 
     ./test list                           writes the list
@@ -32,7 +32,7 @@ import changes
 import example_files
 import grammar
 
-LIST = ROOT / "tests" / "gate" / "cases.list"
+LIST = ROOT / "tests" / "cases.list"
 ENDINGS = ("queue", "ttcn")
 MOST_ENTRIES = 40  # of a folder of tests/
 
@@ -104,10 +104,10 @@ def twins(there: list[Listed]) -> Iterator[str]:
     known: dict[str, str] = {}
     names = Counter(Path(it.file).name for it in there if it.kind in (Kind.QUEUE, Kind.RIGHT, Kind.REFUSED))
     yield from (f"{number} examples have the name {name}" for name, number in names.items() if number > 1)
-    for it in there:
-        other = known.setdefault(sha256((ROOT / it.file).read_bytes()).hexdigest(), it.file)
-        if other != it.file:
-            yield f"{other} and {it.file} are of the same text"
+    for file in (*(it.file for it in there), *(str(it.relative_to(ROOT)) for it in ROOT.glob("tests/forced/*.ttcn"))):
+        other = known.setdefault(sha256((ROOT / file).read_bytes()).hexdigest(), file)
+        if other != file:
+            yield f"{other} and {file} are of the same text"
 
 
 def differences(there: list[Listed]) -> Iterator[str]:

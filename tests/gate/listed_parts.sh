@@ -5,7 +5,7 @@
 
 parts_list=tests/gate/parts
 
-# How many examples there are of each kind, and so on, as numbers of these names, by the list (tests/gate/cases.list).
+# How many examples there are of each kind, and so on, as numbers of these names, by the list (tests/cases.list).
 read_counts() {
     local name number
     while IFS='=' read -r name number; do
@@ -40,22 +40,6 @@ is_tried() { # NAME
 # What a part leaves out of what it tries, since it can't be tried here: told at the end.
 leave_out() { # WHAT, AND WHY
     echo "left out: $1" >>"$room_of_all/left_out"
-}
-
-# No other entry of this part has the NAME, and none the same FILE as its input.
-declare -A entries=() inputs=()
-is_another_entry() { # NAME [FILE]
-    local sum=''
-    if (($# > 1)); then read -r sum _ < <(sha256sum <"$2"); fi
-    if [[ ${entries[$1]-} ]]; then
-        echo "FAILED: two entries have the name $1"
-        count 1
-    elif [[ $sum && ${inputs[$sum]-} ]]; then
-        echo "FAILED: the entries ${inputs[$sum]} and $1 are of the same input"
-        count 1
-    fi
-    entries["$1"]=there
-    if [[ $sum ]]; then inputs["$sum"]=$1; fi
 }
 
 # One part of the list: it said once what it tried, and that is enough.

@@ -11,13 +11,13 @@ and left out where nothing does.
 It prints a line `passed CRATE`, `left out CRATE: WHY` or `FAILED: CRATE: WHY` for each crate of crates.txt.
 """
 import argparse
+import hashlib
 import os
 import re
 import sys
 
 sys.dont_write_bytecode = True
 
-from wrong_body_basis import files_of, sum_of, text_of
 from wrong_body_edits import ROOT, read, write
 
 KNOWN = f"{ROOT}/out/may_wait"
@@ -62,8 +62,13 @@ def counted(lines: list[str]) -> tuple[dict[str, dict[str, str]], set[str]]:
 
 
 def sum_of_sources(crate: str) -> str:
-    folder = f"{ROOT}/crates/{crate}"
-    return sum_of([(file, text_of(f"{folder}/{file}")) for file in files_of(folder)])
+    found = hashlib.sha256()
+    for part in ("src", "specs", "proofs"):
+        for folder, inner, names in os.walk(f"{ROOT}/crates/{crate}/{part}"):
+            inner.sort()
+            for name in sorted(names):
+                found.update(f"{folder}/{name}\0{read(f'{folder}/{name}')}\0".encode())
+    return found.hexdigest()[:32]
 
 
 def read_known() -> dict[tuple[str, str], dict[str, str]]:
@@ -73,10 +78,8 @@ def read_known() -> dict[tuple[str, str], dict[str, str]]:
 
 
 def write_known(known: dict[tuple[str, str], dict[str, str]]) -> None:
-    os.makedirs(os.path.dirname(KNOWN), exist_ok=True)
     texts = [f"{' '.join(it)} {' '.join('='.join(count) for count in known[it].items())}\n" for it in sorted(known)]
-    write(f"{KNOWN}.new", "".join(texts))
-    os.replace(f"{KNOWN}.new", KNOWN)
+    write(KNOWN, "".join(texts))
 
 
 def told(crate: str, counts: dict[str, str], found: dict[str, str], is_kept: bool) -> str:
@@ -105,6 +108,9 @@ def main() -> int:
         place = crate, sum_of_sources(crate)
         known[place] = {**before.get(place, {}), **found.get(crate, {})}
         lines.append(told(crate, counts, known[place], crate in kept))
+        raised = {**counts, "may_wait": str(int(counts["may_wait"]) + 1)}
+        if lines[-1].startswith("passed ") and told(crate, raised, known[place], crate in kept).startswith("passed "):
+            lines[-1] = f"FAILED: {crate}: a count that is one too high isn't told"
     write_known({place: it for place, it in known.items() if it})
     print("\n".join(lines))
     return 1 if any(line.startswith("FAILED: ") for line in lines) else 0

@@ -1,13 +1,8 @@
-# Some of the faults that ./test faults plants: parts by chance must fail on theirs (faults.py); and whether the faults
-# that races.py plants in the floor and the notifier still fit there.
+# Some of the faults that ./test faults plants: parts by chance must fail on theirs (faults.py).
 
 planted_at_once=3
 
 planted_faults() {
     told "$room/faults" tests/gate/faults.py "$tpr" "$ordered" --some "$planted_at_once" "${FAULTS_SEED:-$RANDOM}" \
         "$room_of_all/parts"
-}
-
-faults_of_races() {
-    told "$room/races" tests/gate/races.py --fit
 }

@@ -32,9 +32,10 @@ FOLDERS = {
     "tests/program": ("traces",),
     "tests/rewrites": (),
     "tests/rewrites/chance": ("orders",),
+    "tests/rewrites/oracle": (),
     "tests/runs": ("program", "orders", "traces"),
     "tests/runs/many_components": ("orders",),
-    "tests/tools": ("orders", "gate", "program"),
+    "tests/tools": ("orders", "program"),
     "tests/traces": ("orders", "program"),
     "tests/verdicts": ("orders",),
 }

@@ -1,33 +1,29 @@
 #!/usr/bin/env python3
-"""Tries wrong bodies: the prover must refuse each of them, in the function that it edits.
+"""Tries wrong bodies: the prover must refuse each of them, in the function that its block names.
 
-    ./test wrong_bodies [--jobs N] [stale | CRATE | CRATE/NAME ..]
+    ./test wrong_bodies [--jobs N] [oldest N | CRATE | CRATE/NAME ..]
+    tests/gate/wrong_bodies.py [--jobs N] of_a_run
+    tests/gate/wrong_bodies.py stale_libraries
 
-The edits are those of crates/CRATE/must-fail, which the gate tries too, and those of
-tests/wrong_bodies/CRATE, of which it tries some (tests/gate/wrong_bodies_of_a_run.py) and takes the
-record's word for the rest (tests/gate/wrong_body_record.py), since there is no time for them. Without
-words all are tried; with `stale`, those that have no current line in the record. Whatever is tried,
-its line is written there if it was refused and taken away if it was not, as soon as that is known. An
-interrupt lets no further check begin, and keeps what was done: the status is 130. With --jobs N, so
-many crates are tried at once, each by a check with one job, in 1 to 3 GB.
+The first form tries all, the N that were last refused the longest ago, or those named, after a check of their crates,
+and writes tests/wrong_bodies/seen. `of_a_run` tries those of a run of the gate after `rt ci`, which has proved the
+crates: the blocks with one star, 40 others by turns (wrong_body_seen.py), and one right body, so that a trial that
+refuses everything fails. `stale_libraries` comes before `rt ci`, which gives back the libraries that it found: it
+removes those of older sources.
 
-They are tried some at a time, each in a function of its own: a function is proved from the
-contracts of those that it calls, so one wrong body changes nothing for another. Where several fail,
-each counts as refused only if the prover says so of its own function. One that is not refused so is
-tried again by itself.
+A trial checks the edited function in a copy of the crate, over the libraries of the crates below. It tries up to 16
+edits of different functions at once: a function is proved from the contracts of the functions that it calls, so one
+wrong body changes nothing for another. An edit that isn't refused there is tried again alone. With --jobs N, so many
+crates are tried at once, each by a check with one job, in 1 to 3 GB.
 
-An edit after which a proof names a step or a goal that is no longer there shows nothing: the prover
-says that the body has another shape, and no more. Such an edit is counted as not told. One of which a
-check came to no answer, since it doesn't compile or the check was ended, is counted as not tried, and
-keeps its line.
-
-The last line is `wrong bodies: N refused, M not told, K not refused`, with `, L not tried` behind it
-where there are such.
+It prints a line `FAILED: ..` for each edit that isn't refused in its function; that is refused only because of its
+shape, since a proof names something that the body no longer has; or on which the check gives no answer, for example
+because it doesn't compile. The last line is `wrong bodies: N refused, M failed`.
 """
 from __future__ import annotations
 
 import argparse
-import contextlib
+import functools
 import os
 import re
 import shutil
@@ -36,284 +32,257 @@ import subprocess
 import sys
 import tempfile
 import threading
-from collections.abc import Callable, Iterable, Sequence
+from collections.abc import Iterable, Sequence
 from concurrent.futures import ThreadPoolExecutor
-from types import FrameType
-from typing import Optional, TypeVar
+from pathlib import Path
+from typing import NamedTuple
 
 sys.dont_write_bytecode = True
 
-from wrong_body_basis import below
-from wrong_body_edits import (
-    ROOT, TOLD, Edit, Unfit, crates, files_of, place_at, read, write,
-)
-from wrong_body_record import Basis, Line, read_record, update, wanting
+from wrong_body_edits import OF_EACH_RUN, ROOT, Edit, Unfit, all_edits, below, crates, read, write
+from wrong_body_seen import note, of_this_gate, oldest, take_over
 
+PARTS = ("src", "specs", "proofs")
 AT_ONCE = 16
-
-# What a line of TOLD says of a proof whose body has another shape.
 SHAPE = re.compile(r"has no field |has no `[^`]*` that can be named")
+REFUSED, LEFT, SHAPED = "is refused", "isn't refused", "is refused only because of its shape"
+NO_ANSWER, UNTRIED = "came to no answer", "can't be tried"
+RIGHT = "right_body"
 
-REFUSED, UNTOLD, LEFT = "refused", "NOT TOLD, since its shape is changed", "NOT REFUSED"
-UNTRIED = "NOT TRIED, since the check came to no answer"
 
-# What the prover answers. A check that is ended, or of sources that don't compile, comes to no answer.
-NOT_PROVED, PROVED, NO_ANSWER = "not proved", "proved", "no answer"
+class Tried(NamedTuple):
+    """What became of an edit, and what more is to be said of that."""
 
-ENDING = (signal.SIGINT, signal.SIGTERM, signal.SIGHUP)
+    edit: Edit
+    outcome: str
+    why: str = ""
 
-# What became of an edit, and the lines that tell so.
-Tried = tuple[str, list[str]]
-# What of a crate is tried, and what is made of it.
-Edits = TypeVar("Edits")
-Made = TypeVar("Made")
+    def is_well(self) -> bool:
+        return self.outcome == (LEFT if self.edit.name == RIGHT else REFUSED)
 
-printing = threading.Lock()
+    def line(self) -> str:
+        where = f" in {self.edit.function}" if self.outcome in (REFUSED, LEFT) else ""
+        failed = "" if self.is_well() else "FAILED: "
+        return f"{failed}{self.edit.title()} {self.outcome}{where}{self.why and ': '}{self.why}"
+
+
+# The checks
+
+
+def library(crate: str) -> str:
+    return f"{ROOT}/crates/{crate}/out/rlib/{crate}.rlib"
+
+
+def is_stale(crate: str, uses: dict[str, list[str]]) -> bool:
+    """Whether the library is missing, or a source of the crate or of one below it was changed later."""
+    folders = [Path(ROOT, "crates", it, part) for it in (crate, *below(crate, uses)) for part in PARTS]
+    files = [it for folder in folders if folder.exists() for it in (folder, *folder.rglob("*"))]
+    changed = max(it.stat().st_mtime_ns for it in (Path(ROOT, "crates.txt"), *files))
+    return not os.path.exists(library(crate)) or os.stat(library(crate)).st_mtime_ns < changed
+
+
+def remove_stale_libraries() -> None:
+    uses = crates()
+    for crate in uses:
+        if is_stale(crate, uses):
+            shutil.rmtree(os.path.dirname(library(crate)), ignore_errors=True)
+
+
+@functools.lru_cache(maxsize=None)
+def kit() -> str:
+    """The toolchain's folder, in which its first page stands."""
+    ran = subprocess.run(["rt", "doc"], stdin=subprocess.DEVNULL, capture_output=True, text=True)
+    return os.path.dirname(ran.stdout.strip())
+
+
+def words_of_check(crate: str) -> list[str]:
+    """The words by which `rattle` checks the crate. `rt check` would prove the libraries that `rt ci` leaves again."""
+    uses = crates()
+    root = "main" if os.path.exists(f"{ROOT}/crates/{crate}/src/main.rt") else "lib"
+    libraries = {it: library(it) for it in uses[crate] if it in uses}
+    libraries |= {it: f"{kit()}/rlibs/{it}.rlib" for it in ("std", *uses[crate]) if it not in uses}
+    folders = [f"{kit()}/rlibs", *(os.path.dirname(library(it)) for it in below(crate, uses))]
+    words = [f"{kit()}/bin/rattle", "check", "--jobs", "1", "--crate-name", crate, f"src/{root}.rt"]
+    words += [word for name, file in libraries.items() for word in ("--extern", f"{name}={file}")]
+    words += [word for folder in folders for word in ("-L", f"dependency={folder}")]
+    logic = ("--antt-project", f"{kit()}/rattle/logic/antt-project.json")
+    return [*words, *logic, "--logic-built", f"{kit()}/logic_built"]
+
+
+at_work: set[subprocess.Popen[str]] = set()
 is_over = threading.Event()  # once it is set, no further check begins
-beginning = threading.Lock()  # held while a check begins, and while all that have begun are ended
-begun: list[subprocess.Popen[str]] = []
+printing = threading.Lock()
 
 
-def begin(words: Sequence[str], folder: str) -> Optional[subprocess.Popen[str]]:
-    """Begins a check, where none of them is to be the last. It has a session of its own: a terminal's
-    interrupt doesn't end it before `is_over` is set, so that no other begins in its place."""
-    with beginning:
-        if is_over.is_set():
-            return None
-        begun.append(subprocess.Popen(
-            words, cwd=folder, stdin=subprocess.DEVNULL, stdout=subprocess.PIPE, stderr=subprocess.PIPE,
-            text=True, errors="replace", start_new_session=True,
-        ))
-        return begun[-1]
+def said_by(words: Sequence[str], folder: str) -> str:
+    if is_over.is_set():
+        return ""
+    with subprocess.Popen(
+        words, cwd=folder, stdin=subprocess.DEVNULL, stdout=subprocess.PIPE, stderr=subprocess.PIPE, text=True,
+        errors="replace",
+    ) as ran:
+        at_work.add(ran)
+        said = "\n".join(ran.communicate())
+        at_work.discard(ran)
+    return said
 
 
-def end_all() -> None:
-    """Lets no further check begin, and ends those at work. One may end by itself meanwhile."""
-    with beginning:
-        is_over.set()
-        for it in begun:
-            if it.poll() is None:
-                with contextlib.suppress(ProcessLookupError):
-                    os.killpg(it.pid, signal.SIGTERM)
+def try_together(edits: Sequence[Edit], room: str) -> list[Tried]:
+    """Checks the functions of these edits of a crate in its copy, with all of the edits, and takes them back."""
+    crate, before = edits[0].crate, {it.file: read(f"{room}/{it.file}") for it in edits}
+    try:
+        for it in edits:
+            write(f"{room}/{it.file}", it.applied(read(f"{room}/{it.file}")))
+        only = [word for it in edits for word in ("--only", f"{crate}::{it.function}")]
+        said = said_by([*words_of_check(crate), "--incremental", f"{room}/out/incremental", *only], room)
+    finally:
+        for file, text in before.items():
+            write(f"{room}/{file}", text)
+    return [outcome(it, said) for it in edits]
 
 
-def check(
-    folder: str, paths: Iterable[str], words: Iterable[str] = ("rt", "check", "--jobs", "1")
-) -> tuple[list[str], str]:
-    """What a check says of these functions, or of the whole crate where there are none, and what the
-    prover answers."""
-    ran = begin([*words, *[word for path in paths for word in ("--only", path)]], folder)
-    if ran is None:
-        return [], NO_ANSWER
-    printed, said = ran.communicate()
-    lines = (printed + said).split("\n")
-    counts = [re.match(r"only=(\d+) proved=(\d+)", line) for line in lines]
-    is_short = any(it and int(it[2]) < int(it[1]) for it in counts)
-    if is_short or any(line.startswith("logic=not-proved") for line in lines):
-        return lines, NOT_PROVED
-    return lines, PROVED if ran.returncode == 0 else NO_ANSWER
+def outcome(edit: Edit, said: str) -> Tried:
+    """What a check says of the function of an edit."""
+    answers = dict(re.findall(rf"^fn {edit.crate}::(\S+): (.*)$", said, re.M))
+    answer = answers.get(edit.function, "could not tell")
+    if answer.startswith("could not tell"):
+        return Tried(edit, NO_ANSWER, next((it for it in said.splitlines() if "error" in it), "")[:200])
+    if answer.startswith(("proved", "no proof: it calls ")):
+        others = [it for it, of in answers.items() if not of.startswith(("proved", "no proof: it calls "))]
+        return Tried(edit, LEFT, f"but in {', '.join(others)}" if others else "")
+    folders = (f"/{edit.function.replace('::', '/')}/", f"/{edit.key()}/")
+    told = [line for line in said.splitlines() if any(it in line for it in folders)]
+    return Tried(edit, SHAPED if any(SHAPE.search(line) for line in told) else REFUSED)
 
 
 def batches(edits: Iterable[Edit]) -> list[list[Edit]]:
-    """Puts the edits together, as many at once as go with one another."""
-    made: list[list[Edit]] = []
+    """Groups the edits of a crate, so that no two of a group are in one function or in one cycle of calls. An edit
+    outside the function that it names is alone."""
+    made: list[dict[str, Edit]] = []
     for edit in edits:
-        fits = [it for it in made if len(it) < AT_ONCE and edit.goes_with(it)]
-        if fits:
-            fits[0].append(edit)
-        else:
-            made.append([edit])
-    return made
+        key = edit.key()
+        fits = [it for it in made if key and "" not in it and key not in it and len(it) < AT_ONCE]
+        if not fits:
+            made.append({})
+        (fits or made[-1:])[0][key] = edit
+    return [[*it.values()] for it in made]
 
 
-def try_them(
-    folder: str, edits: Sequence[Edit], proved: Sequence[str], ask: Callable[[str, list[str]], tuple[list[str], str]] = check
-) -> list[Tried]:
-    """Applies the edits, checks the functions, all where none is named, and takes the edits back.
-    Returns what became of each, and the function in which it was refused."""
-    files = {file: read(f"{folder}/{file}") for edit in edits for file, _, _ in edit.pairs}
-    for edit in edits:
-        edit.apply(folder)
-    lines, answer = ask(folder, [path for edit in edits for path in edit.paths(proved)])
-    for file, text in files.items():
-        write(f"{folder}/{file}", text)
-    all_told = [line for line in lines if TOLD.match(line)]
-    told_of_each = [edit.told(lines) for edit in edits]
-    return [(outcome(told, answer, not proved), told or all_told) for told in told_of_each]
-
-
-def outcome(told: list[str], answer: str, is_alone: bool) -> str:
-    """What a check shows of an edit: by what was told of its own functions, by the prover's answer, and
-    by whether it was tried alone."""
-    if answer == NO_ANSWER:
-        return UNTRIED
-    if answer == PROVED or not told and not is_alone:
-        return LEFT
-    return UNTOLD if any(SHAPE.search(line) for line in told) else REFUSED
-
-
-def refused_in(folder: str, edit: Edit, told: list[str], proved: Sequence[str]) -> str:
-    """The function of which the prover said so, as a check names it, without its crate: the edit's
-    own, or else the one of the first line."""
-    if not told:
-        return "crate"
-    known = [place for place in edit.places if place.key]
-    mine = [place for place in known if any(place.is_told_by(line) for line in told)]
-    first = TOLD.match(told[0])
-    assert first is not None, told[0]
-    if not mine and first["proof"]:
-        return first["proof"].replace("/", "::")
-    if not mine:
-        lines = read(f"{folder}/{first['file']}").split("\n")
-        mine = [place_at(first["file"], lines, int(first["line"]) - 1)]
-    paths = mine[0].paths(proved) if mine[0].name else []
-    return paths[0].partition("::")[2] if paths else mine[0].file
-
-
-def copy(room: str, crate: str, uses: dict[str, list[str]]) -> str:
-    """Copies what a check reads of a crate, and of those below it, which is their libraries too.
-    Returns the folder of the crate."""
-    for file in ("crates.txt", "HANDLES"):
-        shutil.copy(f"{ROOT}/{file}", room)
-    for it in crates():
-        parts = ["src", "specs", "proofs"]
-        if it in [crate, *below(crate, uses)]:
-            parts += ["out" if it == crate else "out/rlib"]
-        for part in parts:
-            if os.path.isdir(f"{ROOT}/crates/{it}/{part}"):
-                shutil.copytree(f"{ROOT}/crates/{it}/{part}", f"{room}/crates/{it}/{part}")
-    return f"{room}/crates/{crate}"
-
-
-def edits_of(crate: str, names: Sequence[str], folder: str) -> list[Edit]:
-    """The edits of a crate, or those of these names. One that can't be applied ends all."""
-    files = files_of(crate)
-    for name in names:
-        if name not in files:
-            sys.exit(f"wrong_bodies: {crate} has no edit {name}")
+def try_batch(edits: Sequence[Edit], room: str) -> list[Tried]:
+    """Tries a group of edits, and again alone those that weren't refused."""
     try:
-        return [Edit(files[name][0], folder) for name in names or sorted(files)]
-    except Unfit as why:
-        sys.exit(f"wrong_bodies: an edit of {crate} can't be applied: {why}")
-
-
-def try_alone(folder: str, edit: Edit) -> Tried:
-    return (UNTRIED, []) if is_over.is_set() else try_them(folder, [edit], [])[0]
-
-
-def try_batch(crate: str, batch: list[Edit], folder: str, proved: Sequence[str], tried_on: Basis) -> list[str]:
-    """Tries edits that go with one another, tells what became of each, and writes it down."""
-    found: dict[str, str] = {}
-    lines: dict[str, Optional[Line]] = {}
-    for edit, (seen, told) in zip(batch, try_them(folder, batch, proved)):
-        if seen in (LEFT, UNTRIED):
-            seen, told = try_alone(folder, edit)
-        name = f"{crate}/{edit.name}"
-        where = refused_in(folder, edit, told, proved) if seen == REFUSED else None
-        if seen != UNTRIED:
-            lines[name] = (tried_on.sum(crate, edit.text), where) if where else None
-        found[name] = seen
-    with printing:
-        for name, seen in found.items():
-            print(f"{name}: {seen}", flush=True)
-        update(lines)
-    return [*found.values()]
-
-
-def try_crate(crate: str, names: Sequence[str], room: str) -> list[str]:
-    """Tries the wrong bodies of a crate, or those of these names. Returns what became of each."""
-    edits_of(crate, names, f"{ROOT}/crates/{crate}")
-    lines, answer = check(f"{ROOT}/crates/{crate}", [])
-    if answer == NO_ANSWER:
-        print(f"{crate}: a check of the crate itself came to no answer", flush=True)
-        return [UNTRIED]
-    if not any(line.startswith("logic=proved") for line in lines):
-        print(f"{crate}: the crate itself is not proved", flush=True)
-        return [LEFT]
-    proved = re.findall(r"^fn (\S+): proved(?:, may wait)?$", "\n".join(lines), re.M)
-    folder = copy(room, crate, crates())
-    tried_on = Basis(room)
-    tried_on.sum(crate, "")
-    found: list[str] = []
-    for batch in batches(edits_of(crate, names, folder)):
-        if is_over.is_set():
-            break
-        found += try_batch(crate, batch, folder, proved, tried_on)
+        found = try_together(edits, room)
+    except Unfit:  # one of them puts in what another one looks for
+        found = [Tried(it, NO_ANSWER) for it in edits]
+    if len(edits) > 1:
+        found = [it if it.outcome in (REFUSED, SHAPED) else try_together([it.edit], room)[0] for it in found]
+    tell(found)
     return found
 
 
-def try_in_a_room(crate: str, names: Sequence[str]) -> list[str]:
+def tell(found: Sequence[Tried]) -> None:
+    """Prints the outcomes, and notes which edits were refused."""
+    with printing:
+        if found and not is_over.is_set():
+            note(it.edit for it in found if it.outcome == REFUSED and it.edit.name != RIGHT)
+            print(*(it.line() for it in found), sep="\n", flush=True)
+
+
+# What is tried
+
+
+def named(words: Sequence[str]) -> list[Edit]:
+    edits = all_edits()
+    if words[:1] == ["oldest"] and len(words) == 2 and words[1].isdecimal():
+        return oldest(edits, int(words[1]))
+    for word in words:
+        if word not in {name for it in edits for name in (it.crate, it.title())}:
+            sys.exit(f"wrong_bodies: tests/wrong_bodies has no {word}")
+    return [it for it in edits if not words or it.crate in words or it.title() in words]
+
+
+def why_not(crate: str, is_proved: bool) -> str:
+    """Why the edits of a crate can't be tried, if they can't: it must be proved, and the libraries below be new."""
+    if is_proved:
+        uses = crates()
+        stale = [it for it in below(crate, uses) if is_stale(it, uses)]
+        return f"{stale[0]} has no library of these sources" if stale else ""
+    said = said_by(["rt", "check", "--jobs", "1"], f"{ROOT}/crates/{crate}")
+    return "" if "\nlogic=proved " in said else f"{crate} isn't proved itself"
+
+
+def unfit(edit: Edit) -> str:
+    """Why the edit can't be applied, if it can't."""
+    try:
+        edit.applied(read(f"{ROOT}/crates/{edit.crate}/{edit.file}"))
+    except (OSError, Unfit) as why:
+        return str(why)
+    return ""
+
+
+def try_crate(crate: str, edits: Sequence[Edit], is_proved: bool) -> list[Tried]:
+    """Tries edits of a crate, in one copy of it, so that a check doesn't repeat the proofs of the earlier ones."""
+    why = why_not(crate, is_proved)
+    untried = [Tried(it, UNTRIED, why or unfit(it)) for it in edits if why or unfit(it)]
+    tell(untried)
+    fit = [it for it in edits if it not in [one.edit for one in untried]]
     with tempfile.TemporaryDirectory(prefix="wrong-bodies-") as room:
-        return try_crate(crate, names, room)
+        for part in (*PARTS, *([] if is_proved else ["out/incremental"])):
+            if fit and os.path.isdir(f"{ROOT}/crates/{crate}/{part}"):
+                shutil.copytree(f"{ROOT}/crates/{crate}/{part}", f"{room}/{part}")
+        return [*untried, *(it for batch in batches(fit) for it in try_batch(batch, room))]
 
 
-def ignore_further() -> None:
-    """A second signal would leave folders."""
-    for it in ENDING:
-        signal.signal(it, signal.SIG_IGN)
+def of_a_run() -> list[Edit]:
+    """The edits of a run of the gate. The last is no wrong body: it changes nothing."""
+    starred = [it for it in all_edits() if it.stars == OF_EACH_RUN]
+    right = starred[0]._replace(name=RIGHT, pairs=tuple((old, old) for old, _ in starred[0].pairs))
+    return [*starred, *of_this_gate([it for it in all_edits() if it.stars != OF_EACH_RUN]), right]
 
 
-def interrupt(_number: int, _frame: Optional[FrameType]) -> None:
-    ignore_further()
-    raise KeyboardInterrupt
-
-
-def try_each(jobs: int, work: Callable[[str, Edits], Made], asked: dict[str, Edits]) -> list[Made]:
-    """What the work makes of each of the crates, so many at once. Whatever ends this early, as an
-    interrupt does, lets no further one begin, and waits for those at work, which take their folders
-    away."""
-    for it in ENDING:
-        if signal.getsignal(it) is not signal.SIG_IGN:
-            signal.signal(it, interrupt)
-    with ThreadPoolExecutor(jobs) as pool:
+def try_all(jobs: int, edits: Sequence[Edit], is_proved: bool) -> list[Tried]:
+    """Tries the edits, in so many crates at once: first those with most edits, and then those on most other crates, since
+    a check there has most to read."""
+    uses = crates()
+    of_each = {it: [edit for edit in edits if edit.crate == it] for it in {edit.crate for edit in edits}}
+    work = sorted(of_each, key=lambda it: (-len(of_each[it]), -len(below(it, uses)), it))
+    with ThreadPoolExecutor(max(1, jobs)) as pool:
         try:
-            made = [pool.submit(work, *it) for it in asked.items()]
-            return [it.result() for it in made]
+            begun = [pool.submit(try_crate, it, of_each[it], is_proved) for it in work]
+            return [one for it in begun for one in it.result()]
         except BaseException:
-            ignore_further()
-            end_all()
+            is_over.set()
+            for it in [*at_work]:
+                it.terminate()
             pool.shutdown(cancel_futures=True)
             raise
 
 
-def asked(words: list[str]) -> dict[str, list[str]]:
-    """The crates that the words ask for, each with the names of its edits, none where it is all."""
-    if words == ["stale"]:
-        words = wanting()
-    elif not words:
-        words = [*crates()]
-    found: dict[str, list[str]] = {}
-    for word in words:
-        crate, _, name = word.partition("/")
-        if crate not in crates():
-            sys.exit(f"wrong_bodies: there is no crate {crate}")
-        found.setdefault(crate, []).append(name)
-    return {crate: [] if "" in names else names for crate, names in found.items()}
-
-
-def number_of_jobs(text: str) -> int:
-    if not re.fullmatch(r"[1-9]\d?", text):
-        raise argparse.ArgumentTypeError(f"{text!r} is no number from 1 to 99")
-    return int(text)
-
-
 def main() -> int:
     words = argparse.ArgumentParser("wrong_bodies", description="Tries wrong bodies, each of which must be refused.")
-    words.add_argument("--jobs", metavar="N", type=number_of_jobs, default=1, help="so many crates at once")
-    words.add_argument("names", metavar="stale | CRATE | CRATE/NAME", nargs="*", help="all without one")
-    told = words.parse_args()
-    _, wrong = read_record()
-    if wrong:
-        sys.exit(f"wrong_bodies: tests/wrong_bodies/record: {wrong[0]}")
+    words.add_argument("--jobs", metavar="N", type=int, default=1, help="so many checks at once")
+    words.add_argument("names", metavar="oldest N | CRATE | CRATE/NAME", nargs="*", help="all without one")
+    asked = words.parse_args()
+    if asked.names == ["stale_libraries"]:
+        remove_stale_libraries()
+        return 0
+    for it in (signal.SIGTERM, signal.SIGHUP):  # whatever ends it, the copies are removed
+        if signal.getsignal(it) is not signal.SIG_IGN:
+            signal.signal(it, signal.default_int_handler)
     try:
-        found: list[str] = sum(try_each(told.jobs, try_in_a_room, asked(told.names)), [])
+        is_of_a_run = asked.names == ["of_a_run"]
+        edits = of_a_run() if is_of_a_run else named(asked.names)
+        found = try_all(asked.jobs, edits, is_of_a_run)
+        if not is_of_a_run:
+            take_over(all_edits())
     except KeyboardInterrupt:
         print("wrong_bodies: interrupted", file=sys.stderr)
         return 130
-    refused, untold, left, untried = (found.count(it) for it in (REFUSED, UNTOLD, LEFT, UNTRIED))
-    more = f", {untried} not tried" if untried else ""
-    print(f"wrong bodies: {refused} refused, {untold} not told, {left} not refused{more}")
-    return 1 if untold or left or untried else 0
+    except Unfit as why:
+        sys.exit(f"wrong_bodies: {why}")
+    failed = sum(not it.is_well() for it in found)
+    print(f"wrong bodies: {sum(it.outcome == REFUSED for it in found)} refused, {failed} failed")
+    return 1 if failed else 0
 
 
 if __name__ == "__main__":

@@ -1,106 +1,85 @@
-"""Wrong bodies: the edits that the prover must refuse, and the functions that they are in."""
+"""Wrong bodies: edits that the prover must refuse, each in the function that it names.
+
+tests/wrong_bodies/CRATE.edits has a block for each. Its first line has the name of the edit and the function, as a
+check prints it; its second line is the file. A line `- OLD` is a text that the file has exactly once, and the line
+`+ NEW` after it replaces that. With a star before its name each run of the gate tries the edit, and with two `rt ci`
+does, from crates/CRATE/must-fail/.
+"""
 from __future__ import annotations
 
 import os
 import re
-from collections.abc import Iterable, Sequence
-from typing import Optional
+from collections.abc import Iterator
+from typing import NamedTuple
 
 ROOT = os.path.dirname(os.path.dirname(os.path.dirname(os.path.realpath(__file__))))
+SHELF = f"{ROOT}/tests/wrong_bodies"
+OF_RT, OF_EACH_RUN = "**", "*"
 
-# The type that a function is of, if any, with the trait there, and the same with the types that the trait is for.
-Owners = tuple[Optional[str], Optional[str]]
-
-# A line that says where a proof is wanting: in the code, or in a file of a function's proof.
-TOLD = re.compile(
-    r"(?:so far: )?(?:note: (?:\./)?(?P<file>src/\S+?):(?P<line>\d+):\d+: it is not proved"
-    r"|(?:fn \S+: no proof: expected answers in )?(?:\./)?proofs/(?P<proof>\S+)/"
-    r"(?:[^/]+:\d+:\d+: error|\S+; `search` did not prove))"
+HEAD = re.compile(r"(?:(\*\*?) )?([\w.-]+): (\w+(?:::\w+)*)")
+FUNCTION = re.compile(r"^ *(?:pub(?:\(\w+\))? )?(?:const )?(?:unsafe )?(?:extern \"C\" )?fn (\w+)", re.M)
+# A comment, a raw string, a string, a character: what names nothing.
+NO_NAMES = re.compile(
+    r'//[^\n]*|/\*.*?\*/|b?r(#*)".*?"\1|b?"(?:\\.|[^"\\])*"' r"|b?'(?:\\(?:x..|u\{\w+\}|.)|[^\\'\n])'", re.S
+)
+# Words of the language and of the toolchain's library that edits have, and no source below them.
+OF_THE_KIT = frozenset(
+    "Err MAX None Ok Some _ allocator and as bool break continue else false fn for if in is_err is_none is_ok iter let"
+    " loop match max mem min move mut or position ref remove return rev reverse saturating_add saturating_sub self swap trim true"
+    " truncate u16 u32 u64 u8 unwrap_or usize while".split()
 )
 
 
 class Unfit(Exception):
-    """Why an edit can't be applied."""
+    """Why a block is none, or can't be applied."""
 
 
-class Edit:
-    """One edit file: the texts that it replaces, by the files that they stand in."""
+class Edit(NamedTuple):
+    """A wrong body: what says who tries it, its names, and the texts that it replaces."""
 
-    def __init__(self, path: str, folder: str):
-        self.name = os.path.basename(path).removesuffix(".edit")
-        self.text = read(path)
-        self.pairs = pairs_of(self.text)
-        self.places: list[Place] = []
-        self.texts: dict[str, str] = {}
-        for file, old, new in self.pairs:
-            text = self.texts.get(file) or source(folder, file)
-            self.places.append(place_of(file, text, old))
-            self.texts[file] = text.replace(old, new)
+    crate: str
+    stars: str
+    name: str
+    function: str
+    file: str
+    pairs: tuple[tuple[str, str], ...]
 
-    def apply(self, folder: str) -> None:
-        for file, old, new in self.pairs:
-            text = read(f"{folder}/{file}")
-            write(f"{folder}/{file}", text.replace(old, new))
+    def title(self) -> str:
+        return f"{self.crate}/{self.name}"
 
-    def paths(self, proved: Sequence[str]) -> list[str]:
-        """The functions that it edits, as a check prints them."""
-        return [path for place in self.places for path in place.paths(proved)]
+    def head(self) -> str:
+        """The name of the function, and of a closure, `fn::FUNCTION::CLOSURE`, that of the function round it."""
+        words = self.function.split("::")
+        return words[words.index("fn") + 1] if "fn" in words else words[-1]
 
-    def goes_with(self, others: Iterable[Edit]) -> bool:
-        """Whether no other edit is in one of its functions, nor in a cycle of calls with one."""
-        mine = {it.key for it in self.places}
-        theirs = {place.key for other in others for place in other.places}
-        return None not in mine | theirs and not mine & theirs
+    def applied(self, text: str) -> str:
+        """The file's text with the edit in it."""
+        for old, new in self.pairs:
+            if text.count(old) != 1:
+                raise Unfit(f"{self.file} holds a text {text.count(old)} times, and not once: {old}")
+            text = text.replace(old, new)
+        return text
 
-    def told(self, lines: Iterable[str]) -> list[str]:
-        """What is said of its own functions, and all that is said where it is in none."""
-        said = [line for line in lines if TOLD.match(line)]
-        if any(place.key is None for place in self.places):
-            return said
-        return [line for line in said if any(it.is_told_by(line) for it in self.places)]
+    def key(self) -> str:
+        """The function that it names, or its cycle of calls; nothing if it edits something else."""
+        path = f"{ROOT}/crates/{self.crate}/{self.file}"
+        text = read(path) if os.path.exists(path) else ""
+        heads = [*FUNCTION.finditer(text, 0, max(0, text.find(self.pairs[0][0])))]
+        if not heads or heads[-1][1] != self.head():
+            return ""
+        start = heads[-1].start()
+        cycle = re.search(r"#\[cycle\((\w+)\)\]", text[text.rfind("\n\n", 0, start) + 1 : start])
+        return f"+{cycle[1]}" if cycle else self.function
 
+    def unknown(self, known: set[str]) -> list[str]:
+        """The words that its new texts have, and neither its old ones nor the known sources: it won't compile."""
+        olds, news = (" ".join(texts) for texts in zip(*self.pairs))
+        declared = words_of(" ".join(re.findall(r"\blet ([^=]*)=", news)))
+        return sorted(words_of(news) - words_of(olds) - known - declared - OF_THE_KIT)
 
-class Place:
-    """The function that a text stands in: its file, its lines, the type that it is of, if any, with
-    the trait there and then with what that is for, and its name or that of its cycle."""
-
-    def __init__(
-        self, file: str, first: int, last: int, owners: Owners = (None, None), name: str = "", cycle: Optional[str] = None
-    ):
-        self.file, self.first, self.last = file, first, last
-        self.owner, self.whole_owner = owners
-        self.name, self.cycle = name, cycle
-        self.key = (f"+{cycle}" if cycle else f"{file} {self.owner} {name}") if name else None
-
-    def paths(self, proved: Sequence[str]) -> list[str]:
-        named = [path for path in proved if path.split("::")[-1] == self.name]
-        room = os.path.basename(self.file).removesuffix(".rt")
-        here = [path for path in named if f"::{room}::" in path] or named
-        owned = [path for path in here if self.is_owned(path.split("::")[-2])] or here
-        return [path for path in owned if path.split("::")[-2].lower() == self.whole_owner] or owned
-
-    def is_owned(self, word: str) -> bool:
-        """Whether this word before a function's name is that of its type, or of its room where it
-        has none."""
-        if not self.owner:
-            return word[:1].islower()
-        return word[:1].isupper() and word.lower().startswith(self.owner)
-
-    def is_told_by(self, line: str) -> bool:
-        told = TOLD.match(line)
-        assert told is not None, line
-        if told["proof"]:
-            return self.has_proof(told["proof"].split("/"))
-        return told["file"] == self.file and self.first <= int(told["line"]) <= self.last
-
-    def has_proof(self, rooms: list[str]) -> bool:
-        """Whether these folders, from the topmost, are those of its proof. A method's are named by
-        the file of its type, and those of a cycle by one of its functions."""
-        if self.cycle:
-            return rooms[-1] == f"+{self.cycle}"
-        if self.owner:
-            return rooms[-1] == self.name and rooms[-2].lower().startswith(self.owner)
-        return rooms == [*self.file.removeprefix("src/").removesuffix(".rt").split("/"), self.name]
+    def of_rt(self) -> str:
+        """The edit as `rt ci` reads it."""
+        return f"file: {self.file}\n" + "".join(f"old: {old}\nnew: {new}\n" for old, new in self.pairs)
 
 
 def read(path: str) -> str:
@@ -109,121 +88,54 @@ def read(path: str) -> str:
 
 
 def write(path: str, text: str) -> None:
-    with open(path, "w", encoding="utf-8") as file:
+    """Writes a file beside it and puts that in its place, so that nobody reads half of one."""
+    os.makedirs(os.path.dirname(path), exist_ok=True)
+    with open(f"{path}.new", "w", encoding="utf-8") as file:
         file.write(text)
+    os.replace(f"{path}.new", path)
 
 
-def source(folder: str, file: str) -> str:
-    try:
-        return read(f"{folder}/{file}")
-    except OSError:
-        raise Unfit(f"there is no file {file}") from None
+def words_of(text: str) -> set[str]:
+    return {*re.findall(r"(?<![\w.])[A-Za-z_]\w*", NO_NAMES.sub(" ", text).replace(".", " "))}
 
 
-def pairs_of(text: str) -> list[tuple[str, str, str]]:
-    """The texts of an edit, each with its file and what stands in its place."""
-    found: list[tuple[str, str, str]] = []
-    file, old = "", None
-    for number, line in enumerate(text.split("\n"), 1):
-        kind, _, value = line.partition(":")
-        value = value.removeprefix(" ")
-        if kind == "file" and value.startswith("src/") and old is None:
-            file = value
-        elif kind == "old" and file and value and old is None:
-            old = value
-        elif kind == "new" and old is not None:
-            found.append((file, old, value))
-            old = None
-        elif line:
-            raise Unfit(f"its line {number} can't stand there: {line}")
-    if not found or old is not None:
-        raise Unfit("it lacks a line old: or new:")
-    return found
-
-
-def place_of(file: str, text: str, old: str) -> Place:
-    """Finds the function round a text, which must stand in the file once."""
-    if text.count(old) != 1:
-        raise Unfit(f"{file} holds a text {text.count(old)} times, and not once: {old}")
-    return place_at(file, text.split("\n"), text[: text.index(old)].count("\n"))
-
-
-def place_at(file: str, lines: list[str], at: int) -> Place:
-    """The function round a line, of which the first is 0."""
-    heads = [n for n in range(at + 1) if re.match(r"\s*(pub(\(\w+\))? )?(const )?fn \w", lines[n])]
-    if not heads:
-        return Place(file, at + 1, at + 1)
-    head = heads[-1]
-    indent = lines[head][: len(lines[head]) - len(lines[head].lstrip())]
-    last = next(n for n in range(head, len(lines)) if lines[n] == indent + "}")
-    if last < at:
-        return Place(file, at + 1, at + 1)
-    first = next(n for n in range(head, -1, -1) if n == 0 or not lines[n - 1].strip())
-    cycle = re.search(r"#\[cycle\((\w+)\)\]", "\n".join(lines[first:head]))
-    named = re.search(r"fn (\w+)", lines[head])
-    assert named is not None
-    name = named[1]
-    owners = owners_of(lines[:head]) if indent else (None, None)
-    return Place(file, first + 1, last + 1, owners, name, cycle[1] if cycle else None)
-
-
-def owners_of(lines: Iterable[str]) -> Owners:
-    """The type of the last `impl` or `trait` of these lines and the name of the trait that it
-    meets, if any, in small letters, as the folders of its proofs begin; and the same with the types
-    that the trait is for."""
-    head = r"(?:impl|(?:pub )?trait)(?:<.*?>)? (?:(?:\w+::)*(\w+)(?:<(.*)>)? for )?(\w+)"
-    found = [it for it in (re.match(head, line) for line in lines) if it]
-    if not found:
-        return None, None
-    trait, types, name = found[-1].groups(default="")
-    owner = (name + trait).lower()
-    return owner, owner + re.sub(r"\W", "", types).lower()
+def edit_of(crate: str, block: str) -> Edit:
+    lines = block.split("\n")
+    named, file, olds, news = HEAD.fullmatch(lines[0]), "".join(lines[1:2]), lines[2::2], lines[3::2]
+    are_pairs = all(it.startswith("- ") for it in olds) and all(f"{it} ".startswith("+ ") for it in news)
+    if not named or not file.startswith("src/") or not olds or len(olds) != len(news) or not are_pairs:
+        raise Unfit(f"a block of {crate} can't be read: {lines[0]}")
+    pairs = tuple((old[2:], new[2:]) for old, new in zip(olds, news))
+    return Edit(crate, named[1] or "", named[2], named[3], file, pairs)
 
 
 def crates() -> dict[str, list[str]]:
-    """The crates, each with those that it names."""
-    found: dict[str, list[str]] = {}
-    for line in read(f"{ROOT}/crates.txt").split("\n"):
-        head, colon, below = line.partition("#")[0].partition(":")
-        if colon:
-            found[head.split()[0]] = below.split()
-    return found
+    """The crates of crates.txt, each with those that it names."""
+    lines = [line.partition("#")[0].partition(":") for line in read(f"{ROOT}/crates.txt").split("\n")]
+    return {head.split()[0]: named.split() for head, colon, named in lines if colon}
 
 
-def shelves(crate: str) -> tuple[str, str]:
-    """The folders of a crate's edits: those that the gate tries, and the others, which may stand in a folder for each
-    module that they edit."""
-    return f"{ROOT}/crates/{crate}/must-fail", f"{ROOT}/tests/wrong_bodies/{crate}"
+def below(crate: str, uses: dict[str, list[str]]) -> list[str]:
+    """The crates of crates.txt below this one."""
+    found: set[str] = set()
+    left = [crate]
+    while left:
+        more = [it for it in uses[left.pop()] if it in uses and it not in found]
+        found.update(more)
+        left += more
+    return sorted(found)
 
 
-def files_of(crate: str) -> dict[str, list[str]]:
-    """The edits of a crate by their names, each with the files that have it."""
-    found: dict[str, list[str]] = {}
-    for shelf in shelves(crate):
-        for folder, _, names in sorted(os.walk(shelf)):
-            for name in sorted(names):
-                found.setdefault(name.removesuffix(".edit"), []).append(f"{folder}/{name}")
-    return found
+def edits_of(crate: str) -> list[Edit]:
+    path = f"{SHELF}/{crate}.edits"
+    blocks = read(path).strip("\n").split("\n\n") if os.path.exists(path) else []
+    return [edit_of(crate, block) for block in blocks]
 
 
-def folder_of(crate: str, edit: Edit) -> str:
-    """Where an edit of the second shelf stands: in the folder of the first module that it edits, if its crate has
-    folders."""
-    shelf = shelves(crate)[1]
-    has_folders = os.path.isdir(shelf) and any(it.is_dir() for it in os.scandir(shelf))
-    module = edit.pairs[0][0].removeprefix("src/").removesuffix(".rt")
-    return f"{shelf}/{module}" if has_folders else shelf
+def all_edits() -> list[Edit]:
+    return [edit for crate in crates() for edit in edits_of(crate)]
 
 
-def of_each_run() -> tuple[dict[str, str], list[str]]:
-    """The edits of the second shelf that each run of the gate tries, as CRATE/NAME, each with the
-    function that it edits; and the lines of their list that are none."""
-    found, wrong = {}, []
-    there = {crate: files_of(crate) for crate in crates()}
-    for line in read(f"{ROOT}/tests/wrong_bodies/each_run").splitlines():
-        it = re.fullmatch(r"(\w+)/([\w.-]+) (\w+(?:::\w+)*)", line)
-        if it and it[2] in there.get(it[1], ()):
-            found[f"{it[1]}/{it[2]}"] = it[3]
-        else:
-            wrong.append(line)
-    return found, wrong
+def sources_of(crate: str) -> Iterator[str]:
+    for folder, _, names in os.walk(f"{ROOT}/crates/{crate}/src"):
+        yield from (read(f"{folder}/{name}") for name in names)

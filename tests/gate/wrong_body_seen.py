@@ -1,0 +1,73 @@
+"""tests/wrong_bodies/seen: when the prover last refused each wrong body. A line has CRATE/NAME, the day, the commit,
+with a + if the sources had changed since, and the function.
+
+A trial notes its lines in out/refused, because a gate doesn't change the commit that it tries. `./test list` adds them
+to `seen`, and so does `./test wrong_bodies` at its end.
+"""
+from __future__ import annotations
+
+import os
+import subprocess
+import time
+from collections.abc import Iterable, Sequence
+
+from wrong_body_edits import ROOT, SHELF, Edit, crates, read, write
+
+SEEN, REFUSED = f"{SHELF}/seen", f"{ROOT}/out/refused"
+OF_A_GATE, OLD = 40, 5  # so many does a gate try by turns, of the fifth that was refused the longest ago
+
+
+def output_of(*words: str) -> str:
+    try:
+        return subprocess.run(words, cwd=ROOT, stdin=subprocess.DEVNULL, capture_output=True, text=True).stdout.strip()
+    except OSError:
+        return ""
+
+
+def commit() -> str:
+    """The commit of the work tree, `none` without git."""
+    changes = output_of("git", "status", "--porcelain", "crates", "crates.txt")
+    return (output_of("git", "rev-parse", "--short=8", "HEAD") or "none") + "+" * bool(changes)
+
+
+def lines_of(path: str) -> dict[str, list[str]]:
+    """The words of each line, by the first."""
+    return {line.split()[0]: line.split() for line in read(path).splitlines()} if os.path.exists(path) else {}
+
+
+def note(edits: Iterable[Edit]) -> None:
+    """Keeps that these were refused just now."""
+    day, at = time.strftime("%Y-%m-%d", time.gmtime()), commit()
+    lines = lines_of(REFUSED) | {it.title(): [it.title(), day, at, it.function] for it in edits}
+    write(REFUSED, "".join(f"{' '.join(lines[it])}\n" for it in sorted(lines)))
+
+
+def take_over(edits: Iterable[Edit]) -> None:
+    """Puts the lines of trials into `seen`, and takes those of edits that are gone out of it."""
+    lines, there = lines_of(SEEN) | lines_of(REFUSED), {it.title() for it in edits}
+    write(SEEN, "".join(f"{' '.join(lines[it])}\n" for it in sorted(lines) if it in there))
+    if os.path.exists(REFUSED):
+        os.remove(REFUSED)
+
+
+def oldest(edits: Iterable[Edit], count: int) -> list[Edit]:
+    """Those that were refused the longest ago, or never."""
+    seen = lines_of(SEEN) | lines_of(REFUSED)
+    return sorted(edits, key=lambda it: seen.get(it.title(), ["", ""])[1])[:count]
+
+
+def spread(edits: Iterable[Edit]) -> list[Edit]:
+    """The edits by their crates, and those of one function far from each other, since they can't be tried at once."""
+    groups: dict[tuple[str, str], list[Edit]] = {}
+    for it in edits:
+        groups.setdefault((it.crate, it.key()), []).append(it)
+    places = {it.title(): n / len(group) for group in groups.values() for n, it in enumerate(group)}
+    return sorted(edits, key=lambda it: ([*crates()].index(it.crate), places[it.title()]))
+
+
+def of_this_gate(edits: Sequence[Edit]) -> list[Edit]:
+    """The edits whose turn it is: of the fifth that was refused the longest ago those after the place that the commit's
+    hash says. So a gate tries edits of few crates, and about 28 gates try all."""
+    candidates, order = {*oldest(edits, max(OF_A_GATE, len(edits) // OLD))}, spread(edits)
+    start = int(output_of("git", "rev-parse", "HEAD") or "0", 16) % max(1, len(edits))
+    return [it for it in (*order[start:], *order[:start]) if it in candidates][:OF_A_GATE]
