@@ -2,13 +2,14 @@
 
     verdicts.py each PROGRAM SCRIPT..
     verdicts.py random PROGRAM SEED NUMBER
+    verdicts.py alike PROGRAM SEED NUMBER
     verdicts.py limit PROGRAM
     verdicts.py answers
 
 The verdicts must be exactly those of every order, where the model comes through all of them; where it doesn't, none
 that it came to may be missing. The status, the number of states and the order of the lines must be as the manual
 says, and by each order that is printed the model must come to its verdict, and to an end. `random` does so with scripts
-made by chance that have few components. `limit` has scripts whose states are counted by hand, up to the limit and
+made by chance that have few components, and `alike` with such in which some are alike. `limit` has scripts whose states are counted by hand, up to the limit and
 beyond. `answers` looks whether answers that can't be are refused.
 
 Of each script it prints `passed 1 STATES SCRIPT`, `passed 0 STATES SCRIPT` where the model didn't come through all
@@ -34,6 +35,7 @@ sys.dont_write_bytecode = True
 ROOT = Path(__file__).resolve().parents[2]
 sys.path[:0] = [str(ROOT / it) for it in ("tools", "tests/orders")]
 
+from alike import some_alike_script
 from every_order import verdicts_of
 from generator import some_script
 from tpr_tools.explore.answers import MOST_STATES, Answer, read_answer
@@ -131,9 +133,10 @@ def is_small(text: str) -> bool:
     return text.count(".create;") + 1 + text.count(" system C") <= MOST_COMPONENTS
 
 
-def made_by_chance(seed: str, number: int, folder: str) -> Iterator[Path]:
+def made_by_chance(what: str, seed: str, number: int, folder: str) -> Iterator[Path]:
     """So many scripts of few components."""
-    texts = ((at, some_script(random.Random(f"{seed} {at}"))) for at in count())
+    make = some_alike_script if what == "alike" else some_script
+    texts = ((at, make(random.Random(f"{seed} {at}"))) for at in count())
     for at, text in islice((it for it in texts if is_small(it[1])), number):
         made = Path(folder, f"{seed}_{at}.ttcn")
         made.write_text(text, encoding="latin-1")
@@ -143,13 +146,15 @@ def made_by_chance(seed: str, number: int, folder: str) -> Iterator[Path]:
 # The limit
 
 # Two components look so often at a port to which the other still sends: each look may come before or behind each of the
-# other's, and so may the two sends behind the looks. Each has so many places, and two more.
-LOOKS = ((5, 5), (7, 3), (2046, 2046), (2046, 2047))
+# other's. Each has so many places, and one more. When one has sent, the other's looks are taken at once, and so are two
+# sends behind all looks: one state more, the end, in place of that before the sends. They send different values, so that
+# they can't be exchanged.
+LOOKS = ((5, 5), (7, 3), (2047, 2047), (2047, 2048))
 LOOKING = """module Looking {{
     type port P message {{ inout integer; }}
     type component C {{ port P p; }}
     function first() runs on C {{ {} p.send(integer:1); }}
-    function second() runs on C {{ {} p.send(integer:1); }}
+    function second() runs on C {{ {} p.send(integer:3); }}
     testcase t() runs on C {{
         var C a := C.create; var C b := C.create; connect(a:p, b:p);
         a.start(first()); b.start(second()); all component.done;
@@ -166,7 +171,7 @@ def looks(turns: int) -> str:
 def limited(program: str, path: Path, first: int, second: int) -> str:
     """The line for the script with so many looks."""
     path.write_text(LOOKING.format(looks(first), looks(second)), encoding="latin-1")
-    states = (first + 2) * (second + 2)
+    states = (first + 1) * (second + 1)
     status, printed = printed_of(program, path)
     answer = read_answer(printed)
     wanted = (("none",), states <= MOST_STATES, min(states, MOST_STATES))
@@ -229,10 +234,11 @@ def arguments() -> argparse.Namespace:
     kind = kinds.add_parser("each")
     kind.add_argument("program", metavar="PROGRAM")
     kind.add_argument("scripts", metavar="SCRIPT", nargs="+", type=Path)
-    kind = kinds.add_parser("random")
-    kind.add_argument("program", metavar="PROGRAM")
-    kind.add_argument("seed", metavar="SEED")
-    kind.add_argument("number", metavar="NUMBER", type=int)
+    for what in ("random", "alike"):
+        kind = kinds.add_parser(what)
+        kind.add_argument("program", metavar="PROGRAM")
+        kind.add_argument("seed", metavar="SEED")
+        kind.add_argument("number", metavar="NUMBER", type=int)
     kind = kinds.add_parser("limit")
     kind.add_argument("program", metavar="PROGRAM")
     kinds.add_parser("answers")
@@ -245,7 +251,7 @@ def tell_made(asked: argparse.Namespace, folder: str) -> None:
         for first, second in LOOKS:
             print(limited(asked.program, Path(folder, "looking.ttcn"), first, second), flush=True)
         return
-    tell_each(asked.program, made_by_chance(asked.seed, asked.number, folder))
+    tell_each(asked.program, made_by_chance(asked.what, asked.seed, asked.number, folder))
 
 
 def main() -> None:

@@ -1,0 +1,87 @@
+"""Scripts made by chance in which some components are alike: clients of one function, and a server that may answer by
+sender. So components can be exchanged, or just not: one has another function, or `mtc` names some of them."""
+from __future__ import annotations
+
+import random
+
+VERDICTS = ("pass", "inconc", "fail")
+SCRIPT = """module Alike {{
+    type port P message {{ inout integer; }}
+    type component C {{ port P p, q; }}
+    function client() runs on C {{ {client} }}
+    function other() runs on C {{ {other} }}
+    function server() runs on C {{ var C w; {server} }}
+    testcase t() runs on C {{
+        var C s := C.create; {created}
+        {connected}
+        s.start(server()); {started}
+        var C w; {main}
+        all component.done;
+    }}
+}}
+"""
+ANSWERS = """for (var integer i := 0; i < {clients}; i := i + 1) {{
+        p.receive(integer:?) -> sender w; p.send(integer:{last}) to w; }}"""
+
+
+def taken(chance: random.Random, port: str, behind: str = "") -> str:
+    """A receiving operation, of any number or of one."""
+    operation = chance.choice(("receive", "receive", "receive", "trigger"))
+    wanted = chance.choice(("1", "1", "2", "?"))
+    return f"{port}.{operation}(integer:{wanted}){behind}"
+
+
+def chosen(chance: random.Random, port: str) -> str:
+    """An `alt` that tells numbers apart."""
+    first, second = chance.choice(VERDICTS), chance.choice(VERDICTS)
+    last = chance.choice(("", "", f"[] {port}.receive {{ setverdict({second}); }}", "[else] { }"))
+    return f"alt {{ [] {port}.receive(integer:{chance.choice('12')}) {{ setverdict({first}); }} {last} }}"
+
+
+def own_act(chance: random.Random) -> str:
+    """A statement of a client."""
+    port = chance.choice("ppq")
+    kind = chance.randrange(8)
+    if kind < 3:
+        return f"{port}.send(integer:{chance.choice('112')});"
+    if kind < 5:
+        return taken(chance, port, ";")
+    if kind < 6:
+        return chosen(chance, port)
+    acts = (f"{port}.halt;", f"{port}.stop;", f"{port}.clear;", f"setverdict({chance.choice(VERDICTS)});")
+    return chance.choice(acts)
+
+
+def central_act(chance: random.Random, port: str, names: list[str]) -> str:
+    """A statement of one that is connected with all clients, which may name these, if it knows them."""
+    number = chance.choice("112")
+    kind = chance.randrange(9)
+    if kind < 3:
+        return taken(chance, port, f" -> sender w; {port}.send(integer:{number}) to w;")
+    if kind < 5:
+        return taken(chance, port, ";")
+    if kind < 6:
+        return chosen(chance, port)
+    if kind < 7 and names:
+        act = chance.choice((f"send(integer:{number}) to", "receive from"))
+        return f"{port}.{act} {chance.choice(names)};"
+    if kind < 8:
+        return f"{port}.send(integer:{number}) to all component;"
+    return chance.choice((f"setverdict({chance.choice(VERDICTS)});", f"{port}.halt;", f"{port}.start;"))
+
+
+def some_alike_script(chance: random.Random) -> str:
+    clients = [f"c{at}" for at in range(chance.choice((2, 2, 3)))]
+    odd = chance.choice(clients) if chance.random() < 0.2 else None
+    known = clients if chance.random() < 0.3 else []
+    asks = "p.send(integer:1); q.send(integer:1);" if chance.random() < 0.8 else ""
+    answers = ANSWERS.format(clients=len(clients), last=chance.choice("12")) if asks else ""
+    return SCRIPT.format(
+        client=" ".join([asks, *(own_act(chance) for _ in range(chance.randint(1, 3)))]),
+        other=" ".join([asks, *(own_act(chance) for _ in range(chance.randint(1, 3)))]),
+        server=" ".join([answers, *(central_act(chance, "p", []) for _ in range(chance.randint(0, 2)))]),
+        created=" ".join(f"var C {it} := C.create;" for it in clients),
+        connected=" ".join(f"connect(s:p, {it}:p); connect(self:q, {it}:q);" for it in clients),
+        started=" ".join(f"{it}.start({'other' if it == odd else 'client'}());" for it in clients),
+        main=" ".join(central_act(chance, "q", known) for _ in range(chance.randint(0, 2))),
+    )
