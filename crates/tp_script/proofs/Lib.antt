@@ -4,15 +4,13 @@ pub mod SumOfComponentSizes
 pub mod TestCaseFromPasses
 pub mod ExecutableTestCases
 pub mod ParseAndCheckFaults
-pub mod BodySizesByText
 pub mod TypesFixedByModule
 pub mod BodiesInAlikeScopes
-pub mod OneTestCaseSize
 pub mod RulesBrokenByParts
+pub mod NamesFixedByPlace
 pub mod SoundBodyScopes
 pub mod DefinitionNamesDiffer
 pub mod RefusedBodiesInScopes
-pub mod PreparedModulesKeepRules
 pub mod ListsAlikeByPlace
 pub mod SameMessages
 pub mod SameTemplates
@@ -21,3 +19,10 @@ pub mod SameDefinitions
 pub mod SameSetups
 pub mod SameModules
 pub mod ModuleFaultsTold
+pub mod ValuesFixedByText
+pub mod TemplatesFixedByText
+pub mod StatementsFixedByText
+pub mod BodiesFixedByText
+pub mod BehavioursFixedByModule
+pub mod OneTestCase
+pub mod PreparedModulesKeepRules

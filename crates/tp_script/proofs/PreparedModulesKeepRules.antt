@@ -26,11 +26,11 @@ use Rattle.tp_play.specs.Instances.{behaviour_of}
 use Rattle.tp_play.specs.TestCases.{Made}
 use Rattle.tp_script.specs.Instances.{AreFew, AreInstances, instance_count, known_in}
 use Rattle.tp_script.specs.Scopes.{HasBodies, IsFunctionBody, IsMainBody, Known}
-use Rattle.tp_script.specs.TestCases.{HasSoundBodies, WellFormed, known_of}
+use Rattle.tp_script.specs.TestCases.{HasSoundBodies, WellFormed, known_of, size_of_test_case}
 use Rattle.tp_script.proofs.TestCaseFromPasses.{kinds, known_is, test_case_of}
 use Rattle.tp_script.proofs.DefinitionNamesDiffer.{apart}
 use Rattle.tp_script.proofs.TypesFixedByModule.{kinds_fixed, one_case, types_fixed}
-use Rattle.tp_script.proofs.OneTestCaseSize.{one_size}
+use Rattle.tp_script.proofs.OneTestCase.{test_case_fixed}
 
 module _ (m : Module) (p : Prepared) (of : IsPreparedOf m p) (rules : IsWellDeclared m) where
   abbrev speaks : TestCase → List (List PortDecl) → Types → Known
@@ -103,5 +103,5 @@ module _ (m : Module) (p : Prepared) (of : IsPreparedOf m p) (rules : IsWellDecl
   is_small bodies own others list each count whole =
       let made : Made = record { config = p.config; types = p.types; behaviours = map (behaviour_of bodies) list } in
       subst (λ n. n ≤ 100000)
-      (one_size m rules (apart m rules) whole.small.made made whole.small.test_case (test_case_of m p of bodies own others list each count))
+      (ap size_of_test_case (test_case_fixed m rules.names whole.small.made made whole.small.test_case (test_case_of m p of bodies own others list each count)))
       whole.small.few

@@ -179,7 +179,7 @@ does_moves known fs gs x y starts _ _ z e (behaviours.nobody number is none) =
     behaviours.nobody number (sym (interface_number_same x y e) ∙ is)
     (λ there. none (subst (λ (t : List (List ℕ)). Contains t sut) (sym (zip_map SameFunction (λ (f : Function). string_bytes f.name) (λ a b h. cc h) fs gs z)) there))
 
-case_moves : (m n : Module) (made : Made) → IsSame m n → IsTestCaseOf m made → IsTestCaseOf n made
+pub case_moves : (m n : Module) (made : Made) → IsSame m n → IsTestCaseOf m made → IsTestCaseOf n made
 case_moves m n made same h =
     let i = case_of_other m n h.case same h.one_test_case in
     let known = known_same m n h.case i.0 made.config made.types same i.2 in

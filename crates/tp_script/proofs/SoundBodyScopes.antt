@@ -20,7 +20,7 @@ use Rattle.tp_config.specs.Shape.{ports_of}
 use Rattle.tp_name.specs.Tables.{AreDistinct, IsNumbered}
 use Rattle.tp_setup.specs.declared.prepared.Prepared.{Prepared}
 use Rattle.tp_setup.specs.Definitions.{declared, inner_names, type_definitions, type_names, type_of}
-use Rattle.tp_setup.specs.Resolved.{IsField, IsNamedType, IsTypeDef}
+use Rattle.tp_setup.specs.Resolved.{AreTypes, IsField, IsNamedType, IsTypeDef}
 use Rattle.tp_setup.specs.Prepared.{IsPreparedOf}
 use Rattle.tp_setup.proofs.ListPrefixGrowth.{contains_at, zip_at}
 use Rattle.tp_body.specs.declared.scope.BehaviourKind.{BehaviourKind}
@@ -28,6 +28,7 @@ use Rattle.tp_body.specs.declared.scope.Scope.{Scope}
 use Rattle.tp_body.specs.Placing.{field_names}
 use Rattle.tp_body.specs.Scoping.{IsSoundScope}
 use Rattle.tp_script.specs.Instances.{known_in}
+use Rattle.tp_script.proofs.NamesFixedByPlace.{OwnNames}
 use Rattle.tp_script.specs.Scopes.{HaveOwnNames, IsScope, IsSoundKnown, Known}
 use Rattle.tp_script.proofs.TestCaseFromPasses.{kinds_are}
 use Rattle.tp_script.proofs.TypesFixedByModule.{behind}
@@ -86,16 +87,17 @@ type_at types (ty.Named k) d e = by (slice_get types k) refl e where
   by None is made = absurd (cc)
   by (Some t) is made = (k, t, is, same_Some t.1 d made)
 
-module _ (m : Module) (p : Prepared) (of : IsPreparedOf m p) (own : HaveOwnNames m.definitions.items) where
-  own_names : (u : Ty) (fields : List Field) → named p.types u ≡ Some (type_def.Record fields) → AreDistinct (field_names fields)
-  own_names u fields e =
-      let t = type_at p.types u (type_def.Record fields) e in
-      let x = zip_at (IsNamedType (type_names m)) (type_definitions m) p.types t.0 t.1 of.types t.2 in
-      let y = behind type_of m.definitions.items x.0 (contains_at (type_definitions m) t.0 x.0 x.1) in
-      let numbered : IsNumbered (inner_names y.0.defined) = All-contains (λ (d : Definition). IsNumbered (inner_names d.defined)) m.definitions.items y.0 own y.1 in
-      own_fields (type_names m) x.0 fields (subst (IsTypeDef (type_names m) x.0) t.3 x.2.1)
-      (subst (λ d. AreDistinct (inner_names d)) (type_itself y.0.defined x.0 y.2) numbered.distinct)
+-- no two fields of a record type of the module have one name
+pub own_names : (m : Module) (types : Types) → AreTypes m types → HaveOwnNames m.definitions.items → OwnNames types
+own_names m types are own u fields e =
+    let t = type_at types u (type_def.Record fields) e in
+    let x = zip_at (IsNamedType (type_names m)) (type_definitions m) types t.0 t.1 are t.2 in
+    let y = behind type_of m.definitions.items x.0 (contains_at (type_definitions m) t.0 x.0 x.1) in
+    let numbered : IsNumbered (inner_names y.0.defined) = All-contains (λ (d : Definition). IsNumbered (inner_names d.defined)) m.definitions.items y.0 own y.1 in
+    own_fields (type_names m) x.0 fields (subst (IsTypeDef (type_names m) x.0) t.3 x.2.1)
+    (subst (λ d. AreDistinct (inner_names d)) (type_itself y.0.defined x.0 y.2) numbered.distinct)
 
+module _ (m : Module) (p : Prepared) (of : IsPreparedOf m p) (own : HaveOwnNames m.definitions.items) where
   few_ports : All (λ (ports : List PortDecl). length ports ≤ 64) p.config.types
   few_ports =
       subst (All (λ (ports : List PortDecl). length ports ≤ 64)) (sym (kinds_are m p of))
@@ -103,4 +105,4 @@ module _ (m : Module) (p : Prepared) (of : IsPreparedOf m p) (own : HaveOwnNames
       (λ k d below. subst (λ n. n ≤ 64) (sym (port_declarations (get_or of.config.types k d))) (of.config.few_ports k d below)))
 
   pub sound_known : IsSoundKnown (known_in p)
-  sound_known = record { few_ports = few_ports; own_names = own_names }
+  sound_known = record { few_ports = few_ports; own_names = own_names m p.types of.types own }

@@ -1,10 +1,11 @@
--- That a right text is accepted.
-use Rattle.std.specs.Prelude.{ℕ, List}
+-- That a valid text is accepted, and has one test case.
+use Rattle.std.specs.Prelude.{◌≡◌, ℕ, List}
 use Rattle.tp_tree.specs.declared.tree.Module.{Module}
+use Rattle.tp_play.specs.TestCases.{Made}
 use Rattle.tp_script.specs.declared.fault.TestCaseFault.{TestCaseFault}
 use Rattle.tp_script.specs.declared.fault.TestCaseFault.TheVariants.{Refused, Memory}
 use Rattle.tp_script.specs.TestCases.{WellFormed}
-use Rattle.tp_script.specs.Scripts.{IsModuleOf, IsScriptFaultOf}
+use Rattle.tp_script.specs.Scripts.{IsModuleOf, IsScriptFaultOf, IsScriptOf}
 
 -- memory was refused
 abbrev pub IsWantOfMemory : TestCaseFault → Type 0
@@ -16,3 +17,8 @@ abbrev pub ScriptsAreAccepted : Type 0
 ScriptsAreAccepted =
     (text : List ℕ) (parsed : Module) (fault : TestCaseFault) → IsModuleOf text parsed → WellFormed parsed
     → IsScriptFaultOf text fault → IsWantOfMemory fault
+
+-- a text is a script of one test case: its components, their connections, its types and each statement that a component
+-- executes are the same, however the text is read
+abbrev pub ScriptsHaveOneTestCase : Type 0
+ScriptsHaveOneTestCase = (text : List ℕ) (made other : Made) → IsScriptOf text made → IsScriptOf text other → made ≡ other

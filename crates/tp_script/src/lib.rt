@@ -13,3 +13,12 @@ pub mod laws;
 pub mod reading;
 mod scopes;
 mod total;
+
+pub use checking::check;
+pub use tp_play::body::{RecvMsg, SendMsg, SendValue};
+pub use tp_play::fill::{fill_message, fill_template};
+pub use tp_play::test_case::TestCase;
+pub use tp_syntax::parser::parse;
+pub use tp_token::fault::ScriptFault;
+pub use tp_token::lexer::lex;
+pub use tp_tree::tree::Module;

@@ -53,7 +53,7 @@ ports_apart : (m : Module) → HasUniqueNames m → AreDistinct (port_type_names
 ports_apart m unique = (numbered_among port_type_of (λ (p : PortType). string_bytes p.name) own_port m.definitions.items unique.definitions).distinct
 
 -- and so have the ports of each component type
-ports_numbered : (m : Module) → HasUniqueNames m → HaveDistinctPorts (component_types m)
+pub ports_numbered : (m : Module) → HasUniqueNames m → HaveDistinctPorts (component_types m)
 ports_numbered m unique =
     all_among component_type_of (λ (c : ComponentType). IsNumbered (declared_ports c.ports.items)) (λ (x : Definition). IsNumbered (inner_names x.defined))
     (λ x c e h. subst IsNumbered (own_ports x.defined c e) h) m.definitions.items unique.inner
@@ -102,7 +102,7 @@ listed_first (p ∷ ps) =
     ∙ ap (λ l. l ++ map (λ (x : List ℕ × List ℕ). x.0) (port_list ps)) (declared_first (string_bytes p.type_name) p.names.items)
     ∙ ap (λ l. map declared p.names.items ++ l) (listed_first ps)
 
-names_made : (types : List (List ℕ)) (ports : List PortType) (cs : List ComponentType) (made : List CompType)
+pub names_made : (types : List (List ℕ)) (ports : List PortType) (cs : List ComponentType) (made : List CompType)
     → AllZip (IsComponentType types ports) cs made → map names_of_ports (map ports_of made) ≡ map (λ (c : ComponentType). declared_ports c.ports.items) cs
 names_made types ports [] [] each = refl
 names_made types ports [] (t ∷ ts) each = absurd each

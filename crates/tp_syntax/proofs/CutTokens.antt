@@ -4,7 +4,7 @@ use Rattle.std.proofs.lemmas.List.{take-map}
 use Rattle.std.proofs.Math.Seq.{take-append-add}
 use Rattle.tp_token.specs.declared.token.Placed.{Placed}
 use Rattle.tp_token.specs.Lexeme.{PlacedLexeme, placed_lexeme}
-use Rattle.tp_syntax.specs.Faults.{line_of}
+use Rattle.tp_syntax.specs.Faults.{fault_line}
 
 -- the tokens up to one of them
 pub taken_to : (ps : List Placed) (passed rest : List PlacedLexeme) (t : PlacedLexeme) (k : ℕ) → map placed_lexeme ps ≡ passed ++ t ∷ rest → length passed ≡ k →
@@ -37,7 +37,7 @@ last_set (q ∷ qs) (u ∷ us) t (suc k) p e all =
     ap (λ (x : PlacedLexeme). x ∷ map placed_lexeme (set qs k p)) same ∙ ap (λ (ts : List PlacedLexeme). u ∷ ts) (last_set qs us t k p rest (omega arith))
 
 -- the line of the token at a place
-pub line_there : (ps : List Placed) (k last : ℕ) (p : Placed) → k < length ps → p ≡ get_or ps k p → p.line ≡ line_of (drop k (map placed_lexeme ps)) last
+pub line_there : (ps : List Placed) (k last : ℕ) (p : Placed) → k < length ps → p ≡ get_or ps k p → p.line ≡ fault_line (drop k (map placed_lexeme ps)) last
 line_there [] k last p within at = absurd (omega arith)
 line_there (q ∷ qs) zero last p within at = ap (λ (x : Placed). x.line) at
 line_there (q ∷ qs) (suc k) last p within at = line_there qs k last p (omega arith) at

@@ -12,7 +12,7 @@ use Rattle.tp_syntax.specs.declared.stuck.Stuck.{Stuck}
 use Rattle.tp_syntax.specs.declared.stuck.Stuck.TheVariants.{Next, Passed, Memory}
 use Rattle.tp_syntax.specs.Ahead.{is_zero, lexemes, plain, token_before}
 use Rattle.tp_syntax.specs.Definitions.{module_lexemes}
-use Rattle.tp_syntax.specs.Faults.{AreAllowed, AreWithin, Input, IsCut, IsFaultIn, AreTokensSeen, IsSyntaxAt, brought_within, fault_in, line_of, next_within}
+use Rattle.tp_syntax.specs.Faults.{AreAllowed, AreWithin, Input, IsCut, IsFaultIn, AreTokensSeen, IsSyntaxAt, brought_within, fault_in, fault_line, next_within}
 use Rattle.tp_syntax.specs.Grammar.{IsGrammatical}
 use Rattle.tp_syntax.specs.HiddenTokens.{AgreeWhereSeen, CouldBe, IsStuckInHidden}
 use Rattle.tp_syntax.specs.Stuck.{IsForMemory, StandAtLeast, left_where_stuck}
@@ -64,8 +64,8 @@ first_behind ts stand others e =
 -- 10 behind the tokens that stand, where no module could have these and the first of the others
 syntax_at : (i : Input) (ps : List Placed) (stand others rest : List PlacedLexeme) (opened left : ℕ) (signed : Bool) → map placed_lexeme ps ≡ stand ++ others →
     i.tokens ≡ stand ++ rest → AreAllowed 0 false stand opened signed → next_within signed rest ≡ map (λ (t : PlacedLexeme). t.token) (take 1 others) →
-    line_of others i.last_line ≡ line_of rest i.last_line → length stand + left ≡ length ps → NoneCouldBe left ps →
-    IsSyntaxAt i (line_of others i.last_line)
+    fault_line others i.last_line ≡ fault_line rest i.last_line → length stand + left ≡ length ps → NoneCouldBe left ps →
+    IsSyntaxAt i (fault_line others i.last_line)
 syntax_at i ps stand others rest opened left signed is goes allowed next line sum none = record {
   opened = opened;
   signed = signed;
@@ -81,7 +81,7 @@ syntax_at i ps stand others rest opened left signed is goes allowed next line su
 
 -- where all tokens are within the limits
 syntax_in_all : (i : Input) (ps : List Placed) (left : ℕ) → map placed_lexeme ps ≡ i.tokens → AreWithin i.tokens → left ≤ length ps → NoneCouldBe left ps →
-    IsSyntaxAt i (line_of (drop (length (map placed_lexeme ps) - left) (map placed_lexeme ps)) i.last_line)
+    IsSyntaxAt i (fault_line (drop (length (map placed_lexeme ps) - left) (map placed_lexeme ps)) i.last_line)
 syntax_in_all i ps left same within room none =
     let front = map placed_lexeme ps in
     let size : length front ≡ length ps = simp length-map in
@@ -95,7 +95,7 @@ syntax_in_all i ps left same within room none =
 
 -- where the tokens are cut behind the first that is beyond the limits
 syntax_in_cut : (i : Input) (ps : List Placed) (beyond : Option ℕ) (left : ℕ) → IsCut i.tokens (map placed_lexeme ps) beyond → 0 < left → left ≤ length ps →
-    NoneCouldBe left ps → IsSyntaxAt i (line_of (drop (length (map placed_lexeme ps) - left) (map placed_lexeme ps)) i.last_line)
+    NoneCouldBe left ps → IsSyntaxAt i (fault_line (drop (length (map placed_lexeme ps) - left) (map placed_lexeme ps)) i.last_line)
 syntax_in_cut i ps beyond left c some room none =
     let front = map placed_lexeme ps in
     let size : length front ≡ length ps = simp length-map in
@@ -111,7 +111,7 @@ syntax_in_cut i ps beyond left c some room none =
     let split : front ≡ take k c.passed ++ others = c.front_is.0 ∙ ap (λ (ts : List PlacedLexeme). ts ++ last ∷ []) cut ∙ append_assoc (take k c.passed) (drop k c.passed) (last ∷ []) in
     let goes : i.tokens ≡ take k c.passed ++ rest = c.is ∙ ap (λ (ts : List PlacedLexeme). ts ++ c.token ∷ c.rest) cut ∙ append_assoc (take k c.passed) (drop k c.passed) (c.token ∷ c.rest) in
     let left_there : drop k front ≡ others = ap (λ (ts : List PlacedLexeme). drop k ts) split ∙ ap (λ n. drop n (take k c.passed ++ others)) (sym stands) ∙ drop-append_seam (take k c.passed) others in
-    subst (λ (ts : List PlacedLexeme). IsSyntaxAt i (line_of ts i.last_line)) (sym left_there)
+    subst (λ (ts : List PlacedLexeme). IsSyntaxAt i (fault_line ts i.last_line)) (sym left_there)
     (syntax_at i ps (take k c.passed) others rest a.0 left a.1 split goes a.2 (next_cut a.0 a.1 (drop k c.passed) c.token c.rest c.opened c.signed a.3)
     (lines_cut (drop k c.passed) c.token c.rest c.signed i.last_line) (omega arith) none)
 

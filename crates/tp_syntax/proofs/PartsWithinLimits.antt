@@ -1,7 +1,7 @@
 -- The parts of tokens that are within the limits, and the token that comes next behind some of them.
 use Rattle.std.proofs.Common.{◌≡◌, ℕ, min, Bool, List, [], ◌∷◌, ◌++◌, map, take, refl, ap, subst, arith}
 use Rattle.tp_token.specs.Lexeme.{Lexeme, name, word, number, text, symbol, PlacedLexeme}
-use Rattle.tp_syntax.specs.Faults.{AreAllowed, IsAllowed, brought_within, greatest_number, is_minus, line_of, next_within, opened_behind}
+use Rattle.tp_syntax.specs.Faults.{AreAllowed, IsAllowed, brought_within, greatest_number, is_minus, fault_line, next_within, opened_behind}
 
 -- where some tokens and others behind them are within the limits, both are
 pub allowed_parts : (opened : ℕ) (signed : Bool) (ts us : List PlacedLexeme) (end : ℕ) (end_signed : Bool) → AreAllowed opened signed (ts ++ us) end end_signed →
@@ -35,7 +35,7 @@ next_cut opened signed (t ∷ ts) u rest end end_signed are = ap (λ (x : Lexeme
 
 -- and it stands on the same line
 pub lines_cut : (ts : List PlacedLexeme) (u : PlacedLexeme) (rest : List PlacedLexeme) (signed : Bool) (last : ℕ) →
-    line_of (ts ++ record { token = brought_within signed u.token; line = u.line } ∷ []) last ≡ line_of (ts ++ u ∷ rest) last
+    fault_line (ts ++ record { token = brought_within signed u.token; line = u.line } ∷ []) last ≡ fault_line (ts ++ u ∷ rest) last
 lines_cut [] u rest signed last = refl
 lines_cut (t ∷ ts) u rest signed last = refl
 

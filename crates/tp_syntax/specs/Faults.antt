@@ -97,9 +97,9 @@ pub record GoesOnWith (i : Input) (opened : ℕ) (signed : Bool) (rest : List Pl
   pub allowed : AreAllowed 0 false passed opened signed
 
 -- the line of the first of the tokens, or of the text's end
-abbrev pub line_of : List PlacedLexeme → ℕ → ℕ
-line_of [] last = last
-line_of (t ∷ ts) last = t.line
+abbrev pub fault_line : List PlacedLexeme → ℕ → ℕ
+fault_line [] last = last
+fault_line (t ∷ ts) last = t.line
 
 -- the token as the limits let it stand: a number that is too great is the greatest that may stand there
 abbrev pub brought_within : Bool → Lexeme → Lexeme
@@ -126,7 +126,7 @@ pub record IsSyntaxAt (i : Input) (n : ℕ) : Type 0 where
   pub rest : List PlacedLexeme
   pub at : GoesOnWith i opened signed rest
   pub none : NoneGoesOn at.passed (next_within signed rest)
-  pub line : n ≡ line_of rest i.last_line
+  pub line : n ≡ fault_line rest i.last_line
 
 -- 15 on this line: this is the first token that is beyond the limits
 pub record IsLimitAt (i : Input) (n : ℕ) : Type 0 where
@@ -175,4 +175,4 @@ AreTokensSeen tokens front beyond =
 -- 10 at the first that can't, or at the end of the text
 abbrev pub fault_in : List PlacedLexeme → Option ℕ → ℕ → ℕ → ScriptFault
 fault_in front (Some line) zero last = Refused Limit line
-fault_in front beyond left last = Refused Syntax (line_of (drop (length front - left) front) last)
+fault_in front beyond left last = Refused Syntax (fault_line (drop (length front - left) front) last)

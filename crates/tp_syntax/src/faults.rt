@@ -1,7 +1,7 @@
 //! Which fault of a text comes first, by its tokens.
 ghost use Rattle.std.specs.Prelude.{◌≡◌, ◌<◌, ◌≤◌, ◌↔◌, ◌∷◌, ◌++◌, ◌-◌, IsTrue, List, drop, length, map};
 ghost use Rattle.tp_token.specs.Lexeme.{PlacedLexeme, lexeme_of, placed_lexeme};
-ghost use Rattle.tp_syntax.specs.Faults.{IsAllowed, IsCutOf, AreTokensSeen, brought_within, fault_in, greatest_number, is_minus, line_of, opened_behind, symbol_bracket};
+ghost use Rattle.tp_syntax.specs.Faults.{IsAllowed, IsCutOf, AreTokensSeen, brought_within, fault_in, greatest_number, is_minus, fault_line, opened_behind, symbol_bracket};
 
 use tp_token::fault::ScriptFault;
 use tp_token::token::{Placed, Symbol, Token};
@@ -118,7 +118,7 @@ impl<'t> Front<'t> {
 
     /// The line of the first of so many tokens, the last ones, or of the text's end.
     fn line_at(&self, left: usize, last_line: u32) -> u32
-        ensures { result ≡ line_of (drop (length self.now.tokens.items - left)
+        ensures { result ≡ fault_line (drop (length self.now.tokens.items - left)
             (map placed_lexeme self.now.tokens.items)) last_line }
     {
         match self.tokens.get(self.tokens.len().saturating_sub(left)) {

@@ -45,7 +45,7 @@ fn mode_of(word: &str) -> Option<Mode>
 /// The mode and the FILE, if there is one, that these words ask for: those that follow the
 /// program's name. `None` where they are no command line of the program: the usage line is then
 /// due.
-pub fn mode_and_file(words: &[String]) -> Option<(Mode, Option<&str>)>
+pub fn line_of(words: &[String]) -> Option<(Mode, Option<&str>)>
     ensures { MatchOption result
         ((mode : _) (file : _) → Asks (map string_bytes words.now) mode file → ⊥)
         (λ line. Asks (map string_bytes words.now) line.0 (option_copied line.1)) }

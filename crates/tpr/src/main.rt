@@ -26,7 +26,7 @@ use checking::answer_check;
 use deciding::answer_verdicts;
 use handing::{FailedWriter, finish};
 use judging::answer_judge;
-use line::{Mode, mode_and_file};
+use line::{Mode, line_of};
 use modes::{FAULTED, answer_fault, answer_queue};
 use running::{answer_run, answer_trace};
 use std::env::Env;
@@ -147,7 +147,7 @@ fn words_of<R: Env + AllocGlobal>(rt: &R) -> io::Result<Vec<String>> {
 /// The status is 3 where the writer failed.
 fn main(rt: HostRuntime) -> ExitCode {
     let status = match words_of(&rt) {
-        Ok(words) => match mode_and_file(words.as_slice()) {
+        Ok(words) => match line_of(words.as_slice()) {
             Some((mode, file)) => answer_file(&rt, mode, file),
             None => Some(usage(&rt)),
         },

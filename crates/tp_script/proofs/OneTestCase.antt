@@ -1,0 +1,112 @@
+-- A module has one test case, and so has a text.
+use Rattle.std.proofs.Common.{◌≡◌, ℕ, List, Option, length, map, get_or, refl, sym, ap, ◌∙◌, subst, arith}
+use Rattle.std.proofs.lemmas.List.{same_lists}
+use Rattle.std.proofs.lemmas.Option.{same_Some, slice_get-get_or}
+use Rattle.tp_tree.specs.declared.tree.Module.{Module}
+use Rattle.tp_tree.specs.declared.tree.TestCase.{TestCase}
+use Rattle.tp_syntax.proofs.UniqueModules.{readings_are_unique}
+use Rattle.tp_value.specs.declared.types.Types.{Types}
+use Rattle.tp_config.specs.Setup.{Member, PortDecl, Setup}
+use Rattle.tp_config.specs.declared.port_type.Role.{Role}
+use Rattle.tp_config.specs.declared.port_type.PortRef.{PortRef}
+use Rattle.tp_config.specs.Shape.{ports_of}
+use Rattle.tp_setup.specs.Definitions.{component_type_names, component_types, functions, port_types, type_names}
+use Rattle.tp_setup.specs.Components.{Declared, IsMember, component_list}
+use Rattle.tp_setup.specs.Configuring.{HaveOwnPorts, Makes, interface_number}
+use Rattle.tp_setup.specs.Prepared.{IsConfigOf}
+use Rattle.tp_setup.specs.Rules.{HasUniqueNames}
+use Rattle.tp_setup.specs.Starting.{AreStarts}
+use Rattle.tp_setup.proofs.PortsOfComponentTypes.{have_ports}
+use Rattle.tp_setup.proofs.UniqueComponentTypes.{names_made, ports_numbered}
+use Rattle.tp_setup.proofs.UniqueConfigurations.{makes_same}
+use Rattle.tp_play.specs.Behaviours.{Behaviour}
+use Rattle.tp_play.specs.TestCases.{Made}
+use Rattle.tp_script.specs.Accepted.{ScriptsHaveOneTestCase}
+use Rattle.tp_script.specs.Behaviours.{Does}
+use Rattle.tp_script.specs.TestCases.{IsTestCaseOf, known_of}
+use Rattle.tp_script.proofs.BehavioursFixedByModule.{does_fixed}
+use Rattle.tp_script.proofs.SameModules.{case_moves}
+use Rattle.tp_script.proofs.SoundBodyScopes.{own_names}
+use Rattle.tp_script.proofs.TypesFixedByModule.{kinds_fixed, one_case, types_fixed, zip_fixed}
+
+abbrev member : List ℕ → ℕ → Role → Member
+member name kind role = record { name = name; kind = kind; role = role }
+
+abbrev setup : List (List PortDecl) → List Member → List (PortRef × PortRef) → List (PortRef × PortRef) → Setup
+setup types components connected mapped = record { types = types; components = components; connected = connected; mapped = mapped }
+
+abbrev made_of : Setup → Types → List (Option Behaviour) → Made
+made_of config types behaviours = record { config = config; types = types; behaviours = behaviours }
+
+member_fixed : (names : List (List ℕ)) (x : Declared) (a b : Member) → IsMember names x a → IsMember names x b → a ≡ b
+member_fixed names x a b h k =
+    ap (λ n. member n a.kind a.role) (h.name ∙ sym k.name) ∙ ap (λ n. member b.name n a.role) (same_Some a.kind b.kind (sym h.kind ∙ k.kind))
+    ∙ ap (member b.name b.kind) (h.role ∙ sym k.role)
+
+module _ (m : Module) (unique : HasUniqueNames m) where
+  -- the setup statements of a test case make one configuration
+  config_fixed : (case : TestCase) (a b : Setup) → IsConfigOf m case a → IsConfigOf m case b → a ≡ b
+  config_fixed case a b h k =
+      makes_same (interface_number case) k.set_up.start own case.setups.items case.setups.items a b
+      (subst (λ s. Makes (interface_number case) s case.setups.items a) same h.set_up.makes) k.set_up.makes refl
+    where
+      types : h.set_up.start.types ≡ k.set_up.start.types
+      types =
+          h.set_up.types_are
+          ∙ kinds_fixed m unique.definitions.distinct (map ports_of h.types) (map ports_of k.types)
+          (record { types = h.types; of_module = h.types_are; kinds_are = refl }) (record { types = k.types; of_module = k.types_are; kinds_are = refl })
+          ∙ sym k.set_up.types_are
+
+      components : h.set_up.start.components ≡ k.set_up.start.components
+      components =
+          zip_fixed (IsMember (component_type_names m)) (member_fixed (component_type_names m)) (component_list case) h.set_up.start.components
+          k.set_up.start.components h.set_up.components_are k.set_up.components_are
+
+      same : h.set_up.start ≡ k.set_up.start
+      same =
+          ap (λ t. setup t h.set_up.start.components h.set_up.start.connected h.set_up.start.mapped) types
+          ∙ ap (λ c. setup k.set_up.start.types c h.set_up.start.connected h.set_up.start.mapped) components
+          ∙ ap (λ l. setup k.set_up.start.types k.set_up.start.components l h.set_up.start.mapped) (h.set_up.not_connected ∙ sym k.set_up.not_connected)
+          ∙ ap (setup k.set_up.start.types k.set_up.start.components k.set_up.start.connected) (h.set_up.not_mapped ∙ sym k.set_up.not_mapped)
+
+      own : HaveOwnPorts k.set_up.start.types
+      own =
+          subst HaveOwnPorts (sym k.set_up.types_are)
+          (have_ports (component_types m) (component_type_names m) (map ports_of k.types) refl
+          (record { same = names_made (type_names m) (port_types m) (component_types m) k.types k.types_are; numbered = ports_numbered m unique })).own
+
+  -- what runs look at is fixed: a module has one test case
+  pub test_case_fixed : (x y : Made) → IsTestCaseOf m x → IsTestCaseOf m y → x ≡ y
+  test_case_fixed x y h k =
+      ap (λ c. made_of c x.types x.behaviours) config ∙ ap (λ t. made_of y.config t x.behaviours) types ∙ ap (made_of y.config y.types) behaviours
+    where
+      case : h.case ≡ k.case
+      case = one_case m h.case k.case h.one_test_case k.one_test_case
+
+      config : x.config ≡ y.config
+      config = config_fixed k.case x.config y.config (subst (λ c. IsConfigOf m c x.config) case h.config) k.config
+
+      types : x.types ≡ y.types
+      types = types_fixed m x.types y.types h.types k.types
+
+      known : known_of m h.case x.config x.types ≡ known_of m k.case y.config y.types
+      known = ap (λ c. known_of m c x.config x.types) case ∙ ap (λ c. known_of m k.case c x.types) config ∙ ap (known_of m k.case y.config) types
+
+      long : length x.behaviours ≡ length y.behaviours
+      long = h.everyone ∙ ap (λ (s : Setup). length s.components) config ∙ sym k.everyone
+
+      behaviours : x.behaviours ≡ y.behaviours
+      behaviours =
+          same_lists x.behaviours y.behaviours long
+          (λ i d below. does_fixed m unique.definitions.distinct (known_of m k.case y.config y.types) (own_names m y.types k.types unique.inner) k.case h.starts k.starts
+          (subst (λ c. AreStarts (functions m) c h.starts) case h.starts_are) k.starts_are i (get_or x.behaviours i d) (get_or y.behaviours i d)
+          (subst (λ c. Does (known_of m k.case y.config y.types) (functions m) c h.starts i (get_or x.behaviours i d)) case
+          (subst (λ n. Does n (functions m) h.case h.starts i (get_or x.behaviours i d)) known (h.does i (get_or x.behaviours i d) (slice_get-get_or x.behaviours i d below))))
+          (k.does i (get_or y.behaviours i d) (slice_get-get_or y.behaviours i d (omega (arith, below, long)))))
+
+pub scripts_have_one_test_case : ScriptsHaveOneTestCase
+scripts_have_one_test_case text x y h k =
+    test_case_fixed k.parsed k.well_formed.declared.names x y
+    (case_moves h.parsed k.parsed x
+    (readings_are_unique text h.parsed k.parsed h.read.read h.read.grammatical k.read.read k.read.grammatical) h.test_case)
+    k.test_case
