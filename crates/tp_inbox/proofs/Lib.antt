@@ -12,3 +12,4 @@ pub mod SenderListGrowth
 pub mod SenderPutInvariants
 pub mod SendersBySourceComponent
 pub mod ComponentMessagesByRoute
+pub mod MessagesPutOnRoute

@@ -5,3 +5,4 @@ pub mod Places
 pub mod Ledgers
 pub mod InboxEndFields
 pub mod Gathers
+pub mod PutMessages

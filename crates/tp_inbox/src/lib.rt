@@ -13,3 +13,10 @@ pub mod making;
 pub mod owner;
 mod rule;
 pub mod sender;
+pub mod settled;
+
+pub use tp_floor::floor::Floor;
+pub use tp_floor::notifier::Woken;
+pub use tp_history::desk::Desk;
+pub use tp_history::entry::Entry;
+pub use tp_history::stamped::Stamped;

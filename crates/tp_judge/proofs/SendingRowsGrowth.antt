@@ -124,9 +124,9 @@ sendings_more trace n route line rows old new at is within read grown was =
     }
 
 -- a line that is read
-pub line_of : (trace : IndexedTrace) (lines : List IndexedLine) (n : ℕ) (d : IndexedLine) → lines ≡ trace.lines.items → n < length lines
+pub line_in_trace : (trace : IndexedTrace) (lines : List IndexedLine) (n : ℕ) (d : IndexedLine) → lines ≡ trace.lines.items → n < length lines
     → LineAt trace n (get_or lines n d)
-line_of trace lines n d is below = ap (λ l. slice_get l n) (sym is) ∙ slice_get-get_or lines n d below
+line_in_trace trace lines n d is below = ap (λ l. slice_get l n) (sym is) ∙ slice_get-get_or lines n d below
 
 -- the route of a sending is one of the trace
 pub sent_below : (trace : IndexedTrace) (n route : ℕ) (line : IndexedLine) → AreWithin trace → LineAt trace n line → sent_route line.act ≡ Some route

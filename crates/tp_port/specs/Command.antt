@@ -17,17 +17,17 @@ abbrev pub wish_of : Criteria → Wish
 wish_of c = record { value = c.value; from = option_copied c.from }
 
 -- the line that a command is
-abbrev pub line_of : Command → QueueLine
-line_of (command.Arrive name n) = arrive name.now n
-line_of (command.Receive c) = receive (wish_of c)
-line_of (command.Check c) = check (wish_of c)
-line_of (command.Trigger c) = trigger (wish_of c)
-line_of command.Clear = clear
-line_of command.Start = start
-line_of command.Stop = stop
-line_of command.Halt = halt
+abbrev pub queue_line : Command → QueueLine
+queue_line (command.Arrive name n) = arrive name.now n
+queue_line (command.Receive c) = receive (wish_of c)
+queue_line (command.Check c) = check (wish_of c)
+queue_line (command.Trigger c) = trigger (wish_of c)
+queue_line command.Clear = clear
+queue_line command.Start = start
+queue_line command.Stop = stop
+queue_line command.Halt = halt
 
 -- a line of this verb and these operands was read, or none where there is no such line
 abbrev pub IsRead : CommandVerb → List (List ℕ) → Option Command → Type 0
 IsRead verb words None = (line : QueueLine) → verb_of line ≡ verb → IsQueueLine line → words ≡ operands line → ⊥
-IsRead verb words (Some c) = (verb_of (line_of c) ≡ verb) × IsQueueLine (line_of c) × (words ≡ operands (line_of c))
+IsRead verb words (Some c) = (verb_of (queue_line c) ≡ verb) × IsQueueLine (queue_line c) × (words ≡ operands (queue_line c))

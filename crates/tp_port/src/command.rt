@@ -6,7 +6,7 @@ ghost use Rattle.std.specs.Char.{is_ascii_alphanumeric};
 ghost use Rattle.std.specs.Fmt.{signed_decimal};
 ghost use Rattle.tp_text.specs.Cutting.{words_of};
 ghost use Rattle.tp_port.specs.QueueLine.{BeginsAsInteger, IsArriveLine, IsGood, SaysOneAtMost, IsName, IsWish, PatternFits, Spells, arrival_words, operands, pattern_text, verb_of, verb_text, wish_words};
-ghost use Rattle.tp_port.specs.Command.{IsRead, line_of, wish_of, words_left};
+ghost use Rattle.tp_port.specs.Command.{IsRead, queue_line, wish_of, words_left};
 
 use crate::pattern::IntegerPattern;
 use tp_text::cut::{first_word, utf8_text};
@@ -222,8 +222,8 @@ fn arrival_of(words: Option<&[u8]>) -> Option<(&str, i64)>
 
 /// The command that has no operands, where no word follows.
 fn alone<'t>(command: Command<'t>, words: Option<&[u8]>) -> Option<Command<'t>>
-    requires { operands (line_of command) ≡ [] }
-    ensures { IsRead (verb_of (line_of command.entry)) (words_left words.entry) result }
+    requires { operands (queue_line command) ≡ [] }
+    ensures { IsRead (verb_of (queue_line command.entry)) (words_left words.entry) result }
 {
     match words {
         None => Some(command),
@@ -259,7 +259,7 @@ fn command_with(verb: CommandVerb, words: Option<&[u8]>) -> Option<Command<'_>>
 pub fn command_of(line: &[u8]) -> Option<Command<'_>>
     ensures { MatchOption result
         (¬ IsGood line.now)
-        (λ command. Spells line.now (line_of command)) }
+        (λ command. Spells line.now (queue_line command)) }
 {
     // A line that is a verb has no space, so none is looked for.
     if let Some(verb) = verb_in(line) {

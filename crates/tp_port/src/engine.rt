@@ -5,7 +5,7 @@ ghost use Rattle.tp_event.specs.declared.event.Event.TheVariants as event;
 ghost use Rattle.tp_queue.specs.History.{top};
 ghost use Rattle.tp_queue.specs.Queues.{AtHistory, StandsFor};
 ghost use Rattle.tp_port.specs.QueueLine.{arrive, check, clear, halt, receive, start, stop, trigger};
-ghost use Rattle.tp_port.specs.Command.{line_of, wish_of};
+ghost use Rattle.tp_port.specs.Command.{queue_line, wish_of};
 ghost use Rattle.tp_port.specs.Carried.{CarriesLine, HasReached, HasCounted};
 ghost use Rattle.tp_port.specs.Replay.{Progress, envelope_or_no, first_progress, found, left_text, meets, triggered, triggered_text};
 
@@ -209,7 +209,7 @@ impl<'t> Engine<'t> {
     /// Carries the command out, and adds its answer.
     pub fn perform(&mut self, command: Command<'t>) -> Result<(), Memory>
         requires { HasCounted self.old TEXT_LIMIT }
-        ensures { OnOk result (CarriesLine self.old self.new (line_of command.entry)) }
+        ensures { OnOk result (CarriesLine self.old self.new (queue_line command.entry)) }
     {
         match command {
             Command::Arrive(name, value) => self.arrive(name, value),

@@ -12,3 +12,9 @@ pub mod pattern;
 pub mod port_queue;
 pub mod replay;
 mod senders;
+
+pub use port_queue::PortQueue;
+pub use tp_event::event::{Env, Event, Status, TriggerAnswer};
+pub use tp_event::payload::{Payload, Wanted};
+pub use tp_text::text::{ReadFault, read_text};
+pub use tp_text::watched::Watched;

@@ -300,7 +300,7 @@ fn line_with(verb: Verb, rest: Option<&[u8]>) -> Option<Line<'_>>
 
 /// What a line tells, its end left out, and `None` where it tells nothing: one space between words
 /// and none elsewhere.
-pub fn line_of(bytes: &[u8]) -> Option<Line<'_>>
+pub fn trace_line(bytes: &[u8]) -> Option<Line<'_>>
     ensures { MatchOption result
         ((told : Told) → Spells bytes.now told → ⊥)
         (λ line. Spells bytes.now (told_of line)) }

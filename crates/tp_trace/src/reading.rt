@@ -9,7 +9,7 @@ ghost use Rattle.tp_trace.specs.Faults.{IsFaultOf, Notes, TakesPlace};
 use crate::form::{TracePosition, may_stand, place_after};
 use crate::line::Line;
 use crate::names::Names;
-use crate::read::line_of;
+use crate::read::trace_line;
 use crate::tree::{Span, Trace};
 use std::alloc::{AllocError, AllocFailed, Global};
 use thiserror::Error;
@@ -111,7 +111,7 @@ fn step<'t>(
         ((told : Told) → Spells bytes.now told → MayStandAt place names.old told → ⊥)
         (TakesPlace bytes.now place names.old names.new)) }
 {
-    let Some(line) = line_of(bytes) else {
+    let Some(line) = trace_line(bytes) else {
         return Ok(None);
     };
     if !may_stand(place, &line) {

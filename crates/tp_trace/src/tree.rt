@@ -5,7 +5,7 @@ ghost use Rattle.tp_trace.specs.Tree.{HoldsTrace, IsTrace, names_of, section_nam
 
 use crate::line::Line;
 use crate::names::Names;
-use crate::read::line_of;
+use crate::read::trace_line;
 use std::marker::Model;
 
 /// Where a line lies in a text.
@@ -66,7 +66,7 @@ impl<'t> Trace<'t> {
         ensures { slice_get self.now place ≡ Some (told_of result) }
     {
         let span = self.spans[place];
-        match line_of(&self.text[span.start as usize..span.end as usize]) {
+        match trace_line(&self.text[span.start as usize..span.end as usize]) {
             Some(line) => line,
             None => unreachable!(),
         }

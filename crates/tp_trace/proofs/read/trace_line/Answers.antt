@@ -4,7 +4,7 @@ use Rattle.std.specs.Option.{option_copied}
 use Rattle.tp_trace.specs.Line.{operands, verb_of, verb_text}
 use Rattle.tp_trace.proofs.UniqueByteCuts.{first_only}
 use Rattle.tp_trace.proofs.UniqueLineMeanings.{lacks-verb}
-use Rattle.tp_trace.proofs.read.line_of.Goals as goal
+use Rattle.tp_trace.proofs.read.trace_line.Goals as goal
 
 pub returns-in_err-verb : goal.returns-in_err-verb
 returns-in_err-verb c =

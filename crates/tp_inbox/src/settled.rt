@@ -1,0 +1,79 @@
+//! What was put into an inbox that is settled, route by route.
+ghost use Rattle.std.specs.Prelude.{◌≡◌, ◌++◌, IfOk, OnOk};
+ghost use Rattle.std.specs.List.{flat_map};
+ghost use Rattle.tp_history.specs.History.{arrived_from};
+ghost use Rattle.tp_inbox.specs.PutMessages.{arrived_message, message_of_entry, messages_on};
+ghost use Rattle.tp_inbox.specs.Routed.{rest_arrivals};
+
+use std::alloc::Global;
+use tp_config::port_type::RouteId;
+use tp_event::event::Env;
+use tp_event::payload::Payload;
+use tp_history::desk::Desk;
+use tp_history::entry::Entry;
+use tp_refusal::memory::Memory;
+use tp_value::message::Message;
+
+/// Adds a copy of the message that came to this port, if it came on the route.
+fn add_message(
+    alloc: Global,
+    route: RouteId,
+    port: u32,
+    env: &Env<Message>,
+    messages: &mut Vec<Message>,
+) -> Result<(), Memory>
+    ensures { OnOk result (messages.new.items
+        ≡ messages.old.items ++ arrived_message route port env.now) }
+{
+    if route.to.port == port && route.source.0 == env.sender {
+        messages.push(env.msg.copy(alloc)?)?;
+    }
+    Ok(())
+}
+
+/// The same of an entry, which may be another than an arrival.
+fn add_entry(
+    alloc: Global,
+    route: RouteId,
+    entry: &Entry,
+    messages: &mut Vec<Message>,
+) -> Result<(), Memory>
+    ensures { OnOk result (messages.new.items
+        ≡ messages.old.items ++ message_of_entry route entry.now) }
+{
+    match entry {
+        Entry::Arrive(port, env, _) => add_message(alloc, route, *port, env, messages),
+        _ => Ok(()),
+    }
+}
+
+/// Copies of the messages in a history that came on the route.
+fn messages_of(alloc: Global, route: RouteId, log: &[Entry]) -> Result<Vec<Message>, Memory>
+    ensures { IfOk result (λ ms. ms.items ≡ flat_map (message_of_entry route) log.now) }
+{
+    let mut messages = Vec::new(alloc);
+    for entry in log {
+        add_entry(alloc, route, entry, &mut messages)?;
+    }
+    Ok(messages)
+}
+
+/// Copies of the messages that were put on this route into an inbox, in order, once it is settled:
+/// those that came to the desk of its component, and behind them those in the rest. By the clause
+/// `delivered` of [`settle`](crate::gathered::Gathered::settle) it is what their sender has put.
+pub fn put_on_route(
+    alloc: Global,
+    desk: &Desk,
+    rest: &[(u32, Env<Message>, u64)],
+    route: RouteId,
+) -> Result<Vec<Message>, Memory>
+    requires { route.to.comp ≡ desk.now.comp }
+    ensures { IfOk result (λ ms. ms.items ≡ messages_on route
+        (arrived_from desk.now.comp route.source (desk.now.log ++ rest_arrivals rest.now))) }
+{
+    let mut messages = messages_of(alloc, route, desk.log())?;
+    for (port, env, _) in rest {
+        add_message(alloc, route, *port, env, &mut messages)?;
+    }
+    Ok(messages)
+}

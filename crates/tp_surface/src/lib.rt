@@ -1,0 +1,16 @@
+//! Nearly each public call of the libraries that make up the surface, once, under the name that its own
+//! crate offers: `tp_port`, `tp_value`, `tp_config`, `tp_script`, `tp_inbox` and `tp_exec`. If one
+//! of them loses a name, this crate doesn't compile. Of the crates behind the surface it uses only
+//! the error of `tp_refusal`. `fill_message` is missing, because its condition is hard to show here.
+#![tactic(auto)]
+
+#[cfg(test)]
+mod configurations;
+#[cfg(test)]
+mod inboxes;
+#[cfg(test)]
+mod ports;
+#[cfg(test)]
+mod scripts;
+#[cfg(test)]
+mod values;
