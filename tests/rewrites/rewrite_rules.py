@@ -2,8 +2,8 @@
 
     tests/rewrites/rewrite_rules.py PROGRAM PART
 
-PART is `table`, `natural`, `same`, `broken`, `listed`, `lines`, `rows`, `faults` or
-`instead`. It prints a line `passed ..` or
+PART is `table`, `natural`, `timed`, `same`, `broken`, `listed`, `lines`, `rows`, `faults` or `instead`. It prints a
+line `passed ..` or
 `FAILED: ..` for each case.
 """
 from __future__ import annotations
@@ -24,20 +24,24 @@ from collections import Counter
 from concurrent.futures import ThreadPoolExecutor
 from typing import NamedTuple
 
-ROOT = os.path.dirname(os.path.dirname(os.path.dirname(os.path.realpath(__file__))))
-REWRITE = f"{ROOT}/tools/rewrite"
-FOLDER = f"{ROOT}/tests/rewrites"
-# Another folder of tools, in which a fault is planted.
-TOOLS = os.environ.get("REWRITING", f"{ROOT}/tools")
-EXPLAIN = f"{TOOLS}/explain"
-sys.path.insert(0, TOOLS)
+sys.path.insert(0, os.path.dirname(os.path.realpath(__file__)))
 
-PRELUDE = (
-    "module T { type record Order { integer id, charstring text } type record of integer L;"
-    " type port P message { inout integer, boolean, charstring, Order, L }"
-    " type component C { port P p, q; var integer vc_n := 0; }\n"
-)
+from asking import EXPLAIN, FOLDER, PRELUDE, REWRITE, ROOT, TOOLS, Ended, carried, failed, judged, run
+from tpr_tools.rewrite.rewriting import rewrite
+from tpr_tools.rewrite.run import Options, Reading
+from tpr_tools.rewrite.tokens import Source
+
 SECONDS_OF_LARGE = 5.0
+# The options of an entry of the table, by its kind; the others have none.
+KINDS = {
+    "encoded": Options(encodes=True),
+    "not encoded": Options(encodes=True),
+    "queued": Options(queues_ended=True),
+    "never": Options(timers=Reading.NEVER),
+    "never refused": Options(timers=Reading.NEVER),
+    "any": Options(timers=Reading.ANY),
+    "any refused": Options(timers=Reading.ANY),
+}
 
 
 class Case(NamedTuple):
@@ -45,43 +49,6 @@ class Case(NamedTuple):
     script: str
     kind: str
     wanted: list[str]
-
-
-class Ended(NamedTuple):
-    status: int
-    printed: str
-    said: str
-
-
-def passed(name: str) -> None:
-    print(f"passed {name}")
-
-
-def failed(name: str, why: str) -> None:
-    print(f"FAILED: {name}: {why}")
-
-
-def judged(name: str, is_so: bool, why: str) -> None:
-    passed(name) if is_so else failed(name, why)
-
-
-def run(*words: str, data: bytes = b"") -> Ended:
-    done = subprocess.run(words, input=data, stdout=subprocess.PIPE, stderr=subprocess.PIPE, check=False)
-    printed, said = (text.decode("utf-8", "replace") for text in (done.stdout, done.stderr))
-    return Ended(done.returncode, printed, said)
-
-
-def carried(program: str, name: str, text: str, encodes: bool = False, queues: bool = False) -> Ended:
-    """What tools/rewrite would end with, asked in this process: a process for each script takes long."""
-    from tpr_tools.rewrite.rewriting import rewrite
-    from tpr_tools.rewrite.run import Options
-    from tpr_tools.rewrite.tokens import Source
-
-    found = rewrite([Source(name, text.encode())], options=Options(encodes=encodes, queues_ended=queues))
-    if found.refused:
-        return Ended(2, "", "".join(f"{one.text()}\n" for one in found.refused))
-    said = run(program, "check", data=found.text.encode()).printed
-    return Ended(0 if said == "accepted\n" else 2, found.text, "" if said == "accepted\n" else said)
 
 
 def cases() -> list[Case]:
@@ -109,21 +76,19 @@ def table(program: str) -> None:
             file = f"{folder}/t.ttcn"
             with open(file, "w", encoding="utf-8") as opened:
                 opened.write(case.script)
-            is_of_tool = case.kind == "checked"
-            encodes = case.kind in ("encoded", "not encoded")
-            queues = case.kind == "queued"
-            tool = run(REWRITE, "--tpr", program, file) if is_of_tool else carried(program, file, case.script, encodes, queues)
+            is_of_tool, options = case.kind == "checked", KINDS.get(case.kind, Options())
+            tool = run(REWRITE, "--tpr", program, file) if is_of_tool else carried(program, file, case.script, options)
             look_at(case, file, tool)
 
 
 def look_at(case: Case, file: str, ended: Ended) -> None:
-    if case.kind in ("becomes", "queued"):
+    if case.kind in ("becomes", "queued", "never", "any"):
         found = body_of(ended.printed)
         judged(case.name, ended.status == 0 and found == case.wanted, f"{ended.said}{found}")
     elif case.kind == "encoded":
         found = [*types_of(ended.printed), *body_of(ended.printed)]
         judged(case.name, ended.status == 0 and found == case.wanted, f"{ended.said}{found}")
-    elif case.kind in ("refused", "not encoded"):
+    elif case.kind.endswith("refused") or case.kind == "not encoded":
         found = [line.removeprefix(f"{file}:").replace(": ", " ", 1) for line in ended.said.splitlines()]
         is_so = (ended.status, ended.printed, found) == (2, "", case.wanted)
         judged(case.name, is_so, f"status {ended.status}: {found}")
@@ -172,8 +137,26 @@ def held_back(program: str) -> None:
     """A natural script that isn't carried over: each reason is followed by what to do instead."""
     ended = run(REWRITE, "--tpr", program, f"{FOLDER}/held_back/accounts_of_a_bank.ttcn")
     lines = ended.said.splitlines()
-    is_so = ended.status == 2 and "no time in a run" in lines[0] and lines[1].startswith("  instead: leave the timer")
+    is_so = ended.status == 2 and "no time in a run" in lines[0] and lines[1].startswith("  instead: give --timers=both")
     judged("a guard timer is refused, with what to do instead", is_so, ended.said)
+
+
+def timed(program: str) -> None:
+    """Scripts with timers, in both readings: the first line of each has the verdicts."""
+    for script in sorted(glob.glob(f"{FOLDER}/timed/*.ttcn")):
+        name = os.path.basename(script)
+        with open(script, encoding="utf-8") as opened:
+            wanted = opened.readline().removeprefix("// ")
+        with tempfile.TemporaryDirectory() as folder:
+            ended = run(REWRITE, "--tpr", program, "--timers=both", script, "-o", f"{folder}/{name}")
+            judged(name, (ended.status, ended.printed) == (0, wanted), ended.printed + ended.said)
+            stem = name.removesuffix(".ttcn")
+            files = sorted(os.listdir(folder))
+            written = [f"{stem}.{reading}.ttcn{ending}" for reading in ("any", "never") for ending in ("", ".map")]
+            judged(f"what is written of {name}", files == written, f"{files}")
+    refused = run(REWRITE, "--tpr", program, "--timers=both", f"{FOLDER}/listed/compatible.ttcn")
+    is_so = refused.status == 2 and refused.said.endswith("rewrite: this was refused with --timers=never\n")
+    judged("a reading that is refused", is_so, refused.said)
 
 
 def told_besides(program: str) -> None:
@@ -271,7 +254,7 @@ def same(program: str) -> None:
         if not os.path.exists(wanted) or run(program, "check", script).status != 0:
             continue
         with open(script, encoding="utf-8") as opened:
-            ended = carried(program, script, opened.read(), queues=True)
+            ended = carried(program, script, opened.read(), Options(queues_ended=True))
         with open(wanted, encoding="utf-8") as opened:
             # Of an `[else]` that stands alone nothing hangs on the look, so it isn't written.
             told = opened.read().replace("\nelse\n", "\n")
@@ -329,12 +312,9 @@ def cut_and_changed(name: str, whole: bytes, encodes: bool, behind: int) -> None
 
 
 def answer_to(data: bytes, encodes: bool) -> str:
-    """`written`; `refused`, with places in the text and reasons; or what is wrong with the answer. `explain --all` has
-    an answer too, and its places are in the text."""
+    """`written`; `refused`, with places in the text and reasons; or what is wrong with the answer. `explain --every`
+    has an answer too, and its places are in the text."""
     from tpr_tools.rewrite.listing import constructs_of
-    from tpr_tools.rewrite.rewriting import rewrite
-    from tpr_tools.rewrite.run import Options
-    from tpr_tools.rewrite.tokens import Source
 
     try:
         found = rewrite([Source("x", data)], options=Options(encodes=encodes))
@@ -379,15 +359,24 @@ def large(program: str) -> None:
 
 
 def listed(program: str) -> None:
-    """`explain --all` names nothing in a script of the profile, and in another what `explain` names among the rest."""
+    """`explain --every` names nothing in a script of the profile, and in another what `explain` names among the rest.
+    `explain --all` names nothing of what tools/rewrite carries over, and of another script what that refuses."""
     accepted = [file for file in sorted(examples()) if run(program, "check", file).status == 0]
-    ended = run(EXPLAIN, "--all", *accepted)
-    judged("nothing in a script of the profile", (ended.status, ended.printed) == (0, ""), ended.printed[:300])
+    for option in ("--every", "--all"):
+        ended = run(EXPLAIN, option, *accepted)
+        judged(f"nothing in a script of the profile: {option}", (ended.status, ended.printed) == (0, ""), ended.printed[:300])
+    ended = run(EXPLAIN, "--all", *sorted(glob.glob(f"{FOLDER}/natural/*.ttcn")))
+    judged("nothing of what is carried over", (ended.status, ended.printed) == (0, ""), ended.printed[:300])
+    held = sorted(glob.glob(f"{FOLDER}/held_back/*.ttcn") + glob.glob(f"{FOLDER}/encoded/*.ttcn") + glob.glob(f"{FOLDER}/listed/*.ttcn"))
+    for script in held:
+        ended, wanted = run(EXPLAIN, "--all", script), run(REWRITE, "--tpr", program, script)
+        is_so = ended.status == wanted.status == 2 and ended.printed == wanted.said
+        judged(f"what can't be carried over of {os.path.basename(script)}", is_so, ended.printed[:300])
     places = [f"{ROOT}/tests/tools/explained"] + [f"{FOLDER}/{name}" for name in ("natural", "encoded")]
     scripts = [script for place in places for script in sorted(glob.glob(f"{place}/*.ttcn"))]
     told = json.loads(run(EXPLAIN, "--tpr", program, "--json", *scripts).printed)
     for one in told:
-        every = run(EXPLAIN, "--all", one["file"]).printed
+        every = run(EXPLAIN, "--every", one["file"]).printed
         construct, here = one.get("construct"), f"{one['file']}:{one['line']}:"
         is_so = here in every and (not construct or f": {construct} isn't supported" in every)
         judged(f"all of {os.path.basename(one['file'])}", is_so, every[:300])
@@ -403,7 +392,7 @@ def all_of_lines(script: str) -> None:
     with open(script, encoding="utf-8") as opened:
         wanted = {number: line.rstrip("\n").split(" // ")[1:] for number, line in enumerate(opened, 1)}
     found: dict[int, list[tuple[int, str]]] = {number: [] for number in wanted}
-    for line in run(EXPLAIN, "--all", script).printed.splitlines():
+    for line in run(EXPLAIN, "--every", script).printed.splitlines():
         place = re.fullmatch(rf"{re.escape(script)}:([0-9]+):([0-9]+): (.*?)( isn't supported \(.*)?", line)
         if place:
             found.setdefault(int(place[1]), []).append((int(place[2]), place[3]))
@@ -422,8 +411,9 @@ def rows(program: str) -> None:
     for name, script in scripts.items():
         ended = carried(program, "row", row_script(script))
         found = {0: "yes", 2: "no"}[ended.status]
-        if found == "no" and carried(program, "row", row_script(script), encodes=True).status == 0:
-            found = "`--encode`"
+        for option, options in (("encode", Options(encodes=True)), ("timers", Options(timers=Reading.NEVER))):
+            if found == "no" and carried(program, "row", row_script(script), options).status == 0:
+                found = f"`--{option}`"
         judged(f"row {name}", found == told.get(name), f"{found}: {ended.said}")
         wrong = wrongly_listed(name, row_script(script))
         judged(f"all of row {name}", wrong == "", wrong)
@@ -434,7 +424,7 @@ TITLES = {"another base type, as `verdicttype`": "the type {word}", "`match`, `v
 
 
 def wrongly_listed(name: str, script: str) -> str:
-    """`explain --all` lists the construct of a row; of a row that has none of its own it lists something."""
+    """`explain --every` lists the construct of a row; of a row that has none of its own it lists something."""
     from tpr_tools.rewrite.listing import constructs_of
     from tpr_tools.script.constructs import Construct
 
@@ -486,7 +476,7 @@ def row_script(script: str) -> str:
 
 
 def main() -> int:
-    parts = {one.__name__: one for one in (table, natural, same, broken, listed, lines, rows, faults, instead)}
+    parts = {one.__name__: one for one in (table, natural, timed, same, broken, listed, lines, rows, faults, instead)}
     words = argparse.ArgumentParser(description="What tools/rewrite makes of scripts, and what it refuses.")
     words.add_argument("program", metavar="PROGRAM", help="tpr")
     words.add_argument("part", metavar="PART", choices=parts, help=", ".join(parts))

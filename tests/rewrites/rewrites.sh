@@ -6,17 +6,20 @@ rewrites() {
     while read -r part least; do
         at_least "$least" told "$room/rewrites_$part" tests/rewrites/rewrite_rules.py "$tpr" "$part"
     done <<'PARTS'
-table 120
+table 165
 natural 89
+timed 7
 same 59
 broken 14
-listed 55
+listed 60
 lines 2
 rows 219
 instead 160
-faults 78
+faults 98
 PARTS
     at_least 800 told "$room/rewrites_by_chance" tests/rewrites/chance/chance_rules.py
+    at_least 8 told "$room/rewrites_unseen" tests/rewrites/unseen_rules.py "$tpr"
+    at_least 28 told "$room/rewrites_skipped" tests/rewrites/skipped_rules.py "$tpr"
     at_least 25 told "$room/rewrites_maps" tests/rewrites/map_rules.py "$tpr"
     observe env -u TPR "$root/tools/rewrite" --help
     tool_must "rewrite tells its words" 0 grep -q -- '--case NAME' "$room/printed"
@@ -28,4 +31,10 @@ PARTS
     status=$?
     : >"$room/printed"
     tool_must "a script that can't be written" 3 says_alone "rewrite: the answer can't be written"
+}
+
+# A second interpreter of the full language, what tools/rewrite makes of random programs, and what Titan makes of them.
+oracle() {
+    at_least 85 told "$room/oracle" tests/rewrites/oracle/oracle_rules.py "$tpr"
+    told "$room/oracle_on_titan" tests/rewrites/oracle/on_titan.py 2001 60
 }

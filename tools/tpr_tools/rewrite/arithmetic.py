@@ -3,7 +3,7 @@ from __future__ import annotations
 
 from typing import Callable, Optional
 
-from .predefined import CONVERSIONS
+from .predefined import CONVERSIONS, ENCODING
 from .refusing import refuse
 from .tokens import Token
 from .values import Digits, Elements, Form, Mark, same
@@ -95,32 +95,20 @@ def _number_of_text(values: list[Form]) -> Optional[Form]:
     return int(text) if isinstance(text, str) and is_number and len(text) < 20 else None
 
 
-def _part_of_text(values: list[Form]) -> Optional[Form]:
-    if len(values) != 3:
-        return None
-    text, first, count = values
-    if isinstance(text, str) and isinstance(first, int) and isinstance(count, int):
-        is_within = 0 <= first and 0 <= count and first + count <= len(text)
-        return text[first : first + count] if is_within else None
-    return None
-
-
 # Each has an example in tests/rewrites/. What isn't listed isn't evaluated.
 PREDEFINED: dict[str, tuple[int, Callable[[list[Form]], Optional[Form]]]] = {
     "lengthof": (1, _length),
     "sizeof": (1, _length),
     "int2str": (1, _text_of_number),
     "str2int": (1, _number_of_text),
-    "substr": (3, _part_of_text),
     **CONVERSIONS,
 }
-# They are asked of what a variable holds, whatever it is.
-ASKING = ("isbound", "isvalue", "ispresent", "ischosen", "match", "valueof")
 
 
 def predefined(word: str, values: list[Form], at: Token) -> Form:
     count, function = PREDEFINED[word]
-    found = function(values) if len(values) == count else None
+    has_more = word in ENCODING and len(values) == count + 1
+    found = function(values) if len(values) == count or has_more else None
     if found is None:
         refuse(at, f"`{word}` isn't computed of this")
     return found

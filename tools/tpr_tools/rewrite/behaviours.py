@@ -6,14 +6,15 @@ from typing import Callable, Optional
 
 from . import tree
 from .emitted import Verdict
-from .hoisting import Communicates, key_of
+from .hoisting import Communicates, calls_in, key_of
 from .paths import Exit, Key, Path, Scope, Slot, State, joined
 from .refusing import Refusal, refuse, refuse_open, refuse_silently
 from .run import members_of
+from .templates import look_at_restricted
 from .tokens import Token
 from .tree import Declared, Expression, Leaving, Statement
 from .types import Kind, Type
-from .values import DefaultValue, Elements, Fields, Form, Mark, Received, TimerValue, VerdictValue, matches, worse
+from .values import DefaultValue, Elements, Fields, Form, Mark, Received, VerdictValue, matches, worse
 
 from .lists import ListFollower
 
@@ -48,10 +49,17 @@ class Follower(ListFollower):
     def left(self, scope: Scope, paths: list[Path]) -> list[Path]:
         """Forgets the names of a scope."""
         for path in paths:
+            self.end_timers(scope, path)
             variables = path.state.variables
             for key in [key for key in variables if key[0] == scope.number]:
                 del variables[key]
         return paths
+
+    def new_timers(self, variable: tree.Variable, type: Type, path: Path) -> Form:
+        raise NotImplementedError
+
+    def end_timers(self, scope: Scope, path: Path) -> None:
+        raise NotImplementedError
 
     def _block(self, statement: tree.Block, path: Path, scope: Scope) -> list[Path]:
         return self.block(statement, path, scope)
@@ -75,10 +83,10 @@ class Follower(ListFollower):
         key = (scope.number, variable.name)
         is_fixed = statement.kind is Declared.CONSTANT
         if statement.kind is Declared.TIMER:
-            path.state.variables[key] = Slot(type, TimerValue.STILL)
+            path.state.variables[key] = Slot(type, self.new_timers(variable, type, path))
             return [path]
         if variable.value is None:
-            path.state.variables[key] = Slot(type, Mark.UNSET, is_late=statement.is_late)
+            path.state.variables[key] = Slot(type, Mark.UNSET, False, statement.is_late, statement.restriction)
             return [path]
         if statement.is_late:
             refuse(variable.at, "a value that is evaluated where it is used isn't carried over")
@@ -86,7 +94,8 @@ class Follower(ListFollower):
         found = self.values_of(variable.value, path, scope, type)
         for one, value in found:
             self.look_at_value_of(value, type, variable.at)
-            one.state.variables[key] = Slot(type, value, is_fixed)
+            look_at_restricted(value, statement.restriction, variable.at)
+            one.state.variables[key] = Slot(type, value, is_fixed, restriction=statement.restriction)
         return [one for one, _ in found]
 
     def _size(self, node: Expression, path: Path, scope: Scope) -> int:
@@ -149,6 +158,7 @@ class Follower(ListFollower):
             self.split(slot.value, at, "a part of what was received is assigned to")
         self.look_at_value_of(value, slot.type if not steps else None, at)
         changed = self._changed(slot.value, slot.type, steps, value, at)
+        look_at_restricted(changed, slot.restriction if not steps else "", at)
         path.state.variables[key] = replace(slot, value=changed)
 
     def _changed(
@@ -188,8 +198,20 @@ class Follower(ListFollower):
             assert isinstance(node, tree.Call)
             return self.call(node, path, scope)
         self.hint = ""
+        if word == "int2enum" and isinstance(node, tree.Call):
+            self._set_enumerated(node, path, scope)
+            return [path]
         self.evaluate(node, path, scope)
         return [path]
+
+    def _set_enumerated(self, node: tree.Call, path: Path, scope: Scope) -> None:
+        """`int2enum` has its result in its second argument (16.1.2)."""
+        if len(node.arguments) != 2 or any(item.name is not None for item in node.arguments):
+            refuse(node.at, "`int2enum` has another number of arguments")
+        number, target = (item.value for item in node.arguments)
+        value = self.of_number(self.evaluate(number, path, scope), self.type_of(target, path, scope), node.at)
+        key, steps = self.target(target, path, scope)
+        self.store(key, steps, value, path, node.at)
 
     def choose(self, statement: tree.Alt, path: Path, scope: Scope) -> list[Path]:
         raise NotImplementedError
@@ -220,6 +242,8 @@ class Follower(ListFollower):
         for one in paths:
             if one.exit is Exit.RETURN:
                 one.exit = Exit.ON
+            if one.result is not None and function.result is not None:
+                look_at_restricted(one.result, function.result.restriction, at)
         return paths
 
     def called_value(self, node: tree.Call, path: Path, scope: Optional[Scope]) -> Form:
@@ -229,6 +253,7 @@ class Follower(ListFollower):
         if kept is not None:
             return kept.value if kept.value is not Mark.LOST else refuse_silently(node.at)
         if not self.is_looking and self.program.communicates(tree.word_called(node)):
+            self._look_at_arguments(node, path, scope)
             raise Communicates(node)
         written, before = len(path.code), path.state.setup()
         variables = dict(path.state.variables)
@@ -245,6 +270,13 @@ class Follower(ListFollower):
         if value is None:
             self._look_at_return(tree.word_called(node), node.at)
         return value if value is not None else Mark.LOST
+
+    def _look_at_arguments(self, node: tree.Call, path: Path, scope: Optional[Scope]) -> None:
+        """What communicates in the arguments is followed before the call."""
+        for item in node.arguments:
+            open_calls = [call for call in calls_in(item.value) if key_of(call) not in path.state.variables]
+            if any(self.program.communicates(tree.word_called(call)) for call in open_calls):
+                self.evaluate(item.value, path, scope)
 
     def _look_at_return(self, name: str, at: Token) -> None:
         """A function that came to no value: it has none, or its `return` is refused, which is told there."""
@@ -366,7 +398,7 @@ class Follower(ListFollower):
             is_asked = True
             # All ways are joined once for each turn, since there may be many.
             going_on = self._stepped(turned, step, scope, finished)
-            paths = joined(going_on, self.live(), self.has_verdict)
+            paths = joined(going_on, self.live(), self.has_verdict, self.leave_behind)
         self.frames.pop()
         return finished
 

@@ -8,7 +8,7 @@ from .closed import Awaited, Wanting
 from .lists import Plan
 from .leaves import Leaf, without_barred
 from .narrowing import narrow
-from .emitted import Code, Failed, Got, GotDone, Message, Way, Ways, Who
+from .emitted import Code, Failed, Got, GotDone, GotEnd, Message, Ticked, Ticking, Way, Ways, Who
 from .evaluating import SENDER
 from .fitting import open_alternatives, type_at
 from .guards import Expander, Guard, is_repeat_alone, may_repeat
@@ -25,30 +25,19 @@ from .values import (
 MOST_TURNS = 30
 # Where it is known what comes.
 MOST_KNOWN_TURNS = 5_000
-# Each `alt` in a branch of another one opens four brackets more, and a script of the profile has 32 at most.
-MOST_DEPTH = 7
+# Each `alt` in a branch of another one opens two brackets more, and a script of the profile has 32 at most.
+MOST_DEPTH = 14
 
 
 class Chooser(Expander):
     def choose(self, statement: tree.Alt, path: Path, scope: Scope) -> list[Path]:
-        if statement.is_interleave:
-            for branch in statement.branches:
-                self._look_at_interleaved(branch)
-        return self._turn(statement, statement.branches, path, scope, 0)
+        branches = self.interleaving.branches_of(statement) if statement.is_interleave else statement.branches
+        return self._turn(statement, branches, path, scope, 0)
 
     def receive(self, statement: tree.Receive | tree.Find, path: Path, scope: Scope) -> list[Path]:
         """A receiving operation that stands alone is an `alt` with it as its branch (20.2, 22.2.2)."""
         branch = tree.Branch(statement.at, None, False, statement, None)
         return self.choose(tree.Alt(statement.at, [branch], False, statement.span), path, scope)
-
-    def _look_at_interleaved(self, branch: tree.Branch) -> None:
-        if branch.is_else or branch.guard is not None or not isinstance(branch.event, tree.Receive):
-            refuse(branch.at, "a branch of an `interleave` has a receiving operation alone here")
-        for statement in branch.block.statements if branch.block else []:
-            if not isinstance(statement, (tree.SetVerdict, tree.Dropped, tree.Send, tree.Assignment)):
-                refuse(statement.at, "in an `interleave` a branch sends, assigns and sets verdicts alone here")
-            if self.program.names_in(statement) & set(self.program.functions):
-                refuse(statement.at, "in a branch of an `interleave` no function is called here")
 
     def _turn(
         self, statement: tree.Alt, branches: list[tree.Branch], path: Path, scope: Scope, count: int
@@ -62,24 +51,30 @@ class Chooser(Expander):
             guard.number = self.counted
             self.counted += 1
         leaves = self._leaves(expansion.guards, path, count)
+        self._add_end(statement, leaves)
         self.frames.append(self.program.names_in(statement))
         found: list[Path] = []
         for leaf, one in self._written(statement, leaves, path):
             found += self._follow_leaf(statement, branches, leaf, one, scope, count)
         if not found:
             # Nothing can come to any branch: it waits for good.
-            path.exit = Exit.END
+            path.exit = Exit.STUCK
             found = [path]
         self.frames.pop()
         for inner in expansion.scopes:
             found = self.left(inner, found)
         return found
 
+    def _add_end(self, statement: tree.Alt, leaves: list[Leaf]) -> None:
+        """A component that still waits when the test case ends is ended by that, where it matters."""
+        if self.own in self.run.ending and leaves and not leaves[-1].guard.is_always:
+            leaves.append(Leaf(Guard(statement.at, None, [], is_end=True), {}, None, None))
+
     def _written(
         self, statement: tree.Alt, leaves: list[Leaf], path: Path
     ) -> list[tuple[Leaf, Path]]:
         """Writes the branches, and says of each where its way goes on."""
-        if not leaves or all(leaf.is_discarding for leaf in leaves):
+        if not leaves or all(leaf.is_discarding or leaf.guard.is_end for leaf in leaves):
             refuse(statement.at, "no branch of this ever ends it")
         if leaves[0].guard.is_always:
             return [(leaves[0], path)]
@@ -125,10 +120,14 @@ class Chooser(Expander):
         first.how = Receiving.TRIGGER
         return [first]
 
-    def _operation(self, leaf: Leaf, path: Path) -> Got | GotDone:
+    def _operation(self, leaf: Leaf, path: Path) -> Got | GotDone | GotEnd | Ticked:
         guard = leaf.guard
         if guard.component is not None:
             return GotDone(guard.at, guard.component)
+        if guard.timer is not None:
+            return Ticked(guard.at, guard.timer[1].name, Ticking.EXPIRE)
+        if guard.is_end:
+            return GotEnd(guard.at)
         assert leaf.how is not None
         path.state.used |= {guard.port}
         if guard.port in path.state.left:
@@ -160,7 +159,8 @@ class Chooser(Expander):
 
     def _bar(self, leaves: list[Leaf], guards: list[Guard], path: Path) -> None:
         """What can come to each branch: of what can be next at its port what it wants, and none before it takes."""
-        discarded = {leaf.guard.port for leaf in leaves if leaf.is_discarding}
+        # A `trigger` discards for the branches before it too.
+        discarded = {leaf.guard.port for leaf in leaves if leaf.is_discarding or leaf.guard.how is Receiving.TRIGGER}
         for leaf in leaves:
             guard = leaf.guard
             if guard.how is None or leaf.is_discarding:
@@ -234,10 +234,15 @@ class Chooser(Expander):
     ) -> list[Path]:
         guard = leaf.guard
         if leaf.is_never or leaf.is_barred:
+            path.exit = Exit.STUCK
+            return [path]
+        if guard.is_end:
             path.exit = Exit.END
             return [path]
         if guard.component is not None:
             path.state.done |= {guard.component}
+        elif guard.timer is not None:
+            self.set_timer(*guard.timer, False, path, guard.at)
         elif guard.how is not None:
             if leaf.coming is not None and leaf.awaited is not None:
                 self.note_got(leaf.awaited, leaf.coming, path)
@@ -274,7 +279,7 @@ class Chooser(Expander):
         is_own = statement.is_interleave and path.exit is Exit.ON and leaf.guard.source is not None
         if not is_own:
             return [path]
-        rest = [branch for branch in branches if branch is not leaf.guard.source]
+        rest = self.interleaving.left_by(leaf.guard.source, branches)
         return self._turn(statement, rest, path, scope, 0) if rest else [path]
 
     def _redirect(self, leaf: Leaf, path: Path, scope: Scope) -> None:

@@ -5,7 +5,7 @@ from typing import Optional
 
 from . import tree
 from .choosing import Chooser
-from .emitted import Operated, Sent, Told, Verdict
+from .emitted import Operated, Sent, Ticked, Told, Verdict
 from .paths import ActiveDefault, Created, End, Exit, Joined, Path, Scope, Started, peers
 from .refusing import Refusal, refuse, refuse_open
 from .run import Run
@@ -55,6 +55,9 @@ class Behaviour(Chooser):
     # Operations on ports, components and timers
 
     def operate(self, statement: tree.Operate, path: Path, scope: Scope) -> list[Path]:
+        if statement.target is None and statement.is_of_timers:
+            self.stop_all_timers(statement.at, path, scope)
+            return [path]
         if statement.target is None:
             self._emit_operated(statement, list(self.ports), True, path)
             return [path]
@@ -67,7 +70,7 @@ class Behaviour(Chooser):
             self._emit_operated(statement, [value.name], False, path)
             return [path]
         if isinstance(value, TimerValue):
-            self._operate_timer(statement, path, scope)
+            self.operate_timer(statement, path, scope)
             return [path]
         if not isinstance(value, ComponentValue):
             refuse(statement.at, "which component is meant isn't known here")
@@ -98,17 +101,27 @@ class Behaviour(Chooser):
         path.exit = Exit.END
         return [path]
 
-    def _operate_timer(self, statement: tree.Operate, path: Path, scope: Scope) -> None:
-        """It is only remembered whether it may run: nothing is said of time."""
-        for node in statement.arguments:
-            if self.program.names_in(statement) & set(self.program.functions):
-                self.evaluate(node, path, scope)
-        assert statement.target is not None
-        key, steps = self.target(statement.target, path, scope)
-        state = TimerValue.RUNNING if statement.act is PortAct.START else TimerValue.STILL
-        if statement.act not in (PortAct.START, PortAct.STOP) or steps:
-            refuse(statement.at, "this operation on a timer isn't carried over")
-        self.store(key, steps, state, path, statement.at)
+    def asked_of(self, node: tree.Asked, path: Path, scope: Optional[Scope]) -> Form:
+        value = self.evaluate(node.target, path, scope) if node.target is not None else None
+        if value is Mark.LOST:
+            raise Refusal(node.at, "")
+        if isinstance(value, TimerValue) or node.of.endswith(" timer"):
+            return self.asked_of_timer(node, path, scope)
+        if node.of == "any component" and node.word == "running":
+            return self._is_running([number for number, _ in path.state.started], node, path)
+        if isinstance(value, ComponentValue) and value.number > 0 and self.can_set_up:
+            started = [number for number, _ in path.state.started if number == value.number]
+            if node.word == "running":
+                return self._is_running(started, node, path)
+            if node.word == "alive":
+                return not started or self._may_be_alive(value.number, path) or self._is_running(started, node, path)
+        refuse(node.at, f"`{node.word}` asks for what only a run tells")
+
+    def _is_running(self, started: list[int], node: tree.Asked, path: Path) -> bool:
+        """Of components that were started: not if all of them surely have ended, and else it is open."""
+        if self.can_set_up and set(started) <= path.state.done | path.state.awaited:
+            return False
+        refuse(node.at, f"`{node.word}` asks for what only a run tells")
 
     # Defaults
 
@@ -225,7 +238,7 @@ class Behaviour(Chooser):
             self.settled(slot.value, call.at, f"the argument for `{name}` isn't known before the run")
             if isinstance(slot.value, Reference):
                 refuse(call.at, f"the argument for `{name}` isn't known before the run")
-        is_told = bool(path.state.awaited) or any(not isinstance(one, Verdict) for one in path.code)
+        is_told = bool(path.state.awaited) or any(not isinstance(one, (Verdict, Ticked)) for one in path.code)
         if is_told:
             self.emit(path, Told(statement.at, number))
         path.state.started += ((number, Started(body, tuple(bound), statement.at, is_told)),)

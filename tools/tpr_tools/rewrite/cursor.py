@@ -116,6 +116,16 @@ class Cursor:
             self.fail(f"the modifier `{self.token.text}` isn't carried over here")
         self.note(Construct.MODIFIER, self.take())
 
+    def template_restriction(self) -> str:
+        """`value`, `omit` or `present` in brackets behind `template`, or nothing (15.8)."""
+        if not self.accept("("):
+            return ""
+        if self.token.text not in ("value", "omit", "present"):
+            self.fail("`value`, `omit` or `present` is wanted here")
+        word = self.take().text
+        self.expect(")")
+        return word
+
     def deeper(self) -> None:
         self.nested += 1
         if self.nested > MOST_NESTED:

@@ -2,6 +2,7 @@
 from __future__ import annotations
 
 from dataclasses import dataclass
+from enum import Enum
 from typing import Optional, Union
 
 from .tokens import Token
@@ -66,11 +67,50 @@ class Failed:
 
 
 @dataclass
+class GotEnd:
+    """The test case has ended, which ends what still waits."""
+
+    at: Token
+
+
+@dataclass
+class EndTold:
+    """A component is told that the test case has ended."""
+
+    at: Token
+    component: int
+
+
+class Ticking(Enum):
+    START = "start"
+    STOP = "stop"
+    EXPIRE = "timeout"
+
+
+@dataclass
+class Ticked:
+    """A timer was started or stopped, or its timeout is waited for."""
+
+    at: Token
+    timer: str
+    act: Ticking
+
+
+@dataclass
+class Unstarted:
+    """On this way a timer is started so many times less than on another."""
+
+    at: Token
+    timer: str
+    count: int
+
+
+@dataclass
 class Way:
     """A branch; without an operation `[else]`."""
 
     at: Token
-    operation: Optional[Union[Got, GotDone]]
+    operation: Optional[Union[Got, GotDone, GotEnd, Ticked]]
     code: Code
 
 
@@ -94,5 +134,5 @@ class Verdict:
     word: str
 
 
-Emitted = Union[Sent, Got, GotDone, Told, Ways, Operated, Verdict, Failed]
+Emitted = Union[Sent, Got, GotDone, Told, Ways, Operated, Verdict, Failed, Ticked, Unstarted, GotEnd, EndTold]
 Code = list[Emitted]

@@ -7,13 +7,18 @@ from collections import Counter
 from dataclasses import dataclass, field
 from typing import Iterable, Optional
 
-from .emitted import Code, Failed, Got, GotDone, Sent, Way, Ways
+from .emitted import Code, Failed, Got, GotDone, GotEnd, Sent, Way, Ways
 from .following import Followed, Part
 from .paths import End, peers
+from .reaching import Reach, TooFar
+from .sending import Sends, What, count_sent, receivers, sum_of
 from .tokens import Token
-from .values import Symbol
+from .values import Wild
 
-_Sends = Counter[tuple[str, End]]
+
+
+# How often it is asked what all components can have done.
+MOST_ASKED = 300
 
 
 @dataclass(frozen=True)
@@ -32,16 +37,17 @@ class LateSend:
 
 @dataclass
 class _Ended:
-    """What is known of the ways of a component: the least that it takes at each port, and whose end it waits for."""
+    """What is known of the ways of a component: the least that it takes at each port, of all, of each type and of each template, and
+    whose end it waits for."""
 
-    takes: Counter[str]
+    takes: Counter[tuple[str, What]]
     awaited: frozenset[int]
 
 
 @dataclass
 class _Walk:
     part: Part
-    sent: _Sends = field(default_factory=Counter)
+    sent: Sends = field(default_factory=Counter)
     done: frozenset[int] = frozenset()
 
 
@@ -52,6 +58,7 @@ class EndedFinder:
         self.ends = {number: _ended(part.code) for number, part in self.parts.items()}
         self.most = {number: _most_sends(followed, part) for number, part in self.parts.items()}
         self.found: dict[tuple[Token, str], LateSend] = {}
+        self.asked = 0
 
     def all(self) -> list[LateSend]:
         for part in self.followed.parts:
@@ -62,8 +69,7 @@ class EndedFinder:
         for statement in code:
             if isinstance(statement, Sent):
                 self._look_at(walk, statement)
-                for end in receivers(self.followed, walk.part.number, statement):
-                    walk.sent[statement.port, end] += 1
+                count_sent(walk.sent, self.followed, walk.part.number, statement)
             elif isinstance(statement, GotDone):
                 walk.done |= {statement.component}
             elif isinstance(statement, Ways):
@@ -87,9 +93,19 @@ class EndedFinder:
             if part is None or end.component <= 0 or part.started is None or part.is_alive:
                 continue
             is_sure = end.component in walk.done
-            if is_sure or not self._is_before_end(walk, end.component, frozenset()):
+            if is_sure or not self._is_before_end(walk, end.component, frozenset()) and self._may_have_ended(walk, end):
                 late = LateSend(statement.at, part.hint, is_sure)
                 self.found.setdefault((statement.at, part.hint), late)
+
+    def _may_have_ended(self, walk: _Walk, end: End) -> bool:
+        """By what all components can have done by then."""
+        self.asked += 1
+        if self.asked > MOST_ASKED:
+            return True
+        try:
+            return Reach(self.followed, walk.part.number, walk.sent).may_end(end.component)
+        except TooFar:
+            return True
 
     def _is_before_end(self, walk: _Walk, receiver: int, seen: frozenset[int]) -> bool:
         """Whether the receiver, on each of its ways, still waits for what only comes after this."""
@@ -99,44 +115,34 @@ class EndedFinder:
         if ended is None or receiver in seen:
             # It never ends, or this is asked already.
             return ended is None
-        if any(self._needs(walk, receiver, port, count) for port, count in ended.takes.items()):
+        if any(self._needs(walk, End(receiver, port), what, count) for (port, what), count in ended.takes.items()):
             return True
         return any(self._is_before_end(walk, other, seen | {receiver}) for other in ended.awaited)
 
-    def _needs(self, walk: _Walk, receiver: int, port: str, count: int) -> bool:
-        """Whether all that others send there, and what was sent by now, is less than it takes."""
-        end = End(receiver, port)
+    def _needs(self, walk: _Walk, end: End, what: What, count: int) -> bool:
+        """Whether all such messages that others send there, and what was sent by now, are less than it takes."""
         came = 0
         is_sender = False
         for other in set(peers(self.followed.joins, end)):
             if other.component == walk.part.number:
                 is_sender = True
-                came += walk.sent[other.port, end]
+                came += sum_of(walk.sent, other.port, end, what)
             elif other.component in self.most:
-                came += self.most[other.component][other.port, end]
+                came += sum_of(self.most[other.component], other.port, end, what)
         return is_sender and came < count
 
 
-def receivers(followed: Followed, sender: int, statement: Sent) -> list[End]:
-    """The ports that a message may come to."""
-    ends = list(dict.fromkeys(peers(followed.joins, End(sender, statement.port))))
-    if statement.to is None or isinstance(statement.to, Symbol):
-        return ends
-    return [end for end in ends if end.component == statement.to]
-
-
-def _most_sends(followed: Followed, part: Part) -> _Sends:
+def _most_sends(followed: Followed, part: Part) -> Sends:
     return _most_of(followed, part.number, part.code)
 
 
-def _most_of(followed: Followed, sender: int, code: Code) -> _Sends:
-    found: _Sends = Counter()
+def _most_of(followed: Followed, sender: int, code: Code) -> Sends:
+    found: Sends = Counter()
     for statement in code:
         if isinstance(statement, Sent):
-            for end in receivers(followed, sender, statement):
-                found[statement.port, end] += 1
+            count_sent(found, followed, sender, statement)
         elif isinstance(statement, Ways):
-            most: _Sends = Counter()
+            most: Sends = Counter()
             for way in statement.branches:
                 most |= _most_of(followed, sender, way.code)
             found += most
@@ -145,38 +151,42 @@ def _most_of(followed: Followed, sender: int, code: Code) -> _Sends:
 
 def _ended(code: Code) -> Optional[_Ended]:
     """Of all ways that come to an end; None where none does."""
-    takes: Counter[str] = Counter()
-    awaited: set[int] = set()
+    found = _Ended(Counter(), frozenset())
     for statement in code:
         if isinstance(statement, Failed):
             return None
-        if isinstance(statement, Got) and statement.how != "check":
-            takes[statement.port] += 1
-        elif isinstance(statement, GotDone):
-            awaited.add(statement.component)
+        if isinstance(statement, (Got, GotDone)):
+            _take(found, statement)
         elif isinstance(statement, Ways):
-            inner = [found for found in map(_ended_way, statement.branches) if found is not None]
+            inner = [one for one in map(_ended_way, statement.branches) if one is not None]
             if not inner:
                 return None
-            takes += _least(one.takes for one in inner)
-            awaited |= frozenset.intersection(*(one.awaited for one in inner))
-    return _Ended(takes, frozenset(awaited))
+            found.takes += _least(one.takes for one in inner)
+            found.awaited |= frozenset.intersection(*(one.awaited for one in inner))
+    return found
 
 
 def _ended_way(way: Way) -> Optional[_Ended]:
-    behind = _ended(way.code)
-    if behind is None:
-        return None
-    takes, awaited = Counter(behind.takes), behind.awaited
-    if isinstance(way.operation, Got) and way.operation.how != "check":
-        takes[way.operation.port] += 1
-    if isinstance(way.operation, GotDone):
-        awaited |= {way.operation.component}
-    return _Ended(takes, awaited)
+    # Behind the end of the test case nothing is sent to it.
+    found = _ended(way.code) if not isinstance(way.operation, GotEnd) else None
+    if found is not None and isinstance(way.operation, (Got, GotDone)):
+        _take(found, way.operation)
+    return found
 
 
-def _least(counts: Iterable[Counter[str]]) -> Counter[str]:
-    found: Optional[Counter[str]] = None
+def _take(found: _Ended, operation: Got | GotDone) -> None:
+    if isinstance(operation, GotDone):
+        found.awaited |= {operation.component}
+    elif operation.how != "check":
+        found.takes[operation.port, None] += 1
+        if operation.message is not None:
+            type = operation.message.type.root
+            for form in {operation.message.form, Wild.ANY}:
+                found.takes[operation.port, (type, form)] += 1
+
+
+def _least(counts: Iterable[Counter[tuple[str, What]]]) -> Counter[tuple[str, What]]:
+    found: Optional[Counter[tuple[str, What]]] = None
     for one in counts:
         found = Counter(one) if found is None else found & one
     return found or Counter()

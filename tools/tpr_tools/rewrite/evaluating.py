@@ -4,13 +4,14 @@ from __future__ import annotations
 from typing import Optional, Union
 
 from . import tree
-from .arithmetic import ASKING, PREDEFINED, computed, inverted, predefined
-from .braces import BracesReader
+from .arithmetic import PREDEFINED, computed, inverted, predefined
+from .asking import ASKING, Asker
 from .fitting import open_alternatives, opened, template_at
 from .paths import Key, Path, Scope, Slot, Split
 from .program import Program
 from .refusing import refuse, Refusal
 from .settling import SENDER as SENDER
+from .templates import look_at_restricted
 from .tokens import Token
 from .tree import Expression, Sign
 from .types import Kind, Type
@@ -22,7 +23,7 @@ from .values import (
 _MOST_NESTED = 60
 
 
-class Evaluator(BracesReader):
+class Evaluator(Asker):
     """The expressions of one behaviour. `own` is the number of its component."""
 
     def __init__(self, program: Program, own: int):
@@ -132,6 +133,9 @@ class Evaluator(BracesReader):
         if isinstance(node, tree.Activate):
             return self.activate(node, path, scope)
         assert isinstance(node, tree.Asked)
+        return self.asked_of(node, path, scope)
+
+    def asked_of(self, node: tree.Asked, path: Path, scope: Optional[Scope]) -> Form:
         refuse(node.at, f"`{node.word}` asks for what only a run tells")
 
     def create(self, node: tree.Create, path: Path, scope: Optional[Scope]) -> Form:
@@ -193,7 +197,7 @@ class Evaluator(BracesReader):
             refuse(node.at, f"`{sign.value}` can't stand here")
         return simple[sign]
 
-    def _asked(
+    def asked(
         self, node: Expression, path: Path, scope: Optional[Scope], type: Optional[Type], may_be_open: bool
     ) -> Form:
         """What may be left out where it is only asked whether it is there, or whether it is the same."""
@@ -279,7 +283,7 @@ class Evaluator(BracesReader):
 
     def _binary(self, node: tree.Binary, path: Path, scope: Optional[Scope]) -> Form:
         is_asked = node.sign in ("==", "!=")
-        left = self._asked(node.left, path, scope, None, is_asked)
+        left = self.asked(node.left, path, scope, None, is_asked)
         if node.sign in ("and", "or"):
             first = self.truth(left, node.left.at)
             if first is (node.sign == "or"):
@@ -288,7 +292,7 @@ class Evaluator(BracesReader):
         type = self.type_of(node.left, path, scope) or self.type_of(node.right, path, scope)
         if isinstance(node.left, (tree.Name, tree.Braces)):
             left = self.evaluate(node.left, path, scope, type)
-        right = self._asked(node.right, path, scope, type, is_asked)
+        right = self.asked(node.right, path, scope, type, is_asked)
         if isinstance(left, Received) or isinstance(right, Received):
             return self._compared(node, left, right)
         for value, side in ((left, node.left), (right, node.right)):
@@ -368,7 +372,7 @@ class Evaluator(BracesReader):
                 self.look_at_value(value, node.at)
             return predefined(word, values, node.at)
         if word in ASKING:
-            return self._asking(word, node, path, scope)
+            return self.asking(word, node, path, scope)
         if word in self.program.templates:
             return self._by_template(word, node.arguments, node.at, path, scope)
         if word in self.program.functions:
@@ -379,59 +383,6 @@ class Evaluator(BracesReader):
 
     def called_value(self, node: tree.Call, path: Path, scope: Optional[Scope]) -> Form:
         refuse(node.at, "a function is called in a body alone")
-
-    def _asking(self, word: str, node: tree.Call, path: Path, scope: Optional[Scope]) -> Form:
-        if not node.arguments or len(node.arguments) != (2 if word == "match" else 1):
-            refuse(node.at, f"`{word}` has another number of arguments")
-        first = node.arguments[0].value
-        if word == "ischosen":
-            return self._is_chosen(first, path, scope)
-        type = self.type_of(first, path, scope)
-        if word == "match" and type is None:
-            type = self.type_of(node.arguments[1].value, path, scope)
-        value = self._asked(first, path, scope, type, word == "ispresent")
-        if word == "match":
-            template = self.evaluate(node.arguments[1].value, path, scope, type)
-            return self._match(value, template, node.at)
-        if value is Mark.LOST:
-            raise Refusal(node.at, "")
-        if word == "valueof":
-            self.look_at_value(value, node.at)
-            return value
-        if isinstance(value, Received):
-            if word == "ispresent" and value.steps != SENDER:
-                return self.fits(value, Wild.ANY, node.at)
-            return True if len(value.steps) == 0 else self.split(value, node.at)
-        if word == "isbound":
-            return value is not Mark.UNSET
-        if word == "ispresent" and not is_value(value):
-            refuse(node.at, "whether this is present isn't known here")
-        return is_value(value) and value is not Mark.OMIT
-
-    def _is_chosen(self, node: Expression, path: Path, scope: Optional[Scope]) -> Form:
-        if not isinstance(node, tree.FieldOf):
-            refuse(node.at, "`ischosen` asks for an alternative")
-        whole = self.evaluate(node.value, path, scope)
-        return self.has_chosen(whole, node.word, node.at)
-
-    def has_chosen(self, whole: Form, name: str, at: Token) -> bool:
-        """Whether a union has this alternative; where that is open of what was received, its branch is split."""
-        if whole is Mark.LOST:
-            raise Refusal(at, "")
-        if isinstance(whole, Received) and whole.steps != SENDER:
-            return self.fits(whole, Chosen(name, Wild.ANY), at)
-        if not isinstance(whole, Chosen):
-            refuse(at, "which alternative it has isn't known here")
-        return whole.name == name
-
-    def _match(self, value: Form, template: Form, at: Token) -> bool:
-        self.settled(template, at)
-        if not is_template(template):
-            refuse(at, "the template isn't known here")
-        if isinstance(value, Received):
-            return self.fits(value, template, at)
-        self.look_at_value(value, at)
-        return matches(value, template)
 
     def _by_template(
         self, word: str, arguments: list[tree.Argument], at: Token, path: Path, scope: Optional[Scope]
@@ -444,7 +395,9 @@ class Evaluator(BracesReader):
         for name, slot in bound:
             path.state.variables[inner.number, name] = slot
         try:
-            return self._template_body(definition, path, inner, type)
+            found = self._template_body(definition, path, inner, type)
+            look_at_restricted(found, definition.restriction, at)
+            return found
         finally:
             for name, _ in bound:
                 del path.state.variables[inner.number, name]

@@ -8,7 +8,7 @@ from typing import Iterator, Optional
 from . import tree
 from .components import SYSTEM, Behaviour
 from .flowing import Flows, flow_from
-from .emitted import Code, Emitted, Got, GotDone, Operated, Sent, Told, Verdict, Ways
+from .emitted import Code, EndTold, Emitted, Got, GotDone, GotEnd, Operated, Sent, Ticked, Told, Verdict, Ways
 from .paths import End, Exit, Joined, Path, Started, State, peers
 from .refusing import Refusal, refuse, refuse_open
 from .run import Run
@@ -104,8 +104,6 @@ def is_closed(run: Run, followed: Followed) -> bool:
 
 
 def _follow_once(run: Run, case: tree.TestCase) -> Followed:
-    if case.parameters:
-        refuse(case.at, "a test case with parameters isn't carried over")
     if case.runs_on is None:
         refuse(case.at, "a test case has `runs on`")
     system = _component_type(run, case.system, case.at) if case.system else None
@@ -124,8 +122,12 @@ def _follow_once(run: Run, case: tree.TestCase) -> Followed:
         parts.append(_part(run, number, state, started))
     if system is not None:
         parts += _system_part(run, system, state)
-    done = frozenset.intersection(*(way.state.done | way.state.awaited for way in ways))
-    least = min((way.state.verdict for way in ways), key=VERDICTS.index)
+    # A way that waits for good doesn't end the test case.
+    ending = [way for way in ways if way.exit is not Exit.STUCK]
+    for way in ending:
+        _tell_ends(behaviour, way, case.at)
+    done = frozenset(started).intersection(*(way.state.done | way.state.awaited for way in ending))
+    least = min((way.state.verdict for way in ending), key=VERDICTS.index, default="error")
     return Followed(case, parts, state.joins, system, done, least)
 
 
@@ -139,9 +141,40 @@ def _component_type(run: Run, word: str, at: Token) -> Type:
 def _from_the_start(behaviour: Behaviour, path: Path, case: tree.TestCase) -> list[Path]:
     behaviour.begin(path)
     scope = behaviour.new_scope(behaviour.root)
+    for name, slot in behaviour.bind(case.parameters, _arguments_of(behaviour.run, case), case.at, path, None):
+        path.state.variables[scope.number, name] = slot
     ways = behaviour.statements(case.body.statements, path, scope)
     _look_at_exits(behaviour.run, ways, case.at)
     return ways
+
+
+def _tell_ends(behaviour: Behaviour, way: Path, at: Token) -> None:
+    """Behind all that a way of the test case waits for, those that it doesn't wait for are told that it has ended."""
+    started = {number for number, _ in way.state.started}
+    told = sorted(behaviour.run.ending & started - way.state.done - way.state.awaited)
+    if told:
+        behaviour.flush(way, at)
+        way.code += [EndTold(at, number) for number in told]
+
+
+def _arguments_of(run: Run, case: tree.TestCase) -> list[tree.Argument]:
+    """What the test case is given by its `execute`, and what the command line gives in place of that."""
+    calls = run.program.calls_of(case.name)
+    names = [parameter.name for parameter in case.parameters]
+    known = {name: run.parameters[name] for name in names if name in run.parameters}
+    given = calls[0].arguments if calls else []
+    if len(calls) > 1 and any(parameter.name not in known for parameter in case.parameters):
+        refuse(case.at, "the test case is executed with several lists of arguments: give one with --param for each parameter")
+    by_name = {item.name: item for item in given if item.name is not None}
+    in_order = dict(zip(names, (item for item in given if item.name is None)))
+    found: list[tree.Argument] = []
+    for parameter in case.parameters:
+        item = in_order.get(parameter.name) or by_name.get(parameter.name)
+        value = known.get(parameter.name) or (item.value if item else parameter.value)
+        if value is None:
+            refuse(parameter.at, f"the parameter `{parameter.name}` of the test case has no value: give one with --param")
+        found.append(tree.Argument(parameter.at, parameter.name, value))
+    return found
 
 
 def _look_at_exits(run: Run, ways: list[Path], at: Token) -> None:
@@ -235,8 +268,9 @@ def waits(code: Code) -> bool:
         if isinstance(statement, (Got, GotDone)):
             return True
         if isinstance(statement, Ways):
-            has_else = any(way.operation is None for way in statement.branches)
-            if not has_else or any(waits(way.code) for way in statement.branches):
+            # A timeout and the end of the test case come for sure.
+            goes_on = any(isinstance(way.operation, (type(None), Ticked, GotEnd)) for way in statement.branches)
+            if not goes_on or any(waits(way.code) for way in statement.branches):
                 return True
     return False
 
@@ -247,11 +281,28 @@ def ports_used(code: Code) -> set[str]:
     }
 
 
+def with_ends(run: Run, case: tree.TestCase) -> Followed:
+    """All behaviours. Those that may still wait when the test case ends have a branch for that wherever they wait."""
+    followed = follow(run, case)
+    while not run.refused and run.lost is None:
+        waiting = {part.number for part in followed.parts if _is_left(followed, part) and waits(part.code)}
+        if not waiting - run.ending:
+            break
+        run.ending |= waiting
+        followed = follow(run, case)
+    return followed
+
+
+def _is_left(followed: Followed, part: Part) -> bool:
+    """Whether the test case may end without a wait for its end."""
+    return part.started is not None and part.number > 0 and part.number not in followed.done
+
+
 def look_at_ends(run: Run, followed: Followed) -> None:
     """What hangs on when a component begins or ends, where the profile's order is another."""
     by_number = {part.number: part for part in followed.parts}
     for part in followed.parts:
-        if part.started and part.number > 0 and part.number not in followed.done:
+        if part.started and _is_left(followed, part):
             reason = _reason_to_wait(followed, part)
             if reason:
                 run.tell(Refusal(part.started.at, f"{reason}: wait for its end with `.done`", True))
@@ -285,4 +336,4 @@ def _may_fail(followed: Followed, part: Part, statement: Emitted) -> bool:
 
 
 def tells_of(code: Code) -> set[int]:
-    return {one.component for one in statements_of(code) if isinstance(one, (GotDone, Told))}
+    return {one.component for one in statements_of(code) if isinstance(one, (GotDone, Told, EndTold))}

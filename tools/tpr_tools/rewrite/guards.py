@@ -10,6 +10,8 @@ from .emitted import Message, Who
 from .evaluating import SENDER
 from .paths import ActiveDefault, Path, Scope, Split
 from .refusing import Refusal, refuse
+from .run import Reading
+from .timers import Place
 from .tokens import Token
 from .tree import Any, Expression, Leaving, Receiving
 from .values import ComponentValue, Elements, Form, PortValue, Received, TimerValue
@@ -39,13 +41,19 @@ class Guard:
     redirect: Optional[tree.Redirect] = None
     redirect_scope: Optional[Scope] = None
     component: Optional[int] = None
+    # The timer whose timeout it waits for, and whether that is sure to come.
+    timer: Optional[tuple[Place, TimerValue]] = None
+    is_sure: bool = False
+    # It waits for the end of the test case.
+    is_end: bool = False
     index: Optional[Form] = None
     source: Optional[tree.Branch] = None
     number: int = 0
 
     @property
     def is_always(self) -> bool:
-        return self.how is None and self.component is None
+        waits = self.how is not None or self.component is not None or self.is_end
+        return not waits and (self.timer is None or self.is_sure)
 
 
 @dataclass
@@ -80,6 +88,8 @@ class Expander(Closed):
             if not found.is_closed:
                 self._add_default(default, path, found)
         self.is_looking = False
+        if self.reading is Reading.NEVER:
+            found.guards = without_timeouts(found.guards)
         return found
 
     def _add(
@@ -213,7 +223,8 @@ class Expander(Closed):
         self, event: tree.Find, path: Path, scope: Scope, bodies: list[Body], found: Expansion
     ) -> None:
         if event.is_timer:
-            self._look_at_timers(event, path, scope)
+            for place in self.expiring(event, path, scope):
+                found.add(Guard(event.at, None, bodies, timer=place))
             return
         if event.has_more:
             refuse(event.at, f"this form of `{event.how.value}` isn't carried over")
@@ -235,15 +246,18 @@ class Expander(Closed):
     def ask_done(self, number: int, at: Token, path: Path) -> None:
         raise NotImplementedError
 
-    def _look_at_timers(self, event: tree.Find, path: Path, scope: Scope) -> None:
-        """A timer that surely isn't running never times out; of one that runs nothing is known."""
-        if isinstance(event.target, Any):
-            slots = path.state.variables.values()
-            if any(slot.value is TimerValue.RUNNING for slot in slots):
-                refuse(event.at, "a timer runs here, and there is no time in a run")
-            return
-        if self.evaluate(event.target, path, scope) is not TimerValue.STILL:
-            refuse(event.at, "this timer may run here, and there is no time in a run")
+
+def without_timeouts(guards: list[Guard]) -> list[Guard]:
+    """No timer expires while the `alt` waits for something else; one that it alone waits for does, as soon as no default has
+    something to take."""
+    others = [guard for guard in guards if guard.timer is None]
+    sure = [guard for guard in guards if guard.timer is not None and guard.source is not None]
+    if not sure or any(guard.source is not None for guard in others):
+        return others
+    if len({guard.timer[0] for guard in sure if guard.timer is not None}) > 1:
+        refuse(guards[0].at, "several timers alone are waited for here: which of them expires first is open")
+    sure[0].is_sure = True
+    return [*others, sure[0]]
 
 
 def _ports_in(value: Form, steps: tuple[int, ...]) -> list[tuple[tuple[int, ...], str]]:

@@ -66,6 +66,18 @@ def names_beside(node: object, call: tree.Call) -> Iterator[str]:
             yield from names_beside(getattr(node, field.name), call)
 
 
+def calls_in(node: object) -> Iterator[tree.Call]:
+    """All calls that stand in an expression."""
+    if isinstance(node, tree.Call):
+        yield node
+    if isinstance(node, (list, tuple)):
+        for item in node:
+            yield from calls_in(item)
+    elif isinstance(node, tree.Node) and is_dataclass(node):
+        for field in fields(node):
+            yield from calls_in(getattr(node, field.name))
+
+
 class Hoister:
     """What of a behaviour's follower is needed for it; it is a part of that."""
 

@@ -7,6 +7,7 @@ _KNOWN = "write a value that is known before the run, or let a message tell the 
 _ORDER = "let the one wait for the other: for its message, or for its end with `.done`"
 _SMALLER = "split the test case into smaller ones, or let fewer messages decide how it goes on"
 _COMPILER = "correct the script as a compiler of TTCN-3 asks for it"
+_TIMED = "start, stop and wait for each timer by its own name"
 _PLAIN = "leave it out, or say it with another construct: docs/FROM_TTCN3.md has one for each clause"
 _SETUP = "create, connect and start all components at the head of the test case, before a message is waited for"
 _TYPES = "write the type before the value, as `T:1`, or another type in the port's list"
@@ -25,7 +26,9 @@ _TABLE = (
      r"|a component that runs already|the argument for", _SETUP),
     (r"\.done|may end before|still waits|may still send|was disconnected", _ORDER),
     (r"more than|nested too deep|no bound|goes on and on|repeated|seconds|comes to itself|too many", _SMALLER),
-    (r"time|timer|timeout", "leave the timer and its branches out: a wait that nobody answers ends with `error`"),
+    (r"below 0|whose name isn't known here|this operation on a timer|form of `timeout`|several timers alone|which timer is meant", _TIMED),
+    (r"a timer of `sut`", "give --timers=never in place of the other reading"),
+    (r"no time in a run", "give --timers=both, or --timers=never or --timers=any alone; or leave the timer and its branches out"),
     (r"from outside|ends behaviours|testcase.stop|kill", "let each behaviour come to its own end, by a message that tells it to"),
     (r"of a procedure|of procedures|signature", "send a record for the call, and one for its reply, at a message port"),
     (r"outside the script|outside the run|`action`", "let a function `sut` play the system, and send messages to it"),
@@ -39,7 +42,7 @@ _TABLE = (
     (r"asked by the test case|connected with itself and|an altstep that has parameters|has a behaviour already"
      r"|part of a variable|may be gone by then|array of ports|has at most", _PLAIN),
     (r"the (index|size of the array|template|type of the component) isn't known|a value isn't known|is compared with"
-     r"|this is present|this element is open", _KNOWN),
+     r"|this is present|this element is open|what kind of template", _KNOWN),
     (r"never ends|ever ends it", "write a `for` with as many turns as are needed, or a branch that ends it"),
     (r"which (component|port|default|ports)|this redirect|who is meant", "name it by a variable that is set before the run"),
     (r"of the port's types|the port's list|doesn't fit the type|one type here|no message has the type"

@@ -1,4 +1,4 @@
-"""Lists all of a script that the profile hasn't, each with its place (`explain --all`)."""
+"""Lists all of a script that the profile hasn't, each with its place (`explain --every`)."""
 from __future__ import annotations
 
 from dataclasses import dataclass

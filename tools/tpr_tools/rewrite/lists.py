@@ -8,7 +8,8 @@ from . import tree
 from .emitted import Emitted, Got, GotDone, Verdict, Ways
 from .evaluating import Evaluator
 from .hoisting import Communicates, Hoister, expressions_of, key_of, names_beside
-from .paths import Checkpoint, Exit, Path, Scope, Slot, Split, checkpoint, joined
+from .interleaving import Interleaving
+from .paths import Checkpoint, Exit, Key, Path, Scope, Slot, Split, checkpoint, joined
 from .refusing import Refusal
 from .run import PortOf, Run, members_of
 from .tokens import Token
@@ -39,8 +40,10 @@ class ListFollower(Evaluator, Hoister):
         self.has_verdict = run.program.has_word("getverdict")
         # What a default speaks of may be asked for wherever something is waited for.
         altsteps = run.program.altsteps if run.program.has_word("activate") else []
-        self.frames.append(frozenset().union(*map(run.program.reached_by, altsteps)))
+        self.frames.append(frozenset().union(run.program.names_of_timers(), *map(run.program.reached_by, altsteps)))
         self._suffixes: dict[int, list[frozenset[str]]] = {}
+        self.timers: dict[str, Token] = {}
+        self.interleaving = Interleaving(run.program)
 
     def begin(self, path: Path) -> None:
         """The component's ports and its variables, as they are when its behaviour begins."""
@@ -108,7 +111,7 @@ class ListFollower(Evaluator, Hoister):
         del self.frames[depth:]
         if len(found) > 1 or found[0].fork is not None:
             self.frames.append((listed, index + 1))
-            found = joined(found, self.live(), self.has_verdict)
+            found = joined(found, self.live(), self.has_verdict, self.leave_behind)
             del self.frames[depth:]
         return found
 
@@ -180,6 +183,10 @@ class ListFollower(Evaluator, Hoister):
             key = self.find(word, scope, path)
             if key is not None and not isinstance(path.state.variables[key].value, (PortValue, Reference)):
                 path.state.variables[key] = replace(path.state.variables[key], value=Mark.LOST)
+
+    def leave_behind(self, path: Path, kept: set[Key]) -> None:
+        """A way is about to join others: of its variables these are kept."""
+        raise NotImplementedError
 
     def live(self) -> frozenset[str]:
         """The names that are still spoken of, wherever this ends."""

@@ -5,11 +5,11 @@ from typing import Optional
 
 from . import tree
 from .arithmetic import length_of
-from .behaviours import Follower
 from .emitted import Message, Who
 from .fitting import fits_type
 from .paths import End, Path, Scope
 from .refusing import Refusal, refuse
+from .timers import Timers
 from .tokens import Token
 from .tree import Expression
 from .types import MESSAGES, FieldOfType, Kind, Type
@@ -19,7 +19,7 @@ from .values import (
 )
 
 
-class Messages(Follower):
+class Messages(Timers):
     # Why what is looked at has none of the types that it may have.
     why_not: Optional[Refusal] = None
 

@@ -18,7 +18,8 @@ def expressions_of(
         source = Source("--param", text.encode())
         reader = ModuleReader(source)
         constant = program.constants.get(name)
-        if constant is None or not constant.is_parameter:
+        is_of_case = any(parameter.name == name for case in program.cases.values() for parameter in case.parameters)
+        if not is_of_case and (constant is None or not constant.is_parameter):
             wrong.append(refused_at(source.tokens[0], f"there is no module parameter `{name}`"))
             continue
         try:

@@ -6,7 +6,7 @@ from __future__ import annotations
 
 from dataclasses import dataclass, field, replace
 from enum import Enum
-from typing import Iterable, Optional
+from typing import Callable, Iterable, Optional
 
 from . import tree
 from .emitted import Code
@@ -25,6 +25,7 @@ class Slot:
     value: Form
     is_fixed: bool = False
     is_late: bool = False
+    restriction: str = ""
 
 
 class Scope:
@@ -113,6 +114,8 @@ class Exit(Enum):
     REPEAT = "repeat"
     RETURN = "return"
     END = "end"
+    # It isn't come to, or waits for good: the behaviour doesn't end by it.
+    STUCK = "stuck"
 
 
 @dataclass
@@ -155,14 +158,16 @@ def checkpoint(index: int, counted: int, paths: list[Path]) -> Checkpoint:
     return Checkpoint(index, counted, [(path.copy(), len(path.code)) for path in paths])
 
 
-def joined(paths: list[Path], live: frozenset[str], has_verdict: bool) -> list[Path]:
-    """The ways, where those of one `alt` that agree in all that is still asked for are one."""
+def joined(
+    paths: list[Path], live: frozenset[str], has_verdict: bool, leave: Callable[[Path, set[Key]], None]
+) -> list[Path]:
+    """The ways, where those of one `alt` that agree in all that is still asked for are one; each is left before."""
     while True:
         groups: dict[int, list[Path]] = {}
         for path in paths:
             groups.setdefault(id(path.fork), []).append(path)
         merged = {
-            key: _merged(group, live) for key, group in groups.items()
+            key: _merged(group, live, leave) for key, group in groups.items()
             if _is_whole(group) and _agree(group, live, has_verdict)
         }
         if not merged:
@@ -180,9 +185,11 @@ def _is_whole(group: list[Path]) -> bool:
     return fork is not None and len(group) == fork.ways
 
 
-def _merged(group: list[Path], live: frozenset[str]) -> Path:
+def _merged(group: list[Path], live: frozenset[str], leave: Callable[[Path, set[Key]], None]) -> Path:
     fork = group[0].fork
     assert fork is not None
+    for path in group:
+        leave(path, _live_keys(path.state, live))
     return Path(fork.code, _common(group, live), fork.above)
 
 

@@ -1,8 +1,10 @@
 """Predefined functions that change one kind of value into another (ES 201 873-1, 16.1.2 and Annex C.1 to C.4)."""
 from __future__ import annotations
 
+import re
 from typing import Callable, Optional
 
+from .types import UNIVERSAL
 from .values import Digits, Elements, Form
 
 Computed = Callable[[list[Form]], Optional[Form]]
@@ -87,6 +89,12 @@ def _integer_to_char(values: list[Form]) -> Optional[Form]:
     return chr(number) if is_char and isinstance(number, int) else None
 
 
+def _integer_to_universal(values: list[Form]) -> Optional[Form]:
+    number = values[0]
+    is_char = _is_number(number) and isinstance(number, int) and 0 <= number < 0x110000 and not 0xD800 <= number < 0xE000
+    return chr(number) if is_char and isinstance(number, int) else None
+
+
 def _char_to_octets(values: list[Form]) -> Optional[Form]:
     text = values[0]
     if not isinstance(text, str) or any(ord(letter) > 127 for letter in text):
@@ -102,26 +110,117 @@ def _octets_to_char(values: list[Form]) -> Optional[Form]:
     return codes.decode("ascii") if all(code < 128 for code in codes) else None
 
 
-def _replaced(values: list[Form]) -> Optional[Form]:
-    """Some elements or signs, from an index on, replaced by others."""
-    whole, index, length, new = values
-    if not _is_number(index) or not _is_number(length) or type(whole) is not type(new):
+_ENCODINGS = {
+    "UTF-8": "utf-8", "UTF-16": "utf-16-be", "UTF-16BE": "utf-16-be", "UTF-16LE": "utf-16-le",
+    "UTF-32": "utf-32-be", "UTF-32BE": "utf-32-be", "UTF-32LE": "utf-32-le",
+}
+_MARKS = ("0000FEFF", "FFFE0000", "EFBBBF", "FEFF", "FFFE")
+
+
+def _octets_to_universal(values: list[Form]) -> Optional[Form]:
+    """Without a mark of their byte order, which would be read in more than one way."""
+    octets, encoding = values[0], values[1] if len(values) > 1 else "UTF-8"
+    if not isinstance(octets, Digits) or octets.letter != "O" or octets.digits.startswith(_MARKS):
+        return None
+    known = _ENCODINGS.get(encoding) if isinstance(encoding, str) else None
+    try:
+        return bytes.fromhex(octets.digits).decode(known) if known else None
+    except UnicodeDecodeError:
+        return None
+
+
+def _universal_to_octets(values: list[Form]) -> Optional[Form]:
+    """In UTF-8: of another encoding it is open whether a mark of its byte order stands before it."""
+    text, encoding = values[0], values[1] if len(values) > 1 else "UTF-8"
+    if not isinstance(text, str) or encoding != "UTF-8":
+        return None
+    return Digits(text.encode("utf-8").hex().upper(), "O")
+
+
+def _without_mark(values: list[Form]) -> Optional[Form]:
+    """`remove_bom`; what begins with the marks of two encodings is left to the reader."""
+    octets = values[0]
+    if not isinstance(octets, Digits) or octets.letter != "O" or octets.digits.startswith("FFFE0000"):
+        return None
+    mark = next((mark for mark in _MARKS if octets.digits.startswith(mark)), "")
+    return Digits(octets.digits.removeprefix(mark), "O")
+
+
+def _integer_to_float(values: list[Form]) -> Optional[Form]:
+    number = values[0]
+    return float(number) if _is_number(number) and isinstance(number, int) and abs(number) < 1 << 53 else None
+
+
+def _float_to_integer(values: list[Form]) -> Optional[Form]:
+    number = values[0]
+    return int(number) if isinstance(number, float) and abs(number) < 1 << 53 else None
+
+
+def _text_to_float(values: list[Form]) -> Optional[Form]:
+    text = values[0]
+    is_float = isinstance(text, str) and re.fullmatch(r"-?[0-9]+(\.[0-9]+)?([eE][-+]?[0-9]{1,2})?", text, re.ASCII)
+    return float(text) if is_float and isinstance(text, str) else None
+
+
+def _any_to_text(values: list[Form]) -> Optional[Form]:
+    """Of what is written in one way alone."""
+    value = values[0]
+    if isinstance(value, Digits):
+        return f"'{value.digits}'{value.letter}"
+    return str(value) if _is_number(value) else None
+
+
+Parts = tuple[object, ...]
+
+
+def _parts_of(form: Form) -> Optional[Parts]:
+    """Its elements, its signs, its digits, or its octets."""
+    if isinstance(form, Elements):
+        return form.items
+    if isinstance(form, Digits) and form.letter == "O":
+        return tuple(form.digits[at : at + 2] for at in range(0, len(form.digits), 2))
+    if isinstance(form, Digits):
+        return tuple(form.digits)
+    return tuple(form) if isinstance(form, str) else None
+
+
+def _of_parts(like: Form, parts: Parts) -> Form:
+    if isinstance(like, Elements):
+        return Elements(parts)  # type: ignore[arg-type]
+    text = "".join(map(str, parts))
+    return Digits(text, like.letter) if isinstance(like, Digits) else text
+
+
+def _cut(values: list[Form]) -> Optional[tuple[Parts, Parts, Parts]]:
+    """What stands before the index, then so many, and what is behind these."""
+    parts, index, length = _parts_of(values[0]), values[1], values[2]
+    if parts is None or not _is_number(index) or not _is_number(length):
         return None
     assert isinstance(index, int) and isinstance(length, int)
-    if isinstance(whole, Elements) and isinstance(new, Elements):
-        is_within = 0 <= index and 0 <= length and index + length <= len(whole.items)
-        return Elements(whole.items[:index] + new.items + whole.items[index + length :]) if is_within else None
-    if isinstance(whole, str) and isinstance(new, str):
-        is_within = 0 <= index and 0 <= length and index + length <= len(whole)
-        return whole[:index] + new + whole[index + length :] if is_within else None
-    return None
+    is_within = 0 <= index and 0 <= length and index + length <= len(parts)
+    return (parts[:index], parts[index : index + length], parts[index + length :]) if is_within else None
+
+
+def _part(values: list[Form]) -> Optional[Form]:
+    cut = _cut(values)
+    return _of_parts(values[0], cut[1]) if cut is not None else None
+
+
+def _replaced(values: list[Form]) -> Optional[Form]:
+    """Some elements or signs, from an index on, replaced by others."""
+    cut, new = _cut(values), _parts_of(values[3])
+    whole, other = values[0], values[3]
+    is_alike = type(whole) is type(other) and getattr(whole, "letter", "") == getattr(other, "letter", "")
+    return _of_parts(whole, cut[0] + new + cut[2]) if is_alike and cut is not None and new is not None else None
 
 
 def _conversions() -> dict[str, tuple[int, Computed]]:
     found: dict[str, tuple[int, Computed]] = {
         "char2int": (1, _char_to_integer), "int2char": (1, _integer_to_char), "char2oct": (1, _char_to_octets),
-        "oct2char": (1, _octets_to_char), "unichar2int": (1, _char_to_integer), "int2unichar": (1, _integer_to_char),
-        "replace": (4, _replaced),
+        "oct2char": (1, _octets_to_char), "unichar2int": (1, _char_to_integer), "int2unichar": (1, _integer_to_universal),
+        "replace": (4, _replaced), "substr": (3, _part), "oct2unichar": (1, _octets_to_universal),
+        "unichar2oct": (1, _universal_to_octets), "remove_bom": (1, _without_mark), "any2unistr": (1, _any_to_text),
+        "int2float": (1, _integer_to_float), "float2int": (1, _float_to_integer), "str2float": (1, _text_to_float),
     }
     for word, letter in _PLACES.items():
         found[f"{word}2int"] = (1, _to_integer)
@@ -136,5 +235,7 @@ def _conversions() -> dict[str, tuple[int, Computed]]:
 
 
 CONVERSIONS = _conversions()
-RESULTS = {"int": "integer", "str": "charstring", "char": "charstring", "unichar": "charstring"}
+# They may have one argument more.
+ENCODING = ("oct2unichar", "unichar2oct")
+RESULTS = {"int": "integer", "str": "charstring", "char": "charstring", "unichar": UNIVERSAL, "float": "float", "unistr": UNIVERSAL}
 RESULTS.update({"bit": "bitstring", "hex": "hexstring", "oct": "octetstring"})

@@ -32,6 +32,7 @@ class Program:
         self._names: dict[int, frozenset[str]] = {}
         self._reached: dict[str, frozenset[str]] = {}
         self._communicating: dict[str, bool] = {}
+        self._timers: Optional[frozenset[str]] = None
         for source in sources:
             self._read(source)
         self._look_at_imports()
@@ -92,9 +93,29 @@ class Program:
             self._names[id(statement)] = found
         return found
 
+    def calls_of(self, case: str) -> list[tree.Call]:
+        """The executions of a test case with arguments, once for each list of these."""
+        found: dict[tuple[str, ...], tree.Call] = {}
+        for module in self.modules:
+            for statement in module.control:
+                call = statement.call if isinstance(statement, tree.CallStatement) else None
+                if isinstance(call, tree.Call) and tree.word_called(call) == case and call.arguments:
+                    start, end = statement.span
+                    found.setdefault(tuple(token.text for token in self._tokens[call.at.file][start:end]), call)
+        return list(found.values())
+
     def has_word(self, word: str) -> bool:
         """Whether a word stands anywhere in the modules."""
         return any(token.text == word for tokens in self._tokens.values() for token in tokens)
+
+    def names_of_timers(self) -> frozenset[str]:
+        """All names, where `any timer` or `all timer` may mean each; else none."""
+        if self._timers is None:
+            tokens = [token for listed in self._tokens.values() for token in listed]
+            pairs = zip(tokens, tokens[1:])
+            is_so = any(token.text == "timer" and before.text in ("any", "all") for before, token in pairs)
+            self._timers = frozenset(token.text for token in tokens if is_so and token.kind is Kind.NAME)
+        return self._timers
 
     def communicates(self, name: str) -> bool:
         """Whether a function, or one that it comes to, may do what is written."""

@@ -288,9 +288,8 @@ class ExpressionReader(Cursor):
             self.place += 2
             kinds = {"read": Construct.TIMER, "checkstate": Construct.CHECKSTATE}
             self.note(kinds.get(word.text, Construct.RUNNING), word)
-            if self.is_at("("):
-                self.skip_brackets()
-            return tree.Asked(word, "", word.text)
+            arguments = self.in_parentheses() if self.is_at("(") else []
+            return tree.Asked(word, "", word.text, value, arguments)
         return None
 
     def _note_field(self, value: Expression, word: Token) -> None:

@@ -121,8 +121,7 @@ class ModuleReader(StatementReader):
     def _template(self, module: tree.Module) -> None:
         at = self.take()
         self.note(Construct.TEMPLATE, at)
-        if self.is_at("("):
-            self.skip_brackets()
+        restriction = self.template_restriction()
         self.modifiers()
         of = self.type_name()
         name = self.name("the name of the template")
@@ -134,7 +133,7 @@ class ModuleReader(StatementReader):
         self.expect(":=")
         body = self.expression()
         module.definitions.append(
-            tree.TemplateDefinition(name, name.text, of, parameters, base, body)
+            tree.TemplateDefinition(name, name.text, of, parameters, base, body, restriction)
         )
 
     def _parameters(self) -> list[Parameter]:
@@ -144,8 +143,7 @@ class ModuleReader(StatementReader):
     def _parameter(self) -> Parameter:
         at = self.token
         direction = Direction(self.take().text) if self.is_at("in", "out", "inout") else Direction.IN
-        if self.accept("template") and self.is_at("("):
-            self.skip_brackets()
+        restriction = self.template_restriction() if self.accept("template") else ""
         self.modifiers()
         of = tree.TypeName(self.take(), "timer") if self.is_at("timer") else self.type_name()
         name = self.name("the name of the parameter").text
@@ -153,7 +151,7 @@ class ModuleReader(StatementReader):
         value = None
         if self.accept(":="):
             value = self.expression()
-        return Parameter(at, direction, of, name, value)
+        return Parameter(at, direction, of, name, value, restriction)
 
     def _runs_on(self) -> Optional[str]:
         if not self.accept("runs"):
@@ -196,9 +194,9 @@ class ModuleReader(StatementReader):
         if not self.accept("return"):
             return None
         self.note(Construct.RETURN, self.tokens[self.place - 1])
-        if self.accept("template") and self.is_at("("):
-            self.skip_brackets()
-        return self.type_name()
+        restriction = self.template_restriction() if self.accept("template") else ""
+        found = self.type_name()
+        return tree.TypeName(found.at, found.word, found.body, found.sizes, restriction)
 
     def _altstep(self, module: tree.Module) -> None:
         start, at = self.place, self.take()
@@ -294,13 +292,25 @@ class ModuleReader(StatementReader):
             depth += {"{": 1, "}": -1}.get(token.text, 0) if token.kind is Kind.SIGN else 0
             if token.text == "execute" and self.is_at("("):
                 self.note(Construct.EXECUTE, token)
-                called = self.ahead(1)
-                if self.ahead(2).text == "." and self.ahead(3).kind is Kind.NAME:
-                    called = self.ahead(3)
-                statements.append(tree.CallStatement(called, tree.Name(called, called.text)))
+                statements.append(self._executed())
             if depth == 0:
                 break
         return tree.Block(at, statements, (start, self.place))
+
+    def _executed(self) -> tree.Statement:
+        """The test case of an `execute`, with its arguments; what can't be read of it isn't looked at."""
+        start, noted, called, nested = self.place, len(self.noted), len(self.called), self.nested
+        token = self.ahead(1)
+        call: tree.Expression = tree.Name(token, token.text)
+        try:
+            self.expect("(")
+            call = self._postfix(tree.Name(self.name(), token.text))
+        except ReadFault:
+            pass
+        span = (start + 1, self.place)
+        self.place, self.nested = start, nested
+        del self.noted[noted:], self.called[called:]
+        return tree.CallStatement(token, call, span)
 
     def _friend(self, module: tree.Module) -> None:
         self.note(Construct.VISIBILITY, self.take())

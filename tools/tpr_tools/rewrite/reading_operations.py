@@ -199,12 +199,12 @@ class OperationReader(TypeReader):
             self.note(Construct.KILL, at)
         for item in arguments:
             self._note_arguments(item)
-        if of in ("component", "timer"):
-            kind = Construct.KILL if of == "component" else Construct.TIMER
-            self.note(kind, at)
-            why = "ends behaviours from outside" if of == "component" else "is of timers, and there is no time"
-            return tree.Unsupported(at, f"`all {of}.{at.text}` {why}", (start, self.place))
-        return tree.Operate(at, target, PortAct(at.text), arguments, (start, self.place))
+        if of == "component":
+            self.note(Construct.KILL, at)
+            return tree.Unsupported(at, f"`all {of}.{at.text}` ends behaviours from outside", (start, self.place))
+        if of == "timer":
+            self.note(Construct.TIMER, at)
+        return tree.Operate(at, target, PortAct(at.text), arguments, (start, self.place), of == "timer")
 
     def _note_arguments(self, call: Expression) -> None:
         """A component is started with components as arguments alone. The function of the start isn't called here."""

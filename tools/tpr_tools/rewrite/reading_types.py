@@ -126,7 +126,7 @@ class TypeReader(ExpressionReader):
         self.note(Construct.NESTED_TYPE, at)
         body: tree.TypeBody
         if word.text == "enumerated":
-            body = tree.EnumBody(at, self._enumerated_names())
+            body = self._enumerated_names(at)
         elif word.text != "union" and self.is_at("of", "length"):
             body = self._list(word)
         else:
@@ -154,17 +154,27 @@ class TypeReader(ExpressionReader):
     def _enumerated(self, at: Token) -> tree.TypeDefinition:
         self.note(Construct.ENUMERATED, self.take())
         name = self.name("the name of the type").text
-        return tree.TypeDefinition(at, name, tree.EnumBody(at, self._enumerated_names()))
+        return tree.TypeDefinition(at, name, self._enumerated_names(at))
 
-    def _enumerated_names(self) -> list[str]:
+    def _enumerated_names(self, at: Token) -> tree.EnumBody:
+        body = tree.EnumBody(at, [])
         self.expect("{")
-        return self.listed(self._enumerated_name, "}")
+        self.listed(lambda: self._enumerated_name(body), "}")
+        return body
 
-    def _enumerated_name(self) -> str:
-        name = self.name().text
+    def _enumerated_name(self, body: tree.EnumBody) -> None:
+        body.names.append(self.name().text)
+        body.numbers.append(None)
         if self.is_at("("):
-            self.skip_brackets()
-        return name
+            body.numbers[-1] = self._enumerated_number()
+            body.is_of_ranges = body.is_of_ranges or body.numbers[-1] is None
+
+    def _enumerated_number(self) -> Optional[int]:
+        """The one number in the brackets; None where there are several, or a range."""
+        sign = -1 if self.ahead(1).text == "-" else 1
+        token, behind = self.ahead(2 if sign < 0 else 1), self.ahead(3 if sign < 0 else 2)
+        self.skip_brackets()
+        return sign * int(token.text) if token.kind is Kind.NUMBER and behind.text == ")" else None
 
     def _port(self, at: Token) -> tree.TypeDefinition:
         self.take()
@@ -253,8 +263,7 @@ class TypeReader(ExpressionReader):
         elif kind is Declared.VALUE and self.is_at("template"):
             self.note(Construct.VAR_TEMPLATE, self.take())
             kind = Declared.TEMPLATE
-        if kind is Declared.TEMPLATE and self.is_at("("):
-            self.skip_brackets()
+        restriction = self.template_restriction() if kind is Declared.TEMPLATE else ""
         is_late = self.is_at("@lazy", "@fuzzy")
         if is_late:
             self.note(Construct.MODIFIER, self.take())
@@ -269,7 +278,7 @@ class TypeReader(ExpressionReader):
             self.note(Construct.SEVERAL_VARIABLES, at)
             variables.append(self._initialised(kind))
         self.end()
-        return tree.Declaration(at, kind, of, variables, is_late, (start, self.place))
+        return tree.Declaration(at, kind, of, variables, is_late, (start, self.place), restriction)
 
     def _initialised(self, kind: Declared) -> tree.Variable:
         at = self.name()

@@ -7,7 +7,7 @@ from typing import Optional
 
 from .ended import EndedFinder
 from .flowing import Flows
-from .following import Followed, NotClosed, follow, look_at_ends
+from .following import Followed, NotClosed, look_at_ends, with_ends
 from .parameters import expressions_of
 from .program import Program
 from .refusing import Refusal
@@ -70,7 +70,7 @@ def written(run: Run, chosen: TestCase, files: list[str]) -> Optional[Lines]:
     """The script; None where something is refused, of which the run is told."""
     followed: Optional[Followed] = None
     try:
-        followed = follow(run, chosen)
+        followed = with_ends(run, chosen)
         if not run.refused and run.lost is None:
             look_at_ends(run, followed)
             look_at_sends(run, followed)

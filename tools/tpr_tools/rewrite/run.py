@@ -3,6 +3,7 @@ from __future__ import annotations
 
 import time
 from dataclasses import dataclass, field
+from enum import Enum
 from typing import Callable, NoReturn, Optional
 
 from . import tree
@@ -25,11 +26,21 @@ class TooMany(Exception):
     """So much is refused that the rest isn't looked at."""
 
 
+class Reading(Enum):
+    """What is made of a timer that runs: it is refused, it never expires while something else is waited for, or it expires
+    at any moment after its start."""
+
+    REFUSED = ""
+    NEVER = "never"
+    ANY = "any"
+
+
 @dataclass(frozen=True)
 class Options:
     """What was asked for, and the bounds."""
 
     encodes: bool = False
+    timers: Reading = Reading.REFUSED
     # A send to a component that has ended is carried over, though its message stays queued here.
     queues_ended: bool = False
     # The most values that a receive is split by, statements that are written, and seconds.
@@ -52,6 +63,8 @@ class Run:
     open: set[tuple[str, int, int]] = field(default_factory=set)
     # What can come, where that is looked at.
     flows: Optional[Flows] = None
+    # The components that the end of the test case ends where they still wait.
+    ending: set[int] = field(default_factory=set)
     lost: Optional[Token] = None
     # What is told of though it is carried over, and the sends to what may have ended among it.
     notes: list[Refused] = field(default_factory=list)

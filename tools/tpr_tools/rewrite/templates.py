@@ -14,7 +14,7 @@ from .refusing import Refusal, refuse
 from .tokens import Token
 from .tree import Direction, Expression
 from .types import Kind, Type
-from .values import Elements, Form, IfPresent, Mark, Options, Reference, TextPattern, Wild, is_value
+from .values import Elements, Form, IfPresent, Mark, Options, Reference, TextPattern, Wild, has_received, is_value
 
 _MOST_ORDERS = 24
 _MOST_LENGTHS = 40
@@ -87,8 +87,13 @@ class Shaper:
             return self.types.of(function.result, word)
         if word == "valueof" and node.arguments:
             return self.type_of(node.arguments[0].value, path, scope)
-        base = {"int2str": "charstring", "substr": "charstring", "lengthof": "integer", "str2int": "integer"}
-        result = RESULTS.get(word.partition("2")[2]) if word in CONVERSIONS else base.get(word)
+        if word in ("substr", "replace") and node.arguments:
+            return self.type_of(node.arguments[0].value, path, scope)
+        base = {
+            "int2str": "charstring", "lengthof": "integer", "str2int": "integer", "enum2int": "integer",
+            "remove_bom": "octetstring",
+        }
+        result = base.get(word) or (RESULTS.get(word.partition("2")[2]) if word in CONVERSIONS else None)
         return self.types.named(result, node.at) if result else None
 
     def _type_of_part(
@@ -131,7 +136,9 @@ class Shaper:
         if value is None:
             if parameter.value is None:
                 refuse(at, f"the parameter `{parameter.name}` has no argument")
-            return Slot(type, self.evaluate(parameter.value, path, None, type))
+            form = self.evaluate(parameter.value, path, None, type)
+            look_at_restricted(form, parameter.restriction, parameter.at)
+            return Slot(type, form, restriction=parameter.restriction)
         by_reference = parameter.direction is not Direction.IN or type.kind is Kind.TIMER
         if by_reference and type.kind is not Kind.PORT:
             key, steps = self.target(value, path, scope)
@@ -141,7 +148,8 @@ class Shaper:
         form = self.evaluate(value, path, scope, type)
         if form is Mark.LOST:
             raise Refusal(at, "")
-        return Slot(type, form)
+        look_at_restricted(form, parameter.restriction, value.at)
+        return Slot(type, form, restriction=parameter.restriction)
 
     def target(
         self, node: Expression, path: Path, scope: Optional[Scope]
@@ -225,6 +233,17 @@ class Shaper:
         if len(lists) == 1:
             return Elements(lists[0])
         return Options(tuple(Elements(found) for found in lists))
+
+
+def look_at_restricted(form: Form, word: str, at: Token) -> None:
+    """A template that is restricted to values, or to what isn't left out, is an error where it is another one (15.8)."""
+    if form in (Mark.LOST, Mark.UNSET) or not word:
+        return
+    is_left_out = form in (Mark.OMIT, Wild.ANY_OR_NONE) or isinstance(form, IfPresent)
+    is_known = is_value(form) or has_received(form)
+    is_so = {"present": not is_left_out, "omit": is_known, "value": is_known and form is not Mark.OMIT}
+    if not is_so[word]:
+        refuse(at, f"this isn't what `template({word})` allows, which is an error")
 
 
 def _orders_of(items: tuple[Form, ...], at: Token) -> list[tuple[Form, ...]]:

@@ -150,6 +150,8 @@ class Operate(Node):
     act: PortAct
     arguments: list[Expression]
     span: tuple[int, int] = (0, 0)
+    # `all timer.stop`.
+    is_of_timers: bool = False
 
 
 class Finding(Enum):
@@ -260,6 +262,8 @@ class Parameter(Node):
     type: TypeName
     name: str
     value: Optional[Expression]
+    # Of a template: `value`, `omit`, `present` or nothing.
+    restriction: str = ""
 
 
 @dataclass(eq=False)
@@ -285,6 +289,7 @@ class TemplateDefinition(Node):
     parameters: list[Parameter]
     base: Optional[str]
     body: Expression
+    restriction: str = ""
 
 
 @dataclass(eq=False)

@@ -168,6 +168,8 @@ class Asked(Node):
 
     of: str
     word: str
+    target: Optional[Expression] = None
+    arguments: list[Expression] = field(default_factory=list)
 
 
 Expression = Union[
@@ -187,11 +189,12 @@ def word_called(call: Expression) -> str:
 
 @dataclass(eq=False)
 class TypeName(Node):
-    """A type where one is named, or written out within a field."""
+    """A type where one is named, or written out within a field; of a result with what restricts its template."""
 
     word: str
     body: Optional[TypeBody] = None
     sizes: list[Expression] = field(default_factory=list)
+    restriction: str = ""
 
 
 @dataclass(eq=False)
@@ -230,7 +233,11 @@ class ListBody(Node):
 
 @dataclass(eq=False)
 class EnumBody(Node):
+    """Each name, with the number that stands behind it; `is_of_ranges` where one stands for several."""
+
     names: list[str]
+    numbers: list[Optional[int]] = field(default_factory=list)
+    is_of_ranges: bool = False
 
 
 @dataclass(eq=False)
@@ -292,3 +299,4 @@ class Declaration(Node):
     variables: list[Variable]
     is_late: bool
     span: tuple[int, int] = (0, 0)
+    restriction: str = ""

@@ -46,7 +46,9 @@ class Type:
     fields: list[FieldOfType] = field(default_factory=list)
     element: Optional[Type] = None
     size: Optional[int] = None
+    # Of an enumerated type, each with its number; without numbers where one has several.
     names: list[str] = field(default_factory=list)
+    numbers: dict[str, int] = field(default_factory=dict)
     above: Optional[Type] = None
     restriction: Optional[tree.Restriction] = None
     port: Optional[tree.PortBody] = None
@@ -68,6 +70,15 @@ class Type:
     def field_number(self, name: str) -> Optional[int]:
         names = [item.name for item in self.root.fields]
         return names.index(name) if name in names else None
+
+
+def _numbers_of(body: tree.EnumBody) -> dict[str, int]:
+    """A name without a number has the least from 0 on that none has, in the order of the text (6.2.4)."""
+    found = {name: number for name, number in zip(body.names, body.numbers) if number is not None}
+    for name in body.names:
+        if name not in found:
+            found[name] = next(number for number in range(len(body.names)) if number not in found.values())
+    return found
 
 
 UNIVERSAL = "universal charstring"
@@ -120,6 +131,7 @@ class Types:
             found.element = self.of(body.element, f"{found.name}_element")
         elif isinstance(body, tree.EnumBody):
             found.kind, found.names = Kind.ENUM, body.names
+            found.numbers = {} if body.is_of_ranges else _numbers_of(body)
         elif isinstance(body, tree.AliasBody):
             self._fill_alias(found, body)
         elif isinstance(body, tree.PortBody):

@@ -112,9 +112,12 @@ class PortValue:
     name: str
 
 
-class TimerValue(Enum):
-    STILL = "still"
-    RUNNING = "running"
+@dataclass(frozen=True)
+class TimerValue:
+    """A timer, and whether it was started, so that its timeout may come."""
+
+    name: str
+    is_running: bool = False
 
 
 @dataclass(frozen=True)

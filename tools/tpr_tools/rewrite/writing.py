@@ -2,11 +2,17 @@
 from __future__ import annotations
 
 import os
+import re
 from dataclasses import dataclass, field
 from typing import Optional
 
+from .clocks import ClockWriter, count_starts, without_unasked
+from .components import MOST_COMPONENTS
+from .emitted import (
+    Code, Emitted, EndTold, Failed, Got, GotDone, GotEnd, Message, Operated, Sent, Ticked, Ticking, Told, Unstarted,
+    Verdict, Way, Ways, Who,
+)
 from .encoding import Encoder
-from .emitted import Code, Emitted, Failed, Got, GotDone, Message, Operated, Sent, Told, Verdict, Way, Ways, Who
 from .following import Followed, Part, statements_of, tells_of
 from .layout import Names, form_text, type_text
 from .paths import End, Joined, peers
@@ -18,6 +24,8 @@ from .values import Received, Symbol
 from .writing_types import TypeWriter
 
 MOST_BRACKETS = 32
+# Brackets, and what holds none: texts and comments.
+_BRACKETS = re.compile(r'"(?:[^"]|"")*"|//.*|[{}()\[\]]')
 MOST_BYTES = 1_048_576
 
 
@@ -35,6 +43,9 @@ class Lines:
 
     texts: list[str] = field(default_factory=list)
     origins: list[Origin] = field(default_factory=list)
+    # The port of each timer, and what takes the answer of its component, in the order of the text.
+    timers: dict[str, str] = field(default_factory=dict)
+    ticks: list[Ticked] = field(default_factory=list)
     has_files: bool = False
 
     def add(self, text: str, at: Optional[Token] = None) -> None:
@@ -42,6 +53,16 @@ class Lines:
             self.origins.append(Origin(len(self.texts) + 1, at))
             text = f"{text:<60} // {self._place(at)}"
         self.texts.append(text)
+
+    def first_too_deep(self) -> Optional[Token]:
+        """Where the first line comes from in which too many brackets are open at once."""
+        is_open = 0
+        for number, text in enumerate(self.texts, 1):
+            for sign in _BRACKETS.findall(text):
+                is_open += 1 if sign in ("{", "(", "[") else -1 if sign in ("}", ")", "]") else 0
+                if is_open > MOST_BRACKETS:
+                    return next(one.at for one in reversed(self.origins) if one.line <= number)
+        return None
 
     def _place(self, at: Token) -> str:
         name = "".join(letter if letter.isprintable() else "?" for letter in os.path.basename(at.file))
@@ -57,8 +78,13 @@ class Shape:
     type_name: str = ""
     loops: dict[str, str] = field(default_factory=dict)
     controls: dict[int, str] = field(default_factory=dict)
+    timers: dict[str, str] = field(default_factory=dict)
     # A port that is connected with nothing: what is sent there fails.
     nowhere: str = ""
+
+    def extra_ports(self) -> list[str]:
+        """Those that carry the control messages of this tool."""
+        return [*self.controls.values(), *self.timers.values(), *filter(None, [self.nowhere])]
 
 
 class Writer:
@@ -71,6 +97,7 @@ class Writer:
         self.shapes: dict[int, Shape] = {}
         self.encoder = Encoder(run.program.types, self.names.free, run.options.encodes)
         self.types = TypeWriter(run.program.types, self.encoder, run.tell, followed.case.at)
+        self.clocks = ClockWriter(self.names, self.lines.add)
         self.control_type = ""
         self.system_name = ""
         self.started: list[tuple[str, str, Token]] = []
@@ -80,6 +107,7 @@ class Writer:
         for part in self.followed.parts:
             self._add_loops(part)
             self._add_controls(part)
+            self._add_timers(part)
             if any(isinstance(one, Failed) for one in statements_of(part.code)):
                 self.shapes[part.number].nowhere = self.names.free("nowhere_control")
         case = self.followed.case
@@ -92,6 +120,7 @@ class Writer:
         for number, shape in self.shapes.items():
             if number != 0:
                 self._function(shape)
+        self.clocks.write_functions()
         self._case(self.shapes[0])
         self.lines.add("}")
         self._look_at_limits(case.at)
@@ -103,6 +132,9 @@ class Writer:
         self.lines.add(f"// Written by tools/rewrite from {files}: behind each statement stands where it comes from.")
 
     def _look_at_limits(self, at: Token) -> None:
+        deep = self.lines.first_too_deep()
+        if deep is not None:
+            refuse_open(deep, f"what follows from the branches would have more than {MOST_BRACKETS} brackets open")
         if sum(len(text) + 1 for text in self.lines.texts) > MOST_BYTES:
             refuse(at, f"the script that was written has more than {MOST_BYTES:,} bytes")
 
@@ -152,6 +184,19 @@ class Writer:
                 shape.controls[number] = self.names.free(f"{other.name}_control")
                 other.controls[part.number] = self.names.free(f"{shape.name}_control_{other.name}")
 
+    def _add_timers(self, part: Part) -> None:
+        """A port to the component of each timer that something waits for."""
+        shape = self.shapes[part.number]
+        without_unasked(part.code)
+        for timer, starts in count_starts(part.code).items():
+            if part.number < 0:
+                refuse(part.at, "a timer of `sut` has no component of its own: --timers=never leaves its timeouts out")
+            shape.timers[timer] = self.clocks.new_port(shape.name, timer, starts)
+        self.lines.timers.update({port: timer for timer, port in shape.timers.items()})
+        count = len(self.shapes) + len(self.clocks.clocks) + (self.followed.system is not None and -1 not in self.shapes)
+        if count > MOST_COMPONENTS:
+            refuse(part.at, f"with a component for each timer there would be more than {MOST_COMPONENTS} components")
+
     # Definitions
 
     def _definitions(self) -> None:
@@ -160,9 +205,10 @@ class Writer:
         system = self._system_ports() if self.followed.system is not None else {}
         ports.update({port.type.root: port.type for port in system.values()})
         self.types.write(list(ports.values()), self._messages(), self.lines.add)
-        if any(shape.controls or shape.nowhere for shape in shapes):
+        if any(shape.extra_ports() for shape in shapes):
             self.control_type = self.names.free("Control")
             self.lines.add(f"  type port {self.control_type} message {{ inout boolean; }}")
+        self.clocks.write_type(self.control_type)
         self._component_types(shapes, system)
 
     def _messages(self) -> list[Type]:
@@ -177,7 +223,7 @@ class Writer:
     def _component_types(self, shapes: list[Shape], system: dict[str, PortOf]) -> None:
         written: dict[tuple[Type, tuple[str, ...]], str] = {}
         for shape in shapes:
-            extra = [*shape.loops.values(), *shape.controls.values(), *filter(None, [shape.nowhere])]
+            extra = [*shape.loops.values(), *shape.extra_ports()]
             key = (shape.part.type.root, tuple(extra))
             if key not in written:
                 wanted = shape.part.type.root.name
@@ -194,8 +240,7 @@ class Writer:
         behaviour = shape.part.behaviour
         members = _listed(behaviour.ports)
         members += [(loop, behaviour.ports[port].type.root.name) for port, loop in shape.loops.items()]
-        controls = [*shape.controls.values(), *filter(None, [shape.nowhere])]
-        members += [(control, self.control_type) for control in controls]
+        members += [(control, self.control_type) for control in shape.extra_ports()]
         if len(members) > 64:
             refuse(shape.part.at, "a component would have more than 64 ports")
         self.lines.add(f"  type component {name} {{{_members(members)}}}")
@@ -239,15 +284,18 @@ class Writer:
             if other.part.number > 0:
                 text = f"    var {other.type_name} {other.name} := {other.type_name}.create;"
                 self.lines.add(text, other.part.at)
+        self.clocks.write_creates()
         for join in self.followed.joins:
             self._join(join)
         self._join_controls()
+        self.clocks.write_connects()
         for component, function, at in self.started:
             self.lines.add(f"    {component}.start({function}());", at)
+        self.clocks.write_starts()
         block = Block(self, shape)
         block.variables(shape.part.code)
         block.statements(shape.part.code, 2)
-        if len(self.shapes) > 1:
+        if len(self.shapes) > 1 or self.clocks.clocks:
             self.lines.add("    all component.done;", case.at)
         self.lines.add("  }")
 
@@ -323,8 +371,11 @@ class Block:
             return [self._sent(statement)]
         if isinstance(statement, (Got, GotDone)):
             return [self._got(statement)]
-        if isinstance(statement, Told):
-            return [f"{self.shape.controls[statement.component]}.send(boolean:true)"]
+        if isinstance(statement, (Ticked, Unstarted)):
+            return self._timer(statement)
+        if isinstance(statement, (Told, EndTold)):
+            word = "true" if isinstance(statement, Told) else "false"
+            return [f"{self.shape.controls[statement.component]}.send(boolean:{word})"]
         if isinstance(statement, Operated):
             return self._operated(statement)
         if isinstance(statement, Failed):
@@ -333,9 +384,6 @@ class Block:
         return [f"setverdict({statement.word})"]
 
     def _ways(self, statement: Ways, depth: int) -> None:
-        # Each `alt` has two brackets open, beside those of the module and the body.
-        if 2 * depth + 4 > MOST_BRACKETS:
-            refuse_open(statement.at, f"what follows from the branches would have more than {MOST_BRACKETS} brackets open")
         space = "  " * depth
         self.lines.add(f"{space}alt {{", statement.at)
         for way in statement.branches:
@@ -344,13 +392,28 @@ class Block:
 
     def _way(self, way: Way, depth: int) -> None:
         space = "  " * depth
-        head = "[else]" if way.operation is None else f"[] {self._got(way.operation)}"
+        head = "[else]" if way.operation is None else f"[] {self._waited(way.operation)}"
         if not way.code:
             self.lines.add(f"{space}{head} {{ }}", way.at)
             return
         self.lines.add(f"{space}{head} {{", way.at)
         self.statements(way.code, depth + 1)
         self.lines.add(f"{space}}}")
+
+    def _waited(self, operation: Got | GotDone | GotEnd | Ticked) -> str:
+        if isinstance(operation, GotEnd):
+            return f"{self.shape.controls[0]}.receive(boolean:false)"
+        return self._timer(operation)[0] if isinstance(operation, Ticked) else self._got(operation)
+
+    def _timer(self, statement: Ticked | Unstarted) -> list[str]:
+        """A start is sent, and its answer is taken by the timeout or the `stop`."""
+        port = self.shape.timers[statement.timer]
+        if isinstance(statement, Unstarted):
+            return [f"{port}.send(boolean:false)"] * statement.count
+        if statement.act is Ticking.START:
+            return [f"{port}.send(boolean:true)"]
+        self.lines.ticks.append(statement)
+        return [f"{port}.receive(boolean:true)"]
 
     def _sent(self, statement: Sent) -> str:
         port = self.shape.loops.get(statement.port, statement.port)
@@ -388,7 +451,7 @@ class Block:
         return " -> " + " ".join(words) if words else ""
 
     def _operated(self, statement: Operated) -> list[str]:
-        if statement.is_all and not self.shape.controls and not self.shape.nowhere:
+        if statement.is_all and not self.shape.extra_ports():
             return [f"all port.{statement.act}"]
         found = []
         for port in statement.ports:

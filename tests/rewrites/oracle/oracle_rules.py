@@ -1,0 +1,130 @@
+#!/usr/bin/env python3
+"""Random programs: what tools/rewrite writes has the verdicts that a second interpreter finds of the original.
+
+    tests/rewrites/oracle/oracle_rules.py TPR [FIRST [COUNT]]
+
+The interpreter (oracle.py) and tools/rewrite share nothing, so that neither reads a program as the other does. It prints
+a line `passed ..` or `FAILED: ..` for each program that is carried over. With a COUNT it says how many there were of
+each kind, and why the others are refused.
+"""
+from __future__ import annotations
+
+import argparse
+import glob
+import os
+import subprocess
+import sys
+from collections import Counter
+
+HERE = os.path.dirname(os.path.realpath(__file__))
+ROOT = os.path.dirname(os.path.dirname(os.path.dirname(HERE)))
+sys.path[:0] = [HERE, os.environ.get("REWRITING", f"{ROOT}/tools")]
+
+from behaviour import Endless
+from exploring import Explorer, TooMany
+from grammar import Reader, Unread
+from oracle import named
+from random_themes import program_of
+from random_timers import timed_program_of
+from tpr_tools.rewrite.rewriting import rewrite
+from tpr_tools.rewrite.run import Options, Reading
+from tpr_tools.rewrite.tokens import Source
+
+FIRST, COUNT, TIMED = 1, 40, 8
+MOST_STATES = 50_000
+PRELUDE = """module M {
+type record R { integer a, charstring b }
+type record O { integer a optional }
+type record of integer L;
+type port P message { inout integer, charstring, R, L }
+type component C { port P p, q; var integer vc_n := 0; }
+function f_one_and_two() runs on C { p.send(1); p.send(2); }
+"""
+
+
+def look_at(program: str, seed: int, reading: Reading) -> tuple[str, str]:
+    """`same`, `refused`, `large` or `wrong`, and why. A program with timers, if they are read."""
+    text = (program_of if reading is Reading.REFUSED else timed_program_of)(seed)
+    try:
+        explorer = Explorer(Reader(text).read(), reading is Reading.ANY)
+        wanted = named(explorer.all_verdicts(MOST_STATES))
+    except (TooMany, Endless) as why:
+        return "large", str(why)
+    got, refused = verdicts_of_carried(program, text, Options(encodes=seed % 3 == 0, timers=reading))
+    if refused:
+        return "refused", refused
+    if got.startswith("undecided"):
+        return "large", got
+    return ("same", "") if got == wanted else ("wrong", f"{got!r}, and the original has {wanted!r}")
+
+
+def verdicts_of_carried(program: str, text: str, options: Options) -> tuple[str, str]:
+    """What `tpr verdicts` prints of what tools/rewrite writes, or why it is refused."""
+    found = rewrite([Source("random", text.encode())], options=options)
+    if found.refused:
+        return "", found.refused[0].text().split("\n")[0].split(": ", 1)[-1]
+    ended = subprocess.run([program, "verdicts"], input=found.text.encode(), capture_output=True, check=False)
+    return ended.stdout.decode().partition("\n")[0], ""
+
+
+def cases(program: str) -> None:
+    """The oracle itself, and what is carried over of its scripts."""
+    with open(f"{HERE}/cases", encoding="utf-8") as opened:
+        entries = opened.read().split("=== ")[1:]
+    for entry in entries:
+        head, _, body = entry.partition("\n")
+        name, _, expected = head.rpartition(": ")
+        text = f"{PRELUDE}{body}}}"
+        found = named(Explorer(Reader(text).read()).all_verdicts(MOST_STATES))
+        print(f"passed {name}" if found == expected else f"FAILED: {name}: {found!r} in place of {expected!r}")
+        got, refused = verdicts_of_carried(program, text, Options(encodes=True, timers=Reading.ANY))
+        if not refused:
+            print(f"passed {name}, carried over" if got == expected else f"FAILED: {name}, carried over: {got!r}")
+
+
+def unseen() -> None:
+    """The scripts of tests/rewrites/unseen that are of the subset have the verdicts that their author expects."""
+    for file in sorted(glob.glob(f"{os.path.dirname(HERE)}/unseen/*.ttcn")):
+        name = os.path.basename(file)
+        with open(file, encoding="utf-8") as opened:
+            text = opened.read()
+        expected = next(line for line in text.split("\n") if line.startswith("// expect")).partition(": ")[2]
+        try:
+            found = named(Explorer(Reader(text).read()).all_verdicts(MOST_STATES))
+        except Unread:
+            continue
+        print(f"passed {name}" if found == expected else f"FAILED: {name}: {found!r} in place of {expected!r}")
+
+
+def main() -> None:
+    words = argparse.ArgumentParser(description="Random programs, tools/rewrite, and a second interpreter.")
+    words.add_argument("program", metavar="TPR", help="the program that is asked for verdicts")
+    words.add_argument("first", metavar="FIRST", type=int, nargs="?", default=FIRST, help="the seed of the first program")
+    words.add_argument("count", metavar="COUNT", type=int, nargs="?", help="how many; how they came out is counted then")
+    given = words.parse_args()
+    answers: Counter[str] = Counter()
+    reasons: Counter[str] = Counter()
+    seeds = range(given.first, given.first + (given.count or COUNT))
+    timed = seeds if given.count else seeds[:TIMED]
+    looks = [(Reading.REFUSED, seed) for seed in seeds]
+    looks += [(reading, seed) for reading in (Reading.NEVER, Reading.ANY) for seed in timed]
+    for reading, seed in looks:
+        kind, why = look_at(given.program, seed, reading)
+        name = f"random program {seed} {reading.value}".rstrip()
+        answers[kind] += 1
+        if kind == "same":
+            print(f"passed {name}", flush=True)
+        elif kind == "wrong":
+            print(f"FAILED: {name}: {why}", flush=True)
+        else:
+            reasons[f"{kind}: {why}"] += 1
+    if given.count is None:
+        cases(given.program)
+        unseen()
+    else:
+        for told in (answers, reasons):
+            print("\n".join(f"{number} {one}" for one, number in told.most_common()), file=sys.stderr)
+
+
+if __name__ == "__main__":
+    main()

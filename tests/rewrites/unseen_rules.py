@@ -1,0 +1,30 @@
+"""Scripts by an author who had not seen tools/rewrite (tests/rewrites/unseen/): those that are carried over have the
+verdicts that their heads tell.
+
+    tests/rewrites/unseen_rules.py PROGRAM
+
+Each line of tests/rewrites/unseen_answers has a script, the options, and the first line of what `tpr verdicts` prints of
+what becomes of it. The `error` is that of a wait which only a timeout ends. It prints a line `passed ..` or `FAILED: ..`
+for each case.
+"""
+from __future__ import annotations
+
+import os
+import sys
+
+sys.path.insert(0, os.path.dirname(os.path.realpath(__file__)))
+
+from asking import FOLDER, REWRITE, judged, run
+
+
+def main(program: str) -> None:
+    with open(f"{FOLDER}/unseen_answers", encoding="utf-8") as opened:
+        rows = [line.rstrip("\n").split(" | ") for line in opened]
+    for name, options, wanted in rows:
+        ended = run(REWRITE, "--tpr", program, f"{FOLDER}/unseen/{name}.ttcn", *options.split())
+        said = run(program, "verdicts", data=ended.printed.encode()).printed if ended.status == 0 else ended.said
+        judged(f"{name} {options}", said.partition("\n")[0] == wanted, said[:300])
+
+
+if __name__ == "__main__":
+    main(sys.argv[1])
