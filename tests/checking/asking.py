@@ -92,6 +92,19 @@ class Reported:
 
 
 @dataclass
+class Replayed:
+    """A queue file, with what `queue` prints of it and the status."""
+
+    name: str
+    script: bytes
+    printed: bytes
+    status: int
+
+    def fault(self, asking: Asking) -> Optional[str]:
+        return asking.fault("queue", self.script, Ended(self.status, self.printed, b""))
+
+
+@dataclass
 class Cut:
     """A script that is cut after any byte before its last bracket: it is refused in the line where it ends."""
 

@@ -43,6 +43,6 @@ def changes_of(topic: str) -> Iterator[Case]:
 
 
 def groups() -> list[Group]:
-    """How many scripts each file has stands in tests/gate/cases.list."""
+    """How many scripts each file has stands in tests/cases.list."""
     topics = sorted(it.name.removesuffix(".changes") for it in FOLDER.glob("*.changes"))
     return [Group(f"changes of {it}", 1, partial(changes_of, it)) for it in topics]

@@ -170,7 +170,7 @@ def characters_of_patterns() -> Iterator[Case]:
 
 
 def groups() -> list[Group]:
-    """How many texts the table has stands in tests/gate/cases.list."""
+    """How many texts the table has stands in tests/cases.list."""
     return [
         Group("grammar.texts", 1, texts_of_the_table),
         Group("open brackets", 42, open_brackets),

@@ -3,7 +3,7 @@ from __future__ import annotations
 
 from collections.abc import Iterator
 
-from asking import ROOT, Case, Cut, Group, Script, in_module, loop
+from asking import ROOT, Case, Cut, Group, Replayed, Script, in_module, loop
 
 MOST_BYTES = 1_048_576
 MOST_COUNT = 9223372036854775807
@@ -41,6 +41,19 @@ def limit_of_names() -> Iterator[Case]:
     module = in_module("testcase t() runs on C { }", "}")
     yield Script("a name of 64 letters", module.replace(b"M", b"M" * 64, 1), "accepted")
     yield Script("a name of 65 letters", module.replace(b"M", b"M" * 65, 1), "15 Limit 1")
+    body = ("testcase t() runs on C {", "connect(self:p, self:q);", "p.send(integer:5);", "q.halt;", "alt {")
+    branches = ("[] q.receive(integer:?) { setverdict(pass); }", "[else] { setverdict(fail); }")
+    script = in_module(*body, *branches, "}", "}", "}")
+    yield Script("64 letters, a body below", script.replace(b"M", b"M" * 64, 1), "accepted")
+    yield Script("65 letters, a body below", script.replace(b"M", b"M" * 65, 1), "15 Limit 1")
+
+
+def limit_of_names_in_queue_files() -> Iterator[Case]:
+    name = b"abcdefghijklmnopqrst"
+    left = b"queued\nleft 1\n" + name + b" 1\n"
+    yield Replayed("a name of 20 letters in a queue file", b"arrive " + name + b" 1\n", left, 0)
+    refused = b"refused 1 BadLine line 1\n"
+    yield Replayed("a name of 21 letters in a queue file", b"arrive " + name + b"u 1\n", refused, 2)
 
 
 def loops_round(loops: int, statement: str) -> bytes:
@@ -60,6 +73,16 @@ def limit_of_brackets() -> Iterator[Case]:
     for braces, answer in ((29, "accepted"), (30, "15 Limit 9")):
         script = loops_round(0, f"r.send(T:{'{' * braces}{'}' * braces});")
         yield Script(f"{braces} braces in a message", script, answer)
+    for braces, answer in ((29, "accepted"), (30, "15 Limit 1")):
+        yield Script(f"{braces} braces in a module of one line", on_one_line(braces), answer)
+
+
+def on_one_line(braces: int) -> bytes:
+    """A module of one line, which sends a value of so many lists in one another."""
+    return (
+        "module M { type record of T T; type port P message { inout T; } type component C { port P p; } "
+        f"testcase t() runs on C {{ p.send(T:{'{' * braces}{'}' * braces}); }} }}\n"
+    ).encode()
 
 
 def limit_of_numbers() -> Iterator[Case]:
@@ -115,6 +138,36 @@ def limit_of_statements() -> Iterator[Case]:
     yield Script("a large function that is not started", others, "accepted")
 
 
+def row_of_a_system(line_4: str, line_5: str, line_6: str) -> bytes:
+    """A test case with a test system interface, which `sut` plays: these are its lines 4 to 6."""
+    case = ("map(mtc:p, system:s);", "p.send(integer:1); p.receive(integer:2);")
+    verdicts = "setverdict(pass); setverdict(fail); setverdict(pass);"
+    return in_module(line_4, line_5, line_6, *case, verdicts, "}", "}")
+
+
+def played_systems() -> Iterator[Case]:
+    """What stands in line 5 of the script, or beside it, decides."""
+    line_4, played = "type component S { port P s; }", "{ s.receive(integer:1); s.send(integer:2); }"
+    line_5, line_6 = f"function sut() runs on S {played}", "testcase t() runs on C system S {"
+    yield Script("a system that is played", row_of_a_system(line_4, line_5, line_6), "accepted")
+    for name, changed in (
+        ("sets a verdict", "function sut() runs on S { setverdict(pass); }"),
+        ("has a parameter", "function sut(C x) runs on S { }"),
+        ("runs on another type", "function sut() runs on C { }"),
+    ):
+        yield Script(f"a system that {name}", row_of_a_system(line_4, changed, line_6), "16 NotInSut 5")
+    without = row_of_a_system(line_4, line_5, "testcase t() runs on C {")
+    yield Script("a system that no test case has", without, "16 NotInSut 5")
+    sends = "type port O message { out integer; } type component S { port O s; }"
+    for name, statement, answer in (
+        ("sends the wrong way", "s.send(integer:2);", "14 Direction 5"),
+        ("receives the right way", "s.receive(integer:1);", "accepted"),
+    ):
+        changed = f"function sut() runs on S {{ {statement} }}"
+        script = row_of_a_system(sends, changed, line_6)
+        yield Script(f"a system that {name}", script, answer)
+
+
 def cut_scripts() -> Iterator[Case]:
     for file in ("tests/golden/components/system_under_test_answers.ttcn", "tests/checking/every_line.ttcn"):
         text = (ROOT / file).read_bytes().rpartition(b"}")[0]
@@ -126,11 +179,13 @@ def cut_scripts() -> Iterator[Case]:
 def groups() -> list[Group]:
     return [
         Group("the limit of texts", 4, limit_of_text),
-        Group("the limit of names", 2, limit_of_names),
-        Group("the limit of brackets", 34, limit_of_brackets),
+        Group("the limit of names", 4, limit_of_names),
+        Group("the limit of names in queue files", 2, limit_of_names_in_queue_files),
+        Group("the limit of brackets", 36, limit_of_brackets),
         Group("the limit of numbers", 3, limit_of_numbers),
         Group("the limit of components", 4, limit_of_components),
         Group("the limit of ports", 2, limit_of_ports),
         Group("the limit of statements", 6, limit_of_statements),
+        Group("systems that are played", 7, played_systems),
         Group("scripts that are cut", 2, cut_scripts),
     ]

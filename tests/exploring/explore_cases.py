@@ -135,7 +135,7 @@ def pictures(asked: Exploring) -> Iterator[Case]:
 
 
 def shows_where(ended: Ended) -> bool:
-    """In both charts the same rows stand above the line, and below it another one."""
+    """In both charts the same rows stand above the line, below it another one, and on it no text."""
     root = xml.fromstring(ended.printed)
     charts = [it for it in root.iter(f"{SVG}g") if it.get("transform")]
     must(len(charts) == 2, f"there are {len(charts)} charts")
@@ -143,15 +143,28 @@ def shows_where(ended: Ended) -> bool:
     above, below = zip(*rows)
     must(above[0] == above[1], f"above the lines stand {above}")
     must(below[0][:1] != below[1][:1], f"below them stands {below[0][:1]} twice")
+    struck = [text for chart in charts for text in struck_by_the_line(chart)]
+    must(not struck, f"the line strikes through {struck}")
     words = [it.text or "" for it in root.findall(f"{SVG}text")]
     return any(word.startswith("line ") for word in words)
+
+
+def height_of_the_line(chart: xml.Element) -> float:
+    (line,) = [it for it in chart.iter(f"{SVG}path") if it.get("class") == "parts"]
+    return float((line.get("d") or "").partition(" ")[2].partition("H")[0])
+
+
+def struck_by_the_line(chart: xml.Element) -> list[str]:
+    """The texts of the chart that stand on it, but for its own. A letter is 9 pixels high, and 3 below the line."""
+    texts = [it for it in chart.iter(f"{SVG}text") if "where" not in (it.get("class") or "")]
+    above = [float(it.get("y") or 0) - height_of_the_line(chart) for it in texts]
+    return [it.text or "" for it, far in zip(texts, above) if -3 <= far <= 9]
 
 
 def rows_round_the_line(chart: xml.Element) -> tuple[list[str], list[str]]:
     """What is told of the rows above the line where the runs diverge, and of those below it. A row is as high as its
     lowest text; what stands below the last row isn't one."""
-    (line,) = [it for it in chart.iter(f"{SVG}path") if it.get("class") == "parts"]
-    height = float((line.get("d") or "").partition(" ")[2].partition("H")[0])
+    height = height_of_the_line(chart)
     rows: tuple[list[str], list[str]] = ([], [])
     for row in chart.iter(f"{SVG}g"):
         title = row.findtext(f"{SVG}title") or ""

@@ -2,8 +2,6 @@
 # operations at once; runs that end by themselves (forced.py); and calls that fail (failed_orders.py).
 
 forced_of_each() {
-    local script
-    for script in tests/forced/*.ttcn; do is_another_entry "$script" "$script"; done
     mkdir -- "$room/forced"
     told "$room/told_of_forced" tests/forced/forced.py "$tpr" "$ordered" "$room/forced"
 }

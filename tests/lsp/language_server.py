@@ -18,6 +18,7 @@ import tempfile
 import time
 from pathlib import Path
 from typing import Any
+from xml.etree import ElementTree
 
 sys.dont_write_bytecode = True
 sys.path.insert(0, str(Path(__file__).resolve().parents[1] / "tools"))
@@ -42,6 +43,15 @@ FULL = """module Full {
   testcase TC() runs on C { log("begins"); var float v := 1.0; setverdict(pass); }
 }
 """
+
+
+MAIN = """module Main {
+  import from Near all;
+  testcase TC() runs on C { log("begins"); setverdict(pass); }
+}
+"""
+NEAR = "module Near { import from Far all; type component C { port P p; } }\n"
+IMPORTED = "module Far { import from Main all; type port P message { inout integer; } }\n"
 
 
 def place_of(text: str, piece: str, inside: int = 0) -> tuple[int, int]:
@@ -76,8 +86,13 @@ def diagnostics() -> None:
             )
             must_be([found["code"], found["severity"], found["source"]], ["14 Direction", 1, "tpr"])
             must_be([it["message"] for it in found["relatedInformation"]], ["the port type"])
-        with case("a hover on a fault has its rule"):
-            must("rule: it is in the port's list of sent types" in hover_at(client, WRONG, 'Order:{2, "x"}'), "no rule")
+        with case("a hover on a fault has its rule, with the clauses"):
+            form = r"rule: it is in the port's list of sent types .* \(ES 201 873-1, 15, 19 to 24\)$"
+            found = hover_at(client, WRONG, 'Order:{2, "x"}')
+            must(re.search(form, found, re.MULTILINE), f"another rule: {found}")
+        with case("all faults at once, the first of which is the program's"):
+            client.change([{"text": WRONG.replace("setverdict(pass)", "setverdict(error)")}], 21)
+            must_be([it["code"] for it in client.diagnostics(21)], ["14 Direction", "13 WrongType"])
         with case("columns are units of UTF-16"):
             text = WRONG.replace("bell.send(Order", "/* \U0001f600 é */ bell.send(Order").replace("\n", "\r\n")
             client.change([{"text": text}], 3)
@@ -105,10 +120,17 @@ def full_language() -> None:
                 all("write instead" in it or "no replacement" in it for it in told.values()), f"nothing instead: {told}"
             )
             must(all("tools/rewrite carries it over" in it for it in told.values()), f"not carried over: {told}")
+        with case("a hover on a construct has its clause"):
+            must("ES 201 873-1, 19.11" in hover_at(client, FULL, "log"), "no clause")
         with case("what tools/rewrite can't carry over, with its reason"):
             client.change([{"text": FULL.replace("type port", "import from Other all; type port")}], 5)
             must_be(client.diagnostics(5)[0]["severity"], 1)
             must("tools/rewrite can't carry it over: " in json.dumps(client.diagnostics(5)), "no reason")
+        with case("what a text imports, from the files beside it"):
+            must_be(rewritten_in_a_folder(client, IMPORTED), ["tools/rewrite carries it over"] * 2)
+            said = rewritten_in_a_folder(client, "")
+            form = r"tools/rewrite can't carry it over: \S*/near.ttcn:1:\d+: the module `Far` isn't among the files"
+            must(len(said) == 2 and re.match(form, said[0]) and said[1] == said[0], f"other reasons: {said}")
         for number, text in enumerate(("", "\ud800", "\x00\x01", "It was a dark night.\n", "}{" * 50, '"', "/*"), 6):
             with case(f"a text that isn't TTCN-3, number {number - 5}"):
                 client.change([{"text": text}], number)
@@ -141,6 +163,31 @@ def several_files_and_edits() -> None:
             symbols = client.ask("textDocument/documentSymbol", DOCUMENT)
             client.change([{"text": text}], 1001)
             must_be(symbols, client.ask("textDocument/documentSymbol", DOCUMENT))
+
+
+def rewritten_in_a_folder(client: Client, imported: str) -> list[str]:
+    """What is said of tools/rewrite for an import and a `log`, in a text that isn't saved yet."""
+    with tempfile.TemporaryDirectory() as folder:
+        for name, text in (("near.ttcn", NEAR), ("far.ttcn3", imported), ("main.ttcn", "module Main {}\n")):
+            (Path(folder) / name).write_text(text, encoding="utf-8")
+        (Path(folder) / "folder.ttcn").mkdir()
+        client.open(MAIN, f"file://{folder}/main.ttcn")
+        client.diagnostics()
+        found = client.diagnostics()
+        client.tell("textDocument/didClose", {"textDocument": {"uri": f"file://{folder}/main.ttcn"}})
+    lines = [[line for line in it["message"].split("\n") if line.startswith("tools/rewrite")] for it in found]
+    return ["".join(it) for it in lines]
+
+
+def changes_in_a_row() -> None:
+    with Client(PROGRAM, "--delay", "1000") as client, case("many changes in a row, and diagnostics of the last alone"):
+        opened = {"textDocument": {"uri": URI, "version": 1, "text": WRONG}}
+        tolds = [{"method": "textDocument/didOpen", "params": opened}]
+        for version in range(2, 20):
+            params = {"textDocument": {"uri": URI, "version": version}, "contentChanges": [{"text": KITCHEN}]}
+            tolds.append({"method": "textDocument/didChange", "params": params})
+        client.write(b"".join(frame(it) for it in tolds))
+        must_be(client.notice("textDocument/publishDiagnostics")["params"]["version"], 19)
 
 
 def end_of(text: str) -> Any:
@@ -222,6 +269,7 @@ def verdicts_and_runs() -> None:
                 [lens["command"]["title"], lens["range"]["start"]["line"]],
                 ["always pass", place_of(KITCHEN, "testcase")[0]],
             )
+            must_be(lens["command"]["command"], "")
         with case("where messages went, and what was never reached"):
             client.notice("workspace/inlayHint/refresh")
             found = {it["position"]["line"] + 1: it["label"] for it in client.ask("textDocument/inlayHint", DOCUMENT)}
@@ -278,6 +326,32 @@ def programs_that_take_long() -> None:
                 second = int(started.read_text().split()[1])
                 must_be(client.end(False), 1)
                 must_end(second)
+
+
+def programs_of_each_kind() -> None:
+    """What an editor shows of verdicts that aren't decided, and of a run that takes too long."""
+    with tempfile.TemporaryDirectory() as folder:
+        program, started = Path(folder) / "program", Path(folder) / "started"
+        program.write_text(
+            f"""#!/bin/sh
+case $1 in
+    verdicts) cat >/dev/null; printf 'undecided\\nseen pass\\nstates 4194304\\npass: mtc chef\\n'; exit 3 ;;
+    run) echo $$ >{started}; exec sleep 600 ;;
+esac
+exec {PROGRAM} "$@"
+"""
+        )
+        program.chmod(0o755)
+        with Client(str(program)) as client:
+            client.open(KITCHEN)
+            with case("verdicts that aren't decided"):
+                (lens,) = client.ask("textDocument/codeLens", DOCUMENT)
+                must_be(lens["command"]["title"], "undecided after 4,194,304 states")
+            with case("a run that takes too long is ended, and leaves no hints"):
+                must_soon(lambda: started.exists() and started.read_text().strip(), "no run")
+                client.notice("workspace/inlayHint/refresh")
+                must_be(client.ask("textDocument/inlayHint", DOCUMENT), [])
+                must_end(int(started.read_text()))
 
 
 def programs_that_fail() -> None:
@@ -420,6 +494,16 @@ def neovim() -> None:
         line, column = place_of(KITCHEN, 'bell.send(charstring:"one more?")')
         ended.must_show(rf"^error {line}:{column + 10}-{column + 15} `bell` sends no `Order`")
         ended.must_show(r"^lens always pass$")
+    with tempfile.TemporaryDirectory() as folder, case("the picture of docs/EDITORS.md has what neovim shows"):
+        picture = Path(folder) / "editor.svg"
+        more = {"TPR": PROGRAM, "HOME": folder, "XDG_CONFIG_HOME": folder, "PICTURE": str(picture)}
+        words = ("--headless", "--clean", "-n", "-c", "luafile tests/lsp/picture.lua")
+        run(editor, *words, folder=ROOT, more=more).must_end(0)
+        kept = ROOT / "docs" / "editor.svg"
+        for file in (picture, kept):
+            text = " ".join(ElementTree.parse(file).getroot().itertext())
+            for piece in ("pass or fail: show where the runs diverge", "→ 7", "`bell` sends no `Order`"):
+                must(piece in " ".join(text.split()), f"{file} lacks {piece}")
 
 
 def colours() -> None:
@@ -436,8 +520,9 @@ def colours() -> None:
 
 
 if __name__ == "__main__":
-    groups = (diagnostics, full_language, several_files_and_edits, names, verdicts_and_runs, programs_that_take_long)
-    others = (programs_that_fail, calls_and_ends, turns, broken_frames, large_texts, colours, neovim)
-    cases = [Group(it, 0 if it is neovim else 1, it.__name__) for it in (*groups, *others)]
+    groups = (diagnostics, full_language, several_files_and_edits, changes_in_a_row, names, verdicts_and_runs)
+    programs = (programs_that_take_long, programs_of_each_kind, programs_that_fail)
+    others = (calls_and_ends, turns, broken_frames, large_texts, colours, neovim)
+    cases = [Group(it, 0 if it is neovim else 1, it.__name__) for it in (*groups, *programs, *others)]
     del sys.argv[1:]
     sys.exit(try_groups(cases))

@@ -22,8 +22,6 @@ build_ordered() {
 }
 
 orders_of_each() {
-    local script
-    for script in tests/orders/*/*.ttcn; do is_another_entry "$script" "$script"; done
     told "$room/orders" tests/orders/compare.py "$ordered" tests/orders/*/*.ttcn
     ordered_reports=$(sum_of 2 "$room/orders")
     waiting_scripts=$(awk '$1 == "passed" && $3 > 0' "$room/orders" | wc -l)

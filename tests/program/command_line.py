@@ -152,7 +152,7 @@ def listed_texts() -> Iterator[Text]:
     yield Text("its report", "run", 0, SENDS_TWICE, what_sends_twice_does())
     trace = what_sends_twice_does("came q mtc 0 integer:4", "came q mtc 1 integer:5")
     yield Text("its trace, with what came where it came", "trace", 0, SENDS_TWICE, trace)
-    yield Text("its one verdict", "verdicts", 0, SENDS_TWICE, b"always none\nstates 4\n")
+    yield Text("its one verdict", "verdicts", 0, SENDS_TWICE, b"always none\nstates 1\n")
 
 
 def texts(program: Program) -> None:

@@ -108,7 +108,7 @@ SHORT = (
     Short("no script", "check", b"", 2, b"refused 10 Syntax line 1\n"),
     Short("a report", "run", PASSES, 0, PASSED),
     Short("a trace of a run", "trace", PASSES, 0, PASSED),
-    Short("the one verdict of a script", "verdicts", PASSES, 0, b"always pass\nstates 2\n"),
+    Short("the one verdict of a script", "verdicts", PASSES, 0, b"always pass\nstates 1\n"),
 )
 
 

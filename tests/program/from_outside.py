@@ -81,7 +81,7 @@ class Program:
             "run": report_of_sends(),
             "trace": trace_of_sends(),
             "judge": b"lawful\none run\n",
-            "verdicts": b"always none\nstates 1001\n",
+            "verdicts": b"always none\nstates 1\n",
         }
         for mode, text in self.texts.items():
             with open(self.file(mode), "wb") as file:

@@ -4,6 +4,7 @@ Keys and clicks are those that a user's would be. What the console says is kept.
 """
 from __future__ import annotations
 
+import base64
 import json
 import os
 import select
@@ -12,6 +13,7 @@ import subprocess
 import tempfile
 import time
 from typing import Any, Optional
+from urllib.parse import quote
 
 NAMES = ("chromium", "chromium-browser", "google-chrome")
 SECONDS = 120  # for any one answer, on a machine that has other work
@@ -88,9 +90,22 @@ class Browser:
         elif method == "Network.requestWillBeSent":
             self.requests.append(told["request"]["url"][:200])
 
-    def open(self, file: str) -> None:
-        self.ask("Page.navigate", url=f"file://{os.path.abspath(file)}")
-        self.wait("document.readyState === 'complete' && document.querySelector('#view path') !== null")
+    def open(self, file: str, shows: str = "#view path", place: str = "") -> None:
+        """Opens the page anew, at a place of it, and waits until it shows this."""
+        self.ask("Page.navigate", url="about:blank")
+        self.ask("Page.navigate", url=f"file://{quote(os.path.abspath(file))}{place}")
+        self.wait(f"document.readyState === 'complete' && document.querySelector({json.dumps(shows)}) !== null")
+
+    def look(self, width: int, height: int, scheme: str = "light") -> None:
+        """The size of what is seen, and whether the user likes it dark."""
+        self.ask("Emulation.setDeviceMetricsOverride", width=width, height=height, deviceScaleFactor=1, mobile=False)
+        self.ask("Emulation.setEmulatedMedia", features=[{"name": "prefers-color-scheme", "value": scheme}])
+        self.drawn()
+
+    def picture(self, file: str) -> None:
+        """Writes what is seen as PNG."""
+        with open(file, "wb") as opened:
+            opened.write(base64.b64decode(self.ask("Page.captureScreenshot", format="png")["data"]))
 
     def value(self, code: str) -> Any:
         """What the code comes to, in the page."""

@@ -17,10 +17,12 @@ from pathlib import Path
 sys.dont_write_bytecode = True
 
 import example_reports
+from rule_cases import must
 from tool_calls import EXAMPLES, ROOT, Group, case, onto_a_full_device, rules_must_hold, run, try_groups
 
 CHART = ROOT / "tools" / "chart"
 LOGIN = EXAMPLES / "login_is_answered.expected"
+LONG_NAMES = 12
 WIDTH = {"COLUMNS": "90"}
 
 
@@ -85,11 +87,26 @@ def charts_in_other_ways(folder: Path) -> None:
         report = EXAMPLES / "halt_holds_back_what_comes_later.expected"
         run(CHART, "--text", report, more=WIDTH).must_print(IN_LETTERS)
     charts_of_emptied_ports(folder)
+    chart_of_long_names(folder)
     charts_that_cannot_be(folder)
     with case("a chart of two files"):
         run(CHART, LOGIN, LOGIN).must_complain("^usage: chart", 4)
     with case("what chart --help says"):
         run(CHART, "--help").must_show("^  4  the command line is wrong$")
+
+
+def chart_of_long_names(folder: Path) -> None:
+    """Names that differ at their ends: of each arrow from afar the label tells whose it is."""
+    names = [f"component_with_quite_a_long_name_{number}" for number in range(LONG_NAMES)]
+    lines = ["component mtc", *(f"took p {name} 0 integer:1" for name in names), "end done", "verdict none"]
+    for name in names:
+        lines += [f"component {name}", "sent mtc.p 0 integer:1", "end done", "verdict none"]
+    report = folder / "long_names.report"
+    report.write_text("\n".join([*lines, "result none", ""]), encoding="ascii")
+    with case("a chart of long names"):
+        chart = run(CHART, report).must_say_nothing().text
+        told = sorted(re.findall(r">took p from component\w*…\w*_name_(\d+) #0<", chart), key=int)
+        must(told == [str(number) for number in range(3, LONG_NAMES)], f"it tells of {told}")
 
 
 def charts_that_cannot_be(folder: Path) -> None:
@@ -173,7 +190,7 @@ def main() -> int:
             Group(partial(charts_of_examples, folder), 1, "charts of examples"),
             Group(charts_of_documents, 3, "charts of documents"),
             Group(rules_on_reports, 5, "rules on reports"),
-            Group(partial(charts_in_other_ways, folder), 12, "charts in other ways"),
+            Group(partial(charts_in_other_ways, folder), 13, "charts in other ways"),
         ]
     )
 

@@ -25,7 +25,8 @@ CHART = ROOT / "tools" / "chart"
 LOGIN = EXAMPLES / "login_is_answered.ttcn"
 PARTS = 40  # of a line, at whose ends it is looked at
 
-# Two components at each side of a third, one that is connected to itself, one to nothing, and the system.
+# Two components at each side of a third, one that is connected to itself, one to nothing, two to each other alone, and
+# the system.
 NET = """module Net {
     type port P message { inout integer; }
     type component C { port P left, right, up; }
@@ -33,14 +34,18 @@ NET = """module Net {
     function sut() runs on C { }
     testcase t() runs on C system C {
         var C a := C.create; var C b := C.create; var C c := C.create; var C lonely := C.create;
+        var C far := C.create; var C farther := C.create; connect(far:left, farther:right);
         connect(self:left, a:left); connect(mtc:left, b:left); connect(a:right, c:left); connect(b:right, c:right);
         connect(a:up, b:up); connect(c:up, c:left); map(self:up, system:up);
         a.start(f()); b.start(f()); c.start(f()); lonely.start(f());
+        far.start(f()); farther.start(f());
         all component.done;
     }
 }
 """
-UNUSED = "6 ports without a connection: mtc.right, lonely.left, lonely.right and 3 more"
+UNUSED = "10 ports without a connection: mtc.right, lonely.left, lonely.right and 7 more"
+# From the left to the right.
+COLUMNS = [["mtc"], ["a", "b", "system"], ["c"], ["far", "lonely"], ["farther"]]
 
 
 def right_scripts() -> list[Path]:
@@ -117,6 +122,14 @@ def connections_of_a_net(room: Path) -> None:
         must("dashed line: mapped to the system" in texts, "it isn't said what a dashed line means")
         mapped = [it.findtext(f"{SVG}title") for it in lines_of(root) if it.get("class") == "found"]
         must(mapped == ["map(mtc:up, system:up)"], f"dashed are {mapped}")
+    with case("the columns of a net"):
+        columns: dict[float, list[str]] = {}
+        for group in root.iter(f"{SVG}g"):
+            for box in (it for it in group.iter(f"{SVG}rect") if it.get("class") == "box"):
+                middle = number_of(box, "x") + number_of(box, "width") / 2
+                columns.setdefault(middle, []).append(group.get("aria-label") or "")
+        found = [sorted(columns[middle]) for middle in sorted(columns)]
+        must(found == COLUMNS, f"they are {found}")
     script.write_text(NET.replace("lonely.start(f());", ""), encoding="ascii")
     with case("the connections of a script that is refused"):
         said = f"chart: {script}, line 7: the script is refused; tools/explain says what is wrong"
@@ -138,7 +151,7 @@ def main() -> int:
         return try_groups(
             [
                 Group(connections_of_scripts, len(right_scripts()), "connections of scripts"),
-                Group(lambda: connections_of_a_net(Path(room)), 2, "connections of a net"),
+                Group(lambda: connections_of_a_net(Path(room)), 3, "connections of a net"),
                 Group(connections_that_cannot_be, 6, "connections that can't be"),
             ]
         )

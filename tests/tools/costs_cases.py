@@ -14,14 +14,10 @@ import sys
 import tempfile
 import unittest
 from pathlib import Path
+from types import TracebackType
 from typing import Union
 
-sys.dont_write_bytecode = True
 ROOT = Path(__file__).resolve().parents[2]
-sys.path.append(str(ROOT / "tests" / "gate"))
-
-import told_cases
-
 COSTS, TIMES = ROOT / "tools" / "costs.py", ROOT / "tests" / "gate" / "gate_times.py"
 USAGE = "usage: tools/costs.py CRATE_FOLDER [COUNT]\n"
 
@@ -67,6 +63,22 @@ wait
 exit 3
 """
 TOOK = ["low some some some some some some", "high some some - - - -", "all some some some"]
+
+
+Raised = Union[tuple[type[BaseException], BaseException, TracebackType], tuple[None, None, None]]
+
+
+class Told(unittest.TestResult):
+    """What becomes of each case, told at once by the first line of its text."""
+
+    def addSuccess(self, test: unittest.TestCase) -> None:
+        print(f"passed {test.shortDescription()}", flush=True)
+
+    def addFailure(self, test: unittest.TestCase, err: Raised) -> None:
+        super().addFailure(test, err)
+        print(f"FAILED: {test.shortDescription() or test.id()}: {err[1]}", flush=True)
+
+    addError = addFailure
 
 
 class Case(unittest.TestCase):
@@ -185,4 +197,7 @@ class Times(Case):
 
 
 if __name__ == "__main__":
-    told_cases.main()
+    loader, module, found = unittest.defaultTestLoader, sys.modules["__main__"], Told()
+    names = sys.argv[1:]
+    (loader.loadTestsFromNames(names, module) if names else loader.loadTestsFromModule(module)).run(found)
+    sys.exit(0 if found.testsRun and not found.failures else 1)

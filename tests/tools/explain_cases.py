@@ -130,6 +130,7 @@ def tables(asked: Explaining) -> Iterator[Case]:
     scripts = scripts_of_refusals(asked.room / "refusals")
     yield asked.tool.case("the scripts of docs/REFUSALS.md", ["--json", scripts], 2, refusals)
     yield ruled("the words of explain are those of the documents", explain_rules.check_words)
+    yield ruled("the clauses of rules are those of the document", explain_rules.check_clauses)
     numbers = "the numbers and names of refusals are those of the document and of the program"
     yield ruled(numbers, explain_rules.check_numbers)
 
@@ -281,7 +282,7 @@ def at_length(asked: Explaining) -> Iterator[Case]:
 
 
 GROUPS = (
-    (tables, 7),
+    (tables, 8),
     (example, 4),
     (numbers, 7),
     (places, 10),

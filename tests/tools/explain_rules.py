@@ -16,7 +16,7 @@ from tpr_tools.explain.explaining import explain, reading_of
 from tpr_tools.explain.explanation import Explanation
 from tpr_tools.refusals import SEND_FAULTS, Refusal
 from tpr_tools.script.constructs import Construct
-from tpr_tools.script.refusal_rules import BEYOND_SCRIPTS, RULES_OF
+from tpr_tools.script.refusal_rules import BEYOND_SCRIPTS, RULES_OF, Rule, clauses_of
 from tpr_tools.words import RESERVED, RESERVED_ELSEWHERE
 
 Told = dict[str, dict[str, Any]]  # what is told of each script, by its name without folder and ending
@@ -138,9 +138,23 @@ def check_words() -> None:
         must(here, f"docs/FROM_TTCN3.md has no row for {title}, {construct.clause}")
         assert here is not None
         is_missing = construct.instead.startswith("nothing: ")
-        must(here.startswith("no, because " if is_missing else "write instead: "), f"{title}: {here}")
+        must(here.startswith("no: " if is_missing else "instead: "), f"{title}: {here}")
         words = construct.instead.removeprefix("nothing: ").partition("{")[0]
         must(words in here, f"docs/FROM_TTCN3.md doesn't say of {title}: {words}")
+
+
+def check_clauses() -> None:
+    """Those of a rule are in the heading of docs/REFUSALS.md below which it is, if any are."""
+    checks = read(f"{ROOT}/docs/REFUSALS.md").partition("\n## The checks of a test case\n")[2].partition("\n## ")[0]
+    found = 0
+    for part in checks.split("\n### ")[1:]:
+        clauses = re.match(r"[^(\n]*(?:\((?:ES 201 873-1, )?(.*)\))?\n", part)
+        for rule in (it for it in Rule if f"| {it.value} |" in part):
+            wanted = (clauses and clauses[1]) or ""
+            must(clauses_of(rule) == wanted, f"{rule.name}: {clauses_of(rule)!r}, and not {wanted!r}")
+            found += 1
+    must(found >= 30, f"only {found} rules are found in docs/REFUSALS.md")
+    must(not clauses_of(Rule.A_TOKEN) and not clauses_of(Rule.SHORT_NAME), "a rule of the reader has clauses")
 
 
 def check_numbers() -> None:

@@ -1,9 +1,11 @@
 #!/usr/bin/env python3
-"""Charts as pages, in a real browser: what tools/chart --html makes of reports, looked at, clicked and typed in.
+"""Pages in a real browser, looked at, clicked and typed in: what tools/chart --html makes of reports, and
+tools/suite --html of scripts.
 
-    pages.py FOLDER          each case is told by a line, `well NAME` or `wrong NAME: WHY`
+    pages.py FOLDER SUITES   each case is told by a line, `well NAME` or `wrong NAME: WHY`
 
-The folder is for the pages. Where there is no browser the status is 3.
+The first folder is for the pages of charts, the second has those of suites (page_suites.py). Where there is no browser
+the status is 3.
 """
 import argparse
 import os
@@ -16,6 +18,7 @@ ROOT = os.path.dirname(os.path.dirname(os.path.dirname(os.path.realpath(__file__
 sys.path[:0] = [os.path.join(ROOT, "tools")]
 
 from browser import Browser, program
+from tool_calls import example
 from tpr_tools.chart.page import page_of
 from tpr_tools.chart.sequence import sequence_of
 from tpr_tools.report.reader import read_report
@@ -47,11 +50,44 @@ def report_of_many(components: int, rounds: int) -> str:
     return "\n".join([*lines, "result error", ""])
 
 
+# The least contrast of a text of the page and what it stands on (WCAG 2.1, 1.4.3, level AA).
+LEAST_CONTRAST = 4.5
+CONTRASTS = """(() => {
+  const numbers = (colour) => colour.match(/[0-9.]+/g).map(Number);
+  const light = (colour) => {
+    const [r, g, b] = numbers(colour).map((it) => it / 255).map(
+      (it) => it <= 0.03928 ? it / 12.92 : ((it + 0.055) / 1.055) ** 2.4);
+    return 0.2126 * r + 0.7152 * g + 0.0722 * b;
+  };
+  const ground = (element) => {
+    for (let it = element; it; it = it.parentElement) {
+      const colour = getComputedStyle(it).backgroundColor;
+      if ((numbers(colour)[3] ?? 1) > 0) return colour;
+    }
+    throw new Error("the page has no ground");
+  };
+  const found = [];
+  const walk = document.createTreeWalker(document.body, NodeFilter.SHOW_TEXT);
+  for (let text = walk.nextNode(); text; text = walk.nextNode()) {
+    const element = text.parentElement;
+    if (!text.data.trim() || !element.checkVisibility()) continue;
+    const [low, high] = [light(getComputedStyle(element).color), light(ground(element))].sort((a, b) => a - b);
+    found.push([(high + 0.05) / (low + 0.05), text.data.trim().slice(0, 40)]);
+  }
+  return found.sort((a, b) => a[0] - b[0]);
+})()"""
+SHOWN = "[...document.querySelectorAll('.row')].filter((row) => !row.hidden)"
+IN_SIGHT = ("((box) => 0 <= box.top && box.top < innerHeight)"
+            "(document.querySelector('.row[open] summary').getBoundingClientRect())")
+RACES = "each/races.ttcn"
+
+
 class Pages:
     """The cases, each on a page that was opened for it."""
 
-    def __init__(self, folder: str) -> None:
+    def __init__(self, folder: str, suites: str) -> None:
         self.folder = folder
+        self.suites = suites
         self.browser = Browser()
         self.wrong = 0
 
@@ -59,8 +95,7 @@ class Pages:
         """The file of a page of a report, which is a file or a text."""
         file = os.path.join(self.folder, f"{name}.html")
         if "\n" not in report:
-            with open(os.path.join(ROOT, "examples", report), encoding="utf-8") as opened:
-                report = opened.read()
+            report = example(report).read_text(encoding="utf-8")
         words = [os.path.join(ROOT, "tools", "chart"), "--html", "--title", f"{name} <&>"]
         made = subprocess.run(words, input=report.encode(), stdout=subprocess.PIPE, check=True)
         with open(file, "wb") as opened:
@@ -69,10 +104,13 @@ class Pages:
 
     def open(self, name: str, report: str) -> str:
         file = self.page(name, report)
+        self.open_file(file, "#view path")
+        return file
+
+    def open_file(self, file: str, shows: str, place: str = "") -> None:
         self.browser.console.clear()
         self.browser.requests.clear()
-        self.browser.open(file)
-        return file
+        self.browser.open(file, shows, place)
 
     def case(self, name: str, seen: object, wanted: object) -> None:
         if seen == wanted:
@@ -85,7 +123,8 @@ class Pages:
         """Nothing on the console, and nothing asked for but the page itself."""
         self.browser.drawn()
         self.case(f"{name}: the console is empty", self.browser.console, [])
-        self.case(f"{name}: nothing is loaded", self.browser.requests, [f"file://{file}"])
+        requests = [it for it in self.browser.requests if it != "about:blank"]
+        self.case(f"{name}: nothing is loaded", requests, [f"file://{file}"])
 
     # The cases
 
@@ -148,8 +187,8 @@ class Pages:
 
     def script_lines(self) -> None:
         """Whoever knows the lines of the script has them shown beside those of the report."""
-        with open(os.path.join(ROOT, "examples", "login_is_answered.expected"), "rb") as opened:
-            sequence = sequence_of(read_report(opened.read()), "script")
+        report = example("login_is_answered.expected").read_bytes()
+        sequence = sequence_of(read_report(report), "script")
         file = os.path.join(self.folder, "script.html")
         with open(file, "w", encoding="utf-8") as opened:
             opened.write(page_of(sequence, {2: "line 19"}))
@@ -204,15 +243,98 @@ class Pages:
         self.is_quiet("many", file)
 
 
+    # The pages of suites
+
+    def open_suite(self, name: str, place: str = "") -> str:
+        file = os.path.join(self.suites, name, "index.html")
+        self.open_file(file, ".row", place)
+        return file
+
+    def suite(self) -> None:
+        ask, browser = self.browser.value, self.browser
+        file = self.open_suite("page")
+        self.is_quiet("a suite", file)
+        for scheme in ("light", "dark"):
+            self.is_seen(scheme)
+        browser.look(1280, 800)
+        browser.click_on("label.schedule")
+        self.case("a state is chosen", ask(f"{SHOWN}.map((row) => row.dataset.state).join()"), "schedule")
+        self.case("and counted", ask("document.getElementById('told').textContent"), "1 of 10 shown")
+        browser.key("Escape")
+        browser.key("/")
+        browser.write("ERROR waits")
+        self.case("a text is looked for", ask(f"{SHOWN}.length"), 2)
+        browser.key("Escape")
+        self.case("all are shown again", ask(f"{SHOWN}.length"), 10)
+        self.opened_rows()
+        for place in ("#nowhere", "#%"):
+            self.open_suite("page", place)
+            self.case(f"a link to nowhere: {place}", ask("rows.some((row) => row.open)"), False)
+            self.case(f"{place}: the console is empty", browser.console, [])
+
+    def is_seen(self, scheme: str) -> None:
+        """At two widths: nothing is cut off at the right, and each text can be read."""
+        ask, browser = self.browser.value, self.browser
+        for width in (1280, 400):
+            ask("rows.forEach((row) => { row.open = true; })")
+            browser.look(width, 800, scheme)
+            self.case(f"{scheme}, {width} wide: no wider", ask("document.documentElement.scrollWidth <= innerWidth"), True)
+            worst = ask(CONTRASTS)[0]
+            self.case(f"{scheme}, {width} wide: contrast", worst[0] >= LEAST_CONTRAST or worst, True)
+            browser.picture(os.path.join(self.folder, f"suite_{scheme}_{width}.png"))
+        ask("rows.forEach((row) => { row.open = false; })")
+
+    def opened_rows(self) -> None:
+        ask, browser = self.browser.value, self.browser
+        ask("document.querySelector('.row summary').focus()")
+        browser.key("Enter")
+        self.case("Enter opens a row", ask("rows.map((row) => row.open).indexOf(true)"), 0)
+        self.open_suite("page", f"#{RACES}")
+        self.case("a link opens its row", ask("document.querySelector('.row[open] .script').textContent"), RACES)
+        self.case("and brings it in sight", ask(IN_SIGHT), True)
+        all_loaded = ("Promise.all([...document.querySelectorAll('.row[open] img')].map((image) => "
+                      "{ image.loading = 'eager'; return image.decode().then(() => image.naturalWidth > 100); }))")
+        self.case("its pictures are loaded", ask(all_loaded), [True] * 3)
+        loaded = [it.rpartition("/")[2] for it in browser.requests if "index.html" not in it and it != "about:blank"]
+        self.case("and those of no other", sorted(loaded), ["connections.svg", "diverging.svg", "run1.fail.svg"])
+        browser.click_on("label.refused")
+        ask("location.hash = '#each/passes.ttcn'")
+        browser.drawn()
+        self.case("a link to a row that is hidden shows it", ask("rows.filter((row) => row.open && !row.hidden).length"), 2)
+        self.case("opened rows: the console is empty", browser.console, [])
+
+    def without_code(self) -> None:
+        """A browser opens the row that a link names by itself."""
+        ask, browser = self.browser.value, self.browser
+        browser.ask("Emulation.setScriptExecutionDisabled", value=True)
+        self.open_suite("page", f"#{RACES}")
+        self.case("without code: all rows", ask("document.querySelectorAll('.row').length"), 10)
+        self.case("without code: no filter", ask("document.querySelector('.filter').checkVisibility()"), False)
+        script = ask("document.querySelector('.row[open] .script').textContent")
+        self.case("without code: a link opens its row", script, RACES)
+        browser.ask("Emulation.setScriptExecutionDisabled", value=False)
+
+    def many_scripts(self) -> None:
+        ask = self.browser.value
+        file = self.open_suite("many_page")
+        self.is_quiet("400 scripts", file)
+        took = ask("(() => { const began = performance.now(); words.value = 'script_39'; filter(); "
+                   "document.body.offsetHeight; return performance.now() - began; })()")
+        self.case("they are filtered in half a second", took < 500 or took, True)
+        self.case("and ten are left", ask(f"{SHOWN}.length"), 10)
+
+
 def main() -> int:
-    words = argparse.ArgumentParser(description="Charts as pages, in a real browser.")
-    words.add_argument("folder", metavar="FOLDER", help="where the pages are written")
+    words = argparse.ArgumentParser(description="Pages of charts and of suites, in a real browser.")
+    words.add_argument("folder", metavar="FOLDER", help="where the pages of charts are written")
+    words.add_argument("suites", metavar="SUITES", help="where those of suites are")
     asked = words.parse_args()
     if program() is None:
         return 3
-    pages = Pages(os.path.abspath(asked.folder))
+    pages = Pages(os.path.abspath(asked.folder), os.path.abspath(asked.suites))
+    of_charts = (pages.elements, pages.hiding, pages.choosing, pages.script_lines, pages.searching, pages.many)
     try:
-        for case in (pages.elements, pages.hiding, pages.choosing, pages.script_lines, pages.searching, pages.many):
+        for case in (*of_charts, pages.suite, pages.without_code, pages.many_scripts):
             case()
     finally:
         pages.browser.end()

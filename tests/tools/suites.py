@@ -17,6 +17,7 @@ from pathlib import Path
 sys.dont_write_bytecode = True
 
 import other_suites
+import page_suites
 import schedule_suites
 from suite_runs import SUITE, Suites, answer, kept, must_be_table
 from rule_cases import must
@@ -230,6 +231,7 @@ def main() -> int:
             Group(partial(suites_of_what_is_wanted, room, tpr), 9, "suites of what is wanted"),
             Group(partial(schedule_suites.of_the_schedule, room, tpr), 21, "suites of the schedule"),
             Group(partial(other_suites.that_lose_nothing, room, tpr), 20, "suites that lose nothing"),
+            Group(partial(page_suites.with_pages, room, tpr), 24, "suites with pages"),
         ]
     )
 

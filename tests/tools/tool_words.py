@@ -7,9 +7,12 @@ It prints a line `passed NAME` for each case, or lines that begin with `FAILED: 
 """
 from __future__ import annotations
 
+import ast
 import os
 import re
 import sys
+from collections.abc import Iterator
+from pathlib import Path
 
 sys.dont_write_bytecode = True
 
@@ -34,6 +37,7 @@ def words_that_nobody_gets() -> None:
             ended = run("sh", "-c", 'exec "$0" --nothing 2>&-', command).must_end(4)
             must(not ended.printed, "it printed something")
     version_that_each_says()
+    what_tools_import()
     what_titan_cannot_read()
     memory_that_is_refused()
 
@@ -47,6 +51,23 @@ def version_that_each_says() -> None:
             ended.must(re.fullmatch(form, ended.text), f"a line of the form {form!r} is to be printed")
     with case("the version onto a full device"):
         onto_a_full_device(ROOT / "tools" / "why", "--version").must_say("why: the answer can't be written", 3)
+
+
+def what_tools_import() -> None:
+    with case("the tools import nothing that doesn't come with python3"):
+        files = [*(ROOT / "tools").glob("tpr_tools/**/*.py"), *(ROOT / "tools" / tool for tool in TOOLS)]
+        must(len(files) > 100, f"there are only {len(files)} files")
+        foreign = {name for file in files for name in imported_by(file)} - {*sys.stdlib_module_names, "tpr_tools"}
+        must(not foreign, f"they import {foreign}")
+
+
+def imported_by(file: Path) -> Iterator[str]:
+    """The packages, without those that are named from the place of the file."""
+    for node in ast.walk(ast.parse(file.read_text(encoding="utf-8"))):
+        if isinstance(node, ast.Import):
+            yield from (it.name.split(".")[0] for it in node.names)
+        elif isinstance(node, ast.ImportFrom) and node.level == 0 and node.module:
+            yield node.module.split(".")[0]
 
 
 def what_titan_cannot_read() -> None:
@@ -66,4 +87,4 @@ def memory_that_is_refused() -> None:
 if __name__ == "__main__":
     # Without it what can't be written stays, and is tried again at the very end.
     os.environ.pop("PYTHONUNBUFFERED", None)
-    sys.exit(try_groups([Group(words_that_nobody_gets, 40, "words that nobody gets")]))
+    sys.exit(try_groups([Group(words_that_nobody_gets, 41, "words that nobody gets")]))

@@ -1,17 +1,50 @@
-# The tools of the test engineer: tools/chart and what it draws of a script (connections.py), tools/compare, tools/suite
-# (suites.sh), and what they all refuse (refused_reports.sh), or have in common (tool_words.py).
+# The tools of the test engineer: tools/chart and what it draws of a script (connections.py), tools/compare, tools/suite, the
+# commands of docs/CI.md (build_servers.py), and what they all refuse, or have in common (tool_words.py).
 
 tools() {
     mkdir -- "$room/charts" "$room/comparisons"
-    at_least $((reports_of_examples + 21)) told "$room/told_of_charts" tests/tools/charts.py "$room/charts"
+    at_least $((reports_of_examples + 22)) told "$room/told_of_charts" tests/tools/charts.py "$room/charts"
     at_least 16 parts_of_charts
-    at_least $((small_scripts + 8)) told "$room/told_of_connections" tests/tools/connections.py
-    pages
+    at_least $((small_scripts + 9)) told "$room/told_of_connections" tests/tools/connections.py
     at_least 238 refused_reports
-    at_least 91 suites
+    at_least 115 suites
+    pages
+    at_least 16 told "$room/told_of_build_servers" tests/tools/build_servers.py "$tpr"
     at_least $((open_examples + 13)) told "$room/told_of_comparisons" tests/tools/comparisons.py "$room/comparisons"
-    at_least 40 told "$room/told_of_words" tests/tools/tool_words.py
+    at_least 41 told "$room/told_of_words" tests/tools/tool_words.py
 }
 
 # tools/costs.py, and tests/gate/gate_times.py.
 costs() { told "$room/costs" tests/tools/costs_cases.py; }
+
+# Reports that are cut, and texts that are no reports: the tools refuse each, with its line.
+refused_reports() {
+    mkdir -- "$room/refused_reports"
+    told "$room/told_of_refused_reports" tests/tools/refused_reports.py "$room/refused_reports"
+}
+
+# tools/suite: what it says of scripts with each result, of a program that isn't tpr, and of words that it can't do.
+suites() {
+    mkdir -- "$room/suites"
+    told "$room/told_of_suites" tests/tools/suites.py "$tpr" "$called" "$room/suites"
+}
+
+# What tools/explain says of scripts that are refused, and of what an accepted one does in vain; and all faults at once,
+# in each form.
+explains() {
+    at_least 80 told "$room/explained" tests/tools/explain_cases.py "$tpr" $((grammar_texts + 103 + changed_scripts))
+    at_least 55 told "$room/formats" tests/tools/explain_formats.py "$tpr"
+}
+
+# What tools/why says of reports.
+whys() {
+    at_least $((reports_of_examples + 90)) told "$room/whys" tests/tools/why_cases.py "$tpr"
+}
+
+# What is handed out: what a gate leaves for tools/release where it passes, and the archive and the packages that
+# tools/release makes (releases.py).
+release() {
+    mkdir -- "$room/release"
+    local library=${port:+$port/lib/libtp_port.a}
+    told "$room/told_of_releases" tests/tools/releases.py "$tpr" "$ordered" "$room/release" ${library:+"$library"}
+}

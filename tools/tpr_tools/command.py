@@ -9,13 +9,18 @@ import gc
 import os
 import re
 import sys
-from typing import TYPE_CHECKING, Callable, NoReturn, Optional, Sequence
+from typing import TYPE_CHECKING, Callable, NoReturn, Optional, Sequence, TypeVar
 
 if TYPE_CHECKING:
     from .report.report import NotAReport, Report
 
 DONE, NOT_BUILT, REFUSED, NOT_WRITTEN, WRONG_USAGE, NOT_SO = range(6)
 INTERRUPTED = 130
+
+Result = TypeVar("Result")
+# What is nested in a script is followed by calls that are nested as deep.
+_STACK = 512 * 1024 * 1024
+_CALLS = 60_000
 
 _MEANINGS = {
     DONE: "all went well",
@@ -97,10 +102,14 @@ class _Version(argparse.Action):
 
 def version_line(name: str) -> str:
     """Such as `why (tpr) 0.9.0`."""
+    return f"{name} (tpr) {version() or 'of no known version'}\n"
+
+
+def version() -> Optional[str]:
     # Hardly a call asks for it, and the start of a tool is short.
     from .version import version_in
 
-    return f"{name} (tpr) {version_in(_ROOT) or 'of no known version'}\n"
+    return version_in(_ROOT)
 
 
 def read_bytes(file: Optional[str]) -> bytes:
@@ -156,6 +165,30 @@ def write_file(file: str, text: str) -> None:
             opened.write(text)
     except OSError as error:
         raise Stop(NOT_WRITTEN, f"{file} can't be written: {error.strerror}") from None
+
+
+def on_large_stack(task: Callable[[], Result]) -> Result:
+    """The result of what reads scripts by calls that are nested as deep as they: in a thread of its own, since only such
+    a one gets a stack of this size."""
+    import threading  # Most tools need none, and the start of one is short.
+
+    ended: list[Result] = []
+    broken: list[BaseException] = []
+
+    def work() -> None:
+        try:
+            ended.append(task())
+        except BaseException as error:
+            broken.append(error)
+
+    threading.stack_size(_STACK)
+    sys.setrecursionlimit(_CALLS)
+    thread = threading.Thread(target=work)
+    thread.start()
+    thread.join()
+    if broken:
+        raise broken[0]
+    return ended[0]
 
 
 def run(name: str, tool: Callable[[], int], at_once: bool = False) -> NoReturn:

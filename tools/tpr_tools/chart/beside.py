@@ -3,7 +3,7 @@ from __future__ import annotations
 
 from dataclasses import dataclass
 
-from .geometry import Text, escaped, pixels, width_of
+from .geometry import SMALL, Text, escaped, pixels, width_of
 from .layout import ROW
 from .sequence import Sequence
 from .svg import Drawing, drawing_of, picture
@@ -46,7 +46,7 @@ def _drawn(pair: Pair, y: float) -> tuple[list[str], float, float]:
     """The parts of a pair below this height, how wide they are, and how high."""
     parts = [Text(_MARGIN, y + 12 + _LINE * at, line).drawn() for at, line in enumerate(pair.words)]
     top = y + _LINE * len(pair.words) + 12
-    drawings = [drawing_of(run.sequence) for run in (pair.first, pair.second)]
+    drawings = [drawing_of(run.sequence, run.row) for run in (pair.first, pair.second)]
     x = 0.0
     for drawing, run in zip(drawings, (pair.first, pair.second)):
         place = f"translate({pixels(x)} {pixels(top)})"
@@ -66,7 +66,7 @@ def _label(run: Diverging) -> str:
 def _line_of(drawing: Drawing, row: int) -> list[str]:
     """A line above the row; where the run ends before the other one, below its last."""
     layout = drawing.layout
-    y = layout.y(row) - 17 if row < layout.rows else layout.foot() - 8
-    right = pixels(layout.width - 12)
-    line = f'<path class="parts" d="M12 {pixels(y)}H{right}"/>'
-    return [line, f'<text x="{right}" y="{pixels(y + 3)}" class="where end halo">{_HERE}</text>']
+    y = layout.parting_y(row)
+    right = layout.width - 12
+    line = f'<path class="parts" d="M12 {pixels(y)}H{pixels(right - width_of(_HERE, SMALL) - 6)}"/>'
+    return [line, Text(right, y + 3, _HERE, "where small end halo").drawn()]

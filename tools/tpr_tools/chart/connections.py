@@ -1,7 +1,8 @@
 """The components of a test case with their ports, and what is connected and mapped.
 
 Components stand in columns: `mtc` in the first, in each further one those that are connected to one in the column
-before it. So each line runs between two columns, or at the right of one, and none through a component.
+before it. Behind these the others stand in the same way, beginning with the first component of each net. So each line
+runs between two columns, or at the right of one, and none through a component.
 """
 from __future__ import annotations
 
@@ -19,6 +20,7 @@ _TOP, _MARGIN = 64, 30
 _GAP, _BETWEEN = 150, 26  # two columns, two components of one
 _HEAD, _ROW = 44, 22
 _FOOT = 34
+_FAR = 600  # between two ports of one column
 _TITLE_LETTER = 11.2
 
 
@@ -91,21 +93,43 @@ class Connections:
             x += width + _GAP
 
     def columns(self) -> list[list[Shown]]:
-        """Those of one column stand as those stand that they are connected to."""
-        columns: list[list[Shown]] = []
         waiting = dict(self.shown)
-        column = [waiting.pop(MTC)]
-        while column:
+        columns = self.columns_from([MTC], waiting)
+        columns += self.columns_from(self.first_ones(waiting), waiting)
+        for number, column in enumerate(columns):
             for it in column:
-                it.column = len(columns)
+                it.column = number
+        return columns
+
+    def columns_from(self, names: list[str], waiting: dict[str, Shown]) -> list[list[Shown]]:
+        """These, and all that are connected to them, by whichever way. Those of one column stand as those stand that
+        they are connected to."""
+        columns = []
+        while names:
+            column = [waiting.pop(name) for name in names]
             columns.append(column)
             near = {it.name: self.rank(it, column) for it in waiting.values()}
             following = [name for name, rank in near.items() if rank is not None]
-            column = [waiting.pop(name) for name in sorted(following, key=lambda name: near[name] or 0)]
-        # What isn't connected to `mtc`, by whichever way, stands in a column more.
-        for it in waiting.values():
-            it.column = len(columns)
-        return columns + ([list(waiting.values())] if waiting else [])
+            names = sorted(following, key=lambda name: near[name] or 0)
+        return columns
+
+    def first_ones(self, waiting: dict[str, Shown]) -> list[str]:
+        """The first component of each net."""
+        first, known = [], set[str]()
+        for name in waiting:
+            if name not in known:
+                first.append(name)
+                known |= self.net_of(name)
+        return first
+
+    def net_of(self, name: str) -> set[str]:
+        """All that are connected to it, by whichever way, and itself."""
+        net, found = {name}, [name]
+        while found:
+            new = self.partners_of(found.pop()) - net
+            net |= new
+            found += new
+        return net
 
     def rank(self, it: Shown, column: list[Shown]) -> Optional[float]:
         """The mean place of those in the column that it is connected to."""
@@ -142,6 +166,8 @@ class Connections:
         to_x, bend = to_right.x, _GAP / 2
         way_in = to_x - bend
         if from_left.column == to_right.column:
+            # One line around another, so that they can be told apart.
+            bend *= min(0.3 + abs(to_y - y) / _FAR, 1)
             to_x = to_right.x + to_right.width()
             way_in = to_x + bend
         points = ((x + bend, y), (way_in, to_y), (to_x, to_y))

@@ -6,10 +6,36 @@ from typing import NamedTuple
 
 LETTER = 7.25  # the width of a letter of a label, of 12 pixels, in the widest of the usual fonts
 SMALL = 6.65  # and of one of 11 pixels
+LONGEST_NAME = 26
 
 
 def width_of(text: str, letter: float = LETTER) -> float:
     return len(text) * letter
+
+
+def letters_in(width: float, letter: float) -> int:
+    """How many find room. A width that was made for a text has room for all of it, however it was rounded."""
+    return int(width / letter + 1e-6)
+
+
+def cut(text: str, width: float, letter: float = LETTER) -> str:
+    """The text, with its end left out where it doesn't fit."""
+    most = max(letters_in(width, letter), 1)
+    return text if len(text) <= most else text[: most - 1] + "…"
+
+
+def cut_middle(text: str, width: float, letter: float = LETTER) -> str:
+    """The text, with its middle left out where it doesn't fit: names often differ at their ends."""
+    most = max(letters_in(width, letter), 3)
+    if len(text) <= most:
+        return text
+    behind = (most - 1) // 2
+    return f"{text[: most - 1 - behind]}…{text[-behind:]}"
+
+
+def short(name: str) -> str:
+    """A component's name among other words."""
+    return cut_middle(name, LONGEST_NAME, 1)
 
 
 def pixels(value: float) -> str:

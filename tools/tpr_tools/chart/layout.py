@@ -2,14 +2,16 @@
 from __future__ import annotations
 
 from dataclasses import dataclass
+from typing import Optional
 
-from .geometry import LETTER, SMALL, width_of
+from .geometry import LONGEST_NAME, SMALL, width_of
 from .legend import Legend, legend_of
 from .sequence import Arrow, Sequence, Step
 
 ROW = 27
 REPEAT = 40  # after so many rows the names of the components are written again
 STRIP = 30  # the height of that
+PARTING = 22  # the height of what is left free above a row for a line across all life lines
 LOOP = 26  # how far the arrow of a message to the component itself goes to the right, where no badge is in its way
 LANES = 5  # side by side, for those that go round several rows
 LANE = 4
@@ -20,30 +22,9 @@ MOST_LEFT = 4  # so many messages that are left are written out at the foot
 
 _LEAST_GAP = 118
 _MOST_MARGIN = 300
-_LONGEST_NAME = 26
 _LONGEST_TITLE = 560
 _TOP = 112
 _FOOT_LINE = 17
-
-
-def letters_in(width: float, letter: float) -> int:
-    """How many find room. A width that was made for a text has room for all of it, however it was rounded."""
-    return int(width / letter + 1e-6)
-
-
-def cut(text: str, width: float, letter: float = LETTER) -> str:
-    """The text, with its end left out where it doesn't fit."""
-    most = max(letters_in(width, letter), 1)
-    return text if len(text) <= most else text[: most - 1] + "…"
-
-
-def cut_middle(text: str, width: float, letter: float = LETTER) -> str:
-    """The text, with its middle left out where it doesn't fit: names often differ at their ends."""
-    most = max(letters_in(width, letter), 3)
-    if len(text) <= most:
-        return text
-    behind = (most - 1) // 2
-    return f"{text[: most - 1 - behind]}…{text[-behind:]}"
 
 
 @dataclass(frozen=True)
@@ -58,17 +39,26 @@ class Layout:
     rows: int
     foot_lines: int
     legend: Legend
+    parted: Optional[int]  # the row above which a line parts the chart; where there is no such row, the foot
 
     def y(self, row: int) -> float:
         """The height of a row, of which the names stand above some."""
-        return _TOP + ROW * row + STRIP * self.strips_above(row)
+        return _TOP + ROW * row + STRIP * self.strips_above(row) + self.parting_above(row)
+
+    def parting_above(self, row: int) -> float:
+        return PARTING if self.parted is not None and self.parted <= row else 0
+
+    def parting_y(self, parted: int) -> float:
+        """The height of the line that parts the chart."""
+        return self.y(parted) - 27 if parted < self.rows else self.foot() - 14
 
     def strips_above(self, row: int) -> int:
         return row // REPEAT if self.rows > REPEAT + REPEAT // 2 else 0
 
     def foot(self) -> float:
         """The top of the boxes at the foot."""
-        return self.y(self.rows - 1) + 26 if self.rows else float(_TOP - 10)
+        top = self.y(self.rows - 1) + 26 if self.rows else float(_TOP - 10)
+        return top + (PARTING if self.parted == self.rows else 0)
 
     def foot_height(self) -> float:
         return 46 + (8 + _FOOT_LINE * self.foot_lines if self.foot_lines else 0)
@@ -99,7 +89,7 @@ def outer_space(arrow: Arrow) -> int:
     return arrow.receiver + 1 if goes_right(arrow) else arrow.receiver
 
 
-def layout_of(sequence: Sequence) -> Layout:
+def layout_of(sequence: Sequence, parted: Optional[int] = None) -> Layout:
     most_gap = min(max(960 / max(len(sequence.names) - 1, 1), 150), 470)
     reaches = _reaches(sequence)
     needs = _needs(sequence, most_gap, reaches)
@@ -118,7 +108,7 @@ def layout_of(sequence: Sequence) -> Layout:
     foot_lines = max(min(len(foot.left), MOST_LEFT + 1) for foot in sequence.feet)
     width, rows = behind + spaces[-1], len(sequence.steps)
     legend = legend_of(sequence, width)
-    return Layout(tuple(columns), tuple(boxes), tuple(spaces), width, reaches, rows, foot_lines, legend)
+    return Layout(tuple(columns), tuple(boxes), tuple(spaces), width, reaches, rows, foot_lines, legend, parted)
 
 
 def _reaches(sequence: Sequence) -> tuple[float, ...]:
@@ -145,8 +135,8 @@ def _widen(spaces: list[float], least: float) -> None:
 def _box(sequence: Sequence, place: int, most_gap: float) -> float:
     """The width of a component's boxes."""
     foot = sequence.feet[place]
-    texts = [sequence.names[place][:_LONGEST_NAME], foot.end, f"verdict {foot.verdict}"]
-    texts += [left[:_LONGEST_NAME] for left in foot.left[:MOST_LEFT]]
+    texts = [sequence.names[place][:LONGEST_NAME], foot.end, f"verdict {foot.verdict}"]
+    texts += [left[:LONGEST_NAME] for left in foot.left[:MOST_LEFT]]
     return min(max(width_of(text) for text in texts) + 34, most_gap - 18)
 
 

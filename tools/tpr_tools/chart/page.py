@@ -7,14 +7,13 @@ from __future__ import annotations
 
 import json
 import os
-import re
 from html import escape
 from typing import Any, Mapping, Optional
 
+from ..template import Template
 from .sequence import Arrow, Sequence, Step
 
-_FOLDER = os.path.join(os.path.dirname(os.path.realpath(__file__)), "page")
-_PLACES = re.compile("{(title|style|code|data)}")
+_TEMPLATE = Template(os.path.join(os.path.dirname(os.path.realpath(__file__)), "page"))
 _STAYS = ("left", "discarded")
 
 
@@ -23,17 +22,12 @@ def page_of(sequence: Sequence, script_lines: Optional[Mapping[int, str]] = None
     data = json.dumps(_Data(sequence, script_lines or {}).all(), separators=(",", ":"))
     parts = {
         "title": escape(sequence.title),
-        "style": _part("page.css"),
-        "code": "\n".join(_part(name) for name in ("told.js", "drawing.js", "acting.js")),
+        "style": _TEMPLATE.part("page.css"),
+        "code": "\n".join(_TEMPLATE.part(name) for name in ("told.js", "drawing.js", "acting.js")),
         # A `<` in the data could end the script that it stands in.
         "data": data.replace("<", "\\u003c"),
     }
-    return _PLACES.sub(lambda found: parts[found[1]], _part("page.html"))
-
-
-def _part(name: str) -> str:
-    with open(os.path.join(_FOLDER, name), encoding="utf-8") as opened:
-        return opened.read()
+    return _TEMPLATE.filled("page.html", parts)
 
 
 class _Data:

@@ -8,6 +8,7 @@ from ..report.deliveries import Deliveries, Message, Place, deliveries_of
 from ..report.order import Row, rows_of
 from ..report.report import Component, Failed, Operation, Otherwise, Received, Report, Sent, VerdictSet
 from ..words import counted, readable
+from .geometry import short
 
 # How a message that stays in the queue ends in the row of its sending.
 _AT_THE_QUEUE = ("left", "discarded")
@@ -59,14 +60,14 @@ class Arrow(NamedTuple):
 
     def at_sender(self) -> str:
         """The message, and where it goes."""
-        to = f"to {self.message.route.receiver} #{self.message.number} " if self.is_far() else ""
+        to = f"to {short(self.message.route.receiver)} #{self.message.number} " if self.is_far() else ""
         return to + self.message.text
 
     def at_receiver(self) -> str:
         """What stands beside the receiver's life line, and where the message comes from."""
         if not self.is_far():
             return self.outside()
-        return f"{self.outside()} from {self.message.route.sender} #{self.message.number}"
+        return f"{self.outside()} from {short(self.message.route.sender)} #{self.message.number}"
 
 
 class Badge(NamedTuple):

@@ -3,22 +3,22 @@ from __future__ import annotations
 
 from dataclasses import replace
 from html import escape
+from typing import Optional
 
-from .geometry import SMALL, Box, Line, Text, escaped, pixels, width_of
+from .geometry import SMALL, Box, Line, Text, cut, cut_middle, escaped, pixels, width_of
 from .layout import (
     BESIDE_TITLE,
     LANE,
     LANES,
     LOOP,
     MOST_LEFT,
+    PARTING,
     REPEAT,
     ROW,
     STEM,
     STRIP,
     TITLE_LETTER,
     Layout,
-    cut,
-    cut_middle,
     goes_right,
     layout_of,
 )
@@ -74,11 +74,12 @@ def svg_of(sequence: Sequence) -> str:
     return drawing_of(sequence).file()
 
 
-def drawing_of(sequence: Sequence) -> Drawing:
-    """The drawing, in which no arrow strikes through a text, a badge or the end of another arrow: one that would is
-    drawn as its two ends. Its texts are longer then, so that it is laid out anew."""
+def drawing_of(sequence: Sequence, parted: Optional[int] = None) -> Drawing:
+    """The drawing, with room for a line above the row by which it is parted. In it no arrow strikes through a text, a badge
+    or the end of another arrow: one that would is drawn as its two ends. Its texts are longer then, so that it is laid
+    out anew."""
     while True:
-        drawing = Drawing(sequence, layout_of(sequence))
+        drawing = Drawing(sequence, layout_of(sequence, parted))
         striking = drawing.striking()
         if not striking:
             return drawing
@@ -192,7 +193,8 @@ class Drawing:
         for row in range(REPEAT, self.layout.rows, REPEAT):
             if self.layout.strips_above(row) == 0:
                 break
-            y = self.layout.y(row) - STRIP / 2 - 17
+            parting = PARTING if self.layout.parted == row else 0
+            y = self.layout.y(row) - parting - STRIP / 2 - 17
             for x, width, name in zip(self.layout.columns, self.layout.boxes, self.sequence.names):
                 strips.append(Text(x, y, cut_middle(name, width - 12, SMALL), "strip middle halo").drawn())
         return strips

@@ -3,10 +3,10 @@ from __future__ import annotations
 
 import re
 from dataclasses import replace
-from typing import Any, Callable, NamedTuple, Optional, Union
+from typing import Any, Callable, Iterator, NamedTuple, Optional, Sequence, Union
 
 from ..refusals import Refusal
-from ..script.checks import check_script
+from ..script.checks import faults_of
 from ..script.cursor import A_STATEMENT, A_VALUE, GrammarFault
 from ..script.faults import RuleFault
 from ..script.refusal_rules import BEYOND_SCRIPTS, RULES_OF, Rule
@@ -15,12 +15,11 @@ from ..words import RESERVED, RESERVED_ELSEWHERE
 from .brackets import unclosed_at
 from .construct_letters import construct_of_rest
 from .construct_signs import Found, Signs, construct_of_name
-from .explanation import Answer, Explanation, Shown, Warned
+from .explanation import STANDARD, Answer, Explanation, Shown, Warned
 from .warnings import warnings_of
 
 _REFUSED = re.compile(r"refused ([0-9]{1,9}) ([A-Za-z]+)(?: line ([0-9]{1,9}))?")
 _FAULT = re.compile(r"fault ([0-9]+) [A-Za-z]+")
-_CLAUSES = "ES 201 873-1"
 _MOST_WARNINGS = 20  # of one script: the others are counted
 
 Fault = Union[TokenFault, GrammarFault, RuleFault]
@@ -28,12 +27,19 @@ Fault = Union[TokenFault, GrammarFault, RuleFault]
 
 def explain(file: str, data: Optional[bytes], said: str) -> Explanation:
     """`said` is what `tpr check` printed. There are no data where the file can't be read."""
+    return next(explanations_of(file, data, said))
+
+
+def explanations_of(file: str, data: Optional[bytes], said: str) -> Iterator[Explanation]:
+    """That of what was printed, then one of each further fault that explain's own reading finds."""
     if said == "accepted":
-        return _accepted(file, data)
+        yield _accepted(file, data)
+        return
     refused = _REFUSED.fullmatch(said)
     if refused is None or int(refused[1]) not in RULES_OF or refused[2] != Refusal(int(refused[1])).word:
         answer = Answer.FAULT if _FAULT.fullmatch(said) else Answer.BROKEN
-        return Explanation(file, answer, said.partition("\n")[0] or "nothing was printed")
+        yield Explanation(file, answer, said.partition("\n")[0] or "nothing was printed")
+        return
     line = int(refused[3]) if refused[3] else None
     explanation = Explanation(file, Answer.REFUSED, said, int(refused[1]), refused[2], line)
     reading = reading_of(data)
@@ -41,11 +47,20 @@ def explain(file: str, data: Optional[bytes], said: str) -> Explanation:
         explanation.own_reading = reading.answer
         _by_rules(explanation)
     elif reading.text is not None:
-        _EXPLAINED[type(reading.fault)](explanation, reading.text, reading.fault)
+        yield from (_of_fault(file, reading.text, fault) for fault in reading.faults)
+        return
     elif data is None:
         _by_rules(explanation)
     else:
         _of_long_text(explanation)
+    yield explanation
+
+
+def _of_fault(file: str, text: Text, fault: Fault) -> Explanation:
+    refusal, line = Refusal(fault.number), line_of(text, fault)
+    said = f"refused {refusal.told()} line {line}"
+    explanation = Explanation(file, Answer.REFUSED, said, refusal.value, refusal.word, line)
+    _EXPLAINED[type(fault)](explanation, text, fault)
     return explanation
 
 
@@ -66,11 +81,11 @@ def _accepted(file: str, data: Optional[bytes]) -> Explanation:
 
 
 class Reading(NamedTuple):
-    """What `tpr check` prints if it finds the same as explain, and the fault in the text."""
+    """What `tpr check` prints if it finds the same as explain, and the faults in the text."""
 
     answer: str
     text: Optional[Text] = None
-    fault: Optional[Fault] = None
+    faults: Sequence[Fault] = ()
 
 
 def reading_of(data: Optional[bytes]) -> Reading:
@@ -79,21 +94,20 @@ def reading_of(data: Optional[bytes]) -> Reading:
     if len(data) > MOST_BYTES:
         return Reading(f"refused {Refusal.LIMIT.told()} line 0")
     text = Text(data)
-    fault = first_fault(text)
-    if fault is None:
+    faults = _faults_of(text)
+    if not faults:
         return Reading("accepted")
-    return Reading(f"refused {Refusal(fault.number).told()} line {line_of(text, fault)}", text, fault)
+    first = f"refused {Refusal(faults[0].number).told()} line {line_of(text, faults[0])}"
+    return Reading(first, text, faults)
 
 
-def first_fault(text: Text) -> Optional[Fault]:
-    """The first fault that is found here."""
+def _faults_of(text: Text) -> Sequence[Fault]:
     if fault := text.fault():
-        return fault
+        return [fault]
     try:
-        check_script(text)
-    except (GrammarFault, RuleFault) as found:
-        return found
-    return None
+        return faults_of(text)
+    except GrammarFault as found:
+        return [found]
 
 
 def line_of(text: Text, fault: Fault) -> int:
@@ -235,7 +249,7 @@ def _refused_token(text: Text, fault: GrammarFault, is_named: bool) -> str:
 def _add_construct(explanation: Explanation, found: Found, sentence: str) -> None:
     explanation.construct, explanation.clause = found.title(), found.construct.clause
     explanation.instead = found.instead()
-    where = f"({_CLAUSES}, {explanation.clause})"
+    where = f"({STANDARD}, {explanation.clause})"
     explanation.sentence = f"{explanation.construct} isn't supported {where}: {sentence}"
 
 

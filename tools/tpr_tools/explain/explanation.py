@@ -12,6 +12,7 @@ from ..words import counted
 
 # So begins the text of a construct that nothing replaces.
 NOTHING = "nothing: "
+STANDARD = "ES 201 873-1"
 
 
 class Answer(Enum):
@@ -83,7 +84,29 @@ class Explanation:
             place += f":{self.column}"
         if self.answer is not Answer.REFUSED:
             return f"{place}: {self.said}"
-        return f"{place}: refused {self.number} {self.name}: {self.sentence}"
+        if self.number is None:
+            return f"{place}: {self.sentence}" + (f" ({self.code()})" if self.clause else "")
+        return f"{place}: refused {self.code()}: {self.sentence}"
+
+    def code(self) -> str:
+        """The refusal; of what the program hasn't named the clause, if it is a construct."""
+        if self.number is not None:
+            return f"{self.number} {self.name}"
+        return f"{STANDARD}, {self.clause}" if self.clause else ""
+
+    def advice(self) -> list[str]:
+        """What to write."""
+        lines = []
+        if self.can_stand:
+            lines.append(f"expected here: {', '.join(self.can_stand)}")
+        if self.instead.startswith(NOTHING):
+            lines.append(f"no replacement: {self.instead.removeprefix(NOTHING)}")
+        elif self.instead:
+            lines.append(f"write instead: {self.instead}")
+        return lines
+
+    def message(self) -> str:
+        return "\n".join([self.sentence or self.said, *self.advice()])
 
     def text(self) -> str:
         lines = [self.first_line()]
@@ -92,12 +115,7 @@ class Explanation:
         width = max((len(str(shown.position.line)) for shown in self.places), default=1)
         for shown in self.places:
             lines += _shown_lines(shown, max(width, 4))
-        if self.can_stand:
-            lines.append(f"  expected here: {', '.join(self.can_stand)}")
-        if self.instead.startswith(NOTHING):
-            lines.append(f"  no replacement: {self.instead.removeprefix(NOTHING)}")
-        elif self.instead:
-            lines.append(f"  write instead: {self.instead}")
+        lines += [f"  {line}" for line in self.advice()]
         if self.construct:
             lines.append(f"  more: docs/FROM_TTCN3.md, {self.clause}")
         if self.own_reading:

@@ -10,6 +10,7 @@ from typing import Iterator, NamedTuple, Union
 
 from ..script.case import Case, Player
 from ..script.checks import check_script
+from ..script.forms import Plain, Test
 from ..script.setup import SYSTEM
 from ..script.tokens import Text
 from ..script.tree import Alt, Control, Loop, Message, Receive, Send, Statement, Value, ValueKind
@@ -59,6 +60,7 @@ class _Player:
         self.operations = [*operations_of(player.statements())]
         self.variables = {case.word(it) for it in player.variables()}
         self.looked = 0  # how many receiving operations were looked at for a message
+        self.tests: dict[int, Test] = {}  # of their templates
         self.receiving: dict[str, list[Receive]] = {}
         for it in self.operations:
             if isinstance(it, Receive):
@@ -111,7 +113,8 @@ class _Player:
             return
         tried = self.receiving.get(port, [])
         self.looked += len(tried)
-        if self.looked > _MOST_LOOKED and tried or any(self.may_take(it, message, sender) for it in tried):
+        value = self.case.forms.filled(message.value, self.case.word(message.type), {})
+        if self.looked > _MOST_LOOKED and tried or any(self.may_take(it, message, value, sender) for it in tried):
             return
         told, name = self.case.forms.text_of(message, {}), self.player.name
         why = f"no template there matches `{told}`" if tried else "it has no receiving operation there"
@@ -127,7 +130,7 @@ class _Player:
         controls = [it for it in self.operations if isinstance(it, Control)]
         return any(it.port is None or self.case.word(it.port) == port for it in controls)
 
-    def may_take(self, operation: Receive, message: Message, sender: str) -> bool:
+    def may_take(self, operation: Receive, message: Message, value: Plain, sender: str) -> bool:
         if operation.sender is not None and self.player.references[self.case.word(operation.sender)] != sender:
             return False
         if operation.message is None:
@@ -137,9 +140,10 @@ class _Player:
             return False
         if _has_name(operation.message.value):
             return True
-        forms = self.case.forms
-        value = forms.filled(message.value, type_name, {})
-        return forms.test_of(operation.message.value, type_name)(value, {})
+        place = operation.message.type
+        if place not in self.tests:
+            self.tests[place] = self.case.forms.test_of(operation.message.value, type_name)
+        return self.tests[place](value, {})
 
 
 def _has_name(value: Value) -> bool:

@@ -15,7 +15,7 @@ def text_of(exploration: Exploration, script: str) -> str:
     lines = [line for it in shown for line in _lines_of(it, dict(answer.orders).get(it.verdict))]
     pieces += ["", *lines] if lines else []
     if partings := exploration.partings():
-        pieces.append(_text_of_partings(partings, exploration.case.origins))
+        pieces.append(text_of_partings(partings, exploration.case.origins))
     if answer.orders:
         pieces += [_text_of_report(it, script) for it in shown if it.report]
     if exploration.no_reports and (answer.orders or exploration.interrupted):
@@ -56,7 +56,7 @@ def _end_of(name: str, lines: list[str]) -> str:
     return f"{name} {verdict}{waits}"
 
 
-def _text_of_partings(partings: list[Parted], origins: Origins) -> str:
+def text_of_partings(partings: list[Parted], origins: Origins) -> str:
     pieces = [f"\n{origins.heading()}"] if origins.files else []
     for it in partings:
         pieces.append(f"\nWhere the runs diverge ({it.better.verdict} and {it.worse.verdict}):\n")

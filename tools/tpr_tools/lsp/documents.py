@@ -6,7 +6,7 @@ from dataclasses import dataclass, field
 from typing import Optional, Union
 from urllib.parse import unquote, urlsplit
 
-from ..explore.answers import Answer, read_answer
+from ..explore.answers import read_answer
 from .diagnostics import Found
 from .frames import Json
 from .jobs import Job
@@ -68,6 +68,11 @@ class Document:
         self.verdict = ""
         self.has_early_lens = False
 
+    def cancel_jobs(self) -> None:
+        for job in self.jobs.values():
+            job.cancel()
+        self.jobs.clear()
+
     def is_in_file(self) -> bool:
         """Whether the file has the same bytes."""
         try:
@@ -83,23 +88,17 @@ class Document:
             return []
         name = self.outline.offsets[case.name]
         shows: Json = {"title": self.verdict or "the verdicts are being computed", "command": ""}
-        if " or " in self.verdict:
+        if " or " in self.verdict or self.verdict.startswith("undecided"):
             shows.update(command=SHOW_RUNS, arguments=[self.uri])
         return [{"range": self.lines.region(name, self.outline.end(case.name)), "command": shows}]
 
 
 def verdict_told(printed: str, why: str) -> str:
-    """The title of the lens, from what `tpr verdicts` printed."""
+    """The title of the lens, from what `tpr verdicts` printed, or why it printed nothing."""
     answer = read_answer(printed)
     if answer is None or answer.fault() is not None:
-        return f"no verdicts: {why or printed.partition(chr(10))[0] or 'the program printed nothing'}"
-    return _title(answer)
-
-
-def _title(answer: Answer) -> str:
-    told = " or ".join(answer.verdicts)
+        return f"no verdicts: {printed.partition(chr(10))[0] or why}"
     if not answer.decided:
-        return f"undecided after {answer.states:,} states" + (f", seen: {', '.join(answer.verdicts)}" if told else "")
-    if len(answer.verdicts) == 1:
-        return f"always {told}"
-    return f"{told}: show where the runs diverge"
+        return f"undecided after {answer.states:,} states"
+    told = " or ".join(answer.verdicts)
+    return f"always {told}" if len(answer.verdicts) == 1 else f"{told}: show where the runs diverge"

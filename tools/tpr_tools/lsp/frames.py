@@ -16,8 +16,8 @@ _MOST_HEADERS = 32
 _AT_ONCE = 1 << 16
 
 
-class BrokenFrame(Exception):
-    """Bytes that aren't a message. The reader continues after them."""
+class Refused(Exception):
+    """A request that isn't possible; or bytes that aren't a message, after which the reader continues."""
 
     def __init__(self, code: int, text: str):
         super().__init__(text)
@@ -33,16 +33,16 @@ def read_message(source: BinaryIO) -> Optional[dict[str, Json]]:
     if length > MOST_BYTES:
         while length > 0 and (piece := source.read(min(length, _AT_ONCE))):
             length -= len(piece)
-        raise BrokenFrame(INVALID_REQUEST, f"a message has more than {MOST_BYTES:,} bytes")
+        raise Refused(INVALID_REQUEST, f"a message has more than {MOST_BYTES:,} bytes")
     body = source.read(length)
     if len(body) < length:
         return None
     try:
         message = json.loads(body)
     except (ValueError, RecursionError) as error:
-        raise BrokenFrame(PARSE_ERROR, f"a message isn't JSON: {error}") from None
+        raise Refused(PARSE_ERROR, f"a message isn't JSON: {error}") from None
     if not isinstance(message, dict):
-        raise BrokenFrame(INVALID_REQUEST, "a message isn't a JSON object")
+        raise Refused(INVALID_REQUEST, "a message isn't a JSON object")
     return message
 
 
@@ -56,16 +56,16 @@ def _length_in_header(source: BinaryIO) -> Optional[int]:
         name, colon, value = line.partition(b":")
         if line in (b"\r\n", b"\n"):
             if length is None:
-                raise BrokenFrame(PARSE_ERROR, "a header has no Content-Length")
+                raise Refused(PARSE_ERROR, "a header has no Content-Length")
             return length
         if not colon or not line.endswith(b"\n"):
-            raise BrokenFrame(PARSE_ERROR, "a line of a header isn't `NAME: VALUE`")
+            raise Refused(PARSE_ERROR, "a line of a header isn't `NAME: VALUE`")
         if name.strip().lower() == b"content-length":
             digits = value.strip()
             if not digits.isdigit() or len(digits) > 12:
-                raise BrokenFrame(PARSE_ERROR, "the Content-Length isn't a number")
+                raise Refused(PARSE_ERROR, "the Content-Length isn't a number")
             length = int(digits)
-    raise BrokenFrame(PARSE_ERROR, f"a header has more than {_MOST_HEADERS} lines")
+    raise Refused(PARSE_ERROR, f"a header has more than {_MOST_HEADERS} lines")
 
 
 class Writer:
@@ -93,5 +93,5 @@ class Writer:
     def answer(self, number: Union[int, str], result: Json) -> None:
         self._send({"id": number, "result": result})
 
-    def refuse(self, number: Union[int, str, None], code: int, text: str) -> None:
-        self._send({"id": number, "error": {"code": code, "message": text}})
+    def refuse(self, number: Union[int, str, None], refused: Refused) -> None:
+        self._send({"id": number, "error": {"code": refused.code, "message": refused.text}})

@@ -1,7 +1,7 @@
 """What an editor shows of a name: what it is, where it is defined, and all definitions of a text."""
 from __future__ import annotations
 
-from typing import Optional
+from typing import Optional, Union
 
 from .diagnostics import Found
 from .frames import Json
@@ -51,7 +51,8 @@ def _of_port(outline: Outline, number: int, port: Declared) -> list[str]:
     told = [f"port `{word}`{of}, of type `{port_type}`"]
     told += [f"- {direction}" for direction in outline.directions(port_type)]
     component = outline.owner_of(number)
-    names = [component] if component else _of_type(outline, outline.words[owner.name] if owner else "")
+    type_name = outline.words[owner.name] if owner else ""
+    names = [component] if component else [name for name, it in outline.components.items() if it == type_name]
     partners = [line for name in names for line in _partners(outline, End(name, word))]
     if outline.case is not None and not partners:
         told.append("- is neither connected nor mapped")
@@ -59,10 +60,6 @@ def _of_port(outline: Outline, number: int, port: Declared) -> list[str]:
     if len(partners) > _MOST_LINES:
         told.append(f"- and {len(partners) - _MOST_LINES} more")
     return ["\n".join([told[0], "", *told[1:]])]
-
-
-def _of_type(outline: Outline, component_type: str) -> list[str]:
-    return [name for name, it in outline.components.items() if it == component_type]
 
 
 def _partners(outline: Outline, end: End) -> list[str]:
@@ -100,25 +97,14 @@ def symbols_of(outline: Outline, lines: Lines) -> list[Json]:
     return [_symbol(outline, lines, it) for it in outline.definitions]
 
 
-def _symbol(outline: Outline, lines: Lines, definition: Definition) -> Json:
-    return {
-        "name": outline.words[definition.name],
-        "detail": definition.kind,
-        "kind": _KINDS.get(definition.kind, _FUNCTION),
-        "range": lines.region(outline.offsets[definition.first], outline.end(definition.last)),
-        "selectionRange": _name(outline, lines, definition.name),
-        "children": [_child(outline, lines, it) for it in definition.declared],
-    }
-
-
-def _child(outline: Outline, lines: Lines, declared: Declared) -> Json:
-    return {
-        "name": outline.words[declared.name],
-        "detail": outline.words[declared.type],
-        "kind": _KINDS.get(declared.kind, _VARIABLE),
-        "range": _name(outline, lines, declared.name),
-        "selectionRange": _name(outline, lines, declared.name),
-    }
+def _symbol(outline: Outline, lines: Lines, it: Union[Definition, Declared]) -> Json:
+    place = _name(outline, lines, it.name)
+    made: Json = {"name": outline.words[it.name], "range": place, "selectionRange": place}
+    if isinstance(it, Declared):
+        return {**made, "kind": _KINDS.get(it.kind, _VARIABLE), "detail": outline.words[it.type]}
+    whole = lines.region(outline.offsets[it.first], outline.end(it.last))
+    inner = [_symbol(outline, lines, one) for one in it.declared]
+    return {**made, "kind": _KINDS.get(it.kind, _FUNCTION), "detail": it.kind, "range": whole, "children": inner}
 
 
 def flat(symbols: list[Json], uri: str) -> list[Json]:

@@ -122,12 +122,12 @@ class Outline:
         """Finds the braces of its body. One that isn't closed ends with the text, or before the next definition."""
         if not self.word(made.name)[:1].isalpha():
             return None
-        number, depth = made.name, 0
+        depth = 0
         made.head = made.last = made.name
         for number in range(made.name + 1, len(self.words)):
             word = self.words[number]
             if depth == 0 and word in (";", "}") or word in (*_BODIES, "type"):
-                return self._filled(made)
+                break
             made.last = number
             if word == "{":
                 made.head = made.head if depth else number - 1
@@ -135,14 +135,11 @@ class Outline:
             elif word == "}":
                 depth -= 1
                 if depth == 0:
-                    return self._filled(made)
+                    break
             elif depth == 0 and self.words[number - 1] == "on":
                 made.runs_on = word
             elif depth == 0 and self.words[number - 1] == "system":
                 made.system = word
-        return self._filled(made)
-
-    def _filled(self, made: Definition) -> Definition:
         made.declared = list(self._declared(made))
         return made
 

@@ -42,8 +42,9 @@ class Lines:
         before = self.text[self.starts[line] : offset] if self._has_wide else ""
         return {"line": line, "character": offset - self.starts[line] + len(_WIDE.findall(before))}
 
-    def span(self, offset: int, length: int) -> Json:
-        """A range, which ends in the line in which it begins."""
+    def told(self, line: int, column: int, length: int) -> Json:
+        """The range that a tool names, which ends in the line in which it begins."""
+        offset = self.offset_told(line, column)
         line = bisect_right(self.starts, offset) - 1
         end = max(offset, min(offset + length, self.end(line)))
         return {"start": self.position(offset), "end": self.position(end)}

@@ -2,76 +2,51 @@
 come. A second thread reads messages, so that a request can be cancelled before its turn."""
 from __future__ import annotations
 
+import json
 import os
 import queue
 import re
+import shutil
 import sys
+import tempfile
 import threading
 import time
-from dataclasses import dataclass
+from functools import partial
+from pathlib import Path
 from typing import Any, BinaryIO, Callable, Optional, Union
 
 from . import frames
-from .diagnostics import explained, found_in, listed_of, with_constructs
+from .diagnostics import explained, found_in, with_constructs
 from .documents import SHOW_RUNS, Document, Held, verdict_told
-from .frames import BrokenFrame, Json, Writer
+from .frames import Json, Refused, Writer
 from .hovering import definition_of, flat, hover_of, symbols_of
 from .jobs import Job
 from .positions import Lines, without_halves
-from .shown_runs import ShownRuns
 
 _CHECK_SECONDS = 5.0
 _LISTING_SECONDS = 60.0
 _RUN_SECONDS = 5.0
 _HOLD_SECONDS = 2.0  # for which a request waits for a program
-
-
-class NotPossible(Exception):
-    """A request that is refused."""
-
-    def __init__(self, code: int, text: str):
-        super().__init__(text)
-        self.code = code
-        self.text = text
-
-
-class EndOfInput:
-    """The client has closed its end."""
-
-
-@dataclass(frozen=True)
-class Settings:
-    """The program to ask, the folder round the tools, and how many seconds a change waits for the next one."""
-
-    program: str
-    root: str
-    delay: float
-
-
-Event = Union[dict[str, Json], BrokenFrame, EndOfInput, Job]
+# What is done when a program has ended.
+Then = Callable[[Document, Job], None]
 
 
 class Server:
-    def __init__(self, settings: Settings, source: BinaryIO, target: BinaryIO):
-        self.settings = settings
+    """Asks the program, and starts the tools below `root`. A change waits for the next one for `delay` seconds."""
+
+    def __init__(self, program: str, root: str, delay: float, source: BinaryIO, target: BinaryIO):
+        self.program, self.tools, self.delay = program, os.path.join(root, "tools"), delay
         self.source = source
         self.client = Writer(target)
-        self.events: queue.Queue[Event] = queue.Queue()
+        self.events: queue.Queue[Callable[[], None]] = queue.Queue()
         self.documents: dict[str, Document] = {}
-        self.runs = ShownRuns()
+        self.room = ""  # for the documents that show where runs diverge
         self.cancelled: set[Union[int, str]] = set()
         self.status: Optional[int] = None
         self.is_initialized = self.is_shut_down = False
         self.can: Json = {}
         # A program that can't be asked isn't asked at each change, but again when a text is saved.
         self.program_fails = False
-        self.ends: dict[str, Callable[[Document, Job], None]] = {
-            "check": self._checked,
-            "constructs": self._listed,
-            "verdicts": self._decided,
-            "ways": self._ran,
-            "runs": self._explored,
-        }
 
     def serve(self) -> int:
         """Works until the client ends it; the status of the process."""
@@ -79,15 +54,16 @@ class Server:
         try:
             while self.status is None:
                 try:
-                    self._handle(self.events.get(timeout=self._pause()))
+                    self.events.get(timeout=self._pause())()
                 except queue.Empty:
                     pass
                 if self.events.empty():
                     self._do_what_is_due()
         finally:
             for document in self.documents.values():
-                self._cancel_jobs(document)
-            self.runs.remove()
+                document.cancel_jobs()
+            if self.room:
+                shutil.rmtree(self.room, ignore_errors=True)
         return self.status
 
     # Events
@@ -97,23 +73,24 @@ class Server:
         while True:
             try:
                 message = frames.read_message(self.source)
-            except BrokenFrame as broken:
+            except Refused as broken:
                 # Bytes without any frame are refused once, however many they are.
                 if not was_broken:
-                    self.events.put(broken)
+                    self.events.put(partial(self.client.refuse, None, broken))
                 was_broken = broken.code == frames.PARSE_ERROR
                 continue
             except (OSError, ValueError):
                 message = None
             was_broken = False
+            number = at(message, "params", "id") if at(message, "method") == "$/cancelRequest" else None
+            if isinstance(number, (int, str)):
+                self.cancelled.add(number)
+            self.events.put(partial(self._end if message is None else self._message, message))
             if message is None:
-                self.events.put(EndOfInput())
                 return
-            if message.get("method") == "$/cancelRequest":
-                number = (message.get("params") or {}).get("id") if isinstance(message.get("params"), dict) else None
-                if isinstance(number, (int, str)):
-                    self.cancelled.add(number)
-            self.events.put(message)
+
+    def _end(self, _: object) -> None:
+        self.status = 0 if self.is_shut_down else 1
 
     def _pause(self) -> Optional[float]:
         """How long nothing is due."""
@@ -121,57 +98,47 @@ class Server:
         due += [held.until for it in self.documents.values() for held in it.held if held.until is not None]
         return max(0.0, min(due) - time.monotonic()) if due else None
 
-    def _handle(self, event: Event) -> None:
-        if isinstance(event, EndOfInput):
-            self.status = 0 if self.is_shut_down else 1
-        elif isinstance(event, BrokenFrame):
-            self.client.refuse(None, event.code, event.text)
-        elif isinstance(event, Job):
-            self._job_ended(event)
-        else:
-            self._message(event)
-
     def _message(self, message: dict[str, Json]) -> None:
         number, method = message.get("id"), message.get("method")
         number = number if isinstance(number, (int, str)) else None
         if not isinstance(method, str):
             if "result" not in message and "error" not in message:
-                self.client.refuse(None, frames.INVALID_REQUEST, "a message has neither a method nor a result")
+                what = "a message has neither a method nor a result"
+                self.client.refuse(None, Refused(frames.INVALID_REQUEST, what))
             return
         try:
             if number is not None and number in self.cancelled:
-                raise NotPossible(frames.CANCELLED, "the request was cancelled")
+                raise Refused(frames.CANCELLED, "the request was cancelled")
             result = self._called(method, message.get("params"), number)
             if number is not None and not isinstance(result, Held):
                 self.client.answer(number, result)
-        except NotPossible as refused:
+        except Refused as refused:
             self._refuse(number, refused)
         except BrokenPipeError:
             raise
         except Exception as error:  # A fault of the server must not end the session.
-            self._refuse(number, NotPossible(frames.INTERNAL_ERROR, f"{method}: {type(error).__name__}: {error}"))
+            self._refuse(number, Refused(frames.INTERNAL_ERROR, f"{method}: {type(error).__name__}: {error}"))
         if number is not None:
             self.cancelled.discard(number)
 
-    def _refuse(self, number: Union[int, str, None], refused: NotPossible) -> None:
+    def _refuse(self, number: Union[int, str, None], refused: Refused) -> None:
         if number is not None:
-            self.client.refuse(number, refused.code, refused.text)
+            self.client.refuse(number, refused)
         elif refused.code != frames.METHOD_NOT_FOUND and self.is_initialized:
             self._log(refused.text)
 
     def _called(self, method: str, params: Json, number: Union[int, str, None]) -> Any:
         """The result of a request; that of a notification is dropped."""
         if method == "exit":
-            self.status = 0 if self.is_shut_down else 1
-            return None
+            return self._end(None)
         if method == "initialize" and not self.is_initialized:
             return self._initialize(params)
         if not self.is_initialized:
-            raise NotPossible(frames.NOT_INITIALIZED, "the first request must be `initialize`")
+            raise Refused(frames.NOT_INITIALIZED, "the first request must be `initialize`")
         if self.is_shut_down or method == "initialize":
-            raise NotPossible(frames.INVALID_REQUEST, f"`{method}` isn't possible now")
+            raise Refused(frames.INVALID_REQUEST, f"`{method}` isn't possible now")
         if method not in _METHODS:
-            raise NotPossible(frames.METHOD_NOT_FOUND, f"there is no method `{method}`")
+            raise Refused(frames.METHOD_NOT_FOUND, f"there is no method `{method}`")
         return _METHODS[method](self, params, number)
 
     def _initialize(self, params: Json) -> Json:
@@ -202,9 +169,8 @@ class Server:
         uri, text = wanted(item, str, "uri"), wanted(item, str, "text")
         if uri in self.documents:
             self._forget(self.documents[uri])
-        document = Document(uri, item.get("version"), Lines(without_halves(text)))
-        self.documents[uri] = document
-        self._check_soon(document)
+        self.documents[uri] = Document(uri, item.get("version"), Lines(without_halves(text)))
+        self._check_soon(self.documents[uri])
 
     def did_change(self, params: Json, _: object) -> None:
         document = self._document(params)
@@ -217,8 +183,7 @@ class Server:
             lines = Lines(text)
             start, end = (_offset(lines, at(change, "range", it)) for it in ("start", "end"))
             text = text[:start] + piece + text[max(start, end) :]
-        self._cancel_jobs(document)
-        self._refuse_held(document)
+        self._forget(document)
         document.change(at(params, "textDocument", "version"), text)
         self._check_soon(document)
 
@@ -235,20 +200,24 @@ class Server:
         document = self._document(params)
         self._forget(document)
         del self.documents[document.uri]
-        self.client.notify("textDocument/publishDiagnostics", {"uri": document.uri, "diagnostics": []})
+        document.found, document.version = [], None
+        self._send_diagnostics(document)
 
     def _document(self, params: Json) -> Document:
         uri = wanted(params, str, "textDocument", "uri")
         if uri not in self.documents:
-            raise NotPossible(frames.INVALID_PARAMS, f"`{uri}` isn't open")
+            raise Refused(frames.INVALID_PARAMS, f"`{uri}` isn't open")
         return self.documents[uri]
 
     def _forget(self, document: Document) -> None:
-        self._cancel_jobs(document)
-        self._refuse_held(document)
+        """Ends what was asked of this version."""
+        document.cancel_jobs()
+        for held in document.held:
+            self.client.refuse(held.number, Refused(frames.CONTENT_MODIFIED, "the text has changed"))
+        document.held.clear()
 
     def _check_soon(self, document: Document) -> None:
-        document.check_at = time.monotonic() + self.settings.delay
+        document.check_at = time.monotonic() + self.delay
 
     def _do_what_is_due(self) -> None:
         now = time.monotonic()
@@ -258,58 +227,51 @@ class Server:
                 if self.program_fails:
                     self._publish(document, None)
                 else:
-                    self._start(document, "check", [self.settings.program, "check"], _CHECK_SECONDS)
+                    self._start(document, "check", self._checked, _CHECK_SECONDS, self.program, "check")
             for held in [it for it in document.held if it.until is not None and it.until <= now]:
                 self._answer_held(document, held)
 
     # Programs
 
-    def _start(self, document: Document, name: str, command: list[str], seconds: Optional[float]) -> None:
+    def _start(self, document: Document, name: str, then: Then, seconds: Optional[float], *command: str) -> None:
+        """Starts a program, in place of an earlier one of this name. A cancelled one has no end here."""
+
+        def ended(job: Job) -> None:
+            if document.jobs.get(name) is job:
+                del document.jobs[name]
+                then(document, job)
+
         if name in document.jobs:
             document.jobs[name].cancel()
-        document.jobs[name] = Job(command, document.data, seconds, self.events.put)
+        document.jobs[name] = Job(command, document.data, seconds, lambda job: self.events.put(partial(ended, job)))
 
-    def _worker(self, *words: str) -> list[str]:
-        return [sys.executable, "-B", os.path.join(self.settings.root, "tools", "lsp"), "--work", *words]
+    def _tool(self, name: str, *words: str) -> list[str]:
+        return [sys.executable, "-B", os.path.join(self.tools, name), *words]
 
     def _start_ways(self, document: Document) -> None:
-        words = self._worker("ways", self.settings.program, str(_RUN_SECONDS))
-        self._start(document, "ways", words, 2 * _RUN_SECONDS)
-
-    def _cancel_jobs(self, document: Document) -> None:
-        for job in document.jobs.values():
-            job.cancel()
-        document.jobs.clear()
-
-    def _job_ended(self, job: Job) -> None:
-        """One that was cancelled belongs to no document any more."""
-        for document in self.documents.values():
-            for name, it in document.jobs.items():
-                if it is job:
-                    del document.jobs[name]
-                    self.ends[name](document, job)
-                    return
+        command = self._tool("lsp", "--work", "ways", self.program, str(_RUN_SECONDS))
+        self._start(document, "ways", self._ran, 2 * _RUN_SECONDS, *command)
 
     def _checked(self, document: Document, job: Job) -> None:
-        said = job.ended.printed.removesuffix("\n")
+        said = job.printed.removesuffix("\n")
         if re.fullmatch(r"accepted|refused [^\n]+", said):
             self._publish(document, said)
             return
         self.program_fails = True
-        why = job.ended.why or said[:200] or f"its status is {job.ended.status}"
-        self._log(f"tpr check gives no answer, so the server's own reading decides: {why}")
+        self._log(f"tpr check gives no answer, so the server's own reading decides: {said[:200] or job.why}")
         self._publish(document, None)
 
     def _publish(self, document: Document, said: Optional[str]) -> None:
         """Shows the diagnostics, and starts what needs the answer."""
-        explanation = explained(document.file, document.data, said)
-        document.found = found_in(document.lines, explanation)
-        document.is_accepted = explanation.number is None
+        explanations = explained(document.file, document.data, said)
+        document.found = found_in(document.lines, explanations)
+        document.is_accepted = explanations[0].number is None
         self._send_diagnostics(document)
         if not document.is_accepted:
-            self._start(document, "constructs", self._worker("constructs", document.file), _LISTING_SECONDS)
+            command = self._tool("lsp", "--work", "constructs", document.file)
+            self._start(document, "constructs", self._listed, _LISTING_SECONDS, *command)
         elif said is not None:
-            self._start(document, "verdicts", [self.settings.program, "verdicts"], None)
+            self._start(document, "verdicts", self._decided, None, self.program, "verdicts")
             if document.is_saved:
                 self._start_ways(document)
         else:
@@ -325,26 +287,29 @@ class Server:
         self.client.notify("textDocument/publishDiagnostics", params)
 
     def _listed(self, document: Document, job: Job) -> None:
-        listed = listed_of(job.ended.printed)
-        if listed:
+        if listed := _listed(job):
             document.found = with_constructs(document.lines, document.found, listed)
             self._send_diagnostics(document)
 
     def _decided(self, document: Document, job: Job) -> None:
-        document.verdict = verdict_told(job.ended.printed, job.ended.why)
+        document.verdict = verdict_told(job.printed, job.why)
         if document.has_early_lens and self._client_can("workspace", "codeLens", "refreshSupport"):
             self.client.request("workspace/codeLens/refresh")
         self._answer_ready(document)
 
     def _ran(self, document: Document, job: Job) -> None:
-        document.hints = [_hint(document.lines, line, label) for line, label in listed_of(job.ended.printed)]
+        document.hints = [_hint(document.lines, line, label) for line, label in _listed(job)]
         if self._client_can("workspace", "inlayHint", "refreshSupport"):
             self.client.request("workspace/inlayHint/refresh")
         self._answer_ready(document)
 
     def _explored(self, document: Document, job: Job) -> None:
-        text = job.ended.printed or f"tools/explore printed nothing: {job.ended.why or job.ended.status}\n"
-        uri = self.runs.write(document.file, text)
+        text = job.printed or f"tools/explore printed nothing: {job.why}\n"
+        self.room = self.room or tempfile.mkdtemp(prefix="tpr-lsp-")
+        name = os.path.splitext(os.path.basename(document.file))[0][:100] or "script"
+        path = Path(self.room) / f"{name}.runs.txt"
+        path.write_text(text, encoding="utf-8", errors="replace")
+        uri = path.as_uri()
         if self._client_can("window", "showDocument", "support"):
             self.client.request("window/showDocument", {"uri": uri, "takeFocus": True})
         for held in [it for it in document.held if it.wants == "runs"]:
@@ -377,12 +342,11 @@ class Server:
 
     def execute(self, params: Json, number: Union[int, str]) -> Any:
         if wanted(params, str, "command") != SHOW_RUNS:
-            raise NotPossible(frames.INVALID_PARAMS, f"the only command is `{SHOW_RUNS}`")
+            raise Refused(frames.INVALID_PARAMS, f"the only command is `{SHOW_RUNS}`")
         uri = next(iter(wanted(params, list, "arguments")), None)
         document = self._document({"textDocument": {"uri": uri}})
         file = document.file if document.is_in_file() else "/dev/stdin"
-        explore = os.path.join(self.settings.root, "tools", "explore")
-        self._start(document, "runs", [sys.executable, "-B", explore, file], None)
+        self._start(document, "runs", self._explored, None, *self._tool("explore", file))
         return self._hold(document, Held(number, "runs", None))
 
     def cancel(self, params: Json, _: object) -> None:
@@ -390,10 +354,13 @@ class Server:
         for document in self.documents.values():
             for held in [it for it in document.held if it.number == number]:
                 document.held.remove(held)
-                self.client.refuse(held.number, frames.CANCELLED, "the request was cancelled")
+                self.client.refuse(held.number, Refused(frames.CANCELLED, "the request was cancelled"))
                 if held.wants == "runs" and "runs" in document.jobs:
                     document.jobs.pop("runs").cancel()
         self.cancelled.discard(number)
+
+    def shut_down(self, *_: object) -> None:
+        self.is_shut_down = True
 
     def nothing(self, *_: object) -> None:
         """A notification that changes nothing here."""
@@ -429,15 +396,6 @@ class Server:
         for held in [it for it in document.held if self._is_ready(document, it.wants)]:
             self._answer_held(document, held)
 
-    def _refuse_held(self, document: Document) -> None:
-        for held in document.held:
-            self.client.refuse(held.number, frames.CONTENT_MODIFIED, "the text has changed")
-        document.held.clear()
-
-
-def _shut_down(server: Server, *_: object) -> None:
-    server.is_shut_down = True
-
 
 _METHODS: dict[str, Callable[..., Any]] = {
     "initialized": Server.nothing,
@@ -453,8 +411,13 @@ _METHODS: dict[str, Callable[..., Any]] = {
     "textDocument/codeLens": Server.lenses,
     "textDocument/inlayHint": Server.hints,
     "workspace/executeCommand": Server.execute,
-    "shutdown": _shut_down,
+    "shutdown": Server.shut_down,
 }
+
+
+def _listed(job: Job) -> list[Json]:
+    """What a worker has printed; nothing if it was killed."""
+    return list(json.loads(job.printed or "[]"))
 
 
 def at(value: Json, *names: str) -> Json:
@@ -467,14 +430,14 @@ def at(value: Json, *names: str) -> Json:
 def wanted(value: Json, kind: type, *names: str) -> Any:
     found = at(value, *names)
     if not isinstance(found, kind):
-        raise NotPossible(frames.INVALID_PARAMS, f"`{'.'.join(names)}` is missing, or has the wrong type")
+        raise Refused(frames.INVALID_PARAMS, f"`{'.'.join(names)}` is missing, or has the wrong type")
     return found
 
 
 def _offset(lines: Lines, position: Json) -> int:
     line, character = wanted(position, int, "line"), wanted(position, int, "character")
     if line < 0 or character < 0:
-        raise NotPossible(frames.INVALID_PARAMS, "a position is negative")
+        raise Refused(frames.INVALID_PARAMS, "a position is negative")
     return lines.offset(line, character)
 
 

@@ -2,20 +2,20 @@
 from __future__ import annotations
 
 import json
+import os
+import re
 import subprocess
-import sys
-import threading
 from collections import Counter
+from pathlib import Path
 from typing import Callable
 
 from .. import command
-from ..explain.explanation import NOTHING
+from ..explain.everything import further
 from ..report.deliveries import Place
 from ..report.reader import read_report
 from ..report.report import NotAReport, Sent
-from ..rewrite.listing import constructs_of
-from ..rewrite.rewriting import rewrite
-from ..rewrite.tokens import Refused, Source
+from ..rewrite.staying import refused_of
+from ..rewrite.tokens import Source
 from ..script.case import Case
 from ..script.checks import check_script
 from ..script.tokens import Text
@@ -24,47 +24,45 @@ from ..why.walk import DoesNotFit
 from ..why.ways import Ways
 from .frames import Json
 
-# A script that is nested deeply is read by calls that are nested as deep.
-_STACK = 256 * 1024 * 1024
-_CALLS = 30_000
 _MOST_WAYS = 4  # that are named at one line
-_MOST_UNREADABLE = 1000  # places that can't be read
+_MOST_FILES = 1000  # of a folder
+_IMPORT, _MODULE = re.compile(rb"\bimport\s+from\s+(\w+)"), re.compile(rb"\bmodule\s+(\w+)")
 
 
 def constructs(file: str, data: bytes) -> list[Json]:
     """Each construct that the profile lacks, what to write instead, and whether tools/rewrite carries it over."""
-    listed, faults = constructs_of(file, data)
-    refused = {(it.line, it.column): it.reason for it in _refused_by_rewrite(file, data)}
+    listed = list(further(file, data))
+    told = refused_of([Source(*it) for it in _with_imported(file, data).items()])
+    refused = {(it.line, it.column): it.reason for it in told if it.file == file}
     reasons = {line: reason for (line, _), reason in refused.items()}
-    on_line = Counter(one.at.line for one in listed)
+    elsewhere = next((it.text() for it in told if not refused), None)
+    on_line = Counter(one.line for one in listed if one.construct)
     found: list[Json] = []
     for one in listed:
         # A reason at another place of the line is meant if nothing else there is listed.
-        nearby = reasons.get(one.at.line) if on_line[one.at.line] == 1 else None
-        reason = refused.get((one.at.line, one.at.column), nearby)
-        rewriting = "" if refused else "tools/rewrite carries it over"
+        nearby = reasons.get(one.line or 0) if on_line[one.line] == 1 else None
+        reason = refused.get((one.line or 0, one.column or 0), nearby) or elsewhere
+        rewriting = "" if told else "tools/rewrite carries it over"
         if reason is not None:
             rewriting = f"tools/rewrite can't carry it over: {reason}"
-        instead = one.instead()
-        words = "no replacement: " if instead.startswith(NOTHING) else "write instead: "
-        message = f"{one.title()} isn't supported\n{words}{instead.removeprefix(NOTHING)}"
-        found.append(_row(one.at.line, one.at.column, len(one.at.text), one.construct.clause, message, rewriting))
-    for fault in faults[:_MOST_UNREADABLE]:
-        found.append(_row(fault.line, fault.column, 1, "", fault.reason, ""))
+        row = {"line": one.line, "column": one.column, "length": one.places[0].position.length, "code": one.code()}
+        found.append({**row, "message": one.message(), "rewriting": rewriting if one.construct else ""})
     return found
 
 
-def _row(line: int, column: int, length: int, clause: str, message: str, rewriting: str) -> Json:
-    code = f"ES 201 873-1, {clause}" if clause else ""
-    row = {"line": line, "column": column, "length": max(1, length), "code": code}
-    return {**row, "message": message, "rewriting": rewriting}
-
-
-def _refused_by_rewrite(file: str, data: bytes) -> list[Refused]:
-    try:
-        return rewrite([Source(file, data)]).refused
-    except RecursionError:
-        return [Refused(file, 1, 1, "the text is nested too deep")]
+def _with_imported(file: str, data: bytes) -> dict[str, bytes]:
+    """The text, and those of the files beside it whose modules it imports, or one of these does."""
+    texts, names = {file: data}, _IMPORT.findall(data)
+    paths = sorted(Path(file).parent.glob("*.ttcn*")) if names and os.path.isabs(file) else []
+    readable = [it for it in paths[:_MOST_FILES] if it.is_file() and os.access(it, os.R_OK) and str(it) != file]
+    beside = [(str(it), it.read_bytes()) for it in readable]
+    modules = {name: it for it in beside for name in _MODULE.findall(it[1])}
+    for name in names:
+        other, text = modules.get(name, (file, data))
+        if other not in texts:
+            texts[other] = text
+            names += _IMPORT.findall(text)
+    return texts
 
 
 def ways(program: str, seconds: float, data: bytes) -> list[Json]:
@@ -111,17 +109,5 @@ def work(task: list[str]) -> int:
         "constructs": lambda: constructs(task[1], data),
         "ways": lambda: ways(task[1], float(task[2]), data),
     }
-    command.write_out(json.dumps(_on_large_stack(tasks[task[0]])))
+    command.write_out(json.dumps(command.on_large_stack(tasks[task[0]])))
     return command.DONE
-
-
-def _on_large_stack(task: Callable[[], list[Json]]) -> list[Json]:
-    ended: list[list[Json]] = []
-    threading.stack_size(_STACK)
-    sys.setrecursionlimit(_CALLS)
-    thread = threading.Thread(target=lambda: ended.append(task()))
-    thread.start()
-    thread.join()
-    if not ended:
-        raise command.Stop(command.NOT_BUILT, "the worker broke off")
-    return ended[0]

@@ -32,6 +32,7 @@ def check_bodies(names: Names, setup: Setup) -> None:
     bodies[""] = BodyRules(names, setup, names.case).check()
     for name, function in names.functions.items():
         bodies[name] = BodyRules(names, setup, function).check()
+    names.faults.stop()
     started = [names.word(start.function) for start in names.case.starts]
     total = sum(bodies[name] for name in ["", SUT, *started])
     if total > MOST_STATEMENTS:
@@ -63,14 +64,18 @@ class BodyRules:
 
     def check(self) -> int:
         """How many statements it comes to."""
+        faults = self.names.faults
+        before = len(faults.kept)
         for name, port in self.ports.items():
-            if name in self.parameters:
-                sentence = f"the parameter `{name}` has the name of a port of `{self.runs_on}`"
-                fault = RuleFault(12, self.body.start, self.parameters[name], sentence, Rule.NEW_NAME)
-                raise fault.beside(port.name, "the port")
+            with faults:
+                if name in self.parameters:
+                    sentence = f"the parameter `{name}` has the name of a port of `{self.runs_on}`"
+                    fault = RuleFault(12, self.body.start, self.parameters[name], sentence, Rule.NEW_NAME)
+                    raise fault.beside(port.name, "the port")
         for variable in self.body.variables:
-            self._declare(variable)
-        return self._block(self.body.statements)
+            with faults:
+                self._declare(variable)
+        return self._block(self.body.statements) if len(faults.kept) == before else 0
 
     # Names
 
@@ -122,22 +127,27 @@ class BodyRules:
     # Statements
 
     def _block(self, statements: list[Statement]) -> int:
-        size = 0
+        size = len(statements)
         for statement in statements:
-            size += 1
-            if isinstance(statement, Send):
-                self._send(statement)
-            elif isinstance(statement, Receive):
-                self._receive(statement.start, statement)
-            elif isinstance(statement, Control):
-                self._control(statement)
-            elif isinstance(statement, SetVerdict):
-                self._set_verdict(statement)
-            elif isinstance(statement, Alt):
-                size += self._alt(statement)
-            else:
-                size += self._loop(statement)
+            with self.names.faults:
+                size += self._inner(statement)
         return size
+
+    def _inner(self, statement: Statement) -> int:
+        """How many statements are in it."""
+        if isinstance(statement, Alt):
+            return self._alt(statement)
+        if isinstance(statement, Loop):
+            return self._loop(statement)
+        if isinstance(statement, Send):
+            self._send(statement)
+        elif isinstance(statement, Receive):
+            self._receive(statement.start, statement)
+        elif isinstance(statement, Control):
+            self._control(statement)
+        else:
+            self._set_verdict(statement)
+        return 0
 
     def _not_in_sut(self, told: int, what: str) -> None:
         if self.is_sut:
@@ -171,7 +181,8 @@ class BodyRules:
     def _alt(self, statement: Alt) -> int:
         size = 0
         for branch in statement.branches:
-            self._receive(branch.start, branch.receive)
+            with self.names.faults:
+                self._receive(branch.start, branch.receive)
             size += self._block(branch.block)
         return size + (self._block(statement.otherwise.block) if statement.otherwise else 0)
 

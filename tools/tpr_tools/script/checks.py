@@ -1,9 +1,11 @@
-"""Reads a script whole, and finds its first fault in the order of docs/REFUSALS.md."""
+"""Reads a script whole, and finds its faults in the order of docs/REFUSALS.md."""
 from __future__ import annotations
 
 from dataclasses import dataclass
+from typing import Optional
 
 from .bodies import check_bodies
+from .faults import Faults, RuleFault
 from .grammar import read_module
 from .names import Names
 from .setup import Setup
@@ -18,11 +20,21 @@ class Checked:
     setup: Setup
 
 
-def check_script(text: Text) -> Checked:
+def check_script(text: Text, faults: Optional[Faults] = None) -> Checked:
     """The script, or GrammarFault or RuleFault. The tokens are known to have no fault."""
-    names = Names(text, read_module(text))
+    names = Names(text, read_module(text), faults or Faults())
     names.check()
     setup = Setup(names)
     setup.check()
     check_bodies(names, setup)
     return Checked(names, setup)
+
+
+def faults_of(text: Text) -> list[RuleFault]:
+    """The first fault, and the others that don't follow from one; or GrammarFault."""
+    faults = Faults(are_kept=True)
+    try:
+        check_script(text, faults)
+    except RuleFault as last:
+        faults.keep(last)
+    return faults.kept

@@ -2,6 +2,7 @@
 from __future__ import annotations
 
 import difflib
+from types import TracebackType
 from typing import Iterable, Optional
 
 from .constructs import Construct
@@ -37,6 +38,36 @@ class RuleFault(Exception):
     def meant(self, construct: Construct) -> "RuleFault":
         self.construct = construct
         return self
+
+
+class Faults:
+    """`with faults: ..` is a rule or a statement: the first fault ends the checks, or if faults are kept, this block."""
+
+    MOST = 100  # of one script: who mends them asks again
+
+    def __init__(self, are_kept: bool = False):
+        self.are_kept = are_kept
+        self.kept: list[RuleFault] = []
+
+    def keep(self, fault: RuleFault) -> None:
+        if fault not in self.kept:
+            self.kept.append(fault)
+
+    def stop(self) -> None:
+        """What follows would find faults that come from those that are kept."""
+        if self.kept:
+            raise self.kept[-1]
+
+    def __enter__(self) -> None:
+        pass
+
+    def __exit__(
+        self, _: Optional[type[BaseException]], fault: Optional[BaseException], __: Optional[TracebackType]
+    ) -> bool:
+        if not self.are_kept or not isinstance(fault, RuleFault):
+            return False
+        self.keep(fault)
+        return len(self.kept) < self.MOST
 
 
 def a(word: str) -> str:

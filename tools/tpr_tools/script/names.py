@@ -3,7 +3,7 @@ from __future__ import annotations
 
 from typing import Optional
 
-from .faults import RuleFault, nearest
+from .faults import Faults, RuleFault, nearest
 from .refusal_rules import Rule
 from .tokens import Text
 from .tree import (
@@ -26,8 +26,9 @@ SUT = "sut"
 class Names:
     """What a module defines, by the names, and its faults in the order of docs/REFUSALS.md."""
 
-    def __init__(self, text: Text, module: Module):
+    def __init__(self, text: Text, module: Module, faults: Faults):
         self.tokens = text.tokens
+        self.faults = faults
         self.module = module
         self.types: dict[str, Record | ListType] = {}
         self.ports: dict[str, PortType] = {}
@@ -53,11 +54,17 @@ class Names:
         return -int(self.tokens[place + 1]) if word == "-" else int(word)
 
     def check(self) -> None:
-        self._check_given_once()
+        given: dict[str, int] = {}
+        for definition in self.module.definitions:
+            with self.faults:
+                self._check_given_once(definition, given)
+        self.faults.stop()
         for definition in self.module.definitions:
             self._sort(definition)
         for definition in self.module.definitions:
-            self._check_definition(definition)
+            with self.faults:
+                self._check_definition(definition)
+        self.faults.stop()
 
     def _sort(self, definition: Definition) -> None:
         name = self.word(definition.name)
@@ -72,18 +79,16 @@ class Names:
 
     # The first pass
 
-    def _check_given_once(self) -> None:
-        given: dict[str, int] = {}
-        for definition in self.module.definitions:
-            name = self.word(definition.name)
-            if name in given:
-                sentence = f"`{name}` is defined twice"
-                fault = RuleFault(12, definition.start, definition.name, sentence, Rule.ONE_NAME)
-                raise fault.beside(given[name], "the first one")
-            given[name] = definition.name
-            self._check_inner(definition)
-            if isinstance(definition, TestCase) and definition is not self.case:
-                raise self._second_case(definition)
+    def _check_given_once(self, definition: Definition, given: dict[str, int]) -> None:
+        name = self.word(definition.name)
+        if name in given:
+            sentence = f"`{name}` is defined twice"
+            fault = RuleFault(12, definition.start, definition.name, sentence, Rule.ONE_NAME)
+            raise fault.beside(given[name], "the first one")
+        given[name] = definition.name
+        self._check_inner(definition)
+        if isinstance(definition, TestCase) and definition is not self.case:
+            raise self._second_case(definition)
 
     def _second_case(self, definition: TestCase) -> RuleFault:
         sentence = f"`{self.word(definition.name)}` is a second test case, and a module has one"

@@ -109,6 +109,26 @@ class Rule(Enum):
     NO_ORDER = "no one order of all that the components of a run did gives what each did and saw"
 
 
+# The clauses of ES 201 873-1 that the passes of the checks are about, each with its first rule.
+_CLAUSES = {
+    Rule.A_TEST_CASE: "5.2.2",
+    Rule.MESSAGE_TYPE: "6, 16",
+    Rule.CREATED_NAME: "9.1, 21.1, 21.3",
+    Rule.NOT_IN_SUT: "15, 19 to 24",
+    Rule.FEW_STATEMENTS: "",
+}
+
+
+def clauses_of(rule: Rule) -> str:
+    """Those of the pass in which the rule is checked; nothing for the reader and for limits of the text."""
+    found = ""
+    for it in Rule:
+        found = _CLAUSES.get(it, found)
+        if it is rule:
+            break
+    return found
+
+
 # What must hold, or for 2, 10, 15 of the reader and the ends of a send what must not.
 RULES_OF = {
     Refusal.READ: (Rule.READ,),

@@ -31,16 +31,21 @@ class Setup:
     def check(self) -> None:
         if self.case.system is not None:
             self.types[SYSTEM] = self.names.word(self.case.system)
+        faults = self.names.faults
         for statement in self.case.setups:
             if isinstance(statement, Creation):
-                self._create(statement)
-            elif self.names.word(statement.start) == "connect":
-                self._connect(statement)
-            else:
-                self._map(statement)
+                self._create(statement)  # Without it hardly anything can be said of what follows.
+                continue
+            with faults:
+                if self.names.word(statement.start) == "connect":
+                    self._connect(statement)
+                else:
+                    self._map(statement)
         for start in self.case.starts:
-            self._start(start)
-        self._check_all_started()
+            with faults:
+                self._start(start)
+        if not faults.kept:
+            self._check_all_started()
 
     # Components
 
@@ -281,17 +286,19 @@ class Setup:
 
     def _check_all_started(self) -> None:
         for name, creation in self.created.items():
-            if name not in self.started:
-                sentence = f"`{name}` is created, but never started"
-                fault = RuleFault(18, creation.start, creation.name, sentence, Rule.ALL_STARTED)
-                raise fault.write(f"`{name}.start(FUNCTION());` after the setup")
+            with self.names.faults:
+                if name not in self.started:
+                    sentence = f"`{name}` is created, but never started"
+                    fault = RuleFault(18, creation.start, creation.name, sentence, Rule.ALL_STARTED)
+                    raise fault.write(f"`{name}.start(FUNCTION());` after the setup")
         if self.created and not self.case.has_done:
             sentence = (
                 f"the test case creates {listed(self.created)}, but doesn't end with `all"
                 " component.done`"
             )
             fault = RuleFault(17, self.case.start, self.case.start, sentence, Rule.DONE)
-            raise fault.write("`all component.done;` as the last statement of the test case")
+            with self.names.faults:
+                raise fault.write("`all component.done;` as the last statement of the test case")
 
 
 def told(port: Port) -> str:

@@ -40,11 +40,12 @@ class TokenFault:
 
 @dataclass(frozen=True)
 class Position:
-    """A line and a column, both from 1, and how many characters are meant."""
+    """A line and a column, both from 1, how many characters are meant, and the column in bytes."""
 
     line: int
     column: int
     length: int
+    byte: int
 
 
 class Text:
@@ -102,7 +103,7 @@ class Text:
         """Columns count characters, so that what a comment holds is counted as an editor does."""
         line = self.letters.count("\n", 0, offset) + 1
         begin = self.letters.rfind("\n", 0, offset) + 1
-        return Position(line, len(_readable(self.data[begin:offset])) + 1, length)
+        return Position(line, len(_readable(self.data[begin:offset])) + 1, length, offset - begin + 1)
 
     def shown_line(self, number: int) -> str:
         """The line as it can be shown: what can't be read in it is replaced."""

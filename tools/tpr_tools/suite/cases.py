@@ -3,7 +3,7 @@ from __future__ import annotations
 
 import os
 from dataclasses import dataclass, field, replace
-from typing import Callable, Optional
+from typing import TYPE_CHECKING, Callable, Optional
 
 from ..command import REFUSED, Stop
 from ..words import counted, shown
@@ -11,6 +11,9 @@ from .judging import RESULTS, Reason
 from .schedule import Schedule
 from .wanted import ENDING
 from .workers import Run
+
+if TYPE_CHECKING:
+    from .pictures import Pictures
 
 
 _ANSWER = 14  # the width of what is said of a schedule
@@ -38,6 +41,10 @@ class Case:
     def schedule(self) -> Optional[Schedule]:
         """What was answered of its schedule, if that was asked."""
         return next((run.schedule for run in self.runs if run.schedule is not None), None)
+
+    def pictures(self) -> list[Pictures]:
+        """What a page shows of its runs besides."""
+        return [run.pictures for run in sorted(self.runs, key=lambda run: run.number) if run.pictures is not None]
 
     def is_wanted(self) -> bool:
         schedule = self.schedule()
@@ -69,15 +76,18 @@ class Case:
         return told + ([f"{texts} different reports"] if texts > 1 else [])
 
     def reason(self, most: Optional[int] = None) -> str:
-        """The counts first, then the reasons, of each of which the end may be cut, and what is kept of it."""
+        """What was told of it, and what is kept."""
         worst = self.worst()
         kept = [run for run in self.runs if run.kept and run.digest == worst.digest]
-        reasons = [*worst.reasons]
+        where = [f"kept: {shown(kept[0].kept[0])}"] if kept and not self.is_wanted() else []
+        return "; ".join([*self.told(most), *where])
+
+    def told(self, most: Optional[int] = None) -> list[str]:
+        """The counts first, then the reasons, of each of which the end may be cut."""
+        reasons = [*self.worst().reasons]
         if (schedule := self.schedule()) is not None and schedule.fault:
             reasons.append(Reason(schedule.fault))
-        if kept and not self.is_wanted():
-            reasons.append(Reason(f"kept: {shown(kept[0].kept[0])}"))
-        return "; ".join([*self.counts(), *(reason.text(most) for reason in reasons)])
+        return [*self.counts(), *(reason.text(most) for reason in reasons)]
 
 
 def scripts_of(places: list[str]) -> list[str]:

@@ -15,7 +15,7 @@ from ..words import counted, readable
 from .cases import Case
 
 _FAILURES = ("none", "pass", "inconc", "fail")
-_SKIPPED = "the suite ended before this script was done"
+SKIPPED = "the suite ended before this script was done"
 
 
 def look_whether_written(file: str) -> None:
@@ -32,13 +32,13 @@ def write_junit(cases: list[Case], began: datetime, file: str) -> None:
     taken: set[str] = set()
     for folder in dict.fromkeys(os.path.dirname(case.script) for case in cases):
         inside = [case for case in cases if os.path.dirname(case.script) == folder]
-        root.append(_suite(folder, inside, began, _alone(_class_name(folder), taken)))
+        root.append(_suite(folder, inside, began, alone(_class_name(folder), taken)))
     xml.indent(root)
     text = xml.tostring(root, encoding="unicode")
     write_file(file, f'<?xml version="1.0" encoding="UTF-8"?>\n{text}\n')
 
 
-def _alone(name: str, taken: set[str]) -> str:
+def alone(name: str, taken: set[str]) -> str:
     """The name, with a number where there is one like it."""
     alone, number = name, 1
     while alone in taken:
@@ -55,7 +55,7 @@ def _suite(folder: str, cases: list[Case], began: datetime, class_name: str) -> 
     suite.set("hostname", "localhost")
     taken: set[str] = set()
     for case in cases:
-        suite.append(_case(case, class_name, _alone(readable(case.name()), taken)))
+        suite.append(_case(case, class_name, alone(readable(case.name()), taken)))
     return suite
 
 
@@ -83,7 +83,7 @@ def _case(case: Case, class_name: str, name: str) -> xml.Element:
     made = xml.Element("testcase", name=name, classname=class_name)
     made.set("time", f"{case.seconds():.3f}")
     if not case.is_done:
-        xml.SubElement(made, "skipped", message=_SKIPPED)
+        xml.SubElement(made, "skipped", message=SKIPPED)
         return made
     if (schedule := case.schedule()) is not None:
         _add_properties(made, {"verdicts": schedule.answer, "explored": schedule.explored})

@@ -4,15 +4,17 @@ from __future__ import annotations
 
 import os
 import re
+from typing import Optional
 
-from ..chart.sequence import sequence_of
+from ..chart.sequence import Marks, sequence_of
 from ..chart.svg import svg_of
 from ..command import NOT_WRITTEN, Stop
 from ..report.order import NoOrderFound
 from .judging import Judged
 from .runs import Printed
 
-_OWN = re.compile(r"run[0-9]+\.[a-z]+\.(report|svg|printed|said)")
+CONNECTIONS, DIVERGING = "connections.svg", "diverging.svg"  # on a page alone
+_OWN = re.compile(rf"run[0-9]+\.[a-z]+\.(report|svg|printed|said)|{CONNECTIONS}|{DIVERGING}")
 
 
 def folders_of(scripts: list[str], folder: str) -> list[str]:
@@ -30,25 +32,27 @@ def prepare(folders: list[str]) -> None:
             for name in os.listdir(folder):
                 if _OWN.fullmatch(name):
                     os.remove(os.path.join(folder, name))
-            _write(os.path.join(folder, "run0.is.said"), b"")
+            write(os.path.join(folder, "run0.is.said"), b"")
             os.remove(os.path.join(folder, "run0.is.said"))
         except OSError as error:
             raise Stop(NOT_WRITTEN, f"{folder} can't be made or written to: {error.strerror}") from None
 
 
-def keep(run: Printed, judged: Judged, folder: str, number: int, title: str) -> tuple[str, ...]:
+def keep(
+    run: Printed, judged: Judged, folder: str, number: int, title: str, marks: Optional[Marks]
+) -> tuple[str, ...]:
     """Writes the run's report and its chart, or what was printed in its place, and what was said."""
     base = os.path.join(folder, f"run{number}.{judged.result}")
     files = {f"{base}.printed" if judged.report is None else f"{base}.report": run.printed}
     if judged.report is not None:
         try:
-            files[f"{base}.svg"] = svg_of(sequence_of(judged.report, title)).encode()
+            files[f"{base}.svg"] = svg_of(sequence_of(judged.report, title, marks)).encode()
         except NoOrderFound:
             pass
     if run.said:
         files[f"{base}.said"] = run.said
     for file, data in files.items():
-        _write(file, data)
+        write(file, data)
     return tuple(files)
 
 
@@ -61,7 +65,7 @@ def drop(files: tuple[str, ...]) -> None:
             pass
 
 
-def _write(file: str, data: bytes) -> None:
+def write(file: str, data: bytes) -> None:
     try:
         with open(file, "wb") as opened:
             opened.write(data)

@@ -6,7 +6,7 @@ import os
 from dataclasses import dataclass, replace
 from typing import Optional
 
-from ..explore.answers import first_line, read_answer
+from ..explore.answers import Answer, first_line, read_answer
 from ..words import shown
 from .runs import Printed, Runner
 from .wanted import Wanted
@@ -40,6 +40,7 @@ class Schedule:
     diverging: str = ""  # and what it says of where the runs diverge
     fault: str = ""  # why this isn't as expected
     is_broken: bool = False  # there is no answer
+    proved: Optional[Answer] = None  # what `tpr verdicts` answered
 
     def depends(self) -> bool:
         return " or " in self.answer
@@ -76,7 +77,7 @@ def _by_the_program(runner: Runner, script: str) -> Schedule:
     if answer is None or answer.fault() is not None or answer.status() != ended.status:
         return _broken("tpr verdicts", ended)
     orders = "\n".join(f"{verdict}: {' '.join(names)}" for verdict, names in answer.orders)
-    return Schedule(first_line(answer), orders)
+    return Schedule(first_line(answer), orders, proved=answer)
 
 
 def _explored(runner: Runner, script: str, explore: str, schedule: Schedule) -> Schedule:

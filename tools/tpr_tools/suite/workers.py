@@ -11,15 +11,19 @@ import os
 import signal
 from dataclasses import dataclass
 from multiprocessing.connection import Connection, wait
-from typing import Iterator, Optional, Union
+from typing import TYPE_CHECKING, Iterator, Optional, Union
 
+from ..chart.sequence import Marks
 from ..command import NOT_BUILT, Stop
 from .explained import explained
-from .judging import Reason, judge
+from .judging import Judged, Reason, judge
 from .kept import keep
 from .runs import Runner
 from .schedule import Asked, Schedule, schedule_of
 from .wanted import Wanted
+
+if TYPE_CHECKING:
+    from .pictures import Pictures
 
 _CUT_WANTED, _CUT_UNWANTED = 2_000, 1_000_000
 
@@ -36,6 +40,7 @@ class Task:
     title: str
     known: frozenset[str]  # the texts of its runs that are done
     asked: Asked  # of its schedule, once for all runs
+    on_page: bool  # whether a page shows it
 
 
 @dataclass(frozen=True)
@@ -55,6 +60,7 @@ class Run:
     kept: tuple[str, ...]
     explained: str
     schedule: Optional[Schedule]
+    pictures: Optional[Pictures]
 
 
 class Workers:
@@ -139,19 +145,35 @@ def _do(task: Task, runner: Runner, with_texts: bool) -> Run:
     judged = judge(run)
     fault = task.wanted.fault(judged.result, run.printed)
     digest = hashlib.sha256(run.printed).hexdigest()
+    schedule = None
+    if task.number == 1 and task.asked.anything() and judged.result != "refused":
+        schedule = schedule_of(runner, task.path, task.asked, task.wanted)
     kept: tuple[str, ...] = ()
+    pictures: Optional[Pictures] = None
     if task.folder is not None and digest not in task.known:
-        kept = keep(run, judged, task.folder, task.number, task.title)
+        marks = None
+        if task.on_page:
+            pictures, marks = _pictures(task, task.folder, judged, schedule)
+        kept = keep(run, judged, task.folder, task.number, task.title, marks)
     reasons = judged.reasons + ((Reason(fault),) if fault else ())
     most = 0 if not with_texts else _CUT_WANTED if fault is None else _CUT_UNWANTED
     texts = (_text(run.printed, most), _text(run.said, most))
     is_explained = with_texts and fault is not None and digest not in task.known
     told_why = explained(task.path, run, judged) if is_explained else ""
-    schedule = None
-    if task.number == 1 and task.asked.anything() and judged.result != "refused":
-        schedule = schedule_of(runner, task.path, task.asked, task.wanted)
     told = (task.script, task.number, judged.result, reasons, fault is None, digest)
-    return Run(*told, run.seconds, judged.seconds, *texts, kept, told_why, schedule)
+    return Run(*told, run.seconds, judged.seconds, *texts, kept, told_why, schedule, pictures)
+
+
+def _pictures(
+    task: Task, folder: str, judged: Judged, schedule: Optional[Schedule]
+) -> tuple[Pictures, Optional[Marks]]:
+    """What a page shows besides, and the marks of the chart."""
+    # Brought in here: it brings all that draws and explores with it, and most suites have no page.
+    from .pictures import Drawer
+
+    drawer = Drawer(task.path, folder)
+    drawer.draw(judged, schedule, task.number == 1)
+    return drawer.pictures, drawer.marks
 
 
 def _text(data: bytes, most: int) -> str:

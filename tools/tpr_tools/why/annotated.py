@@ -32,8 +32,11 @@ class LineDone:
     times: Counter[int] = field(default_factory=Counter)
     did: dict[str, Counter[str]] = field(default_factory=dict)
 
+    def never_reached(self) -> frozenset[int]:
+        return frozenset(self.statements - self.times.keys())
+
     def never(self) -> int:
-        return sum(statement not in self.times for statement in self.statements)
+        return len(self.never_reached())
 
     def mark(self) -> str:
         """How often, or that no component came to it, or not to all of it."""
@@ -90,14 +93,19 @@ class Done:
 
     def annotated(self) -> str:
         """The script, or all files that it comes from, with the marks to the left and what was done to the right."""
-        origins = self.case.origins
-        if not origins.files:
-            return f"{self._annotated('', self.case.text.shown_lines())}{self.summary()}\n"
-        has_several = len(origins.files) > 1
-        texts = [self._annotated(file if has_several else "", lines_in(file, origins), file) for file in origins.files]
+        files = zip(self.texts().items(), self.case.origins.files or [""])
+        texts = [self._annotated(file, lines, heading) for (file, lines), heading in files]
         return "\n".join(texts) + f"{self.summary()}\n"
 
-    def _annotated(self, file: str, lines: list[str], heading: str = "") -> str:
+    def texts(self) -> dict[str, list[str]]:
+        """The lines of the script, or of each file that it comes from, by the file that a line is told with."""
+        origins = self.case.origins
+        if not origins.files:
+            return {"": self.case.text.shown_lines()}
+        has_several = len(origins.files) > 1
+        return {file if has_several else "": lines_in(file, origins) for file in origins.files}
+
+    def _annotated(self, file: str, lines: list[str], heading: str) -> str:
         texts = [text.expandtabs() for text in lines]
         width = min(max(map(len, texts), default=0), _WIDEST)
         rows = [f"{'times':>6} {'line':>5}  {shown(heading)}"]

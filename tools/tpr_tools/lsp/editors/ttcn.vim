@@ -2,9 +2,9 @@
 if exists("b:current_syntax") | finish | endif
 syn keyword ttcnType boolean charstring component integer port record
 syn keyword ttcnConstant error fail false inconc infinity mtc none pass self system true
-syn keyword ttcnOperation check clear connect create done halt map receive runs send setverdict start stop trigger
+syn keyword ttcnOperation check clear connect create done halt map receive send setverdict start stop trigger
 syn keyword ttcnKeyword all alt else for from function message module sender testcase to
-syn keyword ttcnKeyword complement in inout of on out pattern type value var
+syn keyword ttcnKeyword complement in inout of on out pattern runs type value var
 syn match ttcnNumber "\<\d\+\>"
 syn region ttcnString start=+"+ skip=+""+ end=+"+ oneline
 syn match ttcnComment "//.*$"

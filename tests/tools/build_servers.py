@@ -1,0 +1,156 @@
+#!/usr/bin/env python3
+"""Each command of docs/CI.md, as its build server runs it: on scripts that are as expected, and on others.
+
+    tests/tools/build_servers.py PROGRAM
+
+It prints a line `passed NAME` for each case, `left out NAME: WHY`, or lines that begin with `FAILED: NAME`.
+"""
+from __future__ import annotations
+
+import importlib
+import importlib.util
+import json
+import os
+import re
+import shutil
+import sys
+import tempfile
+from pathlib import Path
+from typing import Any, NamedTuple
+from xml.etree import ElementTree
+
+sys.dont_write_bytecode = True
+
+from rule_cases import must
+from tool_calls import ROOT, Ended, Group, case, example, run, try_groups
+
+PROGRAM = sys.argv[1]
+KITCHEN = example("closed_counter_serves_no_order.ttcn").read_text(encoding="utf-8")
+RACE = example("else_is_taken_for_a_timeout.ttcn").read_text(encoding="utf-8")
+AS_EXPECTED, NOT_SO = 0, 5
+
+
+class Server(NamedTuple):
+    """The heading of its section, the form of a line with a command, whether the fragment is YAML, and whether it goes
+    on after a command that fails."""
+
+    heading: str
+    command: str
+    is_yaml: bool = True
+    goes_on: bool = False
+
+
+SERVERS = (
+    Server("GitHub Actions", r"(?m)^ +(?:- )?run: (.*)$", goes_on=True),
+    Server("GitLab CI", r"(?m)^ +- (\S+ .*)$"),
+    Server("Jenkins", r"(?m)^ +sh '([^']*)'$", is_yaml=False),
+)
+
+
+class Suite(NamedTuple):
+    """Scripts, what the suite ends with, how many faults there are, and how the one case of the JUnit XML ended."""
+
+    name: str
+    script: str
+    status: int
+    faults: int
+    ended: str
+
+
+SUITES = (
+    Suite("a script that passes", KITCHEN, AS_EXPECTED, 0, ""),
+    Suite("a script with two faults", KITCHEN.replace("bell.receive", "belt.receive"), NOT_SO, 2, "error"),
+    Suite("a script that fails", KITCHEN.replace("setverdict(pass)", "setverdict(fail)"), NOT_SO, 0, "failure"),
+    Suite("a verdict that depends on the schedule", RACE, NOT_SO, 0, "failure"),
+)
+
+
+def fragment_of(server: Server) -> str:
+    """The text in fences below its heading."""
+    page = (ROOT / "docs" / "CI.md").read_text(encoding="utf-8")
+    found = re.search(rf"^## {server.heading}\n.*?^```\w+\n(.*?)^```$", page, re.DOTALL | re.MULTILINE)
+    must(found, f"docs/CI.md has no fragment for {server.heading}")
+    return found[1] if found else ""
+
+
+def commands_of(server: Server) -> list[str]:
+    return re.findall(server.command, fragment_of(server))
+
+
+def fragments() -> None:
+    for server in SERVERS:
+        with case(f"the fragment for {server.heading}"):
+            commands = commands_of(server)
+            words = [it.split()[0] for it in commands]
+            must(words == ["tpr-explain", "tpr-suite"], f"its commands begin with {words}")
+            if server.is_yaml and importlib.util.find_spec("yaml"):
+                found = [it for it in strings_in(loaded(fragment_of(server))) if it.startswith("tpr-")]
+                must(found == commands, f"as YAML it has the commands {found}")
+
+
+def loaded(text: str) -> Any:
+    yaml: Any = importlib.import_module("yaml")
+    return yaml.safe_load(text)
+
+
+def strings_in(value: Any) -> list[str]:
+    if isinstance(value, dict):
+        return [text for it in value.values() for text in strings_in(it)]
+    if isinstance(value, list):
+        return [text for it in value for text in strings_in(it)]
+    return [value] if isinstance(value, str) else []
+
+
+def commands() -> None:
+    for server in SERVERS:
+        for suite in SUITES:
+            with case(f"{server.heading}: {suite.name}"), tempfile.TemporaryDirectory() as folder:
+                try_commands(server, suite, Path(folder))
+
+
+def try_commands(server: Server, suite: Suite, folder: Path) -> None:
+    (folder / "bin").mkdir()
+    for name in ("suite", "explain"):
+        (folder / "bin" / f"tpr-{name}").symlink_to(ROOT / "tools" / name)
+    (folder / "scripts").mkdir()
+    (folder / "scripts" / "one.ttcn").write_text(suite.script, encoding="utf-8")
+    more = {"TPR": PROGRAM, "PATH": f"{folder}/bin:{os.environ['PATH']}"}
+    ended = [run("sh", "-e", "-c", it, folder=folder, more=more) for it in commands_of(server)]
+    explained, last = ended
+    last.must_end(suite.status)
+    explained.must_end(1 if suite.faults and server.goes_on else 0)
+    must(faults_in(explained, folder) == suite.faults, f"{faults_in(explained, folder)} faults in {explained.text}")
+    look_at_junit(folder / "results.xml", suite)
+
+
+def faults_in(explained: Ended, folder: Path) -> int:
+    """How many the file has that the server reads, or the lines that it printed."""
+    written = [*folder.glob("*.json"), *folder.glob("*.sarif")]
+    if not written:
+        return len(re.findall("(?m)^::error file=scripts/one.ttcn,", explained.text))
+    found = json.loads(written[0].read_text(encoding="utf-8"))
+    return len(found if isinstance(found, list) else found["runs"][0]["results"])
+
+
+def look_at_junit(file: Path, suite: Suite) -> None:
+    (one,) = ElementTree.parse(file).getroot().iter("testcase")
+    kinds = [it.tag for it in one if it.tag in ("failure", "error")]
+    must(kinds == [suite.ended] * bool(suite.ended), f"the case of results.xml ended with {kinds}")
+    if suite.script == RACE:
+        text = "".join(one.itertext())
+        must(re.search("(?m)^pass: ", text) and re.search("(?m)^fail: ", text), f"no two orders in {text}")
+    if shutil.which("junitparser"):
+        run("junitparser", "verify", file).must_end(1 if suite.ended else 0)
+
+
+def a_status_of_the_program() -> None:
+    with case("a status of 0 of tpr isn't pass"), tempfile.TemporaryDirectory() as folder:
+        script = Path(folder) / "one.ttcn"
+        script.write_text(SUITES[2].script, encoding="utf-8")
+        run(PROGRAM, "run", script).must_show("^result fail$", 0)
+
+
+if __name__ == "__main__":
+    del sys.argv[1:]
+    groups = ((fragments, 3), (commands, len(SERVERS) * len(SUITES)), (a_status_of_the_program, 1))
+    sys.exit(try_groups(Group(it, least, it.__name__) for it, least in groups))

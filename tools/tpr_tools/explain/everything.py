@@ -1,0 +1,49 @@
+"""All faults of a script at once: those of explain, and each construct that the profile lacks."""
+from __future__ import annotations
+
+from typing import Iterator, Optional
+
+from ..rewrite.listing import constructs_of
+from ..script.tokens import Position, shown_lines
+from .explaining import explanations_of
+from .explanation import Answer, Explanation, Shown
+
+_MOST_UNREADABLE = 20  # lines of one script
+
+
+def everything_of(file: str, data: Optional[bytes], said: str) -> list[Explanation]:
+    """That of the program's answer first, and the others in the order of the text, none of them twice."""
+    first, *others = explanations_of(file, data, said)
+    if first.answer is Answer.REFUSED and data is not None and first.line != 0:
+        others += [it for it in further(file, data) if not any(is_same(it, one) for one in (first, *others))]
+    return [first, *sorted(others, key=lambda it: (it.line or 0, it.column or 0))]
+
+
+def is_same(listed: Explanation, other: Explanation) -> bool:
+    """Whether a listed one is told already: at its place, or as the same construct in its line. A line has hardly more
+    than one place that can't be read."""
+    if listed.line != other.line:
+        return False
+    return listed.column == other.column or listed.construct in ("", other.construct)
+
+
+def further(file: str, data: bytes) -> Iterator[Explanation]:
+    """The constructs that the profile lacks, then the lines that can't be read."""
+    listed, faults = constructs_of(file, data)
+    lines, shown = data.split(b"\n"), shown_lines(data)
+
+    def made(line: int, column: int, length: int, sentence: str) -> Explanation:
+        before = lines[line - 1].decode("utf-8", "surrogateescape")[: column - 1]
+        byte = len(before.encode("utf-8", "surrogateescape")) + 1
+        place = Shown(Position(line, column, max(1, length), byte), shown[line - 1] if line <= len(shown) else "")
+        told = Explanation(file, Answer.REFUSED, "", line=line, column=column, sentence=sentence)
+        told.places = [place]
+        return told
+
+    for one in listed:
+        told = made(one.at.line, one.at.column, len(one.at.text), f"{one.title()} isn't supported")
+        told.construct, told.clause, told.instead = one.title(), one.construct.clause, one.instead()
+        yield told
+    unread = {fault.line: fault for fault in reversed(faults)}
+    for line in sorted(unread)[:_MOST_UNREADABLE]:
+        yield made(line, unread[line].column, 1, unread[line].reason)
