@@ -52,7 +52,7 @@ pub fn read(text: &[u8]) -> impl Iterator<Item = Option<Line<'_>>> {
         .into_iter()
         .flat_map(|text| text.split(|&byte| byte == b'\n'));
     lines.map(move |line| {
-        let line = line_of(line)?;
+        let line = trace_line(line)?;
         let may_stand = match line {
             Line::Component(_) | Line::Result | Line::Message(Fate::Left, _) => true,
             _ => !is_left,
@@ -74,7 +74,7 @@ fn cut(text: &[u8], separator: u8) -> (&[u8], Option<&[u8]>) {
     }
 }
 
-fn line_of(line: &[u8]) -> Option<Line<'_>> {
+fn trace_line(line: &[u8]) -> Option<Line<'_>> {
     let (word, rest) = cut(line, b' ');
     let Some(rest) = rest else {
         return (word == b"else").then_some(Line::Else);
