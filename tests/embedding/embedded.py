@@ -27,6 +27,7 @@ COMPILERS = (("gcc", "g++"), ("clang", "clang++"))
 WARNINGS = ("-Wall", "-Wextra", "-Wpedantic", "-Wconversion", "-Werror")
 ADDRESSES = ("-g", "-O1", "-fsanitize=address,undefined", "-fno-sanitize-recover=all")
 THREADS = ("-g", "-O1", "-fsanitize=thread", "-pthread")
+VALGRIND = ("valgrind", "-q", "--leak-check=full", "--errors-for-leak-kinds=all", "--error-exitcode=9")
 WRAPPED = ("-Wl,--wrap=malloc", "-Wl,--wrap=realloc")
 SEEDS = tuple(str(seed) for seed in range(1, 6))
 MOST_SECONDS = 120
@@ -34,12 +35,13 @@ MOST_SECONDS = 120
 
 @dataclass(frozen=True)
 class Build:
-    """One way to build a program, and the words to run it with."""
+    """One way to build a program, and the words to run it with, also before its name."""
 
     name: str
     source: str
     flags: tuple[str, ...] = ("-O2", *WARNINGS)
     words: tuple[str, ...] = ()
+    under: tuple[str, ...] = ()
 
 
 PLAIN = (
@@ -56,6 +58,12 @@ OF_ADDRESSES = (
     Build("each function, by ASan and UBSan", "calls.c", ADDRESSES),
     Build("tp::Port, by ASan and UBSan", "owning.cpp", ADDRESSES),
     Build("calls by chance, by ASan and UBSan", "by_chance.cpp", ADDRESSES, SEEDS),
+)
+# The sanitizers see what the headers and the programs do, and valgrind what the library does too.
+OF_VALGRIND = (
+    Build("each function, by valgrind", "calls.c", under=VALGRIND),
+    Build("tp::Port, by valgrind", "owning.cpp", under=VALGRIND),
+    Build("calls by chance, by valgrind", "by_chance.cpp", words=SEEDS[:1], under=VALGRIND),
 )
 OF_THREADS = (Build("a mutex round a port, by TSan", "mutex.c", THREADS),)
 RACE = Build("TSan tells a message that is written after it arrived", "mutex.c", THREADS, ("late",))
@@ -99,7 +107,7 @@ class Room:
         for word in build.words or (None,):
             if wrong is not None:
                 break
-            status, said = self.run([f"./{made}", *([word] if word else [])])
+            status, said = self.run([*build.under, f"./{made}", *([word] if word else [])])
             wrong = f"status {status}: {said[:2000]}" if status or said else None
         return wrong
 
@@ -120,6 +128,11 @@ def can_sanitize(room: Room, compilers: tuple[str, str], flags: tuple[str, ...])
 def try_compilers(room: Room, compilers: tuple[str, str]) -> None:
     for build in PLAIN:
         room.tell(f"{build.name}, {compilers[0]}", room.wrong(compilers, build))
+    if shutil.which("valgrind"):
+        for build in OF_VALGRIND:
+            room.tell(f"{build.name}, {compilers[0]}", room.wrong(compilers, build))
+    else:
+        print(f"left out the programs of {compilers[0]} by valgrind, because there is none", flush=True)
     for flags, builds in ((ADDRESSES, OF_ADDRESSES), (THREADS, OF_THREADS)):
         if not can_sanitize(room, compilers, flags):
             print(f"left out {flags[2]} of {compilers[0]}, because it can't link that", flush=True)
@@ -140,7 +153,7 @@ def links_into_a_shared_library(room: Room, compilers: tuple[str, str]) -> Optio
 
 
 def programs_of_page() -> list[tuple[str, str, str]]:
-    """The programs that docs/EMBEDDING.md shows, each with its language and what it must print."""
+    """The programs that docs/EMBEDDING.md shows, each with its language and what it must print. Each is a file."""
     form = re.compile(r"^```(c|cpp)\n(.*?)^```\n\n(?:It prints `(.*?)`\.)?", re.M | re.S)
     return [it for it in form.findall(PAGE.read_text(encoding="utf-8")) if "int main" in it[1]]
 
@@ -152,7 +165,7 @@ def commands_of_page() -> dict[str, str]:
 
 
 def try_page(room: Room) -> None:
-    """The programs of the page, compiled by its own lines."""
+    """The programs of the page, compiled by its own lines, as at the top of the repository."""
     if not shutil.which("pkg-config"):
         print("left out the programs of docs/EMBEDDING.md, because there is no pkg-config", flush=True)
         return
@@ -160,8 +173,10 @@ def try_page(room: Room) -> None:
     languages = {it[0] for it in found}
     room.tell("the page shows a program in C and one in C++", None if languages == {"c", "cpp"} else str(languages))
     more = {"PKG_CONFIG_PATH": f"{room.port}/lib/pkgconfig"}
+    (room.folder / "embedding").symlink_to(ROOT / "embedding")
     for number, (kind, text, wanted) in enumerate(found, 1):
-        (room.folder / f"soup.{kind}").write_text(text, encoding="utf-8")
+        is_same = (ROOT / "embedding" / f"soup.{kind}").read_text(encoding="utf-8") == text
+        room.tell(f"embedding/soup.{kind} is the program of the page", None if is_same else "it isn't")
         status, said = room.run(["sh", "-c", f"{commands.get(kind, 'false')} && ./soup"], more)
         is_so = status == 0 and said == wanted.replace(r"\n", "\n") + "\n"
         room.tell(f"the program {number} of the page, in {kind}", None if is_so else f"status {status}: {said[:1000]}")
