@@ -3,6 +3,10 @@
 with that of libtp_port.a. With ours each verdict is one of the script's reports. With its own it is too, but where
 Titan departs from the standard. `titan/Ports.ttcn` has what the examples don't show, and is run in single mode too.
 
+A component that has ended keeps its ports here. In the full language it does so if it was created `alive` (21.3.4,
+22.1), so each component is. The timer that guards a test case ends it with an error if it waits for ever, as a run here
+does.
+
     tests/embedding/titan_ports.py PORT FOLDER [NAME..]
 
 PORT is a folder that `embedding/build` has made, all is built into the FOLDER, and NAME is a script to try in place of
@@ -27,7 +31,7 @@ NEEDS = ("compiler", "mctr_cli", "g++")
 HEADERS = Path("/usr/include/titan")
 LIBRARIES = "/usr/lib/titan"
 RUN = ROOT / "bench" / "running" / "titan"
-SECONDS_OF_A_CASE = 5
+SECONDS_OF_A_CASE, SECONDS_OF_WAITING = 60, 5
 MOST_SECONDS = 900
 OF_TITAN = ("-lcrypto", "-lxml2", "-ldl", "-lpthread", "-lrt")
 OWN, OURS = "Titans", "our"
@@ -36,21 +40,37 @@ SINGLE, PARALLEL = "single", "parallel"
 Verdicts = Dict[Tuple[str, str], str]
 
 PORTS = Path(__file__).resolve().with_name("titan") / "Ports.ttcn"
-# A verdict may depend on the schedule: one that isn't as wanted is looked for in so many further runs.
-MORE_RUNS = 2
-
 # Where Titan's own queue departs from ES 201 873-1: the clause, what it does, and the verdict that it comes to.
-DEPARTURES = {"stopped_port_queues": ("22.5.3", "ends with an error where a message comes to a stopped port", "error")}
-_CONNECTIONS = "Titan ends the connections of a component that has ended, so with either queue the verdict varies"
-LEFT_OUT = dict.fromkeys(
-    (
-        "ended_component_is_still_sent_to",
-        "orders_of_two_senders_and_a_halt",
-        "send_that_names_no_receiver",
-        "two_senders_to_one_that_ended",
-    ),
-    _CONNECTIONS,
-)
+DEPARTURES = {"stopped_port_queues": ("22.5.3", "its own queue refuses what comes to a stopped port", "error")}
+
+
+class Driver(NamedTuple):
+    """What the system does with a message of a mapped port, in place of `sut`, which the full language hasn't."""
+
+    port_type: str
+    message_type: str
+    body: str
+
+    def in_class(self, text: str) -> str:
+        """The class of the port type with this driver."""
+        operation = f"outgoing_send(const {self.message_type}& message) {{ {self.body} }}"
+        return re.sub(rf"outgoing_send\(const {self.message_type}&\) \{{.*\}}", operation, text)
+
+    def titans_class(self, module: str) -> str:
+        """The class of the port type with Titan's own queue."""
+        name, sent = self.port_type, f"void outgoing_send(const {self.message_type}&) {{}}"
+        made = f"{name}(const char *name = NULL) : {name}_BASE(name) {{}}"
+        text = f"struct {name} : {name}_BASE {{ {made}\n{sent}\n}};"
+        return f'#include "{module}.hh"\nnamespace {module} {{\n{self.in_class(text)}\n}}\n'
+
+
+_NEXT = Driver("P", "INTEGER", "incoming_message(message + 1);")
+DRIVERS = {
+    "Ports": Driver("Echo", "CHARSTRING", "incoming_message(message);"),
+    "system_goes_on_behind_the_end_of_mtc": _NEXT,
+    "system_under_test_answers": _NEXT,
+    "system_without_a_behaviour": Driver("P", "INTEGER", ""),
+}
 
 CONFIGURATION = """\
 [MAIN_CONTROLLER]
@@ -87,16 +107,14 @@ def script_of(file: Path, number: int) -> tuple[Optional[Script], str]:
     text = file.read_text(encoding="utf-8")
     if any(it.startswith(("refused", "fault")) for it in reports):
         return None, ""
-    if file.stem in LEFT_OUT:
-        return None, LEFT_OUT[file.stem]
-    if re.search(r"\b(map|sut)\b", text):
-        return None, "it has a system under test, for which the class has no driver"
-    if any("\nend waiting\n" in it for it in reports):
-        return None, "a component waits for ever, which Titan doesn't end"
+    if re.search(r"\b(map|sut)\b", text) and file.stem not in DRIVERS:
+        return None, "its system is played by `sut`, which the full language hasn't"
+    waits = any("\nend waiting\n" in it for it in reports)
+    seconds = SECONDS_OF_WAITING if waits else SECONDS_OF_A_CASE
     case = re.search(r"\btestcase (\w+)", text)
     module = f"Module{number}"
-    renamed = re.sub(r"\bmodule \w+", f"module {module}", text, count=1)
-    control = f"control {{ execute({case[1] if case else ''}(), {SECONDS_OF_A_CASE}.0) }}\n}}"
+    renamed = re.sub(r"\bmodule \w+", f"module {module}", text, count=1).replace(".create;", ".create alive;")
+    control = f"control {{ execute({case[1] if case else ''}(), {seconds}.0) }}\n}}"
     whole = re.sub(r"\};?\s*\Z", control, renamed) + "\n"
     return Script(file.stem, module, whole, frozenset(re.findall(r"^result (\w+)", "\n".join(reports), re.M))), ""
 
@@ -112,6 +130,10 @@ def run(words: list[str], folder: Path, seconds: int = MOST_SECONDS) -> tuple[in
     return ran.returncode, ran.stdout.decode("utf-8", "replace")
 
 
+def write_class(folder: Path, port_type: str, text: str) -> None:
+    (folder / f"{port_type.replace('_', '__')}.hh").write_text(text, encoding="utf-8")
+
+
 class Room:
     """Where the scripts are compiled, each in a folder of its own, and linked into one program for each queue."""
 
@@ -122,21 +144,25 @@ class Room:
         """What is wrong with the compilation; nothing where it succeeds."""
         folder = self.folder / which / script.module
         folder.mkdir(parents=True)
-        text = script.text
+        text, driver = script.text, DRIVERS.get(script.name)
         if which == OWN:
-            text = re.sub(r"(type port \w+ message \{[^}]*\})", r'\1 with { extension "internal" }', text)
+            driven = driver.port_type if driver else "none"  # a reserved word
+            others = rf"(type port (?!{driven}\b)\w+ message \{{[^}}]*\}})"
+            text = re.sub(others, r'\1 with { extension "internal" }', text)
         (folder / f"{script.module}.ttcn").write_text(text, encoding="utf-8")
         status, said = run(["compiler", f"{script.module}.ttcn"], folder)
         for name in script.port_types() if which == OURS and status == 0 else ():
-            words = [str(ROOT / "tools" / "titan"), "--port", name, f"{script.module}.hh"]
-            status, said = run(words, folder)
-            (folder / f"{name.replace('_', '__')}.hh").write_text(said, encoding="utf-8")
+            status, said = run([str(ROOT / "tools" / "titan"), "--port", name, f"{script.module}.hh"], folder)
+            write_class(folder, name, driver.in_class(said) if driver and name == driver.port_type else said)
             if status != 0:
                 return said
+        if which == OWN and driver and status == 0:
+            write_class(folder, driver.port_type, driver.titans_class(script.module))
         if status == 0:
             flags = ["-c", "-O0", "-w", "-DLINUX", f"-I{HEADERS}", f"-I{self.port}/include"]
             status, said = run(["g++", *flags, f"{script.module}.cc", "-o", "module.o"], folder)
-        return "" if status == 0 else (said or f"status {status}")[:1000]
+        told = re.search(r"error: .*", said)
+        return "" if status == 0 else told[0] if told else f"status {status}"
 
     def link(self, scripts: list[Script], which: str, mode: str) -> str:
         objects = [f"{which}/{it.module}/module.o" for it in scripts]
@@ -164,28 +190,15 @@ class Room:
         return found
 
 
-def wanted_of(script: Script, case: str, which: str) -> frozenset[str]:
-    """The verdicts that a test case may come to with this queue."""
-    name = case if script.module == PORTS.stem else script.name
-    return frozenset((DEPARTURES[name][2],)) if which == OWN and name in DEPARTURES else script.verdicts
+def departure(script: Script, case: str) -> Optional[tuple[str, str, str]]:
+    return DEPARTURES.get(case if script.module == PORTS.stem else script.name)
 
 
-def wrong_with(room: Room, scripts: list[Script], which: str, mode: str) -> dict[tuple[str, str], str]:
-    """What is wrong with each test case in each of the runs, by its script and its name."""
-    wrong: dict[tuple[str, str], str] = {}
-    left = scripts
-    for _ in range(1 + MORE_RUNS):
-        found = room.verdicts(left, which, mode)
-        wrong = {}
-        for it in left:
-            for case in it.cases():
-                wanted, verdict = wanted_of(it, case, which), found.get((it.module, case))
-                if verdict not in wanted:
-                    wrong[it.name, case] = f"with {which} queue it is {verdict}, and not {' or '.join(sorted(wanted))}"
-        left = [it for it in left if any(name == it.name for name, _ in wrong)]
-        if not left:
-            break
-    return wrong
+def wrong_with(found: Verdicts, script: Script, case: str, which: str) -> str:
+    """What is wrong with the verdict of a test case with this queue, if anything is."""
+    departs, verdict = departure(script, case), found.get((script.module, case))
+    wanted = {departs[2]} if departs and which == OWN else script.verdicts
+    return "" if verdict in wanted else f"with {which} queue it is {verdict}, and not {' or '.join(sorted(wanted))}"
 
 
 def scripts_of(names: list[str]) -> list[Script]:
@@ -213,7 +226,7 @@ def try_scripts(room: Room, scripts: list[Script]) -> int:
     failed = 0
     for it in scripts:
         if refused[it, OWN]:
-            print(f"left out {it.name} by Titan: its compiler refuses the script", flush=True)
+            print(f"left out {it.name} by Titan, whose compiler refuses it: {refused[it, OWN]}", flush=True)
         elif refused[it, OURS]:
             print(f"FAILED: {it.name}: its port classes don't compile: {refused[it, OURS]}", flush=True)
             failed += 1
@@ -229,14 +242,14 @@ def try_scripts(room: Room, scripts: list[Script]) -> int:
 
 def tell(room: Room, scripts: list[Script], mode: str) -> int:
     """Runs them with both queues, tells what came of each test case, and returns how many failed."""
-    wrong = [wrong_with(room, scripts, which, mode) for which in (OWN, OURS)]
+    found = {which: room.verdicts(scripts, which, mode) for which in (OWN, OURS)}
     failed = 0
-    for it in scripts:
-        for case in it.cases():
-            said = "; ".join(found[it.name, case] for found in wrong if (it.name, case) in found)
-            name = f"{it.name}, {case} by Titan in {mode} mode"
-            print(f"FAILED: {name}: {said}" if said else f"passed {name}", flush=True)
-            failed += bool(said)
+    for script, case in ((it, case) for it in scripts for case in it.cases()):
+        said = "; ".join(filter(None, (wrong_with(found[which], script, case, which) for which in found)))
+        departs = departure(script, case)
+        name = f"{script.name}, {case} by Titan in {mode} mode" + (f"; {departs[0]}: {departs[1]}" if departs else "")
+        print(f"FAILED: {name}: {said}" if said else f"passed {name}", flush=True)
+        failed += bool(said)
     return failed
 
 
