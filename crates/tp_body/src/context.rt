@@ -1,15 +1,14 @@
-//! Where a statement stands: what its names may mean, and its refusals.
+//! The place of a statement: what its names may mean, and its refusals.
 use crate::scope::{BehaviourKind, Scope, Variables};
 use tp_name::fault::{ModuleFault, ModuleRule, refused};
 use tp_name::name::Name;
 use tp_tree::tree::ComponentName;
 use tp_value::types::Ty;
 
-/// Where a statement, a value or a template stands: what its names may mean, and the line for its
+/// The place of a statement, a value or a template: what its names may mean, and the line for its
 /// refusals.
 #[derive(Clone, Copy)]
 pub struct Context<'a, 'v, 'm> {
-    /// The names that the body may use.
     pub scope: &'a Scope<'a>,
     /// The variables of the body, or those before the one that is declared.
     pub variables: &'a Variables<'v>,
@@ -26,28 +25,24 @@ impl<'a, 'v, 'm> Context<'a, 'v, 'm> {
     ghost use Rattle.tp_body.specs.Scoping.{IsReference};
     ghost use Rattle.tp_body.specs.BrokenOperations.{FromBreaks};
 
-    /// 11 `Unknown`.
     pub fn unknown(&self) -> ModuleFault
         ensures { result ≡ ModuleFault.Refused ModuleRule.Unknown self.now.line }
     {
         refused(ModuleRule::Unknown, self.line)
     }
 
-    /// 12 `Duplicate`.
     pub fn duplicate(&self) -> ModuleFault
         ensures { result ≡ ModuleFault.Refused ModuleRule.Duplicate self.now.line }
     {
         refused(ModuleRule::Duplicate, self.line)
     }
 
-    /// 13 `WrongType`.
     pub fn wrong_type(&self) -> ModuleFault
         ensures { result ≡ ModuleFault.Refused ModuleRule.WrongType self.now.line }
     {
         refused(ModuleRule::WrongType, self.line)
     }
 
-    /// 13 `WrongType` where the type isn't the one that is wanted.
     pub fn check_type(&self, ty: Ty, wanted: Ty) -> Result<(), ModuleFault>
         ensures ok { OnOk result (ty ≡ wanted) }
         ensures other { OnErr result (ty ≢ wanted) }
@@ -60,14 +55,13 @@ impl<'a, 'v, 'm> Context<'a, 'v, 'm> {
         Ok(())
     }
 
-    /// 14 `Direction`.
     pub fn direction(&self) -> ModuleFault
         ensures { result ≡ ModuleFault.Refused ModuleRule.Direction self.now.line }
     {
         refused(ModuleRule::Direction, self.line)
     }
 
-    /// 16 `NotInSut` in the system under test, for what can't stand there.
+    /// 16 `NotInSut` in the system under test.
     pub fn check_not_in_sut(&self) -> Result<(), ModuleFault>
         ensures ok { OnOk result (self.now.scope.now.behaviour ≢ BehaviourKind.SystemUnderTest) }
         ensures err { IfErr result (λ fault.
@@ -81,8 +75,8 @@ impl<'a, 'v, 'm> Context<'a, 'v, 'm> {
         Ok(())
     }
 
-    /// What a name is refused with that may not stand there: 13 `WrongType` for a variable of the
-    /// body, otherwise 11 `Unknown`, also for a loop variable.
+    /// The refusal of a name that can't stand here: 13 `WrongType` for a variable of the body,
+    /// otherwise 11 `Unknown`, also for a loop variable.
     pub fn no_turn(&self, name: &str) -> ModuleFault
         ensures { (Contains self.now.variables.now.names name.now
             × (result ≡ ModuleFault.Refused ModuleRule.WrongType self.now.line))
@@ -96,9 +90,8 @@ impl<'a, 'v, 'm> Context<'a, 'v, 'm> {
         }
     }
 
-    /// What a name is refused with where a variable has to stand, and that is neither a variable
-    /// nor a loop variable: 13 `WrongType` for a parameter or a component variable, otherwise
-    /// 11 `Unknown`.
+    /// The refusal of a name in place of a variable that is neither a variable nor a loop variable:
+    /// 13 `WrongType` for a parameter or a component variable, otherwise 11 `Unknown`.
     pub fn no_variable(&self, name: &str) -> ModuleFault
         ensures { ((Contains self.now.scope.now.parameters.now name.now
             ⊎ Contains self.now.scope.now.component_variables.now name.now)
@@ -113,8 +106,8 @@ impl<'a, 'v, 'm> Context<'a, 'v, 'm> {
         self.unknown()
     }
 
-    /// What a name behind `from` is refused with that is no reference: 13 `WrongType` for a
-    /// variable, otherwise 11 `Unknown`.
+    /// The refusal of a name after `from` that isn't a reference: 13 `WrongType` for a variable,
+    /// otherwise 11 `Unknown`.
     pub fn no_reference(&self, component: &ComponentName) -> ModuleFault
         ensures { ((k : ℕ) → IsReference
             self.now.scope.now self.now.variables.now (texts self.now.turns.now) component.now k

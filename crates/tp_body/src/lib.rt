@@ -1,8 +1,8 @@
-//! The checks of the bodies of a module, and what their statements stand for. `tp_script` calls
-//! them.
+//! The checks of the bodies of a module, which turn their statements into those of `tp_play`.
+//! `tp_script` calls [`statements::resolve_body`] for each body; start there.
 //!
-//! Where a call answers 50 `Memory`, an allocation was refused, which says nothing about the
-//! script. A call that can't answer it takes no memory.
+//! 50 `Memory` means that an allocation was refused, and says nothing about the script. A call that
+//! can't return it doesn't allocate.
 #![tactic(auto)]
 
 mod context;

@@ -1,4 +1,4 @@
-//! Looking names up.
+//! Look-ups of names.
 ghost use Rattle.std.specs.Prelude.{◌≡◌, ◌++◌, ◌↔◌, ◌≤◌, ◌<◌, ◌^◌, ℕ, Contains, IsTrue, IfNone, IfSome, length};
 ghost use Rattle.tp_name.specs.Named.{IsAbsent, IsPlace, texts};
 ghost use Rattle.tp_body.specs.Scoping.{AreTyped, IsPortNamed, IsReference, IsType, IsVariable, declared_port_names, receivable_types, sendable_types};
@@ -13,7 +13,6 @@ use tp_tree::message::TypeName;
 use tp_tree::tree::ComponentName;
 use tp_value::types::{Ty, Types};
 
-/// The place of the port of this name, or `None` where no port has it.
 pub fn place_of_port(ports: &CompType, name: &str) -> Option<usize>
     ensures there { IfSome result (λ place.
         IsPlace (declared_port_names ports.now) name.now place) }
@@ -25,7 +24,6 @@ pub fn place_of_port(ports: &CompType, name: &str) -> Option<usize>
     }
 }
 
-/// The port of this name: its place, and its type.
 pub fn find_port<'p>(ports: &'p CompType, name: &str) -> Option<(u32, &'p PortType)>
     ensures there { IfSome result (λ found. IsPortNamed ports.now name.now found.0 found.1.now) }
     ensures absent { length ports.now.ports.entries ≤ 64
@@ -41,7 +39,6 @@ pub fn find_port<'p>(ports: &'p CompType, name: &str) -> Option<(u32, &'p PortTy
     Some((place as u32, port))
 }
 
-/// What the behaviour sends at the port.
 pub fn sendable(behaviour: BehaviourKind, port: &PortType) -> &TypeList
     ensures { result.now ≡ sendable_types behaviour port.now }
 {
@@ -51,7 +48,6 @@ pub fn sendable(behaviour: BehaviourKind, port: &PortType) -> &TypeList
     }
 }
 
-/// What the behaviour receives at the port.
 pub fn receivable(behaviour: BehaviourKind, port: &PortType) -> &TypeList
     ensures { result.now ≡ receivable_types behaviour port.now }
 {
@@ -61,14 +57,13 @@ pub fn receivable(behaviour: BehaviourKind, port: &PortType) -> &TypeList
     }
 }
 
-/// Whether the type is among these, found without a look at each.
+/// Returns whether the type is listed, without comparing it with each.
 pub fn lists(types: &TypeList, ty: Ty) -> bool
     ensures { IsTrue result ↔ Contains types.now ty }
 {
     types.has(ty)
 }
 
-/// The type of values that a name stands for.
 #[tactic(auto, using(crate::proofs::TypeAndReferenceRules::cases))]
 pub fn find_type(types: &Types, name: &TypeName) -> Option<Ty>
     ensures there { IfSome result (IsType types.now name.now) }
@@ -85,7 +80,6 @@ pub fn find_type(types: &Types, name: &TypeName) -> Option<Ty>
     }
 }
 
-/// The variable of this name: its place, and what it holds.
 pub fn find_variable(variables: &Variables, name: &str) -> Option<(usize, VariableType)>
     ensures there { IfSome result (λ found. IsVariable variables.now name.now found.0 found.1) }
     ensures absent { AreTyped variables.now
@@ -111,7 +105,6 @@ fn find_component(scope: &Scope, name: &str) -> Option<usize>
     scope.parameters.len().checked_add(place as usize)
 }
 
-/// The place of a component among the references.
 #[tactic(auto, using(crate::proofs::TypeAndReferenceRules::cases))]
 pub fn find_reference(context: &Context, component: &ComponentName) -> Option<usize>
     ensures there { IfSome result (IsReference

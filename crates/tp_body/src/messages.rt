@@ -1,4 +1,4 @@
-//! What the values of messages stand for.
+//! Values of messages.
 ghost use Rattle.std.specs.Prelude.{◌≡◌, IfErr, IfOk, length};
 ghost use Rattle.tp_name.specs.Named.{texts};
 ghost use Rattle.tp_name.specs.Refused.{TellsAt};
@@ -18,12 +18,12 @@ use tp_tree::message::{Value, ValueField};
 use tp_value::items::Items;
 use tp_value::types::{Field, Ty, TypeDef};
 
-/// What a value of this type stands for.
+/// Resolves a value of this type.
 ///
-/// The first fault from left to right is answered, at the line of the context, the number and the
-/// names of a record's fields before what stands in them: 13 `WrongType` for a value of another
-/// type, a field that the record hasn't, or that is missing or given twice, and a variable;
-/// 11 `Unknown` for any other name that is no loop variable.
+/// It returns the first fault from left to right, at the line of the context; the number and the
+/// names of a record's fields come before their contents. 13 `WrongType` for a value of another
+/// type, a field that the record doesn't have, or that is missing or given twice, and a variable;
+/// 11 `Unknown` for any other name that isn't a loop variable.
 #[cycle(value)]
 #[tactic(auto, using(crate::proofs::ValueRules::cases))]
 pub fn resolve_value(
@@ -78,7 +78,6 @@ pub fn resolve_value(
     }
 }
 
-/// What the elements of a record of stand for.
 #[cycle(value)]
 #[tactic(auto, using(crate::proofs::ValueRules::cases))]
 fn resolve_elements(
@@ -101,7 +100,7 @@ fn resolve_elements(
     Ok(made)
 }
 
-/// What the fields of a record stand for, which are given by their places.
+/// The fields are given by their places.
 #[cycle(value)]
 #[tactic(auto, using(crate::proofs::ValueRules::cases))]
 fn resolve_fields(
@@ -128,7 +127,7 @@ fn resolve_fields(
     Ok(made)
 }
 
-/// What the fields of a record stand for, which are given by their names: in declared order.
+/// The fields are given by their names. The result has them in declared order.
 #[cycle(value)]
 #[tactic(auto, using(crate::proofs::ValueRules::cases))]
 fn resolve_named(

@@ -1,4 +1,4 @@
-//! What sends and receiving operations stand for.
+//! Sends and receiving operations.
 ghost use Rattle.std.specs.Prelude.{◌≡◌, ◌↔◌, Contains, IfErr, IfOk, IsTrue, OnErr, Some};
 ghost use Rattle.tp_name.specs.Named.{IsAbsent, texts};
 ghost use Rattle.tp_name.specs.Refused.{TellsAt};
@@ -26,8 +26,8 @@ use tp_tree::tree::{ComponentName, Receivers, VerdictName};
 use tp_value::types::Ty;
 use tp_value::verdict::Verdict;
 
-/// What a message that is written out stands for: 11 `Unknown` for its type, 14 `Direction` where
-/// it isn't among those that can be sent, then the refusals of the value.
+/// Resolves a message that is written out. 11 `Unknown` for its type, 14 `Direction` if it isn't
+/// among those that can be sent, then the refusals of the value.
 fn resolve_written(
     alloc: Global,
     context: &Context,
@@ -52,7 +52,7 @@ fn resolve_written(
     Ok(SendMsg { ty, value })
 }
 
-/// What a loop variable sends, as an integer: 14 `Direction` where no integer can be sent.
+/// A loop variable is sent as an integer. 14 `Direction` if no integer can be sent.
 fn resolve_counter(
     context: &Context,
     sendable: &TypeList,
@@ -74,8 +74,8 @@ fn resolve_counter(
     })
 }
 
-/// The variable that has this name: its place, and what it holds. 13 `WrongType` for a loop
-/// variable, a parameter or a component variable, 11 `Unknown` for any other name.
+/// 13 `WrongType` for a loop variable, a parameter or a component variable, 11 `Unknown` for any
+/// other name that isn't a variable.
 fn variable_named(context: &Context, name: &str) -> Result<(usize, VariableType), ModuleFault>
     ensures no_turn { IfOk result (λ _. IsAbsent (texts context.now.turns.now) name.now) }
     ensures held { IfOk result (λ found.
@@ -94,8 +94,8 @@ fn variable_named(context: &Context, name: &str) -> Result<(usize, VariableType)
     }
 }
 
-/// The variable of messages that has this name: its place, and its type. 11 `Unknown` for an
-/// unknown name, 13 `WrongType` for a name of anything else.
+/// 11 `Unknown` for an unknown name, 13 `WrongType` for a name of anything but a variable of
+/// messages.
 fn message_variable(context: &Context, name: &str) -> Result<(usize, Ty), ModuleFault>
     ensures no_turn { IfOk result (λ _. IsAbsent (texts context.now.turns.now) name.now) }
     ensures held { IfOk result (λ found.
@@ -112,8 +112,8 @@ fn message_variable(context: &Context, name: &str) -> Result<(usize, Ty), Module
     }
 }
 
-/// The place of the variable of components that has this name. 11 `Unknown` for an unknown name, 13
-/// `WrongType` for a name of anything else.
+/// 11 `Unknown` for an unknown name, 13 `WrongType` for a name of anything but a variable of
+/// components.
 fn component_variable(context: &Context, name: &str) -> Result<usize, ModuleFault>
     ensures no_turn { IfOk result (λ _. IsAbsent (texts context.now.turns.now) name.now) }
     ensures held { IfOk result (λ place.
@@ -130,8 +130,6 @@ fn component_variable(context: &Context, name: &str) -> Result<usize, ModuleFaul
     }
 }
 
-/// What is sent: a message that is written out, what a loop variable holds, or what a variable
-/// holds.
 #[tactic(auto, using(crate::proofs::OperationRules::cases))]
 fn resolve_sent(
     alloc: Global,
@@ -167,7 +165,6 @@ fn resolve_sent(
     }
 }
 
-/// Whether the name is that of a variable, which no loop variable hides.
 fn is_variable(context: &Context, name: &str) -> bool
     ensures { IsTrue result ↔ (IsAbsent (texts context.now.turns.now) name.now
         × Contains context.now.variables.now.names name.now) }
@@ -178,8 +175,8 @@ fn is_variable(context: &Context, name: &str) -> bool
     context.variables.names.has(name)
 }
 
-/// The component behind `to`: a variable's, or a reference. 13 `WrongType` for a variable of
-/// messages, 11 `Unknown` for any other name that is no component.
+/// The component after `to`: a variable's, or a reference. 13 `WrongType` for a variable of
+/// messages, 11 `Unknown` for any other name that isn't a component.
 #[tactic(auto, using(crate::proofs::OperationRules::cases))]
 fn resolve_component(context: &Context, component: &ComponentName) -> Result<Receiver, ModuleFault>
     ensures stands { IfOk result (IsReceiver
@@ -203,7 +200,6 @@ fn resolve_component(context: &Context, component: &ComponentName) -> Result<Rec
     Ok(Receiver::Reference(place))
 }
 
-/// To whom is sent.
 #[tactic(auto, using(crate::proofs::OperationRules::cases))]
 fn resolve_receiver(context: &Context, to: &Option<Receivers>) -> Result<Receiver, ModuleFault>
     ensures stands { IfOk result (IsReceiver
@@ -220,11 +216,11 @@ fn resolve_receiver(context: &Context, to: &Option<Receivers>) -> Result<Receive
     }
 }
 
-/// What a send stands for (ES 201 873-1, 22.2.1).
+/// Resolves a send (ES 201 873-1, 22.2.1).
 ///
-/// In this order, at the line of the context: 11 `Unknown` for the port; for a message its type
-/// (11), the port's direction (14 `Direction`) and the value; for a variable its name (11,
-/// 13 `WrongType`) and the direction (14); then the receiver (11, 13).
+/// Its refusals, at the line of the context, in this order: 11 `Unknown` for the port; for a
+/// message its type (11), the port's direction (14 `Direction`) and the value; for a variable its
+/// name (11, 13 `WrongType`) and the direction (14); then the receiver (11, 13).
 pub fn resolve_send(
     alloc: Global,
     context: &Context,
@@ -250,8 +246,8 @@ pub fn resolve_send(
     })
 }
 
-/// What a receiving operation wants: 11 `Unknown` for the type, 14 `Direction` where it isn't among
-/// those that can be received, then the refusals of the template.
+/// 11 `Unknown` for the type, 14 `Direction` if it isn't among those that can be received, then the
+/// refusals of the template.
 #[tactic(auto, using(crate::proofs::OperationRules::cases))]
 fn resolve_wanted(
     alloc: Global,
@@ -279,8 +275,8 @@ fn resolve_wanted(
     Ok(RecvMsg::Of(ty, made))
 }
 
-/// The component behind `from`, if there is one: 13 `WrongType` for a variable, 11 `Unknown` for
-/// any other name that is no component.
+/// The component after `from`. 13 `WrongType` for a variable, 11 `Unknown` for any other name that
+/// isn't a component.
 #[tactic(auto, using(crate::proofs::OperationRules::cases))]
 fn resolve_sender(
     context: &Context,
@@ -301,8 +297,8 @@ fn resolve_sender(
     Ok(Some(place))
 }
 
-/// The variable behind `value`, if there is one: 11 `Unknown` for an unknown name, 13 `WrongType`
-/// for anything but a variable of the template's type, and without a template.
+/// The variable after `value`. 11 `Unknown` for an unknown name, 13 `WrongType` for anything but a
+/// variable of the template's type, and without a template.
 #[tactic(auto, using(crate::proofs::OperationRules::cases))]
 fn resolve_value_target(
     context: &Context,
@@ -329,8 +325,8 @@ fn resolve_value_target(
     }
 }
 
-/// The variable behind `sender`, if there is one: 11 `Unknown` for an unknown name, 13 `WrongType`
-/// for anything but a variable of components.
+/// The variable after `sender`. 11 `Unknown` for an unknown name, 13 `WrongType` for anything but a
+/// variable of components.
 #[tactic(auto, using(crate::proofs::OperationRules::cases))]
 fn resolve_sender_target(
     context: &Context,
@@ -350,11 +346,12 @@ fn resolve_sender_target(
     Ok(Some(place))
 }
 
-/// What a receiving operation stands for (ES 201 873-1, 22.2.2 to 22.2.4).
+/// Resolves a receiving operation (ES 201 873-1, 22.2.2 to 22.2.4).
 ///
-/// In this order, at the line of the context: 11 `Unknown` for the port; the template's type (11),
-/// the port's direction (14 `Direction`) and the template; the component behind `from` (11,
-/// 13 `WrongType`); the variable behind `value`, then the one behind `sender` (11, 13).
+/// Its refusals, at the line of the context, in this order: 11 `Unknown` for the port; the
+/// template's type (11), the port's direction (14 `Direction`) and the template; the component
+/// after `from` (11, 13 `WrongType`); the variable after `value`, then the one after `sender` (11,
+/// 13).
 pub fn resolve_receive(
     alloc: Global,
     context: &Context,
@@ -387,7 +384,7 @@ pub fn resolve_receive(
     })
 }
 
-/// The verdict that a statement names: 13 `WrongType` at the line of the context for `error`.
+/// 13 `WrongType` at the line of the context for `error`.
 #[tactic(auto, using(crate::proofs::OperationRules::cases))]
 pub fn resolve_verdict(context: &Context, name: VerdictName) -> Result<Verdict, ModuleFault>
     ensures verdict { IfOk result (IsVerdict name) }

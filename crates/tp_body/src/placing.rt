@@ -1,4 +1,4 @@
-//! Which entry stands for which field.
+//! The fields that the entries of a record stand for.
 ghost use Rattle.std.specs.Prelude.{◌≡◌, ◌<◌, ◌↔◌, ◌⊎◌, ℕ, List, [], true, IfErr, IfNone, IfOk, IfSome, IsTrue, OnOk, length, map, slice_get, slice_set, string_bytes};
 ghost use Rattle.std.specs.Bool.{OnFalse};
 ghost use Rattle.tp_name.specs.Named.{IsAbsent};
@@ -13,12 +13,11 @@ use tp_refusal::memory::Memory;
 use tp_tree::message::{TemplateField, ValueField};
 use tp_value::types::Field;
 
-/// An entry that says by its name which field of a record it is for (ES 201 873-1, 6.2.1.1).
+/// An entry that names the field of a record that it is for (ES 201 873-1, 6.2.1.1).
 pub trait NamedField {
     /// The bytes of its name.
     ghost name: { Self → List ℕ };
 
-    /// Its name.
     fn name(&self) -> &str
         ensures { result.now ≡ name self.now };
 }
@@ -39,7 +38,6 @@ impl NamedField for TemplateField {
     }
 }
 
-/// Whether the field at this place has this name.
 fn is_field(fields: &[Field], place: usize, name: &str) -> bool
     ensures { IsTrue result ↔ (slice_get (field_names fields.now) place ≡ Some name.now) }
 {
@@ -49,8 +47,8 @@ fn is_field(fields: &[Field], place: usize, name: &str) -> bool
     }
 }
 
-/// The names of a record's fields, once one was looked for among them: so a record whose entries
-/// stand in declared order takes no table.
+/// The names of a record's fields, listed when one is first looked up. So a record whose entries
+/// are in declared order needs no table.
 struct FieldTable<'f> {
     names: IndexSet<&'f [u8]>,
 }
@@ -63,8 +61,7 @@ impl Drop for FieldTable<'_> {
     }
 }
 
-/// Puts the names of the fields into the table, in declared order. A name that stands twice is put
-/// in once.
+/// Lists the names in declared order. A name that occurs twice is listed once.
 fn list_names<'f>(table: &mut FieldTable<'f>, fields: &'f [Field]) -> Result<(), ModuleFault>
     requires { table.old.names.keys ≡ [] }
     ensures ok { AreDistinct (field_names fields.now)
@@ -79,9 +76,8 @@ fn list_names<'f>(table: &mut FieldTable<'f>, fields: &'f [Field]) -> Result<(),
     Ok(())
 }
 
-/// A place at which the field of this name stands, or `None` where there is none. It looks at the
-/// given place first, where a field in declared order stands, and then into the table, which holds
-/// the names of the fields once one was looked for there.
+/// Looks first at the place `likely`, which is right for entries in declared order, and then in the
+/// table.
 fn find_field<'f>(
     fields: &'f [Field],
     table: &mut FieldTable<'f>,
@@ -113,7 +109,7 @@ fn find_field<'f>(
     Ok(Some(place))
 }
 
-/// Takes the place, and says whether it was free.
+/// Takes the place, and returns whether it was free.
 fn occupy(taken: &mut Vec<bool>, place: usize) -> bool
     ensures free { IsTrue result → taken.new.items ≡ slice_set taken.old.items place true }
     ensures taken { OnFalse result (place < length taken.old.items
@@ -126,7 +122,6 @@ fn occupy(taken: &mut Vec<bool>, place: usize) -> bool
     false
 }
 
-/// Whether all places are taken.
 fn are_all(taken: &[bool]) -> bool
     ensures { IsTrue result
         ↔ ((k : ℕ) → k < length taken.now → slice_get taken.now k ≡ Some true) }
@@ -139,10 +134,8 @@ fn are_all(taken: &[bool]) -> bool
     true
 }
 
-/// The places of the fields that these entries stand for: each field has exactly one entry.
-///
-/// 13 `WrongType` at the line where there are more or fewer entries than fields, a name that no
-/// field has, or a name given twice.
+/// The places of the fields that these entries stand for. 13 `WrongType` at the line if there are
+/// more or fewer entries than fields, a name that no field has, or a name given twice.
 pub fn field_places<E: NamedField>(
     alloc: Global,
     fields: &[Field],

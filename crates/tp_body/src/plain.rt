@@ -1,4 +1,4 @@
-//! What a text and the name of a loop variable stand for, in values and in templates.
+//! Texts and names of loop variables, in values and in templates.
 ghost use Rattle.std.specs.Prelude.{◌≡◌, IfErr, IfOk, OnOk};
 ghost use Rattle.tp_name.specs.Named.{IsPlace, texts};
 ghost use Rattle.tp_name.specs.Refused.{TellsAt};
@@ -13,8 +13,8 @@ use tp_value::shared::Shared;
 use tp_value::types::Ty;
 use tp_value::typing::are_printable;
 
-/// What a text stands for: 13 `WrongType` at the line of the context for another type than
-/// `charstring`, and for a character that can't be printed.
+/// 13 `WrongType` at the line of the context for another type than `charstring`, and for a
+/// character that can't be printed.
 pub fn resolve_text(
     alloc: Global,
     context: &Context,
@@ -34,9 +34,9 @@ pub fn resolve_text(
     Ok(made)
 }
 
-/// The place of the loop variable of this name, which stands for an integer. At the line of the
-/// context 13 `WrongType` for a variable, and for another type than `integer`; 11 `Unknown` for
-/// any other name.
+/// The place of a loop variable, which stands for an integer. At the line of the context: 13
+/// `WrongType` for a variable, and for another type than `integer`; 11 `Unknown` for any other
+/// name.
 pub fn resolve_turn(context: &Context, ty: Ty, name: &str) -> Result<usize, ModuleFault>
     ensures place { IfOk result (IsPlace (texts context.now.turns.now) name.now) }
     ensures integer { OnOk result (ty ≡ Ty.Integer) }

@@ -1,13 +1,12 @@
-//! How many statements a body has.
+//! The number of statements of a body.
 ghost use Rattle.std.specs.Prelude.{◌≡◌};
 ghost use Rattle.tp_play.specs.Sizes.{capped, size_in, size_in_all, size_of, size_of_all, size_of_body, turns_between};
 
 use tp_play::body::{Body, ResolvedBranch, ResolvedStatement};
 
-/// Where counting stops: one more than the statements that all bodies of a test case may come to.
+/// Counting stops here: one above the maximum number of statements of all bodies of a test case.
 pub const SIZE_CEILING: u64 = 100_001;
 
-/// The smaller of a number and the one where counting stops.
 pub fn cap(number: u64) -> u64
     ensures { result ≡ capped number }
 {
@@ -18,7 +17,6 @@ pub fn cap(number: u64) -> u64
     }
 }
 
-/// The turns of a `for` from this first value to this bound.
 fn turn_count(first: &i64, bound: &i64) -> u64
     ensures { result ≡ turns_between first.now bound.now }
 {
@@ -28,7 +26,6 @@ fn turn_count(first: &i64, bound: &i64) -> u64
     0
 }
 
-/// The size of a statement, up to [`SIZE_CEILING`].
 #[cycle(size)]
 #[tactic(auto, using(crate::proofs::CappedStatementSizes::laws))]
 fn count_statement(statement: &ResolvedStatement) -> u64
@@ -53,7 +50,6 @@ fn count_statement(statement: &ResolvedStatement) -> u64
     }
 }
 
-/// The size of a block, up to [`SIZE_CEILING`].
 #[cycle(size)]
 #[tactic(auto, using(crate::proofs::CappedStatementSizes::laws))]
 fn count_block(block: &[ResolvedStatement]) -> u64
@@ -66,7 +62,6 @@ fn count_block(block: &[ResolvedStatement]) -> u64
     sum
 }
 
-/// The size of a branch, up to [`SIZE_CEILING`].
 #[cycle(size)]
 #[tactic(auto, using(crate::proofs::CappedStatementSizes::laws))]
 fn count_branch(branch: &ResolvedBranch) -> u64
@@ -75,7 +70,6 @@ fn count_branch(branch: &ResolvedBranch) -> u64
     count_block(branch.block.as_slice())
 }
 
-/// The size of the branches of an `alt`, up to [`SIZE_CEILING`].
 #[cycle(size)]
 #[tactic(auto, using(crate::proofs::CappedStatementSizes::laws))]
 fn count_branches(branches: &[ResolvedBranch]) -> u64
@@ -88,8 +82,7 @@ fn count_branches(branches: &[ResolvedBranch]) -> u64
     sum
 }
 
-/// How many statements a body has, once each `for` stands for its copies; 100,001 where there are
-/// more. Each variable counts 1.
+/// Each `for` counts as its copies, and each variable as 1. Returns 100,001 if there are more.
 #[tactic(auto, using(crate::proofs::CappedStatementSizes::laws))]
 pub fn count_body(body: &Body) -> u64
     ensures { result ≡ capped (size_of_body body.now) }

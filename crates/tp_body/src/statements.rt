@@ -1,4 +1,4 @@
-//! What statements stand for.
+//! Statements and bodies.
 ghost use Rattle.std.specs.Prelude.{◌≡◌, ◌≢◌, ◌∷◌, ◌++◌, [], IfErr, IfOk, List, OnOk, length};
 ghost use Rattle.tp_name.specs.Named.{texts};
 ghost use Rattle.tp_name.specs.Refused.{IsRefusedBy, Tells, TellsAt};
@@ -22,7 +22,6 @@ use tp_tree::tree;
 use tp_tree::tree::{Action, BranchBody, Control, Counted, Turns, Variable, VerdictName};
 use tp_value::items::Items;
 
-/// The loop variables inside a `for`.
 #[tactic(auto, using(std::proofs::lemmas::List::map_push))]
 fn turns_inside<'m>(
     alloc: Global,
@@ -37,15 +36,13 @@ fn turns_inside<'m>(
     Ok(inside)
 }
 
-/// A counted `for`.
 fn counted_for(turns: &Turns, block: Items<ResolvedStatement>) -> ResolvedStatement
     ensures { result ≡ ResolvedStatement.For turns.now.first turns.now.bound block }
 {
     ResolvedStatement::For(turns.first, turns.bound, block)
 }
 
-/// What an operation on one port stands for: 16 `NotInSut` in the system under test, then
-/// 11 `Unknown` for the port.
+/// 16 `NotInSut` in the system under test, then 11 `Unknown` for the port.
 #[tactic(auto, using(crate::proofs::StatementRules::cases))]
 fn resolve_control(context: &Context, control: &Control) -> Result<ResolvedStatement, ModuleFault>
     ensures stands { IfOk result (IsStatement
@@ -63,7 +60,7 @@ fn resolve_control(context: &Context, control: &Control) -> Result<ResolvedState
     Ok(ResolvedStatement::Control(place, control.operation))
 }
 
-/// What an operation on all ports stands for: 16 `NotInSut` in the system under test.
+/// 16 `NotInSut` in the system under test.
 #[tactic(auto, using(crate::proofs::StatementRules::cases))]
 fn resolve_all_ports(
     context: &Context,
@@ -80,8 +77,7 @@ fn resolve_all_ports(
     Ok(ResolvedStatement::AllPorts(operation))
 }
 
-/// What `setverdict` stands for: 16 `NotInSut` in the system under test, then 13 `WrongType` for
-/// `error`.
+/// 16 `NotInSut` in the system under test, then 13 `WrongType` for `error`.
 #[tactic(auto, using(crate::proofs::StatementRules::cases))]
 fn resolve_set_verdict(
     context: &Context,
@@ -99,12 +95,9 @@ fn resolve_set_verdict(
     Ok(ResolvedStatement::SetVerdict(verdict))
 }
 
-/// What a statement stands for.
-///
-/// The first fault in the order of the text is answered, at the line of the statement or branch in
-/// which it stands: those of a send, of a receiving operation, of an operation on ports and of
-/// `setverdict`, and 12 `Duplicate` for a loop variable whose name isn't new, before what stands in
-/// its block.
+/// It returns the first fault in the order of the text, at the line of its statement or branch:
+/// those of a send, of a receiving operation, of an operation on ports and of `setverdict`, and 12
+/// `Duplicate` for a loop variable whose name isn't new, before the faults of its block.
 #[cycle(statement)]
 #[tactic(auto, using(crate::proofs::StatementRules::cases))]
 fn resolve_statement<'m>(
@@ -143,8 +136,8 @@ fn resolve_statement<'m>(
     }
 }
 
-/// What a counted `for` stands for: 12 `Duplicate` for a loop variable whose name isn't new, then
-/// what stands in its block, inside of which there is that variable too.
+/// 12 `Duplicate` for a loop variable whose name isn't new, then the faults of the block, in which
+/// that variable is known.
 #[cycle(statement)]
 #[tactic(auto, using(crate::proofs::StatementRules::cases))]
 fn resolve_for<'m>(
@@ -173,7 +166,6 @@ fn resolve_for<'m>(
     Ok(counted_for(&looped.turns, block))
 }
 
-/// What the statements of a block stand for.
 #[cycle(statement)]
 #[tactic(auto, using(crate::proofs::StatementRules::cases))]
 fn resolve_block<'m>(
@@ -200,7 +192,6 @@ fn resolve_block<'m>(
     Ok(made)
 }
 
-/// What stands behind the operation of a branch.
 #[cycle(statement)]
 #[tactic(auto, using(crate::proofs::StatementRules::cases))]
 fn resolve_after<'m>(
@@ -221,7 +212,6 @@ fn resolve_after<'m>(
     }
 }
 
-/// What a branch of an `alt` stands for.
 #[cycle(statement)]
 #[tactic(auto, using(crate::proofs::StatementRules::cases))]
 fn resolve_branch<'m>(
@@ -245,7 +235,6 @@ fn resolve_branch<'m>(
     Ok(ResolvedBranch { receiving, block })
 }
 
-/// What the branches of an `alt` stand for.
 #[cycle(statement)]
 #[tactic(auto, using(crate::proofs::StatementRules::cases))]
 fn resolve_branches<'m>(
@@ -269,13 +258,12 @@ fn resolve_branches<'m>(
     Ok(made)
 }
 
-/// What a body stands for: its variables, and its statements.
+/// Resolves a body: its variables and its statements.
 ///
-/// The first fault in the order of the text is answered: 12 `Duplicate`, at the given line, which
-/// is that of the function, for a parameter that has the name of a port; then those of
-/// [`resolve_variables`]; then those of the statements. That this is a rule which the body breaks
-/// holds of a sound scope alone: at most 64 ports, and no two fields of a record type with one
-/// name.
+/// It returns the first fault in the order of the text: 12 `Duplicate`, at `line`, which is that of
+/// the function, for a parameter with the name of a port; then those of [`resolve_variables`]; then
+/// those of the statements. The contract says that the body breaks this rule only if the scope is
+/// sound: at most 64 ports, and no two fields of a record type with one name.
 pub fn resolve_body(
     alloc: Global,
     scope: &Scope,

@@ -1,4 +1,4 @@
-//! What the templates of receiving operations stand for.
+//! Templates of receiving operations.
 ghost use Rattle.std.specs.Prelude.{◌≡◌, ◌≢◌, IfErr, IfOk, OnErr, length, map};
 ghost use Rattle.tp_name.specs.Named.{texts};
 ghost use Rattle.tp_name.specs.Refused.{TellsAt};
@@ -20,7 +20,6 @@ use tp_value::items::Items;
 use tp_value::template::PatternPart;
 use tp_value::types::{Field, Ty, TypeDef};
 
-/// What a character of a pattern stands for.
 fn pattern_part(character: u8) -> PatternPart
     ensures { result ≡ part_of character }
 {
@@ -33,7 +32,6 @@ fn pattern_part(character: u8) -> PatternPart
     PatternPart::Literal(character)
 }
 
-/// The parts of a pattern.
 fn parts(alloc: Global, text: &[u8]) -> Result<Items<PatternPart>, ModuleFault>
     ensures parts { IfOk result (λ parts. parts ≡ map part_of text.now) }
     ensures memory { IfErr result (λ fault. fault ≡ ModuleFault.Memory (record {})) }
@@ -45,8 +43,7 @@ fn parts(alloc: Global, text: &[u8]) -> Result<Items<PatternPart>, ModuleFault>
     Ok(parts)
 }
 
-/// What a range stands for: 13 `WrongType` for another type than `integer`, and for a lower bound
-/// above the upper.
+/// 13 `WrongType` for another type than `integer`, and for a lower bound above the upper.
 #[tactic(auto, using(crate::proofs::TemplateRules::cases))]
 fn resolve_range(
     context: &Context,
@@ -66,13 +63,13 @@ fn resolve_range(
     Ok(RecvTemplate::Range(lower, upper))
 }
 
-/// What a template of this type stands for.
+/// Resolves a template of this type.
 ///
-/// The first fault from left to right is answered, at the line of the context, the number and the
-/// names of a record's fields before what stands in them: 13 `WrongType` for a template that
+/// It returns the first fault from left to right, at the line of the context; the number and the
+/// names of a record's fields come before their contents. 13 `WrongType` for a template that
 /// doesn't fit the type, a lower bound above the upper, a `*` that isn't among the elements of a
-/// record of, a field that the record hasn't, or that is missing or given twice, and a variable;
-/// 11 `Unknown` for any other name that is no loop variable.
+/// record of, a field that the record doesn't have, or that is missing or given twice, and a
+/// variable; 11 `Unknown` for any other name that isn't a loop variable.
 #[cycle(template)]
 #[tactic(auto, using(crate::proofs::TemplateRules::cases))]
 pub fn resolve_template(
@@ -127,8 +124,8 @@ pub fn resolve_template(
     }
 }
 
-/// What templates in braces stand for: those of the elements of a record of, or those of the fields
-/// of a record, by their places. 13 `WrongType` for any other type.
+/// Templates in braces: of the elements of a record of, or of the fields of a record, by their
+/// places. 13 `WrongType` for any other type.
 #[cycle(template)]
 #[tactic(auto, using(crate::proofs::TemplateRules::cases))]
 fn resolve_list(
@@ -156,8 +153,7 @@ fn resolve_list(
     }
 }
 
-/// What templates in braces stand for that are given under the names of fields. 13 `WrongType` for
-/// any type but that of a record.
+/// Templates in braces with the names of fields. 13 `WrongType` for any type but that of a record.
 #[cycle(template)]
 #[tactic(auto, using(crate::proofs::TemplateRules::cases))]
 fn resolve_record(
@@ -179,7 +175,6 @@ fn resolve_record(
     Ok(RecvTemplate::Record(made))
 }
 
-/// What the templates in parentheses stand for.
 #[cycle(template)]
 #[tactic(auto, using(crate::proofs::TemplateRules::cases))]
 fn resolve_members(
@@ -202,7 +197,6 @@ fn resolve_members(
     Ok(made)
 }
 
-/// What the template of an element of a record of stands for.
 #[cycle(template)]
 #[tactic(auto, using(crate::proofs::TemplateRules::cases))]
 fn resolve_element_template(
@@ -225,7 +219,6 @@ fn resolve_element_template(
     resolve_template(alloc, context, ty, member)
 }
 
-/// What the templates of the elements of a record of stand for.
 #[cycle(template)]
 #[tactic(auto, using(crate::proofs::TemplateRules::cases))]
 fn resolve_element_templates(
@@ -250,7 +243,7 @@ fn resolve_element_templates(
     Ok(made)
 }
 
-/// What the templates of the fields of a record stand for, which are given by their places.
+/// The fields are given by their places.
 #[cycle(template)]
 #[tactic(auto, using(crate::proofs::TemplateRules::cases))]
 fn resolve_field_templates(
@@ -278,8 +271,7 @@ fn resolve_field_templates(
     Ok(made)
 }
 
-/// What the templates of the fields of a record stand for, which are given by their names: in
-/// declared order.
+/// The fields are given by their names. The result has them in declared order.
 #[cycle(template)]
 #[tactic(auto, using(crate::proofs::TemplateRules::cases))]
 fn resolve_named_templates(

@@ -1,4 +1,4 @@
-//! The variables of a body, and which names are new.
+//! The variables of a body, and the rule for new names.
 ghost use Rattle.std.specs.Prelude.{◌≡◌, ◌≤◌, ◌∷◌, ◌++◌, ◌↔◌, [], ℕ, List, Contains, IfErr, IfNone, IfOk, IfSome, IsTrue, OnOk, Some, length, slice_get};
 ghost use Rattle.std.specs.Bool.{OnFalse};
 ghost use Rattle.tp_name.specs.Named.{IsAbsent, texts};
@@ -20,8 +20,8 @@ use tp_tree::message::TypeName;
 use tp_tree::tree::Variable;
 use tp_value::items::Items;
 
-/// Whether the name is new: no port, parameter, variable or loop variable has it, and in the test
-/// case no component variable.
+/// No port, parameter, variable or loop variable has a new name, and in the test case no component
+/// variable.
 pub fn is_new(context: &Context, name: &str) -> bool
     ensures { IsTrue result ↔
         IsNew context.now.scope.now context.now.variables.now (texts context.now.turns.now)
@@ -49,8 +49,7 @@ pub fn is_new(context: &Context, name: &str) -> bool
     true
 }
 
-/// What a variable of this type holds, or `None` where the name stands for no type of messages and
-/// no component type.
+/// `None` if the name is neither a type of messages nor a component type.
 #[tactic(auto, using(crate::proofs::HeldVariableRules::cases))]
 fn find_held(scope: &Scope, name: &TypeName) -> Option<VariableType>
     ensures there { IfSome result (IsVariableType scope.now name.now) }
@@ -69,8 +68,8 @@ fn find_held(scope: &Scope, name: &TypeName) -> Option<VariableType>
     }
 }
 
-/// Adds a variable behind the others. 12 `Duplicate` at the line for a name that is there,
-/// 15 `Limit` for more than 4,294,967,295 variables.
+/// 12 `Duplicate` at the line for a name that is taken, 15 `Limit` for more than 4,294,967,295
+/// variables.
 fn add_variable<'m>(
     variables: &mut Variables<'m>,
     name: &'m str,
@@ -91,10 +90,10 @@ fn add_variable<'m>(
     Ok(())
 }
 
-/// The variables of a body (ES 201 873-1, 11.1).
+/// Resolves the variables of a body (ES 201 873-1, 11.1).
 ///
-/// For each of them in the order of the text, at its line: 11 `Unknown` for its type, then
-/// 12 `Duplicate` for a name that isn't new, and 15 `Limit` for more than 4,294,967,295 variables.
+/// For each of them in the order of the text, at its line: 11 `Unknown` for its type, then 12
+/// `Duplicate` for a name that isn't new, and 15 `Limit` for more than 4,294,967,295 variables.
 pub fn resolve_variables<'m>(
     alloc: Global,
     scope: &Scope,
@@ -127,7 +126,7 @@ pub fn resolve_variables<'m>(
     Ok(variables)
 }
 
-/// Whether no parameter has the name of a port.
+/// Returns whether no parameter has the name of a port.
 pub fn are_no_ports(scope: &Scope) -> bool
     ensures apart { IsTrue result ↔ ((k : ℕ) (name : List ℕ)
         → slice_get (declared_port_names scope.now.component_type.now) k ≡ Some name

@@ -18,23 +18,17 @@ use tp_name::fault::{ModuleFault, ModuleRule, refused};
 use tp_name::name_set::NameSet;
 use tp_tree::tree::{ComponentType, Creation, SetupAction, SetupStatement, TestCase};
 
-/// A component as the text declares it, and the line for its refusals.
+/// A component as the text declares it, with the line for its refusals.
 #[derive(Clone, Copy)]
 pub(crate) struct DeclaredComponent<'a> {
-    /// Its name.
     pub name: &'a str,
-    /// The name of its type.
     pub type_name: &'a str,
-    /// What it is.
     pub role: Role,
-    /// The line.
     pub line: u32,
 }
 
-/// Adds a component, and answers its number.
-///
-/// 11 `Unknown` at its line where its type is unknown, then the refusals of [`Config::create`] at
-/// that line: the configuration is then as before.
+/// Returns the component's number. 11 `Unknown` at its line if its type is unknown, then the
+/// refusals of [`Config::create`] at that line. A refusal leaves the configuration as it was.
 pub(crate) fn add_component(
     alloc: Global,
     config: &mut Config,
@@ -76,20 +70,19 @@ pub(crate) fn add_component(
     }
 }
 
-/// What a component variable of a test case must obey.
+/// The rules for the component variables of a test case.
 #[derive(Clone, Copy)]
 pub(crate) struct VariableRules<'a, 'm> {
-    /// The names of the component types.
     pub type_names: &'a NameSet<'m>,
-    /// The names of the ports of the main component.
+    /// The names of the main component's ports.
     pub port_names: &'a NameSet<'m>,
-    /// How many component variables there may be.
+    /// The maximum number of component variables.
     pub most: usize,
 }
 
-/// Looks at a component variable and adds its name: 12 `Duplicate` where another variable or a port
-/// of the main component has it, 11 `Unknown` where its type is unknown, 13 `WrongType` where the
-/// two types differ, 15 `Limit` where there are too many components.
+/// Adds the name of a component variable. 12 `Duplicate` if another variable or a port of the main
+/// component has it, 11 `Unknown` if its type is unknown, 13 `WrongType` if the two types differ,
+/// 15 `Limit` if there are too many components.
 fn check_variable<'m>(
     variables: &mut NameSet<'m>,
     rules: &VariableRules,
@@ -130,17 +123,14 @@ fn check_variable<'m>(
     Ok(())
 }
 
-/// Where the components could not all be made: the setup statements before the one that is refused,
-/// and its fault.
+/// The statement that creates no component, because it is refused.
 #[derive(Drop)]
 pub struct StoppedCreation<'m> {
-    /// The statements before it.
+    /// The setup statements before it.
     pub before: &'m [SetupStatement],
-    /// The fault.
     pub fault: ModuleFault,
 }
 
-/// The component that the statement makes.
 pub(crate) fn as_creation(setup: &SetupStatement) -> Option<&Creation>
     ensures { option_copied result ≡ creation_of setup.now }
 {
@@ -150,8 +140,6 @@ pub(crate) fn as_creation(setup: &SetupStatement) -> Option<&Creation>
     }
 }
 
-/// The component of the component variable of this name, where the component variables have these
-/// names, or `None` where there is none.
 pub(crate) fn variable_component(variables: &NameSet, name: &str) -> Option<CompId>
     ensures known { IfSome result (λ comp.
         option_map (λ k. k + 1) (place_of_name variables.now name.now) ≡ Some comp.0) }
@@ -167,16 +155,15 @@ pub(crate) fn variable_component(variables: &NameSet, name: &str) -> Option<Comp
     Some(CompId(place + 1))
 }
 
-/// What a `var` of the setup statements says, with the line of its statement.
+/// A `var` of the setup statements, with its line.
 #[derive(Clone, Copy)]
 struct CreationAt<'m> {
-    /// The line.
     line: u32,
-    /// The component variable, and the component that is made.
+    /// The component variable and the component.
     creation: &'m Creation,
 }
 
-/// Makes the component of a `var`, whose variable is looked at first: see [`check_variable`].
+/// Creates the component of a `var`, after [`check_variable`].
 fn create<'m>(
     alloc: Global,
     config: &mut Config,
@@ -218,12 +205,10 @@ fn create<'m>(
     Ok(())
 }
 
-/// Makes the components of the setup statements, in the order of the text, where their variables
-/// must obey these rules.
+/// Creates the components of the setup statements, in the order of the text.
 ///
-/// The first statement that makes a component and breaks a rule stops it: 12 `Duplicate`,
-/// 11 `Unknown`, 13 `WrongType` or 15 `Limit`, at its line, or 50 `Memory`. The components that
-/// were made before it stay.
+/// It stops at the first that breaks a rule: 12 `Duplicate`, 11 `Unknown`, 13 `WrongType` or 15
+/// `Limit`, at its line, or 50 `Memory`. The components created before it stay.
 pub(crate) fn create_components<'m>(
     alloc: Global,
     config: &mut Config,
@@ -261,9 +246,8 @@ pub(crate) fn create_components<'m>(
     Ok(())
 }
 
-/// The names of the ports of the component type of this name.
-///
-/// 11 `Unknown` at the line where there is no such type, then the refusals of [`declare_ports`].
+/// The names of the ports of this component type. 11 `Unknown` at the line if there is no such
+/// type, then the refusals of [`declare_ports`].
 pub(crate) fn ports_of_type<'m>(
     alloc: Global,
     sorted: &Sorted<'m>,
@@ -288,9 +272,8 @@ pub(crate) fn ports_of_type<'m>(
     Ok(ports)
 }
 
-/// Adds the test system interface, if the test case has a `system` clause, and answers its number.
-///
-/// The refusals of [`add_component`], at the line: the configuration is then as before.
+/// Adds the test system interface, if the test case has a `system` clause, and returns its number.
+/// A refusal of [`add_component`], at the line, leaves the configuration as it was.
 pub(crate) fn add_interface(
     alloc: Global,
     config: &mut Config,

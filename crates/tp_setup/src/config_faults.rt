@@ -1,4 +1,4 @@
-//! What a configuration refuses, told at a line of the script.
+//! Refusals of a configuration, reported at a line of the script.
 ghost use Rattle.std.specs.Prelude.{◌≡◌};
 ghost use Rattle.tp_name.specs.Told.{IsAtLine, fault_refusal};
 ghost use Rattle.tp_config.specs.Faults.{connect_refusal, create_refusal, map_refusal};
@@ -9,7 +9,6 @@ use tp_config::mapping::MapFault;
 use tp_name::fault::{ModuleFault, ModuleRule, refused};
 use tp_refusal::memory::Memory;
 
-/// A refused create, told at this line by its own refusal.
 pub(crate) fn create_fault_at(fault: CreateFault, line: u32) -> ModuleFault
     ensures told { fault_refusal result ≡ create_refusal fault }
     ensures duplicate { fault ≡ CreateFault.Duplicate
@@ -26,7 +25,6 @@ pub(crate) fn create_fault_at(fault: CreateFault, line: u32) -> ModuleFault
     }
 }
 
-/// A refused connect, told at this line by its own refusal.
 pub(crate) fn connect_fault_at(fault: ConnectFault, line: u32) -> ModuleFault
     ensures told { fault_refusal result ≡ connect_refusal fault }
     ensures line { IsAtLine line result }
@@ -42,7 +40,6 @@ pub(crate) fn connect_fault_at(fault: ConnectFault, line: u32) -> ModuleFault
     }
 }
 
-/// A refused map, told at this line by its own refusal.
 pub(crate) fn map_fault_at(fault: MapFault, line: u32) -> ModuleFault
     ensures told { fault_refusal result ≡ map_refusal fault }
     ensures line { IsAtLine line result }

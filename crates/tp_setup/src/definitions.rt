@@ -1,4 +1,4 @@
-//! The second pass of the checks: what definitions name is defined.
+//! The second pass of the checks: everything that definitions name is defined.
 ghost use Rattle.std.specs.Prelude.{◌≡◌, ◌≤◌, ◌↔◌, ℕ, All, Contains, IfErr, IfOk, IfSome, IsTrue, List, OnOk, is_some, length, option_map, string_bytes};
 ghost use Rattle.std.specs.List.{AllZip, list_all};
 ghost use Rattle.tp_tree.specs.declared.tree.Defined.{Defined};
@@ -25,12 +25,10 @@ use tp_tree::tree::{
 };
 use tp_value::types::Types;
 
-/// What the definitions of a module define.
+/// The contents of a module's definitions.
 #[derive(Drop)]
 pub struct Definitions<'m> {
-    /// The test case.
     pub case: CaseAt<'m>,
-    /// The definitions, sorted by their kinds.
     pub sorted: Sorted<'m>,
     /// The record and record-of types, under their own names.
     pub types: Types,
@@ -38,7 +36,6 @@ pub struct Definitions<'m> {
     pub component_types: Vec<CompType>,
 }
 
-/// Whether the type of each field is known.
 fn are_fields_known(types: &NameSet, fields: &[FieldType]) -> bool
     ensures { IsTrue result ↔ All (λ f. NamesType types.now f.type_name) fields.now }
 {
@@ -47,7 +44,6 @@ fn are_fields_known(types: &NameSet, fields: &[FieldType]) -> bool
         .all(|field| is_known_type(types, &field.type_name))
 }
 
-/// Whether each message type of the directions is known.
 fn are_messages_known(types: &NameSet, directions: &[Direction]) -> bool
     ensures { result ≡ has_known_messages types.now directions.now }
 {
@@ -56,7 +52,6 @@ fn are_messages_known(types: &NameSet, directions: &[Direction]) -> bool
         .all(|direction| are_types(types, &direction.types))
 }
 
-/// Whether the type of each port is known.
 fn are_ports_known(port_types: &NameSet, ports: &[PortDeclaration]) -> bool
     ensures { result ≡ list_all
         (λ p. is_some (place_of_name port_types.now (string_bytes p.type_name))) ports.now }
@@ -66,7 +61,6 @@ fn are_ports_known(port_types: &NameSet, ports: &[PortDeclaration]) -> bool
         .all(|port| port_types.has(port.type_name.as_str()))
 }
 
-/// Whether the type of each parameter is known.
 fn are_parameters_known(components: &NameSet, parameters: &[Parameter]) -> bool
     ensures { result ≡ list_all
         (λ p. is_some (place_of_name components.now (string_bytes p.type_name))) parameters.now }
@@ -76,7 +70,6 @@ fn are_parameters_known(components: &NameSet, parameters: &[Parameter]) -> bool
         .all(|parameter| components.has(parameter.type_name.as_str()))
 }
 
-/// Whether there are at most 64 ports.
 fn are_ports_few(ports: &[PortDeclaration]) -> bool
     ensures { IsTrue result ↔ (length (declared_ports ports.now) ≤ 64) }
 {
@@ -90,7 +83,7 @@ fn are_ports_few(ports: &[PortDeclaration]) -> bool
     true
 }
 
-/// Nothing, or 11 `Unknown` at the line where not everything is known.
+/// 11 `Unknown` at the line if not everything is known.
 fn known(is_known: bool, line: u32) -> Result<(), ModuleFault>
     ensures known { OnOk result (IsTrue is_known) }
     ensures refused { IfErr result (λ _. ¬ IsTrue is_known) }
@@ -103,8 +96,8 @@ fn known(is_known: bool, line: u32) -> Result<(), ModuleFault>
     }
 }
 
-/// Looks at a component type. 11 `Unknown` at the line exactly where the type of a port is unknown;
-/// else 15 `Limit` at the line exactly where there are more than 64 ports.
+/// 11 `Unknown` at the line if and only if the type of a port is unknown; else 15 `Limit` at the
+/// line if and only if there are more than 64 ports.
 fn check_component(
     port_types: &NameSet,
     component: &ComponentType,
@@ -123,8 +116,7 @@ fn check_component(
     Ok(())
 }
 
-/// Whether a function can play the system under test, for which this component type stands behind
-/// `system`.
+/// Returns whether a function can play the system under test, whose type a `system` clause names.
 fn plays_system(system: &Option<String>, function: &Function) -> bool
     ensures { IsTrue result ↔ CanPlaySystem (option_map string_bytes system.now) function.now }
 {
@@ -134,7 +126,6 @@ fn plays_system(system: &Option<String>, function: &Function) -> bool
     function.parameters.is_empty() && function.runs_on.as_str() == system.as_str()
 }
 
-/// Looks at a function.
 fn check_function(
     components: &NameSet,
     system: &Option<String>,
@@ -159,14 +150,13 @@ fn check_function(
     Ok(())
 }
 
-/// Whether this is the name of the function that plays the system under test.
+/// Returns whether this is the name of the function that plays the system under test.
 pub fn is_sut(name: &str) -> bool
     ensures { IsTrue result ↔ (name.now ≡ sut) }
 {
     name == "sut"
 }
 
-/// Looks at the test case.
 fn check_case(components: &NameSet, case: &TestCase, line: u32) -> Result<(), ModuleFault>
     ensures runs_on { OnOk result (Contains components.now (string_bytes case.now.runs_on)) }
     ensures system { OnOk result (
@@ -182,7 +172,6 @@ fn check_case(components: &NameSet, case: &TestCase, line: u32) -> Result<(), Mo
     }
 }
 
-/// Looks at one definition.
 #[tactic(auto, using(crate::proofs::SoundDefinitionRules::soundness))]
 fn check_definition(
     sorted: &Sorted,
@@ -216,7 +205,7 @@ fn check_definition(
     }
 }
 
-/// Looks at the definitions, one after the other. Takes no memory.
+/// Goes through the definitions in order, without allocating.
 fn check_definitions(
     sorted: &Sorted,
     system: &Option<String>,
@@ -236,8 +225,6 @@ fn check_definitions(
     Ok(())
 }
 
-/// The definitions of a module, sorted by their kinds, where each obeys the rules and this is the
-/// test case.
 fn sort_sound<'m>(
     alloc: Global,
     parsed: &'m Module,
@@ -255,7 +242,6 @@ fn sort_sound<'m>(
     Ok(sorted)
 }
 
-/// What is made of the definitions that are sorted.
 #[derive(Drop)]
 struct MadeTypes {
     /// The record and record-of types, under their own names.
@@ -264,7 +250,7 @@ struct MadeTypes {
     component_types: Vec<CompType>,
 }
 
-/// The component types, in the order of the text, where the port types have their own names.
+/// The component types, in the order of the text. Port types are found by their own names.
 fn make_component_types(alloc: Global, sorted: &Sorted) -> Result<Vec<CompType>, ModuleFault>
     requires { ArePortsNamed sorted.now }
     ensures components { IfOk result (λ r. AreComponentTypesIn sorted.now r.items) }
@@ -275,7 +261,6 @@ fn make_component_types(alloc: Global, sorted: &Sorted) -> Result<Vec<CompType>,
     make_components(alloc, sorted, &made)
 }
 
-/// The types and the component types, where the port types have their own names.
 fn make(alloc: Global, sorted: &Sorted) -> Result<MadeTypes, ModuleFault>
     requires { ArePortsNamed sorted.now }
     ensures types { IfOk result (λ made.
@@ -294,13 +279,12 @@ fn make(alloc: Global, sorted: &Sorted) -> Result<MadeTypes, ModuleFault>
     })
 }
 
-/// The second pass: what the definitions of a module define, where it has this test case, and no
-/// name is given twice.
+/// The second pass: resolves a module's definitions.
 ///
-/// The first fault in the order of the text is the answer, at the line of the first token of its
-/// definition, and within a definition in this order: 11 `Unknown` for a type that isn't there;
-/// 15 `Limit` for more than 64 ports; 16 `NotInSut` where the function `sut` has parameters, or
-/// doesn't run on the type that a `system` clause names.
+/// It returns the first fault in the order of the text, at the line of the first token of its
+/// definition, and within a definition in this order: 11 `Unknown` for a type that isn't there; 15
+/// `Limit` for more than 64 ports; 16 `NotInSut` if the function `sut` has parameters, or doesn't
+/// run on the type that a `system` clause names.
 pub fn define<'m>(
     alloc: Global,
     parsed: &'m Module,

@@ -1,8 +1,8 @@
 //! The checks of a module up to its bodies: names, definitions, setup and starts. `tp_script` calls
-//! them before those of `tp_body`.
+//! [`preparing::prepare`] before the checks of `tp_body`; start there.
 //!
-//! Where a call answers 50 `Memory`, an allocation was refused, which says nothing about the
-//! script. A call that can't answer it takes no memory.
+//! 50 `Memory` means that an allocation was refused, and says nothing about the script. A call that
+//! can't return it doesn't allocate.
 #![tactic(auto)]
 
 mod components;

@@ -1,4 +1,4 @@
-//! The component types that a module defines, with what their ports receive and send.
+//! The component types of a module, with the types that their ports receive and send.
 ghost use Rattle.std.specs.Prelude.{◌≡◌, ◌+◌, ◌≤◌, ◌↔◌, ◌++◌, ◌∷◌, [], Contains, IfErr, IfNone, IfOk, IfSome, IsTrue, OnOk, All, length, map, slice_get, string_bytes};
 ghost use Rattle.std.specs.Option.{option_copied};
 ghost use Rattle.tp_value.specs.declared.types.Ty.{Ty};
@@ -24,7 +24,6 @@ use tp_tree::tree::{self, ComponentType, DeclaredName, Direction, PortDeclaratio
 use tp_value::items::Items;
 use tp_value::types::Ty;
 
-/// Whether messages go into a port this way.
 fn goes_in(way: Way) -> bool
     ensures { result ≡ goes_in way }
 {
@@ -34,7 +33,6 @@ fn goes_in(way: Way) -> bool
     }
 }
 
-/// Whether messages go out of a port this way.
 fn goes_out(way: Way) -> bool
     ensures { result ≡ goes_out way }
 {
@@ -44,7 +42,7 @@ fn goes_out(way: Way) -> bool
     }
 }
 
-/// Adds the types that these names name. 11 `Unknown` at line 0 where one names none.
+/// 11 `Unknown` at line 0 if a name isn't that of a type.
 fn add_types(types: &NameSet, names: &[TypeName], made: &mut Items<Ty>) -> Result<(), ModuleFault>
     ensures added { OnOk result (Appends types.now names.now made.old made.new) }
     ensures refused { IfErr result (IsRefusedBy (All (NamesType types.now) names.now)) }
@@ -58,7 +56,6 @@ fn add_types(types: &NameSet, names: &[TypeName], made: &mut Items<Ty>) -> Resul
     Ok(())
 }
 
-/// The types that a port with these directions receives.
 fn received_types(
     alloc: Global,
     types: &NameSet,
@@ -79,7 +76,6 @@ fn received_types(
     Ok(made)
 }
 
-/// The types that a port with these directions sends.
 fn sent_types(
     alloc: Global,
     types: &NameSet,
@@ -100,7 +96,7 @@ fn sent_types(
     Ok(made)
 }
 
-/// What a port type receives and sends.
+/// The types that a port type receives and sends.
 fn make_port_type(
     alloc: Global,
     types: &NameSet,
@@ -118,9 +114,7 @@ fn make_port_type(
     })
 }
 
-/// What the port types receive and send, in their order.
-///
-/// 11 `Unknown` at line 0 where a message type is unknown.
+/// 11 `Unknown` at line 0 if a message type is unknown.
 pub fn make_port_types(
     alloc: Global,
     types: &NameSet,
@@ -139,7 +133,7 @@ pub fn make_port_types(
     Ok(made)
 }
 
-/// The same lists for one more port, which stand in memory once however many ports share them.
+/// The same lists for one more port: however many ports share them, they are in memory once.
 fn share(port_type: &PortType) -> Result<PortType, ModuleFault>
     ensures shared { IfOk result (λ shared.
         (shared.ins ≡ port_type.now.ins) × (shared.outs ≡ port_type.now.outs)) }
@@ -150,7 +144,7 @@ fn share(port_type: &PortType) -> Result<PortType, ModuleFault>
     Ok(PortType { ins, outs })
 }
 
-/// Adds a port. 12 `Duplicate` at the line of its name where the name is there.
+/// 12 `Duplicate` at the line of its name if the name is taken.
 fn add_port(
     alloc: Global,
     component: &mut CompType,
@@ -171,7 +165,6 @@ fn add_port(
     Ok(())
 }
 
-/// Adds the ports of these names.
 fn add_ports(
     alloc: Global,
     component: &mut CompType,
@@ -189,14 +182,12 @@ fn add_ports(
     Ok(())
 }
 
-/// The port type that was made at this place, or `None` where there is none.
 fn made_at(made: &[PortType], place: u32) -> Option<&PortType>
     ensures { option_copied result ≡ slice_get made.now place }
 {
     made.get(place as usize)
 }
 
-/// What the port type of this name receives and sends, or `None` where no port type has it.
 fn find_made<'p>(sorted: &Sorted, made: &'p [PortType], name: &str) -> Option<&'p PortType>
     requires { HasMade sorted.now made.now }
     ensures found { IfSome result (λ found.
@@ -212,7 +203,7 @@ fn find_made<'p>(sorted: &Sorted, made: &'p [PortType], name: &str) -> Option<&'
     Some(found)
 }
 
-/// Whether a component type that has so many ports may have so many more: it has at most 64.
+/// A component type has at most 64 ports.
 pub fn has_room(count: usize, more: usize) -> bool
     requires { count ≤ 64 }
     ensures { IsTrue result ↔ (count + more ≤ 64) }
@@ -220,8 +211,8 @@ pub fn has_room(count: usize, more: usize) -> bool
     more <= PORT_LIMIT - count
 }
 
-/// A component type: its ports, in declared order. 11 `Unknown` at line 0 where the type of one is
-/// unknown, and 12 `Duplicate` at the line of a name that is given twice.
+/// A component type has its ports in declared order. 11 `Unknown` at line 0 if the type of one is
+/// unknown, 12 `Duplicate` at the line of a name that is given twice.
 fn make_component(
     alloc: Global,
     sorted: &Sorted,
@@ -250,12 +241,12 @@ fn make_component(
     Ok(ports)
 }
 
-/// The component types, in their order, where these are what the port types receive and send.
+/// The component types, in their order; `made` has the port types.
 ///
-/// The first component type that breaks a rule is refused: 11 `Unknown` at line 0 where the type of
-/// a port is unknown, 12 `Duplicate` at the line of a port's name that is given twice, and
-/// 15 `Limit` at line 0 where there are more than 64 ports. 50 `Memory` too where a list of types
-/// can have no more handles.
+/// The first component type that breaks a rule is refused: 11 `Unknown` at line 0 if the type of a
+/// port is unknown, 12 `Duplicate` at the line of a port's name that is given twice, 15 `Limit` at
+/// line 0 if there are more than 64 ports. 50 `Memory` also means that a list of types can have no
+/// more handles.
 pub fn make_components(
     alloc: Global,
     sorted: &Sorted,

@@ -1,4 +1,4 @@
-//! What the first three passes of the checks make of a module.
+//! The results of the first three passes of the checks.
 use crate::sorted::Sorted;
 use crate::starts::Starts;
 use crate::unique_names::CaseAt;
@@ -9,18 +9,15 @@ use tp_value::types::Types;
 /// The definitions, the configuration and the starts of a module.
 #[derive(Drop)]
 pub struct Prepared<'m> {
-    /// The test case.
     pub case: CaseAt<'m>,
-    /// The definitions, sorted by their kinds.
     pub sorted: Sorted<'m>,
     /// The record and record-of types, under their own names.
     pub types: Types,
-    /// The configuration: `mtc`, the components that are made, and the test system interface, in
-    /// this order, with the connections and mappings of the setup statements.
+    /// `mtc`, the components that are created, and the test system interface, in this order, with
+    /// the connections and mappings of the setup statements.
     pub config: Config,
     /// The component variables, in the order of the text. The number of a variable's component is
-    /// one more than the number of its name.
+    /// one more than that of its name.
     pub variables: NameSet<'m>,
-    /// What starts each component.
     pub starts: Starts,
 }

@@ -27,7 +27,6 @@ use tp_config::port_type::CompType;
 use tp_name::fault::ModuleFault;
 use tp_tree::tree::Module;
 
-/// The first two passes: names and definitions.
 fn find_definitions(alloc: Global, parsed: &Module) -> Result<Definitions<'_>, ModuleFault>
     ensures names { OnOk result (HasUniqueNames parsed.now) }
     ensures case { IfOk result (λ d. test_cases parsed.now ≡ d.case.case.now ∷ []) }
@@ -42,17 +41,14 @@ fn find_definitions(alloc: Global, parsed: &Module) -> Result<Definitions<'_>, M
     define(alloc, parsed, case)
 }
 
-/// What the third pass makes of a test case.
+/// The results of the third pass.
 #[derive(Drop)]
 struct Configured<'m> {
-    /// The configuration and the component variables.
     made: SetupResult<'m>,
-    /// What starts each component.
     starts: Starts,
 }
 
-/// The third pass: setup and starts, where the module's definitions are sorted so and its component
-/// types are these, each with at most 64 ports.
+/// The third pass: setup and starts. Each component type has at most 64 ports.
 fn set_up_and_start<'m>(
     alloc: Global,
     sorted: &Sorted<'m>,
@@ -88,8 +84,8 @@ fn set_up_and_start<'m>(
 
 /// The first three passes: names, definitions, setup and starts.
 ///
-/// The first fault of the first pass that finds one is the answer, each with its line: see
-/// [`check_names`], [`define`], [`set_up`] and [`check_starts`].
+/// It returns the first fault of the first pass that finds one, with its line: see [`check_names`],
+/// [`define`], [`set_up`] and [`check_starts`].
 pub fn prepare(alloc: Global, parsed: &Module) -> Result<Prepared<'_>, ModuleFault>
     ensures rules { OnOk result (IsWellDeclared parsed.now) }
     ensures made { IfOk result (IsPreparedOf parsed.now) }

@@ -1,4 +1,4 @@
-//! The types that type names name, and the types of messages that a module defines.
+//! The types that names stand for, and the message types of a module.
 ghost use Rattle.std.specs.Prelude.{◌≡◌, ◌∷◌, ◌++◌, [], ℕ, All, List, IfErr, IfOk, IsSome, OnOk, map, is_some};
 ghost use Rattle.std.specs.List.{AllZip, list_all};
 ghost use Rattle.tp_name.specs.Refused.{IsRefusedBy};
@@ -18,8 +18,6 @@ use tp_tree::tree::{Defined, FieldType};
 use tp_value::items::Items;
 use tp_value::types::{AddFault, Field, Ty, TypeDef, Types};
 
-/// The type that the name names, where the record and record-of types have these names, or `None`
-/// where it names none.
 pub fn resolve(types: &NameSet, name: &TypeName) -> Option<Ty>
     ensures { result ≡ ty_of types.now name.now }
 {
@@ -34,21 +32,19 @@ pub fn resolve(types: &NameSet, name: &TypeName) -> Option<Ty>
     }
 }
 
-/// Whether the name names a type.
 pub fn is_known_type(types: &NameSet, name: &TypeName) -> bool
     ensures { result ≡ is_some (ty_of types.now name.now) }
 {
     resolve(types, name).is_some()
 }
 
-/// Whether each of the names names a type.
 pub fn are_types(types: &NameSet, names: &[TypeName]) -> bool
     ensures { result ≡ list_all (λ n. is_some (ty_of types.now n)) names.now }
 {
     names.iter().all(|name| is_known_type(types, name))
 }
 
-/// A field of a record type. 11 `Unknown` at the line where its type is unknown.
+/// 11 `Unknown` at the line if the field's type is unknown.
 fn make_field(
     alloc: Global,
     types: &NameSet,
@@ -65,7 +61,6 @@ fn make_field(
     Ok(Field { name, ty })
 }
 
-/// The fields of a record type.
 fn make_fields(
     alloc: Global,
     types: &NameSet,
@@ -84,7 +79,6 @@ fn make_fields(
     Ok(made)
 }
 
-/// A record or record-of type.
 fn make_type(
     alloc: Global,
     types: &NameSet,
@@ -110,12 +104,11 @@ fn make_type(
     }
 }
 
-/// The types that are defined, under their own names, in the order of the text, where the record
-/// and record-of types have these names.
+/// The types that are defined, under their own names, in the order of the text.
 ///
-/// The first definition that breaks a rule is refused at line 0: 11 `Unknown` where the type of a
-/// field or of the elements is unknown, or where it is no record or record-of type; 15 `Limit`
-/// where there are 4,294,967,295 types before it; 12 `Duplicate` where one of them has its name.
+/// The first definition that breaks a rule is refused at line 0: 11 `Unknown` if the type of a
+/// field or of the elements is unknown, or if it is no record or record-of type; 15 `Limit` if
+/// there are 4,294,967,295 types before it; 12 `Duplicate` if one of them has its name.
 pub fn make_types(
     alloc: Global,
     names: &NameSet,
@@ -133,7 +126,6 @@ pub fn make_types(
     Ok(types)
 }
 
-/// Adds the type that is defined.
 fn add_type(
     alloc: Global,
     names: &NameSet,

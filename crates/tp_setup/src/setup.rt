@@ -28,8 +28,6 @@ use tp_name::fault::{ModuleFault, ModuleRule, refused};
 use tp_name::name_set::NameSet;
 use tp_tree::tree::{EndComponent, PairEnd, SetupAction, SetupStatement, TestCase};
 
-/// The component that is named, where the component variables so far have these names, or `None`
-/// where there is none.
 fn find_end_component(
     known: &NameSet,
     system: Option<CompId>,
@@ -47,7 +45,7 @@ fn find_end_component(
     }
 }
 
-/// The port that is named. 11 `Unknown` at the line where its component or the port is unknown.
+/// 11 `Unknown` at the line if the component or the port is unknown.
 fn find_end(
     config: &Config,
     known: &NameSet,
@@ -69,7 +67,7 @@ fn find_end(
     Ok(port)
 }
 
-/// The two ports that are named. 11 `Unknown` at the line where a component or a port is unknown.
+/// 11 `Unknown` at the line if a component or a port is unknown.
 fn find_ends(
     config: &Config,
     known: &NameSet,
@@ -93,8 +91,7 @@ fn find_ends(
     Ok((p, q))
 }
 
-/// Connects the two ports that are named. 11 `Unknown` where one is unknown, and then the refusals
-/// of [`Config::connect`], at the line.
+/// 11 `Unknown` at the line if a port is unknown, then the refusals of [`Config::connect`].
 fn connect_ends(
     config: &mut Config,
     known: &NameSet,
@@ -117,8 +114,7 @@ fn connect_ends(
     }
 }
 
-/// Maps the two ports that are named. 11 `Unknown` where one is unknown, and then the refusals of
-/// [`Config::map`], at the line.
+/// 11 `Unknown` at the line if a port is unknown, then the refusals of [`Config::map`].
 fn map_ends(
     config: &mut Config,
     known: &NameSet,
@@ -141,9 +137,9 @@ fn map_ends(
     }
 }
 
-/// Does what one setup statement says, in a configuration whose components are all there: adds a
-/// component variable, or connects or maps two ports. 11 `Unknown` where one is unknown, and then
-/// the refusals of [`Config::connect`] or [`Config::map`], at its line.
+/// Carries out one setup statement in a configuration that has all components: adds a component
+/// variable, or connects or maps two ports. 11 `Unknown` if one is unknown, then the refusals of
+/// [`Config::connect`] or [`Config::map`], at its line.
 fn add_setup<'m>(
     config: &mut Config,
     known: &mut NameSet<'m>,
@@ -180,13 +176,13 @@ fn add_setup<'m>(
     }
 }
 
-/// Makes the connections and mappings of the setup statements, one after the other, in a
-/// configuration whose components are all there, and answers the component variables.
+/// Makes the connections and mappings of the setup statements, in order, in a configuration that
+/// has all components, and returns the component variables.
 ///
-/// The first statement that breaks a rule stops it, at its line: a `var` with 12 `Duplicate`, or
-/// 15 `Limit` for more than 4,294,967,295 of them; a `connect` or a `map` with 11 `Unknown`, and
-/// then with the refusals of [`Config::connect`] or [`Config::map`] in their order. The connections
-/// and mappings that were made before it stay.
+/// It stops at the first statement that breaks a rule, at its line: a `var` with 12 `Duplicate`, or
+/// 15 `Limit` for more than 4,294,967,295 of them; a `connect` or a `map` with 11 `Unknown`, then
+/// the refusals of [`Config::connect`] or [`Config::map`] in their order. The connections and
+/// mappings made before it stay.
 pub fn connect_all<'m>(
     alloc: Global,
     config: &mut Config,
@@ -209,18 +205,15 @@ pub fn connect_all<'m>(
     Ok(known)
 }
 
-/// The configuration of a test case, and its component variables.
 #[derive(Drop)]
 pub struct SetupResult<'m> {
-    /// The configuration: `mtc`, the components that are made, and the test system interface, in
-    /// this order.
+    /// `mtc`, the components that are created, and the test system interface, in this order.
     pub config: Config,
     /// The component variables, in the order of the text. The number of a variable's component is
-    /// one more than the number of its name.
+    /// one more than that of its name.
     pub variables: NameSet<'m>,
 }
 
-/// How many component variables a test case may have.
 fn most_variables(case: &TestCase) -> usize
     ensures { result ≡ most_variables case.now }
 {
@@ -231,8 +224,8 @@ fn most_variables(case: &TestCase) -> usize
     }
 }
 
-/// The fault of the setup statements, where making the components stopped: that of a connection or
-/// mapping before it, or its own.
+/// The fault of the setup statements after creating the components has stopped: that of a
+/// connection or mapping before the stop, or the fault that stopped it.
 fn first_fault(
     alloc: Global,
     config: &mut Config,
@@ -265,8 +258,6 @@ fn first_fault(
     }
 }
 
-/// Makes the components of the setup statements, where the component types and the ports of the
-/// main component have these names.
 fn create_beside(
     alloc: Global,
     config: &mut Config,
@@ -298,7 +289,6 @@ fn create_beside(
     }
 }
 
-/// Makes the components of the setup statements.
 fn create_all(
     alloc: Global,
     config: &mut Config,
@@ -325,7 +315,6 @@ fn create_all(
     create_beside(alloc, config, &sorted.component_names, &ports, case)
 }
 
-/// Adds `mtc` and the components of the setup statements.
 fn add_components(
     alloc: Global,
     config: &mut Config,
@@ -358,8 +347,6 @@ fn add_components(
     create_all(alloc, config, sorted, case)
 }
 
-/// Adds the components of a test case to a configuration that has none, makes its connections and
-/// mappings, and answers the component variables.
 fn configure<'m>(
     alloc: Global,
     config: &mut Config,
@@ -388,13 +375,12 @@ fn configure<'m>(
     connect_all(alloc, config, system, &case.case.setups)
 }
 
-/// The setup statements of the third pass: the configuration of a test case, where the module's
-/// definitions are sorted so and its component types are these, each with at most 64 ports.
+/// The setup statements of the third pass. Each component type has at most 64 ports.
 ///
-/// 11 `Unknown` at the line of the test case for the types behind `runs on` and `system`. Then the
+/// 11 `Unknown` at the line of the test case for the types after `runs on` and `system`. Then the
 /// first statement in the order of the text that breaks a rule is refused at its line: a `var` with
-/// 12 `Duplicate`, 11, 13 `WrongType` where its two types differ, or 15 `Limit` for the 65th
-/// component, `mtc` and `system` counted; a `connect` or a `map` as [`connect_all`] says.
+/// 12 `Duplicate`, 11, 13 `WrongType` if its two types differ, or 15 `Limit` for the 65th
+/// component, with `mtc` and `system` counted; a `connect` or a `map` as in [`connect_all`].
 pub fn set_up<'m>(
     alloc: Global,
     sorted: &Sorted<'m>,

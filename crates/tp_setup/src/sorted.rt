@@ -1,4 +1,4 @@
-//! The definitions of a module, sorted by their kinds.
+//! The definitions of a module, sorted by kind.
 ghost use Rattle.std.specs.Prelude.{◌≡◌, ℕ, List, Option, IfErr, IfOk, map, slice_get, string_bytes};
 ghost use Rattle.std.specs.Option.{option_copied};
 ghost use Rattle.tp_tree.specs.declared.tree.Defined.{Defined};
@@ -14,29 +14,21 @@ use tp_name::fault::ModuleFault;
 use tp_name::name_set::NameSet;
 use tp_tree::tree::{ComponentType, Defined, Definition, Function, Module, PortType};
 
-/// The definitions of a module, each kind in the order of the text with its names. A name's number
-/// is the place of its definition.
+/// The definitions of a module, each kind in the order of the text with its names. The number of a
+/// name is the place of its definition.
 #[derive(Drop)]
 pub struct Sorted<'m> {
-    /// The names of the record and record-of types.
     pub type_names: NameSet<'m>,
     /// The record and record-of types.
     pub types: Vec<&'m Defined>,
-    /// The names of the port types.
     pub port_names: NameSet<'m>,
-    /// The port types.
     pub port_types: Vec<&'m PortType>,
-    /// The names of the component types.
     pub component_names: NameSet<'m>,
-    /// The component types.
     pub component_types: Vec<&'m ComponentType>,
-    /// The names of the functions.
     pub function_names: NameSet<'m>,
-    /// The functions.
     pub functions: Vec<&'m Function>,
 }
 
-/// The definition of this kind at this place, or `None` where there is none.
 pub(crate) fn definition_at<'m, K>(definitions: &[&'m K], place: u32) -> Option<&'m K>
     ensures { option_copied result ≡ slice_get (map (λ d. d.now) definitions.now) place }
 {
@@ -46,19 +38,15 @@ pub(crate) fn definition_at<'m, K>(definitions: &[&'m K], place: u32) -> Option<
     }
 }
 
-/// A kind of definition: the record and record-of types, the port types, the component types, or
-/// the functions.
+/// A kind of definition: record and record-of types, port types, component types, or functions.
 trait DefinitionKind {
-    /// The definition of this kind that stands in a definition, if one does.
     ghost as_kind: { Defined → Option Self };
-    /// Its name.
+    /// The bytes of its name.
     ghost name: { Self → List ℕ };
 
-    /// The definition of this kind, or `None` where it is of another.
     fn as_kind(definition: &Definition) -> Option<&Self>
         ensures { option_copied result ≡ as_kind definition.now.defined };
 
-    /// Its name.
     fn name(&self) -> &str
         ensures { result.now ≡ name self.now };
 }
@@ -114,7 +102,6 @@ impl DefinitionKind for ComponentType {
     }
 }
 
-/// The function that is defined.
 pub fn as_function(definition: &Definition) -> Option<&Function>
     ensures { option_copied result ≡ function_of definition.now.defined }
 {
@@ -138,7 +125,6 @@ impl DefinitionKind for Function {
     }
 }
 
-/// The definitions of one kind, with their names.
 fn sort_kind<'m, K: DefinitionKind>(
     alloc: Global,
     definitions: &'m [Definition],
@@ -162,10 +148,9 @@ fn sort_kind<'m, K: DefinitionKind>(
     Ok((names, sorted))
 }
 
-/// Sorts the definitions of a module, whose names are different.
-///
-/// Where two of one kind have one name, 12 `Duplicate` at the line of the second; 15 `Limit` at the
-/// line of one behind 4,294,967,295 others of its kind.
+/// Sorts the definitions of a module. If two of one kind have the same name: 12 `Duplicate` at the
+/// line of the second. 15 `Limit` at the line of a definition after 4,294,967,295 others of its
+/// kind.
 pub fn sort(alloc: Global, parsed: &Module) -> Result<Sorted<'_>, ModuleFault>
     ensures sorted { IfOk result (AreSorted parsed.now) }
     ensures refused { IfErr result (IsRefusedBy (HasUniqueNames parsed.now)) }

@@ -1,4 +1,4 @@
-//! The third pass of the checks: whether the starts obey their rules.
+//! The third pass of the checks: the rules for starts.
 ghost use Rattle.std.specs.Prelude.{◌≡◌, ◌∷◌, ◌++◌, ◌↔◌, [], ◌<◌, ℕ, List, Contains, IfErr, IfNone, IfOk, IfSome, IsSome, IsTrue, None, OnOk, Some, length, map, slice_get, string_bytes};
 ghost use Rattle.std.specs.Option.{option_copied};
 ghost use Rattle.std.specs.List.{AllZip};
@@ -25,7 +25,6 @@ use tp_name::name_set::{NameFault, NameSet};
 use tp_refusal::memory::Memory;
 use tp_tree::tree::{ComponentName, ComponentStart, Function, Parameter, SetupStatement, TestCase};
 
-/// The component that the argument names, or `None` where there is none.
 fn find_argument(variables: &NameSet, argument: &ComponentName) -> Option<CompId>
     ensures known { IfSome result (IsArgument variables.now argument.now) }
     ensures absent { IsNumbered variables.now
@@ -37,7 +36,6 @@ fn find_argument(variables: &NameSet, argument: &ComponentName) -> Option<CompId
     }
 }
 
-/// The name of the type of the component of this number, or `None` where there is none.
 fn type_name_at<'m>(types: &[&'m str], number: u32) -> Option<&'m str>
     ensures { option_copied result ≡ slice_get (map (λ t. t.now) types.now) number }
 {
@@ -47,7 +45,6 @@ fn type_name_at<'m>(types: &[&'m str], number: u32) -> Option<&'m str>
     }
 }
 
-/// Whether the component has the type of this name, where the components have types of these names.
 fn is_of_type(types: &[&str], comp: CompId, name: &str) -> bool
     ensures { IsTrue result ↔ (slice_get (map (λ t. t.now) types.now) comp.0 ≡ Some name.now) }
 {
@@ -57,8 +54,7 @@ fn is_of_type(types: &[&str], comp: CompId, name: &str) -> bool
     }
 }
 
-/// The component of an argument: 11 `Unknown` where it is unknown, 13 `WrongType` where it has
-/// another type than the parameter.
+/// 11 `Unknown` if the argument is unknown, 13 `WrongType` if its type isn't the parameter's.
 fn check_argument(
     variables: &NameSet,
     types: &[&str],
@@ -83,7 +79,7 @@ fn check_argument(
     Ok(comp)
 }
 
-/// The components of the arguments: 13 `WrongType` where there are not as many as parameters.
+/// 13 `WrongType` if there are more or fewer arguments than parameters.
 fn check_arguments(
     alloc: Global,
     variables: &NameSet,
@@ -114,7 +110,7 @@ fn check_arguments(
     Ok(made)
 }
 
-/// What a start starts, where its component is started once.
+/// [`add_started`] checks that the component is started once.
 fn check_start(
     alloc: Global,
     sorted: &Sorted,
@@ -156,7 +152,7 @@ fn check_start(
     })
 }
 
-/// The names of the types of `mtc` and of the components that are made.
+/// The type names of `mtc` and of the components that are created.
 fn component_types(alloc: Global, case: &TestCase) -> Result<Vec<&str>, ModuleFault>
     ensures types { IfOk result (λ made. map (λ t. t.now) made.items ≡ type_names_of case.now) }
     ensures refused { IfErr result (λ fault. fault ≡ ModuleFault.Memory (record {})) }
@@ -172,8 +168,7 @@ fn component_types(alloc: Global, case: &TestCase) -> Result<Vec<&str>, ModuleFa
     Ok(types)
 }
 
-/// Adds the component that is started: 11 `Unknown` where there is no such component variable, 18
-/// `NotStarted` where it was started before.
+/// 11 `Unknown` if there is no such component variable, 18 `NotStarted` if it was started before.
 fn add_started<'m>(
     variables: &NameSet,
     started: &mut NameSet<'m>,
@@ -200,8 +195,8 @@ fn add_started<'m>(
     }
 }
 
-/// The places of the starts of the component variables among the components that are started. 18
-/// `NotStarted` at the line of the first variable whose component is not started.
+/// For each component variable the place of its start. 18 `NotStarted` at the line of the first
+/// variable whose component isn't started.
 fn find_starts(
     alloc: Global,
     started: &NameSet,
@@ -227,8 +222,8 @@ fn find_starts(
     Ok(places)
 }
 
-/// 17 `NoDone` at the line where the test case starts components and does not end with
-/// `all component.done`.
+/// 17 `NoDone` at the line if the test case starts components and doesn't end with `all
+/// component.done`.
 fn check_done(case: &TestCase, places: &[u32], line: u32) -> Result<(), ModuleFault>
     ensures done { OnOk result (0 < length places.now → IsSome case.now.all_done) }
     ensures refused { IfErr result (
@@ -242,7 +237,6 @@ fn check_done(case: &TestCase, places: &[u32], line: u32) -> Result<(), ModuleFa
     Err(refused(ModuleRule::NoDone, line))
 }
 
-/// What the starts start, one after the other, and the components that they start.
 fn check_each<'m>(
     alloc: Global,
     sorted: &Sorted,
@@ -274,7 +268,6 @@ fn check_each<'m>(
     Ok((names, started))
 }
 
-/// What the starts of a test case start, and the components that they start.
 fn start_all<'m>(
     alloc: Global,
     sorted: &Sorted,
@@ -298,7 +291,7 @@ fn start_all<'m>(
     check_each(alloc, sorted, names, &types, &case.starts)
 }
 
-/// The places of the starts of the component variables, where the test case ends as it has to.
+/// The places of the starts, after the check that the test case ends as it must.
 fn place_starts(alloc: Global, started: &NameSet, case: CaseAt<'_>) -> Result<Vec<u32>, ModuleFault>
     ensures places { IfOk result (λ places. AllZip (IsStartPlace started.now)
         (variables case.entry.case.now.setups.items) places.items) }
@@ -316,14 +309,13 @@ fn place_starts(alloc: Global, started: &NameSet, case: CaseAt<'_>) -> Result<Ve
     Ok(places)
 }
 
-/// The starts of the third pass: what they start, where the module's definitions are sorted so and
-/// the component variables have these names.
+/// The starts of the third pass.
 ///
 /// The first start in the order of the text that breaks a rule is refused at its line, in this
-/// order: its component, 11 `Unknown`, or 18 `NotStarted` where it was started before; its
-/// function, 11, 16 `NotInSut`, or 13 `WrongType`; its arguments, each 11 or 13. Then 18 at the
-/// line of the first `var` whose component is not started, and 17 `NoDone` at the line of the test
-/// case that lacks `all component.done` at its end.
+/// order: its component, 11 `Unknown`, or 18 `NotStarted` if it was started before; its function,
+/// 11, 16 `NotInSut` or 13 `WrongType`; its arguments, each 11 or 13. Then 18 at the line of the
+/// first `var` whose component isn't started, and 17 `NoDone` at the line of a test case that lacks
+/// `all component.done` at its end.
 pub fn check_starts(
     alloc: Global,
     sorted: &Sorted,

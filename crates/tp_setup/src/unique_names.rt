@@ -20,13 +20,11 @@ use tp_tree::tree::{
 /// A test case with the line of its first token.
 #[derive(Clone, Copy)]
 pub struct CaseAt<'m> {
-    /// The line.
     pub line: u32,
-    /// The test case.
     pub case: &'m TestCase,
 }
 
-/// Adds the name that is declared. 12 `Duplicate` at its line.
+/// 12 `Duplicate` at the name's line.
 fn add_name<'m>(names: &mut NameSet<'m>, name: &'m DeclaredName) -> Result<(), ModuleFault>
     ensures names { OnOk result (names.new ≡ names.old ++ declared name.now ∷ []) }
     ensures numbered { IsNumbered names.new }
@@ -40,7 +38,6 @@ fn add_name<'m>(names: &mut NameSet<'m>, name: &'m DeclaredName) -> Result<(), M
     }
 }
 
-/// Adds the names that are declared.
 fn declare_all<'m>(names: &mut NameSet<'m>, list: &'m [DeclaredName]) -> Result<(), ModuleFault>
     requires { IsNumbered names.old }
     ensures names { OnOk result (names.new ≡ names.old ++ map declared list.now) }
@@ -54,10 +51,8 @@ fn declare_all<'m>(names: &mut NameSet<'m>, list: &'m [DeclaredName]) -> Result<
     Ok(())
 }
 
-/// Adds the names of the ports that are declared.
-///
-/// 12 `Duplicate` at the line of a name that is there already, 15 `Limit` at the line of one behind
-/// 4,294,967,295 others. The names before it stay added.
+/// 12 `Duplicate` at the line of a name that is there already, 15 `Limit` at the line of a name
+/// after 4,294,967,295 others. The names before it stay added.
 pub(crate) fn declare_ports<'m>(
     names: &mut NameSet<'m>,
     ports: &'m [PortDeclaration],
@@ -76,7 +71,6 @@ pub(crate) fn declare_ports<'m>(
     Ok(())
 }
 
-/// Adds the names of the fields.
 fn declare_fields<'m>(names: &mut NameSet<'m>, fields: &'m [FieldType]) -> Result<(), ModuleFault>
     requires { IsNumbered names.old }
     ensures names { OnOk result (names.new ≡ names.old ++ map (λ f. declared f.name) fields.now) }
@@ -92,10 +86,8 @@ fn declare_fields<'m>(names: &mut NameSet<'m>, fields: &'m [FieldType]) -> Resul
     Ok(())
 }
 
-/// Adds the names of the parameters.
-///
-/// 12 `Duplicate` at the line of a name that is there already, 15 `Limit` at the line of one behind
-/// 4,294,967,295 others. The names before it stay added.
+/// 12 `Duplicate` at the line of a name that is there already, 15 `Limit` at the line of a name
+/// after 4,294,967,295 others. The names before it stay added.
 pub fn declare_parameters<'m>(
     names: &mut NameSet<'m>,
     parameters: &'m [Parameter],
@@ -116,8 +108,8 @@ pub fn declare_parameters<'m>(
     Ok(())
 }
 
-/// Adds the names of the fields, ports or parameters of a definition, behind no others. 12
-/// `Duplicate` at the line of the second of two that are equal.
+/// Adds the names of the fields, ports or parameters of a definition. 12 `Duplicate` at the line of
+/// the second of two that are equal.
 fn declare_inner<'m>(names: &mut NameSet<'m>, defined: &'m Defined) -> Result<(), ModuleFault>
     requires empty { names.old ≡ [] }
     requires numbered { IsNumbered names.old }
@@ -133,8 +125,6 @@ fn declare_inner<'m>(names: &mut NameSet<'m>, defined: &'m Defined) -> Result<()
     }
 }
 
-/// Looks at the names of the fields, ports or parameters of a definition. 12 `Duplicate` at the
-/// line of the second of two that are equal.
 fn check_inner(alloc: Global, definition: &Definition) -> Result<(), ModuleFault>
     ensures numbered { OnOk result (IsNumbered (inner_names definition.now.defined)) }
     ensures refused { IfErr result (IsRefusedBy (IsNumbered (inner_names definition.now.defined))) }
@@ -145,7 +135,6 @@ fn check_inner(alloc: Global, definition: &Definition) -> Result<(), ModuleFault
     declare_inner(&mut names, &definition.defined)
 }
 
-/// The name that is defined.
 pub(crate) fn defined_name(defined: &Defined) -> &str
     ensures { result.now ≡ name_of defined.now }
 {
@@ -159,8 +148,7 @@ pub(crate) fn defined_name(defined: &Defined) -> &str
     }
 }
 
-/// The test case so far, where one more definition is looked at. 12 `Duplicate` at its line where
-/// it is a second test case.
+/// 12 `Duplicate` at the line of a second test case.
 fn next_case<'m>(
     before: Option<CaseAt<'m>>,
     definition: &'m Definition,
@@ -187,14 +175,12 @@ fn next_case<'m>(
     }))
 }
 
-/// Whether it is a test case.
 fn is_case(definition: &Definition) -> bool
     ensures { result ≡ is_some (case_of definition.now.defined) }
 {
     matches!(&definition.defined, Defined::TestCase(_))
 }
 
-/// Whether there is a test case among the definitions.
 fn has_case(definitions: &[Definition]) -> bool
     ensures { result ≡ list_any (λ (x : Definition). is_some (case_of x.defined))
         definitions.now }
@@ -202,8 +188,8 @@ fn has_case(definitions: &[Definition]) -> bool
     definitions.iter().any(is_case)
 }
 
-/// Adds the name of a definition, and looks at the names in it. 12 `Duplicate` at its line where
-/// the name is there.
+/// Adds the name of a definition, and checks the names in it. 12 `Duplicate` at its line if the
+/// name is taken.
 fn check_name<'m>(
     alloc: Global,
     names: &mut NameSet<'m>,
@@ -224,7 +210,6 @@ fn check_name<'m>(
     Ok(())
 }
 
-/// The test case among the definitions, where no name is given twice.
 fn find_case<'m>(
     alloc: Global,
     definitions: &'m [Definition],
@@ -248,12 +233,12 @@ fn find_case<'m>(
     Ok(case)
 }
 
-/// The first pass: the test case of the module.
+/// The first pass: finds the test case of the module.
 ///
-/// 11 `Unknown` at the line of the module where it has none. Then, in the order of the text:
-/// 12 `Duplicate` at the line of the second of two definitions with one name, of a second test
-/// case, and of the second of two equal names of fields, ports or parameters in one definition;
-/// 15 `Limit` at the line of a name behind 4,294,967,295 others.
+/// 11 `Unknown` at the line of the module if there is none. Then, in the order of the text: 12
+/// `Duplicate` at the line of the second of two definitions with one name, of a second test case,
+/// and of the second of two equal names of fields, ports or parameters in one definition; 15
+/// `Limit` at the line of a name after 4,294,967,295 others.
 pub fn check_names(alloc: Global, parsed: &Module) -> Result<CaseAt<'_>, ModuleFault>
     ensures case { IfOk result (λ found. test_cases parsed.now ≡ found.case.now ∷ []) }
     ensures names { OnOk result (HasUniqueNames parsed.now) }

@@ -1,4 +1,4 @@
-//! What is left to read, and its first tokens.
+//! The tokens that are left to read, and a look at the first of them.
 ghost use Rattle.std.specs.Prelude.{[], ℕ, ◌<◌, ◌≢◌, Bool, true, List, ◌≡◌, ◌+◌, ◌≤◌, ◌∷◌, ◌||◌, ◌↔◌, IsTrue, length, IfErr, IfOk, OnErr, OnOk, Some, string_bytes};
 ghost use Rattle.std.specs.Bool.{OnTrue, OnFalse};
 ghost use Rattle.tp_token.specs.Lexeme.{Lexeme, name, symbol, word, lexeme_of};
@@ -16,7 +16,7 @@ use std::alloc::Global;
 use tp_token::token::{Placed, Symbol, Token};
 use tp_token::word::Word;
 
-/// What is left to read, and the line of the text's end.
+/// The tokens that are left, and the line of the end of the text.
 #[derive(Drop)]
 pub(crate) struct Parser<'a, 't> {
     pub rest: &'a [Placed<'t>],
@@ -24,7 +24,6 @@ pub(crate) struct Parser<'a, 't> {
 }
 
 impl<'a, 't> Parser<'a, 't> {
-    /// The next token, which is passed. Stuck at the end of the text.
     pub fn take(&mut self) -> Result<&'a Placed<'t>, Stuck>
         ensures tokens { IfOk result (λ p.
             ahead self.old.rest.now ≡ lexemes_from (lexeme_of p.now.token) self.new.rest.now) }
@@ -43,7 +42,6 @@ impl<'a, 't> Parser<'a, 't> {
         Ok(&tokens[0])
     }
 
-    /// Passes this symbol. Stuck where another token comes next, or none.
     pub fn symbol(&mut self, want: Symbol) -> Result<(), Stuck>
         ensures tokens { OnOk result
             (ahead self.old.rest.now ≡ lexemes_from (symbol want) self.new.rest.now) }
@@ -61,7 +59,6 @@ impl<'a, 't> Parser<'a, 't> {
         }
     }
 
-    /// Passes this word. Stuck where another token comes next, or none.
     pub fn word(&mut self, want: Word) -> Result<(), Stuck>
         ensures tokens { OnOk result
             (ahead self.old.rest.now ≡ word want ∷ ahead self.new.rest.now) }
@@ -79,7 +76,6 @@ impl<'a, 't> Parser<'a, 't> {
         }
     }
 
-    /// Passes a name. Stuck where another token comes next, or none.
     pub fn name(&mut self, alloc: Global) -> Result<String, Stuck>
         ensures tokens { IfOk result (λ n.
             ahead self.old.rest.now ≡ name (string_bytes n) ∷ ahead self.new.rest.now) }
@@ -97,7 +93,6 @@ impl<'a, 't> Parser<'a, 't> {
         }
     }
 
-    /// Passes this name. Stuck where another token comes next, or none.
     pub fn same_name(&mut self, want: &String) -> Result<(), Stuck>
         ensures tokens { OnOk result
             (ahead self.old.rest.now ≡ name (string_bytes want.now) ∷ ahead self.new.rest.now) }
@@ -115,7 +110,7 @@ impl<'a, 't> Parser<'a, 't> {
         }
     }
 
-    /// Passes this symbol, if it comes next, and says whether it did.
+    /// Passes this symbol and returns true, if it comes next.
     pub fn has_symbol(&mut self, want: Symbol) -> bool
         ensures yes { OnTrue result
             (ahead self.old.rest.now ≡ lexemes_from (symbol want) self.new.rest.now) }
@@ -140,7 +135,7 @@ impl<'a, 't> Parser<'a, 't> {
         false
     }
 
-    /// Passes this word, if it comes next, and says whether it did.
+    /// Passes this word and returns true, if it comes next.
     pub fn has_word(&mut self, want: Word) -> bool
         ensures yes { OnTrue result
             (ahead self.old.rest.now ≡ word want ∷ ahead self.new.rest.now) }
@@ -165,7 +160,7 @@ impl<'a, 't> Parser<'a, 't> {
         false
     }
 
-    /// The line of the next token, or of the text's end.
+    /// The line of the next token, or of the end of the text.
     pub fn line(&self) -> u32
         ensures { result ≡ next_line self.now.rest.now self.now.last_line }
     {
@@ -177,7 +172,7 @@ impl<'a, 't> Parser<'a, 't> {
         }
     }
 
-    /// The symbol at this place, counted from 0 at the next token, if one stands there.
+    /// The symbol at this place, if there is one. Place 0 is the next token.
     pub fn symbol_at(&self, place: usize) -> Option<Symbol>
         ensures { result ≡ symbol_in (token_at self.now.rest.now place) }
     {
@@ -190,7 +185,6 @@ impl<'a, 't> Parser<'a, 't> {
         }
     }
 
-    /// The word at this place, counted from 0 at the next token, if one stands there.
     pub fn word_at(&self, place: usize) -> Option<Word>
         ensures { result ≡ word_in (token_at self.now.rest.now place) }
     {
@@ -203,7 +197,6 @@ impl<'a, 't> Parser<'a, 't> {
         }
     }
 
-    /// Whether a name stands at this place, counted from 0 at the next token.
     pub fn is_name_at(&self, place: usize) -> bool
         ensures { result ≡ is_name_in (token_at self.now.rest.now place) }
     {
@@ -213,7 +206,6 @@ impl<'a, 't> Parser<'a, 't> {
         }
     }
 
-    /// Whether a number stands at this place, counted from 0 at the next token.
     pub fn is_number_at(&self, place: usize) -> bool
         ensures { result ≡ is_number_in (token_at self.now.rest.now place) }
     {
@@ -223,7 +215,6 @@ impl<'a, 't> Parser<'a, 't> {
         }
     }
 
-    /// Whether this symbol stands at this place.
     pub fn is_symbol_at(&self, place: usize, want: Symbol) -> bool
         ensures { IsTrue result ↔ (token_at self.now.rest.now place ≡ Some (symbol want)) }
     {
@@ -233,7 +224,6 @@ impl<'a, 't> Parser<'a, 't> {
         }
     }
 
-    /// Whether this word stands at this place.
     pub fn is_word_at(&self, place: usize, want: Word) -> bool
         ensures { IsTrue result ↔ (token_at self.now.rest.now place ≡ Some (word want)) }
     {
@@ -243,7 +233,6 @@ impl<'a, 't> Parser<'a, 't> {
         }
     }
 
-    /// Whether a field comes next: a name and `:=`.
     pub fn is_field(&self) -> bool
         ensures { IsTrue result ↔ ((is_name_in (token_at self.now.rest.now 0) ≡ true)
             × (token_at self.now.rest.now 1 ≡ Some (symbol Symbol.Assign))) }
@@ -251,8 +240,8 @@ impl<'a, 't> Parser<'a, 't> {
         self.is_name_at(0) && self.is_symbol_at(1, Symbol::Assign)
     }
 
-    /// Passes a `;`, which may be missing directly before a `}`, and behind what itself ends in one
-    /// before any token. Stuck where it is missing elsewhere.
+    /// Passes a `;` and returns true, if it comes next. It may be missing before a `}`, and after a
+    /// part that itself ends in a `}` (`is_closed`). Elsewhere the parser is stuck without it.
     pub fn end(&mut self, is_closed: bool) -> Result<bool, Stuck>
         ensures tokens { IfOk result (λ e. Passes self.old (end_lexemes e) self.new) }
         ensures grammatical { IfOk result (λ e. IsPartEnded (is_closed || e) self.new) }

@@ -19,7 +19,6 @@ use tp_token::token::Symbol;
 use tp_token::word::Word;
 use tp_tree::tree::{Defined, Definition, Function, Module, Parameter};
 
-/// Whether a definition ends in a `}`, so that no `;` is needed behind it.
 fn ends_in_brace(defined: &Defined) -> bool
     ensures { result ≡ (defined_part defined.now).is_ended }
 {
@@ -27,7 +26,6 @@ fn ends_in_brace(defined: &Defined) -> bool
 }
 
 impl<'a, 't> Parser<'a, 't> {
-    /// A parameter.
     #[tactic(auto, using(std::proofs::lemmas::List::append_assoc))]
     fn parameter(&mut self, alloc: Global) -> Result<Parameter, Stuck>
         ensures tokens { IfOk result (λ x. Passes self.old (parameter_lexemes x) self.new) }
@@ -43,7 +41,6 @@ impl<'a, 't> Parser<'a, 't> {
         Ok(Parameter { type_name, name })
     }
 
-    /// The parameters of a function, up to its `)`.
     fn parameters(&mut self, alloc: Global) -> Result<Vec<Parameter>, Stuck>
         ensures tokens { IfOk result (λ x. Passes self.old (parameters_lexemes x.items) self.new) }
         ensures shorter { OnOk result (length self.new.rest.now ≤ length self.old.rest.now) }
@@ -68,7 +65,6 @@ impl<'a, 't> Parser<'a, 't> {
         Ok(parameters)
     }
 
-    /// A function.
     #[tactic(auto, using(std::proofs::lemmas::List::append_assoc), unfolding(crate::specs::Definitions::function_lexemes))]
     fn function(&mut self, alloc: Global) -> Result<Function, Stuck>
         ensures tokens { IfOk result (λ x. Passes self.old (function_lexemes x) self.new) }
@@ -103,7 +99,6 @@ impl<'a, 't> Parser<'a, 't> {
         })
     }
 
-    /// What a definition defines.
     #[tactic(auto, unfolding(crate::specs::Definitions::defined_lexemes))]
     fn defined(&mut self, alloc: Global) -> Result<Defined, Stuck>
         ensures tokens { IfOk result (λ x. Passes self.old (defined_lexemes x) self.new) }
@@ -127,7 +122,6 @@ impl<'a, 't> Parser<'a, 't> {
         self.defined_type(alloc)
     }
 
-    /// A definition.
     #[tactic(auto, using(std::proofs::lemmas::List::append_assoc))]
     fn definition(&mut self, alloc: Global) -> Result<Definition, Stuck>
         ensures tokens { IfOk result (λ x. Passes self.old (definition_lexemes x) self.new) }
@@ -151,7 +145,6 @@ impl<'a, 't> Parser<'a, 't> {
         })
     }
 
-    /// The definitions of a module, up to its `}`.
     fn definitions(&mut self, alloc: Global) -> Result<Vec<Definition>, Stuck>
         ensures tokens { IfOk result (λ x. Passes self.old (definitions_lexemes x.items) self.new) }
         ensures shorter { OnOk result (length self.new.rest.now ≤ length self.old.rest.now) }
@@ -174,7 +167,6 @@ impl<'a, 't> Parser<'a, 't> {
         Ok(definitions)
     }
 
-    /// A module.
     #[tactic(auto, using(std::proofs::lemmas::List::append_assoc))]
     pub fn module(&mut self, alloc: Global) -> Result<Module, Stuck>
         ensures tokens { IfOk result (λ x. Passes self.old (module_lexemes x) self.new) }

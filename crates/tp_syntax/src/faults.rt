@@ -1,4 +1,4 @@
-//! Which fault of a text comes first, by its tokens.
+//! The first fault of a text, by its tokens.
 ghost use Rattle.std.specs.Prelude.{◌≡◌, ◌<◌, ◌≤◌, ◌↔◌, ◌∷◌, ◌++◌, ◌-◌, IsTrue, List, drop, length, map};
 ghost use Rattle.tp_token.specs.Lexeme.{PlacedLexeme, lexeme_of, placed_lexeme};
 ghost use Rattle.tp_syntax.specs.Faults.{IsAllowed, IsCutOf, AreTokensSeen, brought_within, fault_in, greatest_number, is_minus, fault_line, opened_behind, symbol_bracket};
@@ -6,32 +6,28 @@ ghost use Rattle.tp_syntax.specs.Faults.{IsAllowed, IsCutOf, AreTokensSeen, brou
 use tp_token::fault::ScriptFault;
 use tp_token::token::{Placed, Symbol, Token};
 
-/// How many brackets `{`, `(` and `[` may be open at once.
+/// The maximum number of brackets `{`, `(` and `[` that are open at once.
 const BRACKETS: u32 = 32;
 
-/// The greatest number without a `-`.
+/// The greatest number without a `-` before it.
 pub(crate) const GREATEST: u64 = 9_223_372_036_854_775_807;
 
-/// What a token does to the brackets that are open.
+/// What a token does to the number of open brackets.
 #[derive(Clone, Copy)]
 pub(crate) enum Bracket {
-    /// It opens one.
     Opens,
-    /// It closes one.
     Closes,
-    /// It is no bracket.
     Neither,
 }
 
-/// How many brackets may be open at once. It is a function, where the constant alone would do, so
-/// that a clause holds the number 32: an edit of the number is then refused, to a lower one too.
+/// A function and not only the constant, so that a clause contains the number 32: an edit of the
+/// number is then refused, even to a lower one.
 fn most_brackets() -> u32
     ensures { result ≡ 32 }
 {
     BRACKETS
 }
 
-/// Which bracket a symbol is.
 fn symbol_bracket(symbol: Symbol) -> Bracket
     ensures { result ≡ symbol_bracket symbol }
 {
@@ -42,15 +38,13 @@ fn symbol_bracket(symbol: Symbol) -> Bracket
     }
 }
 
-/// The greatest number that may stand directly behind a `-`, or elsewhere.
+/// The greatest number that may follow a `-` (`is_signed`), or stand elsewhere.
 fn greatest_number(is_signed: bool) -> u64
     ensures { result ≡ greatest_number is_signed }
 {
     if is_signed { GREATEST + 1 } else { GREATEST }
 }
 
-/// Whether the token is within the limits where so many brackets are open, directly behind a `-` or
-/// elsewhere.
 fn is_allowed(token: &Token, opened: u32, is_signed: bool) -> bool
     ensures { IsTrue result ↔ IsAllowed opened is_signed (lexeme_of token.now) }
 {
@@ -67,7 +61,6 @@ fn is_allowed(token: &Token, opened: u32, is_signed: bool) -> bool
     }
 }
 
-/// How many brackets are open behind the token, of so many before it.
 fn opened_behind(token: &Token, opened: u32) -> u32
     requires { opened ≤ 32 }
     ensures { result ≡ opened_behind opened (lexeme_of token.now) }
@@ -85,27 +78,26 @@ fn opened_behind(token: &Token, opened: u32) -> u32
     }
 }
 
-/// Whether the token is a `-`.
 fn is_minus(token: &Token) -> bool
     ensures { result ≡ is_minus (lexeme_of token.now) }
 {
     matches!(token, Token::Symbol(Symbol::Minus))
 }
 
-/// The tokens in which the grammar looks for the fault of a text: all of them, or those up to the
-/// first that is beyond the limits. That one is brought within them, so that the grammar says
-/// whether it can stand there.
+/// The tokens among which the grammar looks for the fault of a text: all of them, or those up to
+/// the first that is beyond the limits. That token is brought within the limits, so that the
+/// grammar decides whether it can stand there.
 #[derive(Drop)]
 pub(crate) struct Front<'t> {
     pub tokens: Vec<Placed<'t>>,
-    /// The line of the last one, where that is beyond the limits.
+    /// The line of the last token, if that is beyond the limits.
     pub beyond: Option<u32>,
 }
 
 impl<'t> Front<'t> {
-    /// The fault where so many of the tokens, the last ones, can't stand: 10 `Syntax` at the first
-    /// of these, or at the end of the text where there is none; 15 `Limit` where there is none and
-    /// the last token is beyond the limits.
+    /// The fault of a text whose last `left` tokens can't be read: 10 `Syntax` at the first of
+    /// them. If `left` is 0: 15 `Limit` if the last token is beyond the limits, else 10 at the end
+    /// of the text.
     pub fn fault(&self, left: usize, last_line: u32) -> ScriptFault
         ensures { result ≡ fault_in (map placed_lexeme self.now.tokens.items) self.now.beyond left
             last_line }
@@ -116,7 +108,6 @@ impl<'t> Front<'t> {
         }
     }
 
-    /// The line of the first of so many tokens, the last ones, or of the text's end.
     fn line_at(&self, left: usize, last_line: u32) -> u32
         ensures { result ≡ fault_line (drop (length self.now.tokens.items - left)
             (map placed_lexeme self.now.tokens.items)) last_line }
@@ -128,9 +119,8 @@ impl<'t> Front<'t> {
     }
 }
 
-/// The tokens of a text up to the first that is beyond the limits, or all. So no more than 33
-/// brackets are open at once in them. The parser calls itself at a bracket alone, and goes no
-/// deeper than that: nothing else bounds its stack.
+/// The tokens of a text up to the first that is beyond the limits, or all. At most 33 brackets are
+/// open at once in them. The parser calls itself only at a bracket, so this alone bounds its stack.
 pub(crate) fn front_of(tokens: Vec<Placed>) -> Front
     ensures { AreTokensSeen (map placed_lexeme tokens.entry.items)
         (map placed_lexeme result.tokens.items) result.beyond }
@@ -153,7 +143,6 @@ pub(crate) fn front_of(tokens: Vec<Placed>) -> Front
     }
 }
 
-/// The tokens up to this place, the last one brought within the limits.
 fn cut_behind(mut tokens: Vec<Placed>, place: usize, is_signed: bool) -> Front
     requires { place < length tokens.items }
     ensures { (passed rest : List PlacedLexeme) (t : PlacedLexeme) →
@@ -170,8 +159,6 @@ fn cut_behind(mut tokens: Vec<Placed>, place: usize, is_signed: bool) -> Front
     }
 }
 
-/// Makes a number that is too great the greatest one that may stand there: directly behind a `-`,
-/// or elsewhere.
 fn bring_within(token: &mut Token, is_signed: bool)
     ensures { lexeme_of token.new ≡ brought_within is_signed (lexeme_of token.old) }
 {

@@ -1,7 +1,11 @@
-//! The parser of the core notation, from the tokens of a text to its tree. `tp_script` calls it.
+//! The parser of the core notation: from the tokens of a text to its tree (`tp_tree`). `tp_script`
+//! calls [`parser::parse`]; start there.
 //!
-//! Where a call answers 50 `Memory`, an allocation was refused, which says nothing about the
-//! script. A call that can't answer it takes no memory.
+//! Each function of the parser reads one part of the grammar. It passes the tokens of this part, or
+//! returns where the parser is stuck.
+//!
+//! 50 `Memory` means that an allocation was refused, and says nothing about the script. A call that
+//! can't return it doesn't allocate.
 #![tactic(auto)]
 
 mod cursor;

@@ -1,4 +1,4 @@
-//! Operations on ports: sends, receiving operations, and those that start or stop a port.
+//! Operations on ports: sends, receiving operations, and `start`, `stop`, `halt` and `clear`.
 ghost use Rattle.std.specs.Prelude.{[], true, ◌↔◌, ◌≢◌, List, Option, Some, ◌≡◌, ◌<◌, ◌≤◌, ◌∷◌, ◌++◌, IsTrue, length, IfOk, OnOk, IfErr, ℕ};
 ghost use Rattle.tp_token.specs.Lexeme.{Lexeme, symbol, word};
 ghost use Rattle.tp_syntax.specs.Ahead.{ahead, is_name_in, token_at};
@@ -19,7 +19,7 @@ use tp_token::word::Word;
 use tp_tree::message::MessageTemplate;
 use tp_tree::tree::{ComponentName, Control, Receive, Receivers, Redirect, Send, SentExpression};
 
-/// What stands behind the word of a receiving operation.
+/// What follows the word of a receiving operation.
 #[derive(Drop)]
 struct Received {
     template: Option<MessageTemplate>,
@@ -28,7 +28,6 @@ struct Received {
 }
 
 impl<'a, 't> Parser<'a, 't> {
-    /// A component.
     pub fn component(&mut self, alloc: Global) -> Result<ComponentName, Stuck>
         ensures tokens { IfOk result (λ c. Passes self.old (component_lexemes c) self.new) }
         ensures shorter { OnOk result (length self.new.rest.now < length self.old.rest.now) }
@@ -50,7 +49,6 @@ impl<'a, 't> Parser<'a, 't> {
         }
     }
 
-    /// Whether a variable stands alone in parentheses: a name and `)`.
     fn is_variable(&self) -> bool
         ensures { IsTrue result ↔ ((is_name_in (token_at self.now.rest.now 0) ≡ true)
             × (token_at self.now.rest.now 1 ≡ Some (symbol Symbol.RightParen))) }
@@ -58,7 +56,6 @@ impl<'a, 't> Parser<'a, 't> {
         self.is_name_at(0) && self.is_symbol_at(1, Symbol::RightParen)
     }
 
-    /// What is sent.
     fn sent(&mut self, alloc: Global) -> Result<SentExpression, Stuck>
         ensures tokens { IfOk result (λ s. Passes self.old (sent_lexemes s) self.new) }
         ensures shorter { OnOk result (length self.new.rest.now < length self.old.rest.now) }
@@ -79,7 +76,6 @@ impl<'a, 't> Parser<'a, 't> {
         Ok(SentExpression::Message(message))
     }
 
-    /// What stands behind `to`, if it is there.
     fn to_part(&mut self, alloc: Global) -> Result<Option<Receivers>, Stuck>
         ensures tokens { IfOk result (λ d. Passes self.old (to_lexemes d) self.new) }
         ensures shorter { OnOk result (length self.new.rest.now ≤ length self.old.rest.now) }
@@ -101,7 +97,6 @@ impl<'a, 't> Parser<'a, 't> {
         Ok(Some(Receivers::Component(component)))
     }
 
-    /// A send.
     #[tactic(auto, using(std::proofs::lemmas::List::append_assoc), unfolding(crate::specs::Statements::send_lexemes))]
     pub fn send(&mut self, alloc: Global) -> Result<Send, Stuck>
         ensures tokens { IfOk result (λ s. Passes self.old (send_lexemes s) self.new) }
@@ -130,7 +125,6 @@ impl<'a, 't> Parser<'a, 't> {
         Ok(Send { port, sent, to })
     }
 
-    /// The template of a receiving operation in its parentheses, if it is there.
     #[tactic(auto, using(std::proofs::lemmas::List::append_assoc))]
     fn template_part(&mut self, alloc: Global) -> Result<Option<MessageTemplate>, Stuck>
         ensures tokens { IfOk result (λ t. Passes self.old (template_part t) self.new) }
@@ -153,7 +147,6 @@ impl<'a, 't> Parser<'a, 't> {
         Ok(Some(template))
     }
 
-    /// The component behind `from`, if it is there.
     fn from_part(&mut self, alloc: Global) -> Result<Option<ComponentName>, Stuck>
         ensures tokens { IfOk result (λ c. Passes self.old (from_lexemes c) self.new) }
         ensures shorter { OnOk result (length self.new.rest.now ≤ length self.old.rest.now) }
@@ -171,7 +164,6 @@ impl<'a, 't> Parser<'a, 't> {
         Ok(Some(component))
     }
 
-    /// The name behind this word, if it is there.
     fn named_part(&mut self, alloc: Global, want: Word) -> Result<Option<String>, Stuck>
         ensures tokens { IfOk result (λ n. Passes self.old (named_part want n) self.new) }
         ensures shorter { OnOk result (length self.new.rest.now ≤ length self.old.rest.now) }
@@ -189,7 +181,6 @@ impl<'a, 't> Parser<'a, 't> {
         Ok(Some(name))
     }
 
-    /// What stands behind `->`, and the arrow, if it is there.
     #[tactic(auto, using(std::proofs::lemmas::List::append_assoc))]
     fn redirect(&mut self, alloc: Global) -> Result<Redirect, Stuck>
         ensures tokens { IfOk result (λ r. Passes self.old (redirect_lexemes r) self.new) }
@@ -223,7 +214,6 @@ impl<'a, 't> Parser<'a, 't> {
         })
     }
 
-    /// What stands behind the word of a receiving operation.
     #[tactic(auto, using(std::proofs::lemmas::List::append_assoc))]
     fn received(&mut self, alloc: Global) -> Result<Received, Stuck>
         ensures tokens { IfOk result (λ r.
@@ -252,7 +242,6 @@ impl<'a, 't> Parser<'a, 't> {
         })
     }
 
-    /// A receiving operation.
     #[tactic(auto, using(std::proofs::lemmas::List::append_assoc), unfolding(crate::specs::Statements::receive_lexemes, crate::specs::Statements::received_lexemes))]
     pub fn receive(&mut self, alloc: Global) -> Result<Receive, Stuck>
         ensures tokens { IfOk result (λ r. Passes self.old (receive_lexemes r) self.new) }
@@ -307,7 +296,6 @@ impl<'a, 't> Parser<'a, 't> {
         })
     }
 
-    /// An operation on ports.
     fn port_operation(&mut self) -> Result<PortOperation, Stuck>
         ensures tokens { IfOk result (λ o.
             ahead self.old.rest.now ≡ port_operation_lexeme o ∷ ahead self.new.rest.now) }
@@ -328,7 +316,6 @@ impl<'a, 't> Parser<'a, 't> {
         }
     }
 
-    /// An operation on one port.
     #[tactic(auto, unfolding(crate::specs::Statements::control_lexemes))]
     pub fn control(&mut self, alloc: Global) -> Result<Control, Stuck>
         ensures tokens { IfOk result (λ c. Passes self.old (control_lexemes c) self.new) }
@@ -354,7 +341,6 @@ impl<'a, 't> Parser<'a, 't> {
         Ok(Control { port, operation })
     }
 
-    /// An operation on all ports.
     #[tactic(auto, unfolding(crate::specs::Statements::all_ports_lexemes))]
     pub fn all_ports(&mut self) -> Result<PortOperation, Stuck>
         ensures tokens { IfOk result (λ o. Passes self.old (all_ports_lexemes o) self.new) }

@@ -20,20 +20,20 @@ use tp_token::fault::ScriptFault;
 use tp_token::lexer::lex;
 use tp_tree::tree::Module;
 
-/// The module that the text spells (clause `read`), where each line that it notes is that of the
-/// first token of what it is noted of. A `-` directly before the number 0 is left out.
+/// Returns the module that the text spells (clause `read`). Each line in it is that of the first
+/// token of its part. A `-` directly before the number 0 is left out.
 ///
-/// It makes the whole text into tokens first, by [`lex`], whose refusals come before those of the
-/// grammar. Of these the first in the text is answered:
+/// The whole text is first split into tokens by [`lex`], whose refusals come before those of the
+/// grammar. Of the grammar's refusals the first in the text is returned:
 /// - 10 `Syntax` at the line of the first token that can't stand at its place, or of the end of the
-///   text where more is needed. So are refused an `[else]` branch that isn't the last one (at the
-///   `[` behind it), a `for` whose four names aren't one name (at the first that differs), and a
-///   text behind `pattern` that holds one of `\ [ ] { } ( ) | # +` or a quote;
+///   text if more is needed. This includes an `[else]` branch that isn't the last one (at the `[`
+///   after it), a `for` whose four names differ (at the first that differs), and a `pattern` whose
+///   text contains one of `\ [ ] { } ( ) | # +` or a quote;
 /// - 15 `Limit` at the line of the number 9223372036854775808 without a `-` before it, or of a
 ///   bracket that would be the 33rd open one.
 ///
-/// It refuses no text that is right, and names by 10 no token with which a text of the grammar goes
-/// on: clause `refused`.
+/// It refuses no valid text, and reports 10 at no token with which a text of the grammar can go on
+/// (clause `refused`).
 pub fn parse(alloc: Global, text: &[u8]) -> Result<Module, ScriptFault>
     ensures read { IfOk result (IsReadAs text.now) }
     ensures lines { IfOk result (HasLines text.now) }
@@ -60,7 +60,6 @@ pub fn parse(alloc: Global, text: &[u8]) -> Result<Module, ScriptFault>
     }
 }
 
-/// The fault of the text, in the front of which the parser is stuck.
 fn fault_of(stuck: Stuck, front: &Front, last_line: u32) -> ScriptFault
     ensures place { IsForMemory stuck ⊎ (result ≡ fault_in
         (map placed_lexeme front.now.tokens.items) front.now.beyond (left_where_stuck stuck) last_line) }
@@ -73,7 +72,6 @@ fn fault_of(stuck: Stuck, front: &Front, last_line: u32) -> ScriptFault
     }
 }
 
-/// The line of the end of the text: one more than the number of bytes 10 in it.
 fn last_line(text: &[u8]) -> u32
     requires { length text.now ≤ 1048576 }
     ensures { result ≡ newlines text.now + 1 }

@@ -1,4 +1,4 @@
-//! Parts of statements: variables, verdicts, the turns of a `for` and the mark of `[else]`.
+//! Parts of statements: variables, verdicts, the head of a `for`, and `[else]`.
 ghost use Rattle.std.specs.Prelude.{ℤ, [], ◌≢◌, false, List, Some, MatchResult, ◌≡◌, ◌+◌, ◌<◌, ◌≤◌, ◌∷◌, IsTrue, length, map, IfOk, OnOk, string_bytes, IfErr, ℕ, true};
 ghost use Rattle.tp_token.specs.Lexeme.{Lexeme, number, symbol, word};
 ghost use Rattle.tp_syntax.specs.Ahead.{ahead, is_name_in, token_at};
@@ -21,7 +21,6 @@ use tp_token::word::Word;
 use tp_tree::tree::{Turns, Variable, VerdictName};
 
 impl<'a, 't> Parser<'a, 't> {
-    /// A verdict.
     fn verdict(&mut self) -> Result<VerdictName, Stuck>
         ensures tokens { IfOk result (λ v.
             ahead self.old.rest.now ≡ verdict_lexeme v ∷ ahead self.new.rest.now) }
@@ -43,7 +42,6 @@ impl<'a, 't> Parser<'a, 't> {
         }
     }
 
-    /// A `setverdict`.
     #[tactic(auto, unfolding(crate::specs::Statements::set_verdict_lexemes))]
     pub fn set_verdict(&mut self) -> Result<VerdictName, Stuck>
         ensures tokens { IfOk result (λ v. Passes self.old (set_verdict_lexemes v) self.new) }
@@ -61,7 +59,6 @@ impl<'a, 't> Parser<'a, 't> {
         Ok(verdict)
     }
 
-    /// A `var` statement.
     #[tactic(auto, using(std::proofs::lemmas::List::append_assoc))]
     fn variable(&mut self, alloc: Global) -> Result<Variable, Stuck>
         ensures tokens { IfOk result (λ v. Passes self.old (variable_lexemes v) self.new) }
@@ -97,7 +94,6 @@ impl<'a, 't> Parser<'a, 't> {
         })
     }
 
-    /// The `var` statements that come next.
     pub fn variables(&mut self, alloc: Global) -> Result<Vec<Variable>, Stuck>
         ensures tokens { IfOk result (λ v. Passes self.old (variables_lexemes v.items) self.new) }
         ensures shorter { OnOk result (length self.new.rest.now ≤ length self.old.rest.now) }
@@ -131,8 +127,7 @@ impl<'a, 't> Parser<'a, 't> {
         Ok(variables)
     }
 
-    /// A counted `for` without its block. Stuck also where its four names aren't one name (the
-    /// line of the first that differs).
+    /// Reads the head of a counted `for`. It is stuck at the first of its four names that differs.
     #[tactic(auto, using(std::proofs::lemmas::List::append_assoc), unfolding(crate::specs::Statements::for_lexemes))]
     pub fn turns(&mut self, alloc: Global) -> Result<Turns, Stuck>
         ensures tokens { IfOk result (λ x.
@@ -160,8 +155,8 @@ impl<'a, 't> Parser<'a, 't> {
         Ok(Turns { name, first, bound })
     }
 
-    /// What stands behind the first value of a `for`, up to its `)`: what its variable stays below,
-    /// and the step.
+    /// Reads what follows the first value of a `for`, up to its `)`: the bound of its variable, and
+    /// the step.
     #[tactic(auto, using(std::proofs::lemmas::List::append_assoc))]
     fn step(&mut self, variable: &String) -> Result<i64, Stuck>
         ensures tokens { IfOk result (λ z.
@@ -193,7 +188,6 @@ impl<'a, 't> Parser<'a, 't> {
         Ok(bound)
     }
 
-    /// The number 1.
     fn one(&mut self) -> Result<(), Stuck>
         ensures tokens { OnOk result
             (ahead self.old.rest.now ≡ number 1 ∷ ahead self.new.rest.now) }
@@ -211,7 +205,6 @@ impl<'a, 't> Parser<'a, 't> {
         }
     }
 
-    /// `[else]`
     pub fn else_mark(&mut self) -> Result<(), Stuck>
         ensures tokens { OnOk result
             (ahead self.old.rest.now

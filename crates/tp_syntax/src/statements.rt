@@ -1,4 +1,4 @@
-//! Statements: `alt`, `for`, blocks, and what stands in them.
+//! Statements: `alt`, `for`, blocks, and their contents.
 ghost use Rattle.std.specs.Prelude.{◌↔◌, ◌++◌, ◌≢◌, true, false, List, Option, Some, ◌≡◌, ◌<◌, ◌≤◌, ◌∷◌, IsTrue, length, IfOk, OnOk, IfErr, ℕ, [], None, ◌⊎◌};
 ghost use Rattle.std.specs.Bool.{OnFalse};
 ghost use Rattle.tp_event.specs.declared.operation.PortOperation.{PortOperation};
@@ -23,7 +23,7 @@ use tp_token::token::Symbol;
 use tp_token::word::Word;
 use tp_tree::tree::{Action, Branch, BranchBody, Counted, ElseBranch, Statement};
 
-/// What kind of statement comes next, as far as its first tokens tell.
+/// The kind of the next statement, as far as its first tokens show.
 enum Beginning {
     Send,
     Receive,
@@ -34,7 +34,6 @@ enum Beginning {
     For,
 }
 
-/// Whether what a statement does ends in a block, so that no `;` is needed behind it.
 fn ends_in_block(action: &Action) -> bool
     ensures { result ≡ (action_part action.now).is_ended }
 {
@@ -49,7 +48,6 @@ fn ends_in_block(action: &Action) -> bool
     }
 }
 
-/// Whether a block stands behind the operation of a branch, so that no `;` is needed behind it.
 fn is_block(body: &BranchBody) -> bool
     ensures { result ≡ (body_part body.now).is_ended }
 {
@@ -60,8 +58,8 @@ fn is_block(body: &BranchBody) -> bool
 }
 
 impl<'a, 't> Parser<'a, 't> {
-    /// What kind of statement comes next. What is none of them is taken for an operation on a port,
-    /// which is then refused at the first token that can't stand.
+    /// An unknown beginning counts as an operation on a port, which is then refused at the first
+    /// token that can't stand there.
     fn beginning(&self) -> Beginning
         ensures alt { token_at self.now.rest.now 0 ≡ Some (word Word.Alt) →
             result ≡ Beginning.Alt }
@@ -99,8 +97,8 @@ impl<'a, 't> Parser<'a, 't> {
         }
     }
 
-    /// Whether no statement comes next: the end of a block, or, in the body of a test case, `all
-    /// component`.
+    /// Returns whether no further statement comes: at the end of a block, or at `all component` in
+    /// the body of a test case (`is_case`).
     fn is_end(&self, is_case: bool) -> bool
         ensures goes_on { OnFalse result (GoesOn self.now) }
         ensures end { IsTrue result ↔ IsEndOf is_case self.now.rest.now }
@@ -109,7 +107,6 @@ impl<'a, 't> Parser<'a, 't> {
             || is_case && self.is_word_at(0, Word::All) && self.is_word_at(1, Word::Component)
     }
 
-    /// A statement.
     #[cycle(statement)]
     #[tactic(auto, using(crate::proofs::StatementTokens::statement_rules))]
     fn statement(&mut self, alloc: Global) -> Result<Statement, Stuck>
@@ -144,7 +141,6 @@ impl<'a, 't> Parser<'a, 't> {
         })
     }
 
-    /// What a statement does.
     #[cycle(statement)]
     #[tactic(auto, using(crate::proofs::StatementTokens::statement_rules))]
     fn action(&mut self, alloc: Global) -> Result<Action, Stuck>
@@ -199,7 +195,7 @@ impl<'a, 't> Parser<'a, 't> {
         }
     }
 
-    /// An `alt`. Stuck also where it has no branch, or one behind `[else]`.
+    /// It is stuck if there is no branch, or a branch after `[else]`.
     #[cycle(statement)]
     #[tactic(auto, using(crate::proofs::StatementTokens::statement_rules))]
     fn alt(&mut self, alloc: Global) -> Result<Action, Stuck>
@@ -228,7 +224,6 @@ impl<'a, 't> Parser<'a, 't> {
         Ok(Action::Alt(branches, otherwise))
     }
 
-    /// The branches that come next, without `[else]`.
     #[cycle(statement)]
     fn branches(&mut self, alloc: Global) -> Result<Vec<Branch>, Stuck>
         ensures tokens { IfOk result (λ v. Passes self.old (branches_lexemes v.items) self.new) }
@@ -253,7 +248,6 @@ impl<'a, 't> Parser<'a, 't> {
         Ok(branches)
     }
 
-    /// Whether a branch comes next that isn't `[else]`.
     fn is_branch(&self) -> bool
         ensures { IsTrue result
             ↔ ((token_at self.now.rest.now 0 ≡ Some (symbol Symbol.LeftBracket))
@@ -262,7 +256,6 @@ impl<'a, 't> Parser<'a, 't> {
         self.is_symbol_at(0, Symbol::LeftBracket) && !self.is_word_at(1, Word::Else)
     }
 
-    /// A branch behind a receiving operation.
     #[cycle(statement)]
     #[tactic(auto, using(crate::proofs::StatementTokens::statement_rules))]
     fn branch(&mut self, alloc: Global) -> Result<Branch, Stuck>
@@ -292,7 +285,6 @@ impl<'a, 't> Parser<'a, 't> {
         })
     }
 
-    /// The block of a branch, if it is there.
     #[cycle(statement)]
     #[tactic(auto, using(crate::proofs::StatementTokens::statement_rules))]
     fn body(&mut self, alloc: Global) -> Result<BranchBody, Stuck>
@@ -316,7 +308,6 @@ impl<'a, 't> Parser<'a, 't> {
         Ok(BranchBody::Block(block))
     }
 
-    /// The branch `[else]`, if it comes next.
     #[cycle(statement)]
     #[tactic(auto, using(crate::proofs::StatementTokens::statement_rules))]
     fn otherwise(&mut self, alloc: Global) -> Result<Option<ElseBranch>, Stuck>
@@ -348,7 +339,6 @@ impl<'a, 't> Parser<'a, 't> {
         }))
     }
 
-    /// A counted `for`.
     #[cycle(statement)]
     #[tactic(auto, using(crate::proofs::StatementTokens::statement_rules))]
     fn counted(&mut self, alloc: Global) -> Result<Counted, Stuck>
@@ -367,7 +357,6 @@ impl<'a, 't> Parser<'a, 't> {
         Ok(Counted { turns, block })
     }
 
-    /// A block.
     #[cycle(statement)]
     #[tactic(auto, using(crate::proofs::StatementTokens::statement_rules))]
     fn block(&mut self, alloc: Global) -> Result<Vec<Statement>, Stuck>
@@ -389,7 +378,6 @@ impl<'a, 't> Parser<'a, 't> {
         Ok(statements)
     }
 
-    /// The statements up to the end of a block, or of the body of a test case.
     #[cycle(statement)]
     pub fn statements(&mut self, alloc: Global, is_case: bool) -> Result<Vec<Statement>, Stuck>
         ensures tokens { IfOk result (λ v. Passes self.old (statements_lexemes v.items) self.new) }

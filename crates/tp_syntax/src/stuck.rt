@@ -4,15 +4,15 @@ ghost use Rattle.tp_syntax.specs.declared.stuck.Stuck.TheVariants as stuck;
 
 use std::alloc::{AllocError, AllocFailed};
 
-/// Why the parser goes no further. It says where, and the tokens tell which fault that is.
+/// Why the parser stops. It says where; the tokens decide which fault that is.
 #[derive(Clone, Copy)]
 pub(crate) enum Stuck {
-    /// So many tokens are left, and the first of them, or the end of the text, can't stand where it
-    /// does. Or the token before them is a number that is too great.
+    /// So many tokens are left. The first of them, or the end of the text, can't stand there, or
+    /// the token before them is a number that is too great.
     Next(usize),
-    /// The token just passed can't stand where it does, and so many are left behind it.
+    /// The token just passed can't stand there, and so many are left after it.
     Passed(usize),
-    /// Memory was refused, which says nothing about the text.
+    /// An allocation was refused, which says nothing about the text.
     Memory,
 }
 

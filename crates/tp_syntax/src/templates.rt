@@ -19,8 +19,7 @@ use tp_token::token::{Symbol, Token};
 use tp_token::word::Word;
 use tp_tree::message::{MessageTemplate, Template, TemplateField};
 
-/// Whether the text of a `pattern` may hold this character: the others have a meaning in TTCN-3
-/// that this profile leaves out.
+/// The other characters have a meaning in a TTCN-3 pattern that this profile leaves out.
 fn is_plain(character: u8) -> bool
     ensures { result ≡ is_plain character }
 {
@@ -30,7 +29,6 @@ fn is_plain(character: u8) -> bool
     )
 }
 
-/// Whether the text may stand behind `pattern`.
 fn is_pattern(characters: &[u8]) -> bool
     ensures { result ≡ list_all is_plain characters.now }
 {
@@ -38,7 +36,6 @@ fn is_pattern(characters: &[u8]) -> bool
 }
 
 impl<'a, 't> Parser<'a, 't> {
-    /// What a message has to match.
     #[tactic(auto, using(std::proofs::lemmas::List::append_assoc))]
     pub fn message_template(&mut self, alloc: Global) -> Result<MessageTemplate, Stuck>
         ensures tokens { IfOk result (λ m. Passes self.old (message_template_lexemes m) self.new) }
@@ -59,7 +56,6 @@ impl<'a, 't> Parser<'a, 't> {
         })
     }
 
-    /// Whether `-infinity` comes next.
     fn is_minus_infinity(&self) -> bool
         ensures { IsTrue result ↔ ((token_at self.now.rest.now 0 ≡ Some (symbol Symbol.Minus))
             × (token_at self.now.rest.now 1 ≡ Some (word Word.Infinity))) }
@@ -67,7 +63,6 @@ impl<'a, 't> Parser<'a, 't> {
         self.is_symbol_at(0, Symbol::Minus) && self.is_word_at(1, Word::Infinity)
     }
 
-    /// The lower bound of a range.
     fn low(&mut self) -> Result<Option<i64>, Stuck>
         ensures tokens { IfOk result (λ b. Passes self.old (low_lexemes b) self.new) }
         ensures shorter { OnOk result (length self.new.rest.now < length self.old.rest.now) }
@@ -89,7 +84,6 @@ impl<'a, 't> Parser<'a, 't> {
         Ok(Some(bound))
     }
 
-    /// The upper bound of a range.
     fn high(&mut self) -> Result<Option<i64>, Stuck>
         ensures tokens { IfOk result (λ b. Passes self.old (high_lexemes b) self.new) }
         ensures shorter { OnOk result (length self.new.rest.now < length self.old.rest.now) }
@@ -107,7 +101,6 @@ impl<'a, 't> Parser<'a, 't> {
         Ok(Some(bound))
     }
 
-    /// Whether a range comes next, behind its `(`: its first tokens tell.
     fn is_range(&self) -> bool
         ensures { IsTrue result ↔ IsRange self.now.rest.now }
     {
@@ -118,8 +111,6 @@ impl<'a, 't> Parser<'a, 't> {
         self.is_number_at(0) && self.is_symbol_at(1, Symbol::DotDot)
     }
 
-    /// The characters of a text behind `pattern`. Stuck where another token comes next, or none,
-    /// or the text holds one of `\ [ ] { } ( ) | # +` or a quote.
     #[tactic(auto, using(crate::proofs::TemplateTokens::template_rules))]
     fn pattern(&mut self, alloc: Global) -> Result<Template, Stuck>
         ensures tokens { IfOk result (λ t.
@@ -144,7 +135,6 @@ impl<'a, 't> Parser<'a, 't> {
         }
     }
 
-    /// A template.
     #[cycle(template)]
     #[tactic(auto, using(crate::proofs::TemplateTokens::template_rules))]
     pub fn template(&mut self, alloc: Global) -> Result<Template, Stuck>
@@ -191,7 +181,6 @@ impl<'a, 't> Parser<'a, 't> {
         }
     }
 
-    /// What stands behind the `(` of a template, and its `)`.
     #[cycle(template)]
     #[tactic(auto, using(crate::proofs::TemplateTokens::template_rules))]
     fn alternatives(&mut self, alloc: Global) -> Result<Template, Stuck>
@@ -227,7 +216,6 @@ impl<'a, 't> Parser<'a, 't> {
         Ok(Template::OneOf(templates))
     }
 
-    /// What stands behind `complement`.
     #[cycle(template)]
     #[tactic(auto, using(crate::proofs::TemplateTokens::template_rules))]
     fn complement(&mut self, alloc: Global) -> Result<Template, Stuck>
@@ -250,7 +238,6 @@ impl<'a, 't> Parser<'a, 't> {
         Ok(Template::Complement(templates))
     }
 
-    /// What stands behind the `{` of a template, and its `}`.
     #[cycle(template)]
     #[tactic(auto, using(crate::proofs::TemplateTokens::template_rules))]
     fn template_entries(&mut self, alloc: Global) -> Result<Template, Stuck>
@@ -285,7 +272,6 @@ impl<'a, 't> Parser<'a, 't> {
         Ok(Template::List(templates))
     }
 
-    /// Templates with a `,` between them.
     #[cycle(template)]
     fn templates(&mut self, alloc: Global) -> Result<Vec<Template>, Stuck>
         ensures tokens { IfOk result (λ v.
@@ -309,7 +295,6 @@ impl<'a, 't> Parser<'a, 't> {
         Ok(templates)
     }
 
-    /// Fields with a `,` between them.
     #[cycle(template)]
     fn template_fields(&mut self, alloc: Global) -> Result<Vec<TemplateField>, Stuck>
         ensures tokens { IfOk result (λ v.
@@ -336,7 +321,6 @@ impl<'a, 't> Parser<'a, 't> {
         Ok(fields)
     }
 
-    /// A field.
     #[cycle(template)]
     #[tactic(auto, using(crate::proofs::TemplateTokens::template_rules))]
     fn template_field(&mut self, alloc: Global) -> Result<TemplateField, Stuck>

@@ -25,7 +25,6 @@ use tp_tree::tree::{
 };
 
 impl<'a, 't> Parser<'a, 't> {
-    /// A component in a `connect` or a `map`.
     fn end_component(&mut self, alloc: Global) -> Result<EndComponent, Stuck>
         ensures tokens { IfOk result (λ x.
             ahead self.old.rest.now ≡ end_component_lexeme x ∷ ahead self.new.rest.now) }
@@ -49,7 +48,6 @@ impl<'a, 't> Parser<'a, 't> {
         }
     }
 
-    /// A port of a component.
     #[tactic(auto, using(std::proofs::lemmas::List::append_assoc))]
     fn end_point(&mut self, alloc: Global) -> Result<PairEnd, Stuck>
         ensures tokens { IfOk result (λ x. Passes self.old (end_point_lexemes x) self.new) }
@@ -66,7 +64,6 @@ impl<'a, 't> Parser<'a, 't> {
         Ok(PairEnd { component, port })
     }
 
-    /// The two ports of a `connect` or a `map`, in their parentheses.
     #[tactic(auto, using(std::proofs::lemmas::List::append_assoc))]
     fn ends(&mut self, alloc: Global) -> Result<(PairEnd, PairEnd), Stuck>
         ensures tokens { IfOk result (λ x. Passes self.old (ends_lexemes x.0 x.1) self.new) }
@@ -85,7 +82,6 @@ impl<'a, 't> Parser<'a, 't> {
         Ok((first, second))
     }
 
-    /// The `var` that makes a component.
     #[tactic(auto, unfolding(crate::specs::Definitions::setup_action_lexemes))]
     fn creation(&mut self, alloc: Global) -> Result<SetupAction, Stuck>
         ensures tokens { IfOk result (λ x. Passes self.old (setup_action_lexemes x) self.new) }
@@ -120,7 +116,6 @@ impl<'a, 't> Parser<'a, 't> {
         }))
     }
 
-    /// What a setup statement does.
     #[tactic(auto, unfolding(crate::specs::Definitions::setup_action_lexemes))]
     fn setup_action(&mut self, alloc: Global) -> Result<SetupAction, Stuck>
         ensures tokens { IfOk result (λ x. Passes self.old (setup_action_lexemes x) self.new) }
@@ -151,7 +146,6 @@ impl<'a, 't> Parser<'a, 't> {
         self.creation(alloc)
     }
 
-    /// A setup statement.
     #[tactic(auto, using(std::proofs::lemmas::List::append_assoc))]
     fn setup(&mut self, alloc: Global) -> Result<SetupStatement, Stuck>
         ensures tokens { IfOk result (λ x. Passes self.old (setup_lexemes x) self.new) }
@@ -183,7 +177,7 @@ impl<'a, 't> Parser<'a, 't> {
         })
     }
 
-    /// Whether a setup statement comes next. A `var` without `:=` declares a variable.
+    /// A `var` without `:=` declares a variable, and isn't a setup statement.
     fn is_setup(&self) -> bool
         ensures goes_on { OnTrue result (GoesOn self.now) }
         ensures setup { IsTrue result ↔ BeginsSetup self.now.rest.now }
@@ -196,7 +190,6 @@ impl<'a, 't> Parser<'a, 't> {
                 && self.is_symbol_at(3, Symbol::Assign)
     }
 
-    /// The setup statements that come next.
     fn setups(&mut self, alloc: Global) -> Result<Vec<SetupStatement>, Stuck>
         ensures tokens { IfOk result (λ x. Passes self.old (setups_lexemes x.items) self.new) }
         ensures shorter { OnOk result (length self.new.rest.now ≤ length self.old.rest.now) }
@@ -220,7 +213,6 @@ impl<'a, 't> Parser<'a, 't> {
         Ok(setups)
     }
 
-    /// The arguments of a start, up to the `)`.
     fn arguments(&mut self, alloc: Global) -> Result<Vec<ComponentName>, Stuck>
         ensures tokens { IfOk result (λ x. Passes self.old (arguments_lexemes x.items) self.new) }
         ensures shorter { OnOk result (length self.new.rest.now ≤ length self.old.rest.now) }
@@ -244,7 +236,6 @@ impl<'a, 't> Parser<'a, 't> {
         Ok(arguments)
     }
 
-    /// The start of a component.
     #[tactic(auto, using(std::proofs::lemmas::List::append_assoc), unfolding(crate::specs::Definitions::start_lexemes))]
     fn start(&mut self, alloc: Global) -> Result<ComponentStart, Stuck>
         ensures tokens { IfOk result (λ x. Passes self.old (start_lexemes x) self.new) }
@@ -286,7 +277,7 @@ impl<'a, 't> Parser<'a, 't> {
         })
     }
 
-    /// Whether the start of a component comes next: without the `(` it is an operation on a port.
+    /// Without a `(` it is the `start` of a port.
     fn is_start(&self) -> bool
         ensures goes_on { OnTrue result (GoesOn self.now) }
         ensures start { IsTrue result ↔ IsStart self.now.rest.now }
@@ -297,7 +288,6 @@ impl<'a, 't> Parser<'a, 't> {
             && self.is_symbol_at(3, Symbol::LeftParen)
     }
 
-    /// The starts of components that come next.
     fn starts(&mut self, alloc: Global) -> Result<Vec<ComponentStart>, Stuck>
         ensures tokens { IfOk result (λ x. Passes self.old (starts_lexemes x.items) self.new) }
         ensures shorter { OnOk result (length self.new.rest.now ≤ length self.old.rest.now) }
@@ -323,7 +313,6 @@ impl<'a, 't> Parser<'a, 't> {
         Ok(starts)
     }
 
-    /// `all component.done`, if it comes next.
     fn all_done(&mut self) -> Result<Option<AllDone>, Stuck>
         ensures tokens { IfOk result (λ x. Passes self.old (all_done_lexemes x) self.new) }
         ensures shorter { OnOk result (length self.new.rest.now ≤ length self.old.rest.now) }
@@ -349,7 +338,6 @@ impl<'a, 't> Parser<'a, 't> {
         Ok(Some(AllDone { has_semicolon }))
     }
 
-    /// The component type behind `system`, if it is there.
     fn system(&mut self, alloc: Global) -> Result<Option<String>, Stuck>
         ensures tokens { IfOk result (λ x. Passes self.old (system_lexemes x) self.new) }
         ensures shorter { OnOk result (length self.new.rest.now ≤ length self.old.rest.now) }
@@ -367,7 +355,6 @@ impl<'a, 't> Parser<'a, 't> {
         Ok(Some(name))
     }
 
-    /// A test case.
     #[tactic(auto, using(std::proofs::lemmas::List::append_assoc), unfolding(crate::specs::Definitions::test_case_lexemes, crate::specs::Definitions::behaviour_lexemes))]
     pub fn test_case(&mut self, alloc: Global) -> Result<TestCase, Stuck>
         ensures tokens { IfOk result (λ x. Passes self.old (test_case_lexemes x) self.new) }

@@ -25,7 +25,6 @@ use tp_tree::tree::{
 };
 
 impl<'a, 't> Parser<'a, 't> {
-    /// A name where it is declared.
     pub fn declared_name(&mut self, alloc: Global) -> Result<DeclaredName, Stuck>
         ensures tokens { IfOk result (λ x. Passes self.old (declared_name_lexemes x) self.new) }
         ensures shorter { OnOk result (length self.new.rest.now < length self.old.rest.now) }
@@ -40,7 +39,6 @@ impl<'a, 't> Parser<'a, 't> {
         Ok(DeclaredName { line, name })
     }
 
-    /// A field of a record type.
     #[tactic(auto, using(std::proofs::lemmas::List::append_assoc))]
     fn field_type(&mut self, alloc: Global) -> Result<FieldType, Stuck>
         ensures tokens { IfOk result (λ x. Passes self.old (field_type_lexemes x) self.new) }
@@ -56,7 +54,6 @@ impl<'a, 't> Parser<'a, 't> {
         Ok(FieldType { type_name, name })
     }
 
-    /// The fields of a record type, up to its `}`.
     fn fields(&mut self, alloc: Global) -> Result<Vec<FieldType>, Stuck>
         ensures tokens { IfOk result (λ x. Passes self.old (field_types_lexemes x.items) self.new) }
         ensures shorter { OnOk result (length self.new.rest.now ≤ length self.old.rest.now) }
@@ -81,7 +78,6 @@ impl<'a, 't> Parser<'a, 't> {
         Ok(fields)
     }
 
-    /// A record type.
     #[tactic(auto, using(std::proofs::lemmas::List::append_assoc), unfolding(crate::specs::Definitions::record_type_lexemes))]
     fn record_type(&mut self, alloc: Global) -> Result<RecordType, Stuck>
         ensures tokens { IfOk result (λ x. Passes self.old (record_type_lexemes x) self.new) }
@@ -106,7 +102,6 @@ impl<'a, 't> Parser<'a, 't> {
         Ok(RecordType { name, fields })
     }
 
-    /// A list type.
     #[tactic(auto, using(std::proofs::lemmas::List::append_assoc), unfolding(crate::specs::Definitions::list_type_lexemes))]
     fn list_type(&mut self, alloc: Global) -> Result<ListType, Stuck>
         ensures tokens { IfOk result (λ x. Passes self.old (list_type_lexemes x) self.new) }
@@ -130,7 +125,6 @@ impl<'a, 't> Parser<'a, 't> {
         Ok(ListType { element, name })
     }
 
-    /// A way through a port.
     fn way(&mut self) -> Result<Way, Stuck>
         ensures tokens { IfOk result (λ x.
             ahead self.old.rest.now ≡ way_lexeme x ∷ ahead self.new.rest.now) }
@@ -150,7 +144,6 @@ impl<'a, 't> Parser<'a, 't> {
         }
     }
 
-    /// Types with a `,` between them.
     fn types(&mut self, alloc: Global) -> Result<Vec<TypeName>, Stuck>
         ensures tokens { IfOk result (λ x. Passes self.old (types_lexemes x.items) self.new) }
         ensures shorter { OnOk result (length self.new.rest.now < length self.old.rest.now) }
@@ -173,7 +166,6 @@ impl<'a, 't> Parser<'a, 't> {
         Ok(types)
     }
 
-    /// The types that go one way through a port.
     #[tactic(auto, using(std::proofs::lemmas::List::append_assoc), unfolding(crate::specs::Definitions::direction_lexemes))]
     fn direction(&mut self, alloc: Global) -> Result<Direction, Stuck>
         ensures tokens { IfOk result (λ x. Passes self.old (direction_lexemes x) self.new) }
@@ -196,7 +188,6 @@ impl<'a, 't> Parser<'a, 't> {
         })
     }
 
-    /// The ways through a port, up to its `}`.
     fn directions(&mut self, alloc: Global) -> Result<Vec<Direction>, Stuck>
         ensures tokens { IfOk result (λ x. Passes self.old (directions_lexemes x.items) self.new) }
         ensures shorter { OnOk result (length self.new.rest.now ≤ length self.old.rest.now) }
@@ -219,7 +210,7 @@ impl<'a, 't> Parser<'a, 't> {
         Ok(directions)
     }
 
-    /// A port type. Stuck also where no way leads through it.
+    /// It is stuck if the type lists no direction.
     #[tactic(auto, using(std::proofs::lemmas::List::append_assoc), unfolding(crate::specs::Definitions::port_type_lexemes))]
     fn port_type(&mut self, alloc: Global) -> Result<PortType, Stuck>
         ensures tokens { IfOk result (λ x. Passes self.old (port_type_lexemes x) self.new) }
@@ -247,7 +238,6 @@ impl<'a, 't> Parser<'a, 't> {
         Ok(PortType { name, directions })
     }
 
-    /// Names with a `,` between them.
     fn names(&mut self, alloc: Global) -> Result<Vec<DeclaredName>, Stuck>
         ensures tokens { IfOk result (λ x.
             Passes self.old (declared_names_lexemes x.items) self.new) }
@@ -272,7 +262,6 @@ impl<'a, 't> Parser<'a, 't> {
         Ok(names)
     }
 
-    /// Ports of one type.
     #[tactic(auto, using(std::proofs::lemmas::List::append_assoc), unfolding(crate::specs::Definitions::port_declaration_lexemes))]
     fn port_declaration(&mut self, alloc: Global) -> Result<PortDeclaration, Stuck>
         ensures tokens { IfOk result (λ x. Passes self.old (port_declaration_lexemes x) self.new) }
@@ -297,7 +286,6 @@ impl<'a, 't> Parser<'a, 't> {
         })
     }
 
-    /// The ports of a component type, up to its `}`.
     fn ports(&mut self, alloc: Global) -> Result<Vec<PortDeclaration>, Stuck>
         ensures tokens { IfOk result (λ x.
             Passes self.old (port_declarations_lexemes x.items) self.new) }
@@ -321,7 +309,6 @@ impl<'a, 't> Parser<'a, 't> {
         Ok(ports)
     }
 
-    /// A component type.
     #[tactic(auto, using(std::proofs::lemmas::List::append_assoc), unfolding(crate::specs::Definitions::component_type_lexemes))]
     fn component_type(&mut self, alloc: Global) -> Result<ComponentType, Stuck>
         ensures tokens { IfOk result (λ x. Passes self.old (component_type_lexemes x) self.new) }
@@ -346,7 +333,6 @@ impl<'a, 't> Parser<'a, 't> {
         Ok(ComponentType { name, ports })
     }
 
-    /// What the definition of a type defines.
     #[tactic(auto, unfolding(crate::specs::Definitions::defined_lexemes))]
     pub fn defined_type(&mut self, alloc: Global) -> Result<Defined, Stuck>
         ensures tokens { IfOk result (λ x. Passes self.old (defined_lexemes x) self.new) }

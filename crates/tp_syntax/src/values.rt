@@ -20,8 +20,8 @@ use tp_token::word::Word;
 use tp_tree::message::{Message, TypeName, Value, ValueField};
 
 impl<'a, 't> Parser<'a, 't> {
-    /// The integer that a number is. The parser is stuck behind it where it is 9223372036854775808,
-    /// which needs a `-` before it; so no number of a [`Front`](crate::faults::Front) is.
+    /// The number as an integer. The parser is stuck after 9223372036854775808, which needs a `-`
+    /// before it. No number of a [`Front`](crate::faults::Front) is so great.
     pub fn positive(&self, number: u64) -> Result<i64, Stuck>
         ensures value { IfOk result (λ z. z ≡ pos number) }
         ensures within { IfOk result (λ z. IsTrue (is_64_bit z)) }
@@ -35,7 +35,6 @@ impl<'a, 't> Parser<'a, 't> {
         Ok(number as i64)
     }
 
-    /// The number behind a `-`.
     pub fn negative(&mut self) -> Result<i64, Stuck>
         ensures tokens { IfOk result (λ z.
             lexemes_from (symbol Symbol.Minus) self.old.rest.now
@@ -62,7 +61,6 @@ impl<'a, 't> Parser<'a, 't> {
         }
     }
 
-    /// An integer.
     pub fn integer(&mut self) -> Result<i64, Stuck>
         ensures tokens { IfOk result (λ z. Passes self.old (int_lexemes z) self.new) }
         ensures shorter { OnOk result (length self.new.rest.now < length self.old.rest.now) }
@@ -86,7 +84,6 @@ impl<'a, 't> Parser<'a, 't> {
         }
     }
 
-    /// The name of a type.
     pub fn type_name(&mut self, alloc: Global) -> Result<TypeName, Stuck>
         ensures tokens { IfOk result (λ t. Passes self.old (type_lexemes t) self.new) }
         ensures shorter { OnOk result (length self.new.rest.now < length self.old.rest.now) }
@@ -111,7 +108,6 @@ impl<'a, 't> Parser<'a, 't> {
         }
     }
 
-    /// A message.
     #[tactic(auto, using(std::proofs::lemmas::List::append_assoc))]
     pub fn message(&mut self, alloc: Global) -> Result<Message, Stuck>
         ensures tokens { IfOk result (λ m. Passes self.old (message_lexemes m) self.new) }
@@ -129,7 +125,6 @@ impl<'a, 't> Parser<'a, 't> {
         Ok(Message { type_name, value })
     }
 
-    /// A value.
     #[cycle(value)]
     #[tactic(auto, using(crate::proofs::ValueTokens::value_rules))]
     pub fn value(&mut self, alloc: Global) -> Result<Value, Stuck>
@@ -171,7 +166,6 @@ impl<'a, 't> Parser<'a, 't> {
         }
     }
 
-    /// What stands behind the `{` of a value, and its `}`.
     #[cycle(value)]
     #[tactic(auto, using(crate::proofs::ValueTokens::value_rules, crate::proofs::ReadSequenceGrowth::braced_read))]
     pub fn value_entries(&mut self, alloc: Global) -> Result<Value, Stuck>
@@ -206,7 +200,6 @@ impl<'a, 't> Parser<'a, 't> {
         Ok(Value::List(values))
     }
 
-    /// Values with a `,` between them.
     #[cycle(value)]
     pub fn values(&mut self, alloc: Global) -> Result<Vec<Value>, Stuck>
         ensures tokens { IfOk result (λ v.
@@ -230,7 +223,6 @@ impl<'a, 't> Parser<'a, 't> {
         Ok(values)
     }
 
-    /// Fields with a `,` between them.
     #[cycle(value)]
     pub fn value_fields(&mut self, alloc: Global) -> Result<Vec<ValueField>, Stuck>
         ensures tokens { IfOk result (λ v.
@@ -257,7 +249,6 @@ impl<'a, 't> Parser<'a, 't> {
         Ok(fields)
     }
 
-    /// A field.
     #[cycle(value)]
     #[tactic(auto, using(crate::proofs::ValueTokens::value_rules))]
     pub fn value_field(&mut self, alloc: Global) -> Result<ValueField, Stuck>
