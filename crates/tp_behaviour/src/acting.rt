@@ -1,4 +1,4 @@
-//! What a behaviour does to its ports and its verdict.
+//! Actions of a behaviour on its ports and its verdict.
 ghost use Rattle.std.specs.Prelude.{◌≡◌, ◌<◌, OnOk};
 ghost use Rattle.tp_play.specs.declared.body.ResolvedStatement.TheVariants as statement;
 ghost use Rattle.tp_history.specs.Desks.{adding};
@@ -19,7 +19,7 @@ use tp_history::entry::Entry;
 use tp_refusal::memory::Memory;
 use tp_value::verdict::Verdict;
 
-/// Carries out `setverdict` (ES 201 873-1, 24.2).
+/// Executes `setverdict` (ES 201 873-1, 24.2).
 pub(crate) fn set_verdict(
     task: &Task<'_>,
     worker: &mut Worker,
@@ -36,7 +36,6 @@ pub(crate) fn set_verdict(
     Ok(())
 }
 
-/// Carries out an operation on a port of this desk.
 fn operate(desk: &mut Desk, port: u32, operation: PortOperation) -> Result<(), Memory>
     requires { port < desk.old.ports }
     ensures { OnOk result (desk.new ≡ adding desk.old (operated operation port)) }
@@ -56,7 +55,7 @@ fn operate(desk: &mut Desk, port: u32, operation: PortOperation) -> Result<(), M
     Ok(())
 }
 
-/// Carries out an operation on a port, once all that the component has sent to itself is there.
+/// First waits until everything that the component has sent to itself has arrived.
 fn operate_at<G: Gate>(
     gate: &G,
     task: &Task<'_>,
@@ -80,7 +79,7 @@ fn operate_at<G: Gate>(
     Ok(())
 }
 
-/// Carries out an operation on a port (22.5).
+/// Executes an operation on one port (22.5).
 pub(crate) fn control<R: Wait, G: Gate>(
     execution: &Execution<'_, R, G>,
     worker: &mut Worker,
@@ -106,7 +105,7 @@ pub(crate) fn control<R: Wait, G: Gate>(
     Ok(())
 }
 
-/// Carries out an operation on all ports, in their order (22.5). What comes meanwhile is seen
+/// Executes an operation on all ports, in their order (22.5). What arrives meanwhile is seen
 /// afterwards.
 pub(crate) fn all_ports<R: Wait, G: Gate>(
     execution: &Execution<'_, R, G>,

@@ -15,8 +15,7 @@ use crate::worker::{Frame, Worker};
 use std::sync::Wait;
 use tp_refusal::memory::Memory;
 
-/// What a behaviour keeps in mind as it begins: it has declared its variables, each by a statement,
-/// and none is set (ES 201 873-1, 11.1).
+/// The variables are declared, each by a statement, and none is set (ES 201 873-1, 11.1).
 fn begin<G: Gate>(gate: &G, task: &Task<'_>) -> Result<Frame, Memory>
     ensures turns { IfOk result (λ frame. frame.turns.items ≡ []) }
     ensures variables { IfOk result (λ frame.
@@ -37,7 +36,7 @@ fn begin<G: Gate>(gate: &G, task: &Task<'_>) -> Result<Frame, Memory>
     })
 }
 
-/// Carries out the body of a behaviour, by a worker that has done nothing yet, to its end.
+/// Executes the body of a behaviour to its end. The worker has done nothing yet.
 pub fn behave<R: Wait, G: Gate>(
     rt: &R,
     gate: &G,

@@ -1,4 +1,4 @@
-//! What trying the branches of an `alt` comes to.
+//! How the branches of an `alt` are tried.
 ghost use Rattle.std.specs.Prelude.{◌<◌, ◌≡◌, All, IfOk};
 ghost use Rattle.tp_behaviour.specs.Looks.{Looked, Tried};
 ghost use Rattle.tp_behaviour.specs.Views.{all_viewed, viewed};
@@ -12,29 +12,26 @@ use tp_history::desk::Desk;
 use tp_refusal::memory::Memory;
 use tp_value::message::{Message, MsgTemplate};
 
-/// A receiving operation once loop variables and references have their values.
+/// A receiving operation with the values of its loop variables and references.
 #[derive(Drop)]
 pub struct Guard {
     /// The port, by its place in the component type.
     pub port: u32,
-    /// What it does with a message.
     pub kind: ReceiveKind,
-    /// What it wants.
     pub wanted: MsgTemplate,
-    /// The number of the component behind `from`.
+    /// The number of the component after `from`.
     pub sender: Option<u32>,
 }
 
-/// What an operation wants while it is looked at.
+/// The template of an operation while it is looked at.
 #[derive(Drop)]
 pub enum TemplateView<'t> {
-    /// A template in which no loop variable stands: it was filled once for the whole behaviour.
+    /// A template without a loop variable: it was filled once for the whole behaviour.
     Lasting(&'t MsgTemplate),
-    /// One that was filled for this turn.
+    /// A template filled for this turn of the loop.
     Filled(MsgTemplate),
 }
 
-/// Whether a message is wanted.
 impl Wanted<Message> for TemplateView<'_> {
     ghost use Rattle.tp_behaviour.specs.Views.{Seeks};
 
@@ -53,22 +50,19 @@ impl Wanted<Message> for TemplateView<'_> {
 pub struct GuardView<'t> {
     /// The port, by its place in the component type.
     pub port: u32,
-    /// What it does with a message.
     pub kind: ReceiveKind,
-    /// What it wants.
     pub wanted: TemplateView<'t>,
-    /// The number of the component behind `from`.
+    /// The number of the component after `from`.
     pub sender: Option<u32>,
 }
 
-/// What trying branches came to.
+/// The result of trying branches.
 #[derive(Drop)]
 pub enum LookResult {
-    /// By the branch at this place this envelope was taken or found.
+    /// The branch at this place took or found this envelope.
     Taken(usize, Env<Message>),
     /// A `trigger` discarded the top message.
     Discarded,
-    /// Nothing happened.
     Nothing,
 }
 
@@ -97,7 +91,7 @@ fn try_trigger(desk: &mut Desk, guard: &GuardView<'_>, branch: usize) -> Result<
     }
 }
 
-/// Tries a `check` (22.4). What it finds is copied.
+/// Tries a `check` (22.4), which copies the message that it finds.
 fn try_check(
     alloc: Global,
     desk: &mut Desk,
@@ -117,7 +111,6 @@ fn try_check(
     }
 }
 
-/// Tries a branch.
 pub(crate) fn attempt(
     alloc: Global,
     desk: &mut Desk,
@@ -134,8 +127,8 @@ pub(crate) fn attempt(
     }
 }
 
-/// Tries the branches from the top to the bottom, up to the first that does something (20.2). The
-/// gate stands before each.
+/// Tries the branches from top to bottom, up to the first that does something (20.2). Calls the
+/// gate before each.
 pub(crate) fn snapshot<G: Gate>(
     gate: &G,
     alloc: Global,

@@ -1,4 +1,4 @@
-//! What an `alt` comes to.
+//! The choice of an `alt`.
 ghost use Rattle.std.specs.Prelude.{◌<◌, All, IfOk, OnOk};
 ghost use Rattle.tp_behaviour.specs.LookOutcomes.{Chose, TraceGrew};
 ghost use Rattle.tp_behaviour.specs.Workers.{IsConsistent, KeepsInboxes, role_of};
@@ -18,10 +18,9 @@ use tp_inbox::owner::Owner;
 use tp_refusal::memory::Memory;
 use tp_value::message::Message;
 
-/// What an `alt` came to.
 #[derive(Drop)]
 pub enum Choice {
-    /// By the branch at this place this envelope was taken or found.
+    /// The branch at this place took or found this envelope.
     Branch(usize, Env<Message>),
     /// `[else]` was chosen.
     Else,
@@ -29,8 +28,8 @@ pub enum Choice {
     Waits,
 }
 
-/// Waits until something comes into the inbox, or nothing can come any more: that is the answer.
-/// Where all wait, it closes all inboxes.
+/// Waits until something is put into the inbox, or until nothing can be; returns which of the two.
+/// If all behaviours wait, it closes all inboxes.
 fn wait_for_more<R: Wait>(rt: &R, task: &Task<'_>, owner: &Owner) -> bool {
     match owner.wait(rt) {
         Woken::Arrived => false,
@@ -44,8 +43,8 @@ fn wait_for_more<R: Wait>(rt: &R, task: &Task<'_>, owner: &Owner) -> bool {
     }
 }
 
-/// Carries out an `alt` up to the choice of a branch (ES 201 873-1, 20.2): its branches are looked
-/// at until one is chosen, or `[else]`, or until nothing can come any more.
+/// Executes an `alt` up to the choice of a branch (ES 201 873-1, 20.2). It looks at the branches
+/// until one or `[else]` is chosen, or until nothing can arrive any more.
 pub(crate) fn choose<R: Wait, G: Gate>(
     execution: &Execution<'_, R, G>,
     worker: &mut Worker,

@@ -1,4 +1,4 @@
-//! What an `alt` goes on with.
+//! The block that an `alt` goes on with.
 ghost use Rattle.std.specs.Prelude.{◌≡◌, ◌<◌, IfOk, OnOk, length};
 ghost use Rattle.tp_play.specs.Playable.{CanEnterAll};
 ghost use Rattle.tp_behaviour.specs.Lasting.{AreLastingBranches};
@@ -20,19 +20,16 @@ use tp_play::body::ResolvedBranch;
 use tp_refusal::memory::Memory;
 use tp_value::message::Message;
 
-/// The block of an `alt` that comes next, if one does.
+/// The block that follows an `alt`, if there is one.
 #[derive(Drop)]
 pub enum Decision {
-    /// The block of the branch at this place.
     Branch(usize),
-    /// The block of `[else]`.
     Else,
-    /// Nothing: none of these branches can be chosen any more.
+    /// None: no branch can be chosen any more.
     Waits(Vec<Guard>),
 }
 
-/// Puts what was taken or found by the branch at this place into the variables that it names
-/// (22.2.2).
+/// Stores what the branch at this place took or found in the variables that it names (22.2.2).
 fn enter(
     task: &Task<'_>,
     frame: &mut Frame,
@@ -51,7 +48,7 @@ fn enter(
     redirect(task, &mut *frame, &branches[place].receiving, env);
 }
 
-/// Carries out an `alt` up to the block that it goes on with (ES 201 873-1, 20.2).
+/// Executes an `alt` up to the block that it goes on with (ES 201 873-1, 20.2).
 pub(crate) fn decide<R: Wait, G: Gate>(
     execution: &Execution<'_, R, G>,
     worker: &mut Worker,

@@ -1,13 +1,11 @@
-//! What the functions that carry out a behaviour are handed.
+//! The arguments that all functions here share.
 use crate::task::Task;
 
-/// What each function that carries out a part of a behaviour is handed.
 #[derive(Drop)]
 pub(crate) struct Execution<'a, R, G> {
-    /// What lets it wait.
+    /// The handle that lets it wait.
     pub rt: &'a R,
-    /// Where a test may hold it.
+    /// A test may hold it there.
     pub gate: &'a G,
-    /// What it carries out.
     pub task: &'a Task<'a>,
 }

@@ -1,10 +1,9 @@
-//! Which templates are the same whatever the loop variables hold.
+//! Templates that are the same whatever the loop variables hold.
 ghost use Rattle.std.specs.Prelude.{All, IsTrue};
 ghost use Rattle.tp_behaviour.specs.Fixed.{IsFixed, IsFixedValue};
 
 use tp_play::body::{RecvTemplate, SendValue};
 
-/// Whether no loop variable stands in a value.
 #[cycle(fixed_value)]
 fn is_fixed_value(value: &SendValue) -> bool
     ensures { IsTrue result → IsFixedValue value.now }
@@ -19,7 +18,6 @@ fn is_fixed_value(value: &SendValue) -> bool
     }
 }
 
-/// Whether no loop variable stands in these values.
 #[cycle(fixed_value)]
 fn are_fixed_values(values: &[SendValue]) -> bool
     ensures { IsTrue result → All IsFixedValue values.now }
@@ -32,7 +30,7 @@ fn are_fixed_values(values: &[SendValue]) -> bool
     true
 }
 
-/// Whether no loop variable stands in a template: what it comes to is then the same in each turn of
+/// Returns whether no loop variable occurs in a template, so that it is the same in each turn of
 /// each loop. The work is linear in the template's size.
 #[cycle(fixed_template)]
 pub(crate) fn is_fixed(template: &RecvTemplate) -> bool
@@ -51,7 +49,6 @@ pub(crate) fn is_fixed(template: &RecvTemplate) -> bool
     }
 }
 
-/// Whether no loop variable stands in these templates.
 #[cycle(fixed_template)]
 fn are_fixed(templates: &[RecvTemplate]) -> bool
     ensures { IsTrue result → All IsFixed templates.now }

@@ -1,18 +1,18 @@
-//! Where a test may hold a behaviour.
+//! Hooks at which a test may hold a behaviour.
 use tp_config::port_type::CompId;
 
-/// What stands before each statement and inside each operation on ports, so that a test can force
-/// an order. Its calls return.
+/// Hooks before each statement and inside each operation on ports, by which a test can force an
+/// order. Each call returns.
 pub trait Gate: Sync {
-    /// Stands before each executed statement of the component, whose statements are counted from 0.
+    /// Called before each executed statement of the component. Statements are counted from 0.
     fn before(&self, who: CompId, step: u64);
 
-    /// Stands in each receiving and each port control operation at this port of the component,
+    /// Called in each receiving and each port control operation at this port of the component,
     /// after its drain; in an `alt`, as each branch is tested.
     fn inside(&self, who: CompId, port: u32);
 }
 
-/// A gate that holds nobody.
+/// A gate that holds no behaviour.
 #[derive(Clone, Copy)]
 pub struct OpenGate;
 

@@ -1,4 +1,4 @@
-//! What of a body lasts while a behaviour runs: the templates in which no loop variable stands.
+//! The templates without a loop variable, which last while a behaviour runs.
 ghost use Rattle.std.specs.Prelude.{IfOk};
 ghost use Rattle.tp_behaviour.specs.Lasting.{AreLasting, AreLastingBranches, IsLasting, IsLastingBranch, IsWantedAlways};
 
@@ -10,39 +10,33 @@ use tp_refusal::memory::Memory;
 use tp_value::items::Items;
 use tp_value::message::MsgTemplate;
 
-/// What lasts of a statement, or of a branch of an `alt`.
+/// The lasting templates of a statement, or of a branch of an `alt`.
 #[derive(Drop)]
 pub struct Lasting {
-    /// What its receiving operation wants, if no loop variable stands in that.
+    /// The template of its receiving operation, if it has no loop variable.
     pub wanted: Option<MsgTemplate>,
-    /// Of an `alt`: what lasts of its branches.
+    /// For an `alt`: those of its branches.
     pub branches: Items<Lasting>,
-    /// Of a `for`, of a branch, and of an `alt` with `[else]`: what lasts of the statements of its
-    /// block.
+    /// For a `for`, a branch, or an `alt` with `[else]`: those of the statements of its block.
     pub block: Items<Lasting>,
 }
 
-/// The statements of a block, and what lasts of each.
+/// The statements of a block, and the lasting templates of each.
 #[derive(Clone, Copy)]
 pub(crate) struct Block<'t> {
-    /// The statements.
     pub statements: &'t [ResolvedStatement],
-    /// What lasts of them.
     pub lasting: &'t [Lasting],
 }
 
-/// The branches of an `alt`, and what lasts of each.
+/// The branches of an `alt`, and the lasting templates of each.
 #[derive(Clone, Copy)]
 pub(crate) struct Alt<'t> {
-    /// The branches.
     pub branches: &'t [ResolvedBranch],
-    /// Whether `[else]` stands behind them.
+    /// True if `[else]` follows them.
     pub has_else: bool,
-    /// What lasts of the branches.
     pub lasting: &'t [Lasting],
 }
 
-/// What a receiving operation wants, where no loop variable stands in that.
 fn lasting_template(alloc: Global, wanted: &RecvMsg) -> Result<Option<MsgTemplate>, Memory>
     ensures { IfOk result (IsWantedAlways wanted.now) }
 {
@@ -58,7 +52,6 @@ fn lasting_template(alloc: Global, wanted: &RecvMsg) -> Result<Option<MsgTemplat
     }
 }
 
-/// What lasts of a statement that receives nothing.
 fn nothing(alloc: Global) -> Lasting {
     Lasting {
         wanted: None,
@@ -67,7 +60,6 @@ fn nothing(alloc: Global) -> Lasting {
     }
 }
 
-/// What lasts of the statements of a block.
 #[cycle(lasting)]
 pub(crate) fn lasting_block(
     alloc: Global,
@@ -83,7 +75,6 @@ pub(crate) fn lasting_block(
     Ok(made)
 }
 
-/// What lasts of a statement.
 #[cycle(lasting)]
 fn lasting_statement(alloc: Global, statement: &ResolvedStatement) -> Result<Lasting, Memory>
     ensures { IfOk result (IsLasting statement.now) }
@@ -130,7 +121,6 @@ fn lasting_statement(alloc: Global, statement: &ResolvedStatement) -> Result<Las
     }
 }
 
-/// What lasts of the branches of an `alt`.
 #[cycle(lasting)]
 fn lasting_branches(alloc: Global, branches: &[ResolvedBranch]) -> Result<Items<Lasting>, Memory>
     ensures { IfOk result (AreLastingBranches branches.now) }
@@ -143,7 +133,6 @@ fn lasting_branches(alloc: Global, branches: &[ResolvedBranch]) -> Result<Items<
     Ok(made)
 }
 
-/// What lasts of a branch of an `alt`.
 #[cycle(lasting)]
 fn lasting_branch(alloc: Global, branch: &ResolvedBranch) -> Result<Lasting, Memory>
     ensures { IfOk result (IsLastingBranch branch.now) }

@@ -1,10 +1,9 @@
-//! One component's behaviour: its body, carried out at its desk, its inbox and its senders.
-//! `tp_exec` gives each a thread.
+//! One component's behaviour: executes its body with its desk, its inbox and its senders. `tp_exec`
+//! calls [`behaving::behave`] in a thread for each component; start there.
 //!
-//! Where a call answers 50 `Memory`, an allocation was refused; a behaviour that meets it has ended
-//! there. A send answers it too where its route has taken all that it takes, or no stamp is left:
-//! no test case of at most 100,000 statements comes to that. A call that can't answer it takes no
-//! memory.
+//! 50 `Memory` means that an allocation was refused; the behaviour has then ended. A send also
+//! returns it if its route is full or no stamp is left, which no test case of at most 100,000
+//! statements reaches. A call that can't return it doesn't allocate.
 #![tactic(auto)]
 
 mod acting;

@@ -1,4 +1,4 @@
-//! What a behaviour sees before it acts on its ports.
+//! The look of a behaviour before it acts on its ports.
 ghost use Rattle.std.specs.Prelude.{◌≡◌, ◌<◌, All, IfOk, OnOk};
 ghost use Rattle.tp_history.specs.Desks.{NamesNoPort};
 ghost use Rattle.tp_inbox.specs.Routed.{AreArrivals};
@@ -17,7 +17,7 @@ use std::sync::Wait;
 use tp_history::entry::Entry;
 use tp_refusal::memory::Memory;
 
-/// Moves what has come into the inbox to the ports.
+/// Moves what has arrived in the inbox to the ports.
 fn drain<R: Wait>(rt: &R, task: &Task<'_>, worker: &mut Worker) -> Result<(), Memory>
     requires { IsConsistent (role_of task.now) worker.old }
     ensures consistent { OnOk result (IsConsistent (role_of task.now) worker.new) }
@@ -31,8 +31,8 @@ fn drain<R: Wait>(rt: &R, task: &Task<'_>, worker: &mut Worker) -> Result<(), Me
     Ok(())
 }
 
-/// Moves what has come into the inbox to the ports, until all that the component has sent to itself
-/// is there.
+/// Moves what has arrived in the inbox to the ports, until everything that the component has sent
+/// to itself is there.
 pub(crate) fn look_in<R: Wait>(rt: &R, task: &Task<'_>, worker: &mut Worker) -> Result<(), Memory>
     requires consistent { IsConsistent (role_of task.now) worker.old }
     ensures consistent { OnOk result (IsConsistent (role_of task.now) worker.new) }
@@ -51,7 +51,7 @@ pub(crate) fn look_in<R: Wait>(rt: &R, task: &Task<'_>, worker: &mut Worker) -> 
     unreachable!()
 }
 
-/// Notes what the behaviour did itself: an entry that is no sending.
+/// Notes an action of the behaviour itself other than a send.
 pub(crate) fn note(task: &Task<'_>, worker: &mut Worker, entry: Entry) -> Result<(), Memory>
     requires consistent { IsConsistent (role_of task.now) worker.old }
     requires noted { NamesNoPort entry }
@@ -70,8 +70,7 @@ pub(crate) fn note(task: &Task<'_>, worker: &mut Worker, entry: Entry) -> Result
     Ok(())
 }
 
-/// Looks at the branches of an `alt`: what has come is moved to the ports, and the branches are
-/// tried from the top (20.2).
+/// Moves what has arrived to the ports, and tries the branches from the top (20.2).
 pub(crate) fn look_at_branches<R: Wait, G: Gate>(
     execution: &Execution<'_, R, G>,
     worker: &mut Worker,

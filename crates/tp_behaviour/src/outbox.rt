@@ -18,23 +18,21 @@ use tp_inbox::sender::{PutFault, Sender};
 use tp_refusal::memory::Memory;
 use tp_value::message::Message;
 
-/// Where a route begins: with which of a component's senders, and which of the sender's routes it
-/// is.
+/// The beginning of a route: one of the component's senders, and one of the sender's routes.
 #[derive(Clone, Copy, Drop)]
 pub(crate) struct RoutePlace {
-    /// The place of the sender.
     sender: usize,
-    /// The place of the route among the sender's.
+    /// The place of the route among those of the sender.
     route_index: usize,
 }
 
-/// The senders of a component, at most one into each inbox, seen by contracts as their list.
+/// The senders of a component, at most one into each inbox. Contracts see them as a list.
 #[derive(Drop)]
 pub struct Outbox {
     senders: Vec<Sender>,
-    /// Where each route begins.
+    /// The place of each route.
     places: IndexMap<RouteId, RoutePlace>,
-    /// The places of the senders from the component to itself: there is one at most.
+    /// The places of the senders from the component to itself: at most one.
     loops: Vec<usize>,
 }
 
@@ -54,8 +52,8 @@ impl Model for Outbox {
     ghost invariant = { λ o. AreSendersFiled o.senders.items o.places o.loops.items };
 }
 
-/// Whether this owner has drained as much of each of the sender's routes, which lead to its
-/// component, as the sender has put there.
+/// Returns whether this owner has drained as much of each of the sender's routes as the sender has
+/// put there. The routes lead to the owner's component.
 fn has_come(owner: &Owner, sender: &Sender) -> bool
     requires { sender.now.inbox.comp ≡ owner.now.inbox.comp }
     ensures { IsTrue result ↔ IsLevel owner.now.drained sender.now }
@@ -68,7 +66,7 @@ fn has_come(owner: &Owner, sender: &Sender) -> bool
     true
 }
 
-/// Lists the place of a sender, where it leads back to its component.
+/// Lists the place of a sender, if it leads back to its component.
 fn list(loops: &mut Vec<usize>, sender: &Sender, place: usize)
     requires { vec_len loops.old < vec_capacity loops.old }
     ensures { IsListed sender.now place loops.old.items loops.new.items }
@@ -78,8 +76,7 @@ fn list(loops: &mut Vec<usize>, sender: &Sender, place: usize)
     }
 }
 
-/// Files each route of a sender, with this place of the sender. Where it answers 50 `Memory`, some
-/// of them may be filed.
+/// After 50 `Memory` some of the routes may be filed.
 fn file(
     places: &mut IndexMap<RouteId, RoutePlace>,
     sender: &Sender,
@@ -101,7 +98,7 @@ fn file(
 }
 
 impl Outbox {
-    /// No senders. Later calls take memory from `alloc`.
+    /// Later calls allocate from `alloc`.
     pub fn new(alloc: Global) -> Outbox
         ensures { result ≡ [] }
     {
@@ -112,8 +109,8 @@ impl Outbox {
         }
     }
 
-    /// Adds a sender into an inbox into which there is none yet, behind the others. Where it
-    /// answers 50 `Memory`, there is no sender more.
+    /// Adds a sender into an inbox that none of the others leads to. After 50 `Memory` there is no
+    /// further sender.
     pub fn add(&mut self, sender: Sender) -> Result<(), Memory>
         requires { All (λ s. s.inbox.comp ≢ sender.inbox.comp) self.old }
         ensures ok { OnOk result (self.new ≡ self.old ++ sender ∷ []) }
@@ -128,7 +125,6 @@ impl Outbox {
         Ok(())
     }
 
-    /// The senders, in the order in which they were added.
     pub fn into_senders(self) -> Vec<Sender>
         ensures { result.items ≡ self }
     {
@@ -140,8 +136,8 @@ impl Outbox {
         senders
     }
 
-    /// Whether all that the component has sent to itself has arrived, by what this owner has
-    /// drained: on each route from the component to itself as much as was put there.
+    /// Returns whether everything that the component has sent to itself has arrived: on each route
+    /// to itself, the owner has drained as much as was put there.
     pub fn is_level(&self, owner: &Owner) -> bool
         requires home { All (IsHome owner.now.inbox) self.now }
         ensures level { IsTrue result ↔ ((s : SenderLedger) → Contains self.now s → LeadsBack s
@@ -156,7 +152,6 @@ impl Outbox {
         true
     }
 
-    /// Where this route begins.
     fn route_place(&self, route: RouteId) -> RoutePlace
         requires { Contains (routes_of self.now) route }
         ensures { (s : SenderLedger) × (slice_get self.now result.sender ≡ Some s)
@@ -169,8 +164,8 @@ impl Outbox {
         }
     }
 
-    /// Sends a message on this route, which one of the senders has: [`Sender::send`], by that
-    /// sender, whose refusals it answers.
+    /// Sends on this route, by [`Sender::send`] of the sender that has it, whose refusals it
+    /// returns.
     pub fn send<R: Wait>(
         &mut self,
         rt: &R,

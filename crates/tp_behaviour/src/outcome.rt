@@ -1,15 +1,15 @@
-//! How carrying out statements ends.
+//! The end of executing statements.
 use crate::choice::Guard;
 use tp_history::send_fault::SendFault;
 
-/// Whether all statements were carried out, and what ended them if not.
+/// Why the execution of statements ended.
 #[derive(Drop)]
 pub enum Outcome {
-    /// They were carried out.
+    /// All were executed.
     Done,
-    /// A send couldn't be carried out, by this fault, which ended the behaviour.
+    /// A send failed with this fault, and the behaviour has ended.
     Error(SendFault),
-    /// It waits at a receiving operation or an `alt` with these branches, of which none can be
-    /// chosen any more by what has come.
+    /// It waits at a receiving operation or an `alt` with these branches, none of which can be
+    /// chosen any more.
     Waiting(Vec<Guard>),
 }

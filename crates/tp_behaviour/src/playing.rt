@@ -1,4 +1,4 @@
-//! The statements within which no other stands, each up to its end.
+//! Statements without inner statements, each up to its end.
 ghost use Rattle.std.specs.Prelude.{◌<◌, IfOk, OnOk};
 ghost use Rattle.tp_play.specs.declared.body.ResolvedStatement.TheVariants as statement;
 ghost use Rattle.tp_play.specs.Playable.{CanSend};
@@ -18,7 +18,7 @@ use tp_play::body::SendOperation;
 use tp_refusal::memory::Memory;
 use tp_value::verdict::Verdict;
 
-/// Carries out a send (ES 201 873-1, 22.2.1): where it can't be carried out, the behaviour ends.
+/// Executes a send (ES 201 873-1, 22.2.1). If it fails, the behaviour ends.
 pub(crate) fn play_send<R: Wait, G: Gate>(
     execution: &Execution<'_, R, G>,
     worker: &mut Worker,
@@ -41,7 +41,7 @@ pub(crate) fn play_send<R: Wait, G: Gate>(
     }
 }
 
-/// Carries out an operation on a port (22.5).
+/// Executes an operation on one port (22.5).
 pub(crate) fn play_control<R: Wait, G: Gate>(
     execution: &Execution<'_, R, G>,
     worker: &mut Worker,
@@ -64,7 +64,7 @@ pub(crate) fn play_control<R: Wait, G: Gate>(
     Ok(Outcome::Done)
 }
 
-/// Carries out an operation on all ports, in their order (22.5).
+/// Executes an operation on all ports, in their order (22.5).
 pub(crate) fn play_all_ports<R: Wait, G: Gate>(
     execution: &Execution<'_, R, G>,
     worker: &mut Worker,
@@ -85,7 +85,7 @@ pub(crate) fn play_all_ports<R: Wait, G: Gate>(
     Ok(Outcome::Done)
 }
 
-/// Carries out `setverdict` (24.2).
+/// Executes `setverdict` (24.2).
 pub(crate) fn play_set_verdict(
     task: &Task<'_>,
     worker: &mut Worker,

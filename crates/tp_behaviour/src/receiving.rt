@@ -1,4 +1,4 @@
-//! What a behaviour receives.
+//! Receiving operations of a behaviour.
 ghost use Rattle.std.specs.Prelude.{◌≡◌, ◌<◌, ◌≤◌, IfOk, IfSome, OnOk, length};
 ghost use Rattle.std.specs.Option.{option_map};
 ghost use Rattle.std.specs.List.{slice_index_or};
@@ -30,7 +30,6 @@ use tp_play::fill::fill_template;
 use tp_refusal::memory::Memory;
 use tp_value::message::{Message, MsgTemplate};
 
-/// The number of the component that a reference names, if one is given.
 fn expected_sender(task: &Task<'_>, place: Option<usize>) -> Option<u32>
     requires { CanExpect (stage_at task.now) place }
     ensures { result ≡ option_map (λ k. slice_index_or (role_of task.now).references k 0) place }
@@ -41,8 +40,8 @@ fn expected_sender(task: &Task<'_>, place: Option<usize>) -> Option<u32>
     }
 }
 
-/// What an operation wants, where the loop variables hold these integers: it is filled only where
-/// nothing lasts of it.
+/// The template of an operation for these values of the loop variables. It is filled only if it
+/// isn't a lasting one.
 fn view_template<'t>(
     alloc: Global,
     wanted: &RecvMsg,
@@ -62,7 +61,7 @@ fn view_template<'t>(
     }
 }
 
-/// A receiving operation as it is looked at, by what loop variables and references stand for.
+/// A receiving operation to look at, with the values of loop variables and references.
 fn view_guard<'t>(
     task: &Task<'_>,
     frame: &Frame,
@@ -84,7 +83,6 @@ fn view_guard<'t>(
     })
 }
 
-/// The operations of these branches as they are looked at.
 pub(crate) fn view_guards<'t>(
     task: &Task<'_>,
     frame: &Frame,
@@ -104,8 +102,7 @@ pub(crate) fn view_guards<'t>(
     Ok(guards)
 }
 
-/// A receiving operation, by what loop variables and references stand for, for whoever waits for
-/// it.
+/// A receiving operation that is waited for, with the values of loop variables and references.
 fn fill_guard(task: &Task<'_>, frame: &Frame, receiving: &Receiving) -> Result<Guard, Memory>
     requires { CanReceive (stage_at task.now) (depth_of frame.now) receiving.now }
     ensures { IfOk result (λ guard.
@@ -120,8 +117,6 @@ fn fill_guard(task: &Task<'_>, frame: &Frame, receiving: &Receiving) -> Result<G
     })
 }
 
-/// The operations of these branches, by what loop variables and references stand for, for whoever
-/// waits for them.
 pub(crate) fn fill_guards(
     task: &Task<'_>,
     frame: &Frame,
@@ -139,7 +134,6 @@ pub(crate) fn fill_guards(
     Ok(guards)
 }
 
-/// Puts this into the variable at this place, if one is named.
 // Most operations name none: inlined, it is a test, and nothing is made for them.
 #[inline(always)]
 fn keep(variables: &mut Vec<Option<Held>>, place: Option<usize>, held: Held)
@@ -151,7 +145,7 @@ fn keep(variables: &mut Vec<Option<Held>>, place: Option<usize>, held: Held)
     }
 }
 
-/// Puts what was taken or found into the variables that the operation names: the value, and then
+/// Stores what was taken or found in the variables that the operation names: first the value, then
 /// the sender (ES 201 873-1, 22.2.2).
 pub(crate) fn redirect(task: &Task<'_>, frame: &mut Frame, receiving: &Receiving, env: Env<Message>)
     requires can { CanReceive (stage_at task.now) (depth_of frame.old) receiving.now }
@@ -176,7 +170,7 @@ pub(crate) fn redirect(task: &Task<'_>, frame: &mut Frame, receiving: &Receiving
     );
 }
 
-/// Carries out a receiving operation that stands alone (22.2.2 to 22.2.4).
+/// Executes a receiving operation that stands alone (22.2.2 to 22.2.4).
 pub(crate) fn receive<R: Wait, G: Gate>(
     execution: &Execution<'_, R, G>,
     worker: &mut Worker,

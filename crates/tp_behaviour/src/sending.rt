@@ -1,4 +1,4 @@
-//! What a behaviour sends.
+//! The sends of a behaviour.
 ghost use Rattle.std.specs.Prelude.{◌≡◌, ◌++◌, ◌∷◌, [], ℕ, All, Contains, IfOk, OnOk, length};
 ghost use Rattle.std.specs.List.{AllZip};
 ghost use Rattle.tp_play.specs.declared.body.Receiver.TheVariants as receiver;
@@ -28,7 +28,7 @@ use tp_play::body::{Receiver, SendOperation};
 use tp_refusal::memory::Memory;
 use tp_value::message::Message;
 
-/// Ends the behaviour at a send, by this fault, which is answered.
+/// Ends the behaviour at a send, and returns this fault.
 fn fail(
     task: &Task<'_>,
     worker: &mut Worker,
@@ -48,7 +48,7 @@ fn fail(
     Ok(Some(fault))
 }
 
-/// Sends a message on a route: its number is the next on the route, and its stamp the next in the
+/// Sends a message on a route. Its number is the next on the route, its stamp the next in the
 /// history.
 fn send_on<R: Wait, G: Gate>(
     execution: &Execution<'_, R, G>,
@@ -72,8 +72,8 @@ fn send_on<R: Wait, G: Gate>(
     Ok(())
 }
 
-/// Sends a message on the route that its port has, or the one to the component named; where there
-/// is no such route, the behaviour ends by the fault that is answered.
+/// Sends on the only route of the port, or on the one to the component named. If there is none, the
+/// behaviour ends with the fault returned.
 fn send_to<R: Wait, G: Gate>(
     execution: &Execution<'_, R, G>,
     worker: &mut Worker,
@@ -111,7 +111,7 @@ fn send_to<R: Wait, G: Gate>(
     }
 }
 
-/// Sends a message on each of these routes, in their order.
+/// Sends a message on each of these routes, in order.
 fn send_on_each<R: Wait, G: Gate>(
     execution: &Execution<'_, R, G>,
     worker: &mut Worker,
@@ -133,8 +133,8 @@ fn send_on_each<R: Wait, G: Gate>(
     Ok(())
 }
 
-/// Sends a message on each route of its port, in the order of the connections (22.2.1,
-/// `to all component`); where there is none, the behaviour ends by 41 `NoRoute`, which is answered.
+/// Sends on each route of the port, in the order of the connections (22.2.1, `to all component`).
+/// If there is none, the behaviour ends with 41 `NoRoute`, which is returned.
 fn send_to_all<R: Wait, G: Gate>(
     execution: &Execution<'_, R, G>,
     worker: &mut Worker,
@@ -164,7 +164,6 @@ fn send_to_all<R: Wait, G: Gate>(
     Ok(None)
 }
 
-/// Sends a message to the component that is named, or to the one that its port has a route to.
 fn send_to_one<R: Wait, G: Gate>(
     execution: &Execution<'_, R, G>,
     worker: &mut Worker,
@@ -191,7 +190,7 @@ fn send_to_one<R: Wait, G: Gate>(
     }
 }
 
-/// Sends what is to be sent, where the port is started.
+/// Sends at a port that is started.
 fn send_started<R: Wait, G: Gate>(
     execution: &Execution<'_, R, G>,
     worker: &mut Worker,
@@ -217,10 +216,10 @@ fn send_started<R: Wait, G: Gate>(
     }
 }
 
-/// Carries out a send (ES 201 873-1, 22.2.1), and answers the fault by which the behaviour ends
-/// there, if it does: 40 `NotSending` where the port isn't started; else 43 `UnsetVariable` where a
-/// variable of which the send speaks isn't set; else 41 `NoRoute` where there is no route, or none
-/// to the component named, or 42 `NeedsTo` where there are several and no component is named.
+/// Executes a send (ES 201 873-1, 22.2.1), and returns the fault that ends the behaviour, if there
+/// is one: 40 `NotSending` if the port isn't started; else 43 `UnsetVariable` if a variable of the
+/// send isn't set; else 41 `NoRoute` if there is no route, or none to the component named, or 42
+/// `NeedsTo` if there are several and no component is named.
 pub(crate) fn send<R: Wait, G: Gate>(
     execution: &Execution<'_, R, G>,
     worker: &mut Worker,

@@ -20,7 +20,7 @@ use std::sync::Wait;
 use tp_play::body::ResolvedStatement;
 use tp_refusal::memory::Memory;
 
-/// Carries out the statements of a block, one after the other (ES 201 873-1, 19 to 24).
+/// Executes the statements of a block in order (ES 201 873-1, 19 to 24).
 #[cycle(statements)]
 pub(crate) fn execute<R: Wait, G: Gate>(
     execution: &Execution<'_, R, G>,
@@ -55,7 +55,6 @@ pub(crate) fn execute<R: Wait, G: Gate>(
     Ok(Outcome::Done)
 }
 
-/// Carries out a statement.
 #[cycle(statements)]
 fn step<R: Wait, G: Gate>(
     execution: &Execution<'_, R, G>,
@@ -125,7 +124,7 @@ fn step<R: Wait, G: Gate>(
     }
 }
 
-/// Carries out the block of the branch at this place of an `alt` (20.2).
+/// Executes the block of the branch at this place of an `alt` (20.2).
 #[cycle(statements)]
 fn branch<R: Wait, G: Gate>(
     execution: &Execution<'_, R, G>,
@@ -156,8 +155,8 @@ fn branch<R: Wait, G: Gate>(
     execute(execution, worker, frame, block)
 }
 
-/// Carries out a block once for each value of a loop variable, from the first on, below the bound
-/// (19.4).
+/// Executes a block once for each value of a loop variable, from the first one up to the bound,
+/// which is excluded (19.4).
 #[cycle(statements)]
 fn turns<R: Wait, G: Gate>(
     execution: &Execution<'_, R, G>,
@@ -193,7 +192,6 @@ fn turns<R: Wait, G: Gate>(
     Ok(Outcome::Done)
 }
 
-/// Carries out a block where the loop variable around it holds this value.
 #[cycle(statements)]
 fn turn<R: Wait, G: Gate>(
     execution: &Execution<'_, R, G>,

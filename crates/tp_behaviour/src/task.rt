@@ -1,4 +1,4 @@
-//! A behaviour that is to be carried out.
+//! A behaviour to execute.
 use std::alloc::Global;
 use tp_config::config::Config;
 use tp_config::port_type::CompId;
@@ -6,20 +6,16 @@ use tp_inbox::owner::Closer;
 use tp_play::test_case::Behaviour;
 use tp_value::types::Types;
 
-/// A behaviour that is to be carried out: all that stays as it is while it runs.
+/// A behaviour to execute: everything that stays the same while it runs.
 #[derive(Clone, Copy)]
 pub struct Task<'t> {
-    /// Where memory is taken from.
     pub alloc: Global,
-    /// The configuration.
     pub config: &'t Config,
-    /// The types of its messages. They stand here for contracts alone, which say by them what its
-    /// body speaks of.
+    /// The types of its messages, for contracts alone, which speak of the body by them.
     pub types: &'t Types,
-    /// The component.
     pub comp: CompId,
     /// Its body, and the components that the references of the body name.
     pub behaviour: Behaviour<'t>,
-    /// What closes the inboxes of all components.
+    /// They close the inboxes of all components.
     pub closers: &'t [Closer],
 }

@@ -1,4 +1,4 @@
-//! What statements come to, by what a behaviour keeps in mind.
+//! Values of expressions in statements.
 ghost use Rattle.std.specs.Prelude.{IfOk, MatchOption, length};
 ghost use Rattle.tp_behaviour.specs.declared.held.Held.TheVariants as held;
 ghost use Rattle.tp_behaviour.specs.Held.{Holds, IsNamed, IsSentAs, IsUnset, NamesUnset, SendsUnset};
@@ -16,7 +16,6 @@ use tp_play::fill::fill_message;
 use tp_refusal::memory::Memory;
 use tp_value::message::Message;
 
-/// The message that the variable at this place holds, where it is set.
 fn message_in(frame: &Frame, place: usize) -> Option<&Message>
     requires { HoldsMessages frame.now.variables.items place }
     ensures { MatchOption result (IsUnset (values_of frame.now) place)
@@ -32,7 +31,6 @@ fn message_in(frame: &Frame, place: usize) -> Option<&Message>
     }
 }
 
-/// The component that the variable at this place holds, where it is set.
 fn component_in(frame: &Frame, place: usize) -> Option<CompId>
     requires { HoldsNoMessage frame.now.variables.items place }
     ensures { MatchOption result (IsUnset (values_of frame.now) place)
@@ -48,7 +46,7 @@ fn component_in(frame: &Frame, place: usize) -> Option<CompId>
     }
 }
 
-/// What is sent (ES 201 873-1, 22.2.1), or `None` where it is a variable that isn't set.
+/// The message to send (ES 201 873-1, 22.2.1). `None` if it is a variable that isn't set.
 pub(crate) fn message_of(
     alloc: Global,
     frame: &Frame,
@@ -73,8 +71,7 @@ pub(crate) fn message_of(
     }
 }
 
-/// The component that is named as the receiver of one message, if one is; or `None` where it is a
-/// variable that isn't set.
+/// The receiver, if one component is named. The outer `None` means a variable that isn't set.
 pub(crate) fn named_of(task: &Task<'_>, frame: &Frame, to: Receiver) -> Option<Option<CompId>>
     requires { CanName frame.now.variables.items (length task.now.behaviour.references.now) to }
     ensures { MatchOption result (NamesUnset (values_of frame.now) to)

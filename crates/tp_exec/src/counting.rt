@@ -1,4 +1,4 @@
-//! How many messages were put on each route into an inbox.
+//! The number of messages put on each route into an inbox.
 ghost use Rattle.std.specs.Prelude.{◌≡◌, ℕ, All, AllPairs, Contains, IfOk, OnOk, Some, map};
 ghost use Rattle.indexmap.specs.IndexMap.{get};
 ghost use Rattle.tp_config.specs.declared.port_type.RouteId.{RouteId as Route};
@@ -13,7 +13,6 @@ use tp_config::port_type::RouteId;
 use tp_inbox::sender::Sender;
 use tp_refusal::memory::Memory;
 
-/// Files how many messages the sender has put on each of its routes.
 fn file(counts: &mut IndexMap<RouteId, u64>, sender: &Sender) -> Result<(), Memory>
     ensures filed { OnOk result (AreFiledOf counts.new sender.now) }
     ensures others { OnOk result (KeepsOtherRoutes sender.now.routes counts.old counts.new) }
@@ -24,7 +23,6 @@ fn file(counts: &mut IndexMap<RouteId, u64>, sender: &Sender) -> Result<(), Memo
     Ok(())
 }
 
-/// How many messages each of these senders has put on each of its routes.
 fn file_all(alloc: Global, senders: &[Sender]) -> Result<IndexMap<RouteId, u64>, Memory>
     requires { AllPairs ShareNone senders.now }
     ensures { IfOk result (λ counts. All (AreFiledOf counts) senders.now) }
@@ -36,7 +34,6 @@ fn file_all(alloc: Global, senders: &[Sender]) -> Result<IndexMap<RouteId, u64>,
     Ok(counts)
 }
 
-/// The count that is filed of this route.
 fn count_on(counts: &IndexMap<RouteId, u64>, route: RouteId) -> u64
     requires { (n : ℕ) × (get route_eq counts.now route ≡ Some n) }
     ensures { get route_eq counts.now route ≡ Some result }
@@ -48,7 +45,6 @@ fn count_on(counts: &IndexMap<RouteId, u64>, route: RouteId) -> u64
     }
 }
 
-/// The counts that are filed of these routes, in the routes' order.
 fn in_order(
     alloc: Global,
     counts: &IndexMap<RouteId, u64>,
@@ -66,7 +62,6 @@ fn in_order(
     Ok(all)
 }
 
-/// How many messages were put on each of these routes, by these senders, which have them all.
 pub(crate) fn count_all(
     alloc: Global,
     routes: Vec<RouteId>,

@@ -1,4 +1,4 @@
-//! Why a run has no report, and how that is told.
+//! Reasons why a run has no report, and their lines.
 ghost use Rattle.std.specs.Prelude.{◌≡◌};
 ghost use Rattle.tp_text.specs.Watching.{Writes};
 ghost use Rattle.tp_exec.specs.Faults.{run_fault_text, run_refusal};
@@ -8,26 +8,27 @@ use thiserror::Error;
 use tp_refusal::refusal::Refusal;
 use tp_text::watched::{Watched, write_bytes, write_number};
 
-/// Why a run has no report. Where several hold, the first of this order is answered; but a run that
-/// is restless says so where memory is refused for its report alone.
+/// Why a run has no report. If several reasons hold, the first in this order is returned. But a
+/// restless run whose report alone lacks memory returns `Restless`.
 #[derive(Clone, Copy, Debug, Error)]
 pub enum RunFault {
-    /// 51 NoThread: the starting of a thread was refused.
+    /// 51 NoThread: a thread was refused.
     #[error("no thread")]
     NoThread,
     /// 50 Memory: an allocation was refused.
     #[error("out of memory")]
     Memory,
-    /// 61 Restless: a behaviour ended as waiting, and a branch of it is open in the final queues.
+    /// 61 Restless: a behaviour ended as waiting although one of its branches is open in the final
+    /// queues.
     #[error("a behaviour waits for what has come")]
     Restless,
-    /// 62 NoOrder: no one order of all that the components did gives what each did and saw.
+    /// 62 NoOrder: no one order of everything that the components did gives what each did and saw.
     #[error("no one order gives the histories")]
     NoOrder,
 }
 
 impl RunFault {
-    /// The refusal whose number and name it has.
+    /// The refusal with its number and name.
     pub fn refusal(self) -> Refusal
         ensures { result ≡ run_refusal self }
     {

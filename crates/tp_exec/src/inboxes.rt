@@ -1,5 +1,4 @@
-//! The workers of a run: an inbox and a desk for each component, and each sender with the
-//! component that it sends for.
+//! The workers of a run: an inbox and a desk for each component, and its senders.
 ghost use Rattle.std.specs.Prelude.{◌≡◌, ◌+◌, All, IfOk, OnOk, length};
 ghost use Rattle.tp_config.specs.Allowed.{IsSetup};
 ghost use Rattle.tp_config.specs.Setup.{IsComponent};
@@ -20,18 +19,16 @@ use tp_inbox::owner::Closer;
 use tp_inbox::sender::Sender;
 use tp_refusal::memory::Memory;
 
-/// The inboxes of the first components, before their senders are handed out.
+/// The inboxes opened so far, before their senders are handed out.
 #[derive(Drop)]
 struct Opened {
-    /// A worker for each of these components, with no sender.
+    /// A worker for each of these components, without senders.
     workers: Vec<Worker>,
     /// The senders into these inboxes, inbox after inbox.
     senders: Vec<Sender>,
-    /// What closes each of these inboxes.
     closers: Vec<Closer>,
 }
 
-/// Opens the inbox and the desk of the next component.
 fn open_next(
     alloc: Global,
     config: &Config,
@@ -56,7 +53,6 @@ fn open_next(
     Ok(())
 }
 
-/// Opens the inboxes and the desks of all components, in their order.
 fn open_inboxes(
     alloc: Global,
     config: &Config,
@@ -77,7 +73,6 @@ fn open_inboxes(
     Ok(opened)
 }
 
-/// Gives a sender to the component that sends by it, which has none into its inbox yet.
 fn hand_to(workers: &mut Vec<Worker>, sender: Sender) -> Result<(), Memory>
     requires within { IsFromOneOf workers.old.items sender }
     requires apart { IsFirstThere workers.old.items sender }
@@ -87,7 +82,6 @@ fn hand_to(workers: &mut Vec<Worker>, sender: Sender) -> Result<(), Memory>
     workers[source.0 as usize].outbox.add(sender)
 }
 
-/// Hands the senders out, each to the component that sends by it, in their order.
 fn hand_out(workers: Vec<Worker>, senders: Vec<Sender>) -> Result<Vec<Worker>, Memory>
     requires bare { All IsBare workers.items }
     requires within { All (IsFromOneOf workers.items) senders.items }
@@ -101,8 +95,8 @@ fn hand_out(workers: Vec<Worker>, senders: Vec<Sender>) -> Result<Vec<Worker>, M
     Ok(equipped)
 }
 
-/// A worker for each component of the configuration, in their order, and what closes their
-/// inboxes. Each component has its senders: one into each inbox to which a route leads from it.
+/// A worker for each component, in order, and what closes their inboxes. Each component has one
+/// sender into each inbox to which a route leads from it.
 pub(crate) fn make_workers(
     alloc: Global,
     config: &Config,

@@ -1,24 +1,23 @@
-//! What entries are for the order of a run.
+//! Kinds of entries, for the order of a run.
 
-/// What an entry is for the order.
 #[derive(Clone, Copy)]
 pub(crate) enum EntryKind {
-    /// A message came, from the component of this number.
+    /// A message from the component of this number arrived.
     Came(u32),
-    /// One was sent, to the component of this number.
+    /// A message was sent to the component of this number.
     Sent(u32),
     /// The component looked at ports.
     Looked,
-    /// It did something else.
+    /// Anything else.
     Quiet,
 }
 
-/// What is known of a message that came.
+/// An arrival, and when its message was sent.
 #[derive(Clone, Copy)]
 pub(crate) struct AwaitedArrival {
     /// The number of its sender.
     pub(crate) source: u32,
-    /// A place in the history of the component that it came to: that behind the last look before it
-    /// came, 0 where there is none. It was sent when all before that place was done.
+    /// A place in the receiver's history: after the last look before the arrival, or 0 if there is
+    /// none. The message was sent after everything before this place.
     pub(crate) after: usize,
 }

@@ -1,8 +1,9 @@
 //! The executor, modes `run` and `trace`: each component's behaviour in a thread of its own, one
-//! order of all that they did, and the report.
+//! order of everything that they did, and the report. `tpr` calls [`run::run`] with the test case
+//! that `tp_script` makes; start there.
 //!
-//! Where a call answers 50 `Memory`, an allocation was refused, in whatever thread, and the run has
-//! no report. A call that can't answer it takes no memory.
+//! 50 `Memory` means that an allocation was refused in some thread, so that the run has no report.
+//! A call that can't return it doesn't allocate.
 #![tactic(auto)]
 
 mod counting;

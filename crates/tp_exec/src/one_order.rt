@@ -1,4 +1,4 @@
-//! Whether there is one order of all that the components did that gives their histories.
+//! The search for one order of everything that the components did that gives their histories.
 ghost use Rattle.std.specs.Prelude.{◌≡◌, ◌↔◌, ◌+◌, ◌*◌, ◌<◌, ◌≤◌, ◌^◌, ℕ, List, All};
 ghost use Rattle.std.specs.Prelude.{IfNone, IfOk, IfSome, IsTrue, OnOk, length, replicate};
 ghost use Rattle.std.specs.Prelude.{slice_index, slice_set, sum};
@@ -16,7 +16,6 @@ use tp_history::entry::Entry;
 use tp_refusal::memory::Memory;
 use tp_report::report::CompReport;
 
-/// What an entry is for the order.
 fn kind_of(entry: &Entry) -> EntryKind
     ensures { result ≡ kind_of_entry entry.now }
 {
@@ -30,7 +29,6 @@ fn kind_of(entry: &Entry) -> EntryKind
     }
 }
 
-/// What is known of the messages that came, in the order in which they came.
 fn awaited_of(alloc: Global, log: &[Entry]) -> Result<Vec<AwaitedArrival>, Memory>
     ensures sources { IfOk result (λ all_awaited.
         awaited_sources all_awaited.items ≡ sources log.now) }
@@ -48,7 +46,6 @@ fn awaited_of(alloc: Global, log: &[Entry]) -> Result<Vec<AwaitedArrival>, Memor
     Ok(all_awaited)
 }
 
-/// What is known of the messages that came to each of these components.
 fn awaited_of_each(
     alloc: Global,
     components: &[CompReport],
@@ -62,7 +59,7 @@ fn awaited_of_each(
     Ok(all)
 }
 
-/// Whether the next message to that component is one of this one's, and may be sent.
+/// Returns whether the next message to component `to` comes from component `c`, and may be sent.
 fn may_send(
     all_awaited: &[Vec<AwaitedArrival>],
     progress: &OrderProgress,
@@ -93,7 +90,6 @@ fn may_send(
     awaited.after <= progress.places[to]
 }
 
-/// Whether the component can do the next thing, of this kind.
 fn is_possible(
     all_awaited: &[Vec<AwaitedArrival>],
     progress: &OrderProgress,
@@ -117,7 +113,7 @@ fn is_possible(
     }
 }
 
-/// Goes by the next thing of the component, of this kind, and answers whom it affects.
+/// Passes the component's next entry, of this kind, and returns the component that it affects.
 fn go_by(progress: &mut OrderProgress, c: usize, kind: EntryKind) -> usize
     requires places { c < length progress.old.places.items }
     requires came { c < length progress.old.came.items }
@@ -145,7 +141,8 @@ fn go_by(progress: &mut OrderProgress, c: usize, kind: EntryKind) -> usize
     }
 }
 
-/// Does the next thing of the component where that is possible, and answers whom it affects.
+/// Passes the component's next entry, if that is possible, and returns the component that it
+/// affects.
 fn step(
     components: &[CompReport],
     all_awaited: &[Vec<AwaitedArrival>],
@@ -177,7 +174,7 @@ fn step(
     Some(go_by(progress, c, kind))
 }
 
-/// Puts the number in the list, where it isn't the last there.
+/// Adds the number, unless it is the last in the list.
 fn put_in(number: usize, ready: &mut Vec<usize>) -> Result<(), Memory>
     ensures below { (size : ℕ) → number < size → All (λ x. x < size) ready.old.items
         → OnOk result (All (λ x. x < size) ready.new.items) }
@@ -189,8 +186,8 @@ fn put_in(number: usize, ready: &mut Vec<usize>) -> Result<(), Memory>
     Ok(())
 }
 
-/// Puts in the list whom it concerns that the component has done something which affected that one:
-/// that one itself, and who is the next to send to it.
+/// After an entry of component `c` lists those that may be able to go on because of it: the
+/// component that it affects, and the next to send to that one.
 fn wake(
     all_awaited: &[Vec<AwaitedArrival>],
     progress: &OrderProgress,
@@ -217,8 +214,8 @@ fn wake(
     Ok(())
 }
 
-/// Does all that the component can do next, one thing after the other, and puts in the list who may
-/// be able to go on then.
+/// Passes the component's entries as long as possible, and lists the components that may then be
+/// able to go on.
 fn go_far(
     components: &[CompReport],
     all_awaited: &[Vec<AwaitedArrival>],
@@ -244,8 +241,8 @@ fn go_far(
     Ok(())
 }
 
-/// Takes one after the other out of the list, and has it do all that it can, until nobody is left
-/// there.
+/// Takes components out of the list and passes their entries as long as possible, until the list is
+/// empty.
 fn go_on(
     components: &[CompReport],
     all_awaited: &[Vec<AwaitedArrival>],
@@ -267,7 +264,7 @@ fn go_on(
     Ok(())
 }
 
-/// Does all that can be done, until no component can go on.
+/// Passes entries until no component can go on.
 fn go_all(
     alloc: Global,
     components: &[CompReport],
@@ -299,7 +296,6 @@ fn go_all(
     Ok(())
 }
 
-/// Whether all is done.
 fn is_ended(components: &[CompReport], progress: &OrderProgress) -> bool
     requires { HasSize progress.now (length components.now) }
     ensures { IsTrue result ↔ ((c : ℕ) → c < length components.now
@@ -313,7 +309,6 @@ fn is_ended(components: &[CompReport], progress: &OrderProgress) -> bool
     true
 }
 
-/// The beginning of so many histories: nothing is gone by.
 fn begin(alloc: Global, size: usize) -> Result<OrderProgress, Memory>
     ensures { IfOk result (λ progress. (progress.places.items ≡ replicate size 0)
         × (progress.came.items ≡ replicate size 0)
@@ -325,9 +320,9 @@ fn begin(alloc: Global, size: usize) -> Result<OrderProgress, Memory>
     Ok(OrderProgress { places, came, sent })
 }
 
-/// Whether there is one order of all that the components did that gives their histories, each
-/// message in its queue at once when it was sent. It takes time linear in the histories, as long as
-/// `wake` forgets nobody; no clause says so.
+/// Returns whether there is one order of everything that the components did that gives their
+/// histories, with each message in its queue as soon as it is sent. It takes time linear in the
+/// histories if `wake` forgets no component; no clause says so.
 pub(crate) fn has_one_order(alloc: Global, components: &[CompReport]) -> Result<bool, Memory>
     ensures { IfOk result (λ is. IsTrue is ↔ HasOneOrder (logs_of components.now)) }
 {

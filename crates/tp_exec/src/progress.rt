@@ -1,13 +1,12 @@
-//! How far the histories of a run's components are gone through.
+//! The progress of the search through the histories of a run.
 
-/// How far the histories of the components are gone through, on the way to one order: three numbers
-/// for each component.
+/// The progress on the way to one order: three numbers for each component.
 #[derive(Drop)]
 pub(crate) struct OrderProgress {
-    /// The place of the entry that is next.
+    /// The place of the next entry.
     pub(crate) places: Vec<usize>,
-    /// How many messages had come before that place.
+    /// The number of messages that arrived before that place.
     pub(crate) came: Vec<usize>,
-    /// How many were sent to the component so far.
+    /// The number of messages sent to the component so far.
     pub(crate) sent: Vec<usize>,
 }

@@ -1,4 +1,4 @@
-//! The report of a run whose messages have all come.
+//! The report of a run after all messages have arrived.
 ghost use Rattle.std.specs.Prelude.{◌≡◌, All, IfErr, IfOk, MatchOption};
 ghost use Rattle.std.specs.List.{AllZip};
 ghost use Rattle.tp_config.specs.Setup.{IsComponent};
@@ -23,7 +23,6 @@ use tp_refusal::memory::Memory;
 use tp_report::report::{CompReport, Report};
 use tp_report::verdicts::{local_verdict, overall_verdict};
 
-/// How a behaviour ended, for its report.
 fn end_of(outcome: &Outcome) -> End
     ensures { result ≡ end_as outcome.now }
 {
@@ -34,7 +33,6 @@ fn end_of(outcome: &Outcome) -> End
     }
 }
 
-/// The report of a component.
 fn report_component(
     alloc: Global,
     config: &Config,
@@ -59,7 +57,6 @@ fn report_component(
     })
 }
 
-/// The reports of these components, in their order.
 fn report_components(
     alloc: Global,
     config: &Config,
@@ -76,8 +73,7 @@ fn report_components(
     Ok(reports)
 }
 
-/// The reports of these components, in their order. Nothing where no one order of all that they
-/// did gives their histories.
+/// `None` if no one order of everything that these components did gives their histories.
 fn report_in_order(
     alloc: Global,
     config: &Config,
@@ -96,7 +92,6 @@ fn report_in_order(
     }
 }
 
-/// The report with these components.
 fn conclude(components: Vec<CompReport>) -> Report
     ensures components { result.components.items ≡ components.items }
     ensures result { result.result
@@ -106,11 +101,9 @@ fn conclude(components: Vec<CompReport>) -> Report
     Report { components, result }
 }
 
-/// The report of the components of a run, in their order.
-///
-/// 61 `Restless` where a behaviour waits and one of its branches is open in its final queues; else
-/// 50 `Memory`; else 62 `NoOrder` where no one order of all that the components did gives their
-/// histories.
+/// Makes the report of a run. 61 `Restless` if a behaviour waits although one of its branches is
+/// open in its final queues; else 50 `Memory`; else 62 `NoOrder` if no one order of everything that
+/// the components did gives their histories.
 pub(crate) fn make_report(
     alloc: Global,
     test_case: &TestCase,

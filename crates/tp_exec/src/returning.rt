@@ -1,4 +1,4 @@
-//! How the senders come back to their inboxes.
+//! The senders return to their inboxes.
 ghost use Rattle.std.specs.Prelude.{◌≡◌, ◌∷◌, [], IfOk, MatchOption, OnOk, map};
 ghost use Rattle.std.specs.Vec.Iter.{into_iter_items};
 ghost use Rattle.tp_inbox.specs.Ledgers.{Inbox};
@@ -16,7 +16,6 @@ use tp_config::port_type::{CompId, RouteId};
 use tp_inbox::sender::Sender;
 use tp_refusal::memory::Memory;
 
-/// The components, and the senders of each, both in the components' order.
 pub(crate) fn part_played(
     alloc: Global,
     played: Vec<Played>,
@@ -44,7 +43,7 @@ pub(crate) fn part_played(
     Ok((idles, hands))
 }
 
-/// The components from which these routes lead, each once, in the order of its first route.
+/// The components that these routes lead from, each once, in the order of its first route.
 pub(crate) fn distinct_sources(alloc: Global, routes: &[RouteId]) -> Result<Vec<CompId>, Memory>
     ensures { IfOk result (λ sources. sources.items ≡ sources_of routes.now) }
 {
@@ -56,7 +55,7 @@ pub(crate) fn distinct_sources(alloc: Global, routes: &[RouteId]) -> Result<Vec<
     Ok(sources)
 }
 
-/// Takes this component's sender into an inbox from the component, where it is the next.
+/// Takes this component's sender into an inbox. It must be the component's next one.
 fn take_one(source: CompId, hands: &mut Vec<IntoIter<Sender>>) -> Option<Sender>
     requires { (i : Inbox) × CanTake hands.old.items (link_by i source ∷ []) }
     ensures held { (i : Inbox) → Leaves hands.old.items (link_by i source ∷ []) hands.new.items }
@@ -67,8 +66,8 @@ fn take_one(source: CompId, hands: &mut Vec<IntoIter<Sender>>) -> Option<Sender>
     hands[source.0 as usize].next()
 }
 
-/// Takes the senders of these components into one inbox, in their order, from the components: each
-/// is the next of its component's, so that none is looked for.
+/// Takes the senders of these components into one inbox. Each is the next one of its component, so
+/// that none is searched for.
 pub(crate) fn take_back(
     alloc: Global,
     sources: Vec<CompId>,

@@ -19,7 +19,7 @@ use tp_floor::floor::Floor;
 use tp_play::test_case::TestCase;
 use tp_report::report::Report;
 
-/// How many components have something to do: so many behaviours live.
+/// Returns how many components have something to do.
 fn count_living(test_case: &TestCase) -> u32
     ensures { result ≡ living_below test_case.now (length test_case.now.config.components) }
 {
@@ -32,13 +32,13 @@ fn count_living(test_case: &TestCase) -> u32
     living
 }
 
-/// Carries the test case out and reports what happened: **delivery**.
+/// Executes the test case and returns the report of what happened.
 ///
-/// 51 `NoThread` where the starting of a thread was refused; else 50 `Memory` where an allocation
-/// was refused before all messages had come; else 61 `Restless` where a behaviour waits and one of
-/// its branches is open in its final queues; else 50 `Memory` where there was no memory for the
-/// report, or for its order; else 62 `NoOrder` where no one order of all that the components did
-/// gives what each did and saw.
+/// 51 `NoThread` if a thread was refused; else 50 `Memory` if an allocation was refused before all
+/// messages had arrived; else 61 `Restless` if a behaviour waits although one of its branches is
+/// open in its final queues; else 50 `Memory` if memory for the report or its order was refused;
+/// else 62 `NoOrder` if no one order of everything that the components did gives what each did and
+/// saw.
 pub fn run<R: Threads + Wait + Sync, G: Gate>(
     rt: &R,
     alloc: Global,

@@ -1,4 +1,4 @@
-//! What is left in the inboxes.
+//! The messages left in the inboxes.
 ghost use Rattle.std.specs.Prelude.{◌≡◌, ◌++◌, ◌<◌, All, Contains, IfOk, OnOk, map};
 ghost use Rattle.tp_config.specs.declared.port_type.RouteId.{RouteId as Route};
 ghost use Rattle.tp_config.specs.Routes.{routes_into};
@@ -29,7 +29,6 @@ use tp_inbox::sender::Sender;
 use tp_refusal::memory::Memory;
 use tp_value::message::Message;
 
-/// Adds what was still in the inbox to the history, in its order.
 fn append(desk: &mut Desk, rest: Rest) -> Result<(), Memory>
     requires { All (λ x. x.0 < desk.old.ports) rest.items }
     ensures { OnOk result (desk.new ≡ adding_all desk.old (rest_arrivals rest.items)) }
@@ -42,7 +41,7 @@ fn append(desk: &mut Desk, rest: Rest) -> Result<(), Memory>
     Ok(())
 }
 
-/// What is still in this inbox, once its senders have ended.
+/// The messages left in this inbox after its senders have ended.
 fn settle<R: Wait>(rt: &R, owner: Owner, desk: &Desk, senders: Vec<Sender>) -> Result<Rest, Memory>
     requires desk { IsDeskOf owner.inbox desk.now }
     requires arrived { arrivals desk.now.log ≡ owner.drained }
@@ -63,8 +62,8 @@ fn settle<R: Wait>(rt: &R, owner: Owner, desk: &Desk, senders: Vec<Sender>) -> R
     }
 }
 
-/// The senders into this component's inbox, taken from the components that have them, and how many
-/// messages they have put on each route into it.
+/// The senders into this component's inbox, taken from the components that have them, and the
+/// number of messages that they put on each route into it.
 fn take_senders(
     alloc: Global,
     config: &Config,
@@ -91,7 +90,6 @@ fn take_senders(
     Ok((senders, counts))
 }
 
-/// The component once all has come to it: what was still in its inbox is added to its history.
 fn settle_one<R: Wait>(
     rt: &R,
     alloc: Global,
@@ -123,7 +121,7 @@ fn settle_one<R: Wait>(
     })
 }
 
-/// Gathers the senders of each inbox and settles it: what was still in an inbox is added to its
+/// Gathers the senders of each inbox and settles it: messages left in an inbox are added to its
 /// component's history as arrivals.
 pub(crate) fn settle_all<R: Wait>(
     rt: &R,

@@ -26,24 +26,20 @@ use tp_inbox::owner::Closer;
 use tp_play::test_case::TestCase;
 use tp_refusal::memory::Memory;
 
-/// What all behaviours of a run share. It owns its parts: of a closure that keeps a struct of
-/// references, nothing is known where it is called.
+/// The parts that all behaviours of a run share. It owns them, because nothing is known of a
+/// closure that keeps a struct of references where the closure is called.
 #[derive(Drop)]
 pub(crate) struct RunContext {
-    /// Where memory is taken from.
     pub(crate) alloc: Global,
-    /// What counts those that live and those that rest.
+    /// It counts the behaviours that live and those that wait.
     pub(crate) floor: Arc<Floor, Global>,
-    /// What closes the inboxes of all components.
     pub(crate) closers: Vec<Closer>,
 }
 
-/// What a component went into its thread with.
+/// What a component was when its thread began, for contracts.
 #[derive(Drop)]
 struct Was {
-    /// The test case, which says what it is there for.
     test_case: Snapshot<TestCase>,
-    /// Its worker.
     worker: Snapshot<Worker>,
 }
 
@@ -54,17 +50,16 @@ impl Promise<Result<Played, Memory>> for Was {
     ghost kept_by = { λ p r. IfOk r (IsBack p.test_case.value p.worker.value) };
 }
 
-/// A component that has begun, as seen by the thread that began it.
+/// A component that has begun, as the thread sees it that started it.
 #[derive(Drop)]
 enum Child {
-    /// Its thread, which was not joined yet.
+    /// Its thread, which isn't joined yet.
     Running(PromisedHandle<Result<Played, Memory>, Was>),
     /// It has nothing to do, and so no thread.
     Done(Played),
 }
 
-/// One behaviour has ended: where all others rest, nothing will wake them, and all inboxes are
-/// closed.
+/// One behaviour has ended. If all others wait, nothing will wake them, so all inboxes are closed.
 fn leave<R: Wait>(rt: &R, context: &RunContext) {
     if context.floor.leave(rt) {
         for closer in &context.closers {
@@ -73,7 +68,6 @@ fn leave<R: Wait>(rt: &R, context: &RunContext) {
     }
 }
 
-/// The task of a component that has something to do.
 fn task_of<'t>(test_case: &'t TestCase, context: &'t RunContext, comp: CompId) -> Task<'t>
     requires { behaviour_at test_case.now comp.0 ≢ None }
     ensures task { IsTaskOf test_case.now comp result }
@@ -93,7 +87,6 @@ fn task_of<'t>(test_case: &'t TestCase, context: &'t RunContext, comp: CompId) -
     }
 }
 
-/// The behaviour of a component, from its beginning to its end.
 fn play<R: Wait, G: Gate>(
     rt: &R,
     gate: &G,
@@ -127,7 +120,6 @@ fn live<R: Wait, G: Gate>(
     played
 }
 
-/// A component that has nothing to do has done it.
 fn done_at_once(worker: Worker) -> Played
     ensures same { result.worker ≡ worker }
     ensures returned { (made : Made) → IsYetToBegin made worker →
@@ -139,8 +131,8 @@ fn done_at_once(worker: Worker) -> Played
     }
 }
 
-/// Begins a component: in a thread of its own, or, if it has nothing to do, at once. Nothing where
-/// the starting of the thread was refused: its behaviour has then ended, and has left the floor.
+/// Starts a component in a thread of its own, or finishes it at once if it has nothing to do.
+/// `None` if the thread was refused: its behaviour has then ended, and has left the floor.
 fn set_out<'s, E, R: Wait + Sync, G: Gate>(
     rt: &'s R,
     scope: &Scope<'s, E>,
@@ -171,7 +163,6 @@ fn set_out<'s, E, R: Wait + Sync, G: Gate>(
     Some(Child::Running(handle))
 }
 
-/// What comes back from this component, once it has come.
 fn fetch<R: Threads>(rt: &R, child: Child) -> Result<Played, Memory>
     ensures identity { IfOk result (λ p. identity_of p.worker ≡ identity_at child) }
     ensures returned { IfOk result (λ p.
@@ -183,8 +174,8 @@ fn fetch<R: Threads>(rt: &R, child: Child) -> Result<Played, Memory>
     }
 }
 
-/// Joins all the threads, also where one has met 50 `Memory`, which is the answer then; and puts
-/// what comes back into this list, in the order of the components. It takes no memory.
+/// Joins all threads, even if one returns 50 `Memory`, which is then the result. Puts the
+/// components into `list`, in their order. It doesn't allocate.
 fn join_all<R: Threads>(
     rt: &R,
     list: Vec<Played>,
@@ -212,8 +203,8 @@ fn join_all<R: Threads>(
     Ok(back)
 }
 
-/// Begins each component, so that all run at the same time, and then joins them all. 51 `NoThread`
-/// where the starting of a thread was refused; else 50 `Memory`.
+/// Starts all components, so that they run at the same time, and then joins them. 51 `NoThread` if
+/// a thread was refused; else 50 `Memory`.
 fn play_each<R: Threads + Wait + Sync, G: Gate>(
     rt: &R,
     gate: &G,
@@ -263,11 +254,11 @@ fn play_each<R: Threads + Wait + Sync, G: Gate>(
     )
 }
 
-/// Carries out each component's behaviour in a thread of its own, all at the same time, and joins
-/// them all. A test system interface without `sut` has no thread.
+/// Executes each component's behaviour in a thread of its own, all at the same time, and joins
+/// them. A test system interface without `sut` has no thread.
 ///
-/// 51 `NoThread` where the starting of a thread was refused: its behaviour counts as ended, and the
-/// others go on to their ends. Else 50 `Memory`.
+/// 51 `NoThread` if a thread was refused: its behaviour counts as ended, and the others go on to
+/// their ends. Else 50 `Memory`.
 pub(crate) fn play_all<R: Threads + Wait + Sync, G: Gate>(
     rt: &R,
     gate: &G,

@@ -1,4 +1,4 @@
-//! Whether a behaviour waits for what has come.
+//! Behaviours that wait although a branch is open.
 ghost use Rattle.std.specs.Prelude.{◌<◌, ◌≡◌, ◌↔◌, All, IsTrue};
 ghost use Rattle.tp_behaviour.specs.Choices.{IsOpen, NoneOpen};
 ghost use Rattle.tp_behaviour.specs.Outcomes.{WaitsWithin};
@@ -10,14 +10,13 @@ use tp_behaviour::outcome::Outcome;
 use tp_event::operation::ReceiveKind;
 use tp_history::desk::Desk;
 
-/// Whether the operation discards a message that it doesn't take.
 fn discards(guard: &Guard) -> bool
     ensures { IsTrue result ↔ (guard.now.kind ≡ ReceiveKind.Trigger) }
 {
     guard.kind == ReceiveKind::Trigger
 }
 
-/// Whether the branch can be chosen, or would discard the top message.
+/// Returns whether the branch can be chosen, or would discard the top message.
 fn is_open(desk: &Desk, guard: &Guard) -> bool
     requires { guard.now.port < desk.now.ports }
     ensures { IsTrue result ↔ IsOpen desk.now.log guard.now }
@@ -28,7 +27,6 @@ fn is_open(desk: &Desk, guard: &Guard) -> bool
     }
 }
 
-/// Whether none of these branches is open.
 fn none_open(desk: &Desk, guards: &[Guard]) -> bool
     requires { All (λ g. g.port < desk.now.ports) guards.now }
     ensures { IsTrue result ↔ NoneOpen desk.now.log guards.now }
@@ -41,7 +39,7 @@ fn none_open(desk: &Desk, guards: &[Guard]) -> bool
     true
 }
 
-/// Whether none of the branches at which the component waits is open in its final queues.
+/// Returns whether none of the branches at which the component waits is open in its final queues.
 fn is_at_rest(component: &EndedComponent) -> bool
     requires { WaitsWithin component.now.desk.ports component.now.outcome }
     ensures { IsTrue result ↔ IsAtRest component.now }
@@ -52,7 +50,6 @@ fn is_at_rest(component: &EndedComponent) -> bool
     }
 }
 
-/// Whether no component waits for what has come.
 pub(crate) fn are_at_rest(components: &[EndedComponent]) -> bool
     requires { All (λ e. WaitsWithin e.desk.ports e.outcome) components.now }
     ensures { IsTrue result ↔ All IsAtRest components.now }

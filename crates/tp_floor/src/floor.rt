@@ -1,4 +1,4 @@
-//! The floor that all behaviours of a run stand on: how many live, and how many of them rest.
+//! The floor of a run: how many behaviours live, and how many of them rest.
 ghost use Rattle.std.specs.Prelude.{◌≡◌, ◌<◌, ◌≤◌, ◌↔◌, ◌+◌, ◌-◌, [], ◌∷◌, false, true, if◌then◌else◌};
 ghost use Rattle.std.specs.Arc.{arc_value};
 ghost use Rattle.crossbeam_utils.specs.Seq.{IsSamePass, cell_view};
@@ -10,7 +10,6 @@ use std::alloc::Global;
 use std::sync::{Arc, Wait};
 use tp_refusal::memory::Memory;
 
-/// How many behaviours live, and how many of these rest.
 #[derive(Clone, Copy, PartialEq, Eq)]
 pub(crate) struct Counts {
     living: u64,
@@ -34,8 +33,8 @@ impl Words<2> for Counts {
 }
 
 impl Counts {
-    /// One behaviour, which is awake, has ended. True where others live and all of them rest. Where
-    /// nobody is awake nothing changes.
+    /// One behaviour, which is awake, has ended. Returns true if others live and all of them rest.
+    /// If none is awake, nothing changes.
     fn leave(&mut self) -> bool
         ensures living { self.old.resting < self.old.living
             → self.new.living + 1 ≡ self.old.living }
@@ -53,7 +52,7 @@ impl Counts {
         self.living > 0 && self.resting == self.living
     }
 
-    /// One behaviour rests from now on. False where no other is awake: then it does not rest.
+    /// One behaviour rests from now on. Returns false if no other is awake: then it doesn't rest.
     fn begin_rest(&mut self) -> bool
         ensures living { self.new.living ≡ self.old.living }
         ensures rests { result ≡ true ↔ self.old.resting + 1 < self.old.living }
@@ -67,7 +66,6 @@ impl Counts {
         true
     }
 
-    /// One behaviour rests no more.
     fn rise(&mut self)
         ensures living { self.new.living ≡ self.old.living }
         ensures resting { self.new.resting ≡ self.old.resting - 1 }
@@ -78,7 +76,7 @@ impl Counts {
     }
 }
 
-/// The rule of a floor: so many rest as its places say. It holds between any two steps of any
+/// The rule of a floor: as many rest as its places say. It holds between any two steps of any
 /// threads.
 pub(crate) struct Standing;
 
@@ -90,7 +88,7 @@ impl Protocol<Counts, u64> for Standing {
     ghost first = { 0 };
 }
 
-/// A step at which the number that rests changes as the place does, or neither changes.
+/// A step that changes the number that rests together with the place, or neither of them.
 struct Together;
 
 impl Outcome<Counts, u64> for Together {
@@ -102,12 +100,12 @@ impl Outcome<Counts, u64> for Together {
 /// The counts of a floor.
 type Cell = RuledSeqCell<Counts, u64, Standing, 2>;
 
-/// Who lives and who rests in a run, so that a run in which all wait can be noticed.
+/// The counts of the behaviours that live and rest, so that a run in which all wait can be noticed.
 ///
 /// A behaviour lives until it has left. It rests from the moment that it finds nothing at its
 /// notifier until a push is announced there or the inbox is closed. The number that rests is the
-/// number of notifiers whose owner rests. The counts have no lock that lasts longer than one call
-/// here, so that they may be changed under an inbox's lock.
+/// number of notifiers whose owner rests. No lock on the counts lasts longer than one call here, so
+/// that they may be changed under an inbox's lock.
 #[derive(Drop)]
 pub struct Floor {
     counts: Cell,
@@ -121,7 +119,7 @@ impl Floor {
         Ok(Arc::new(alloc, Floor { counts })?)
     }
 
-    /// The counts. The place of this pass is among those that are counted.
+    /// The counts. The place of this pass is among those counted.
     fn look<R: Wait>(&self, rt: &R, pass: &mut Pass<Counts, u64>) -> Counts
         requires { pass.old.table_id ≡ self.now.counts.table.shared.table_id }
         ensures same { IsSamePass pass.old pass.new }
@@ -131,8 +129,8 @@ impl Floor {
         self.counts.load_as::<Together, R>(rt, pass)
     }
 
-    /// Puts the next counts in the place of those that were seen, unless they have changed since,
-    /// and says whether it did. The place of this pass changes as the number that rests does.
+    /// Replaces the counts by the next ones and returns true, unless they have changed since they
+    /// were seen. The place of this pass changes with the number that rests.
     fn exchange<R: Wait>(
         &self,
         rt: &R,
@@ -153,14 +151,12 @@ impl Floor {
         done.is_ok()
     }
 
-    /// One behaviour has ended. True where others live and all of them rest: then nothing will wake
-    /// them but their inboxes being closed. Where nobody lives it changes nothing, and answers
-    /// false.
+    /// One behaviour has ended. Returns true if others live and all of them rest: then only closing
+    /// their inboxes wakes them. If none lives, it changes nothing and returns false.
     pub fn leave<R: Wait>(&self, rt: &R) -> bool {
         self.leave_by(rt, &mut NoHook)
     }
 
-    /// Leaves, with this hook.
     pub(crate) fn leave_by<R: Wait, S: RaceHook>(&self, rt: &R, hook: &mut S) -> bool {
         let mut pass = self.counts.pass();
         for _ in rt.forever() {
@@ -176,23 +172,22 @@ impl Floor {
         unreachable!()
     }
 
-    /// How many rest, at one moment of the call.
+    /// The number that rests, at one moment of the call.
     pub fn resting<R: Wait>(&self, rt: &R) -> u64 {
         self.look(rt, &mut self.counts.pass()).resting
     }
 
-    /// How many live.
     #[cfg(test)]
     pub(crate) fn living<R: Wait>(&self, rt: &R) -> u64 {
         self.look(rt, &mut self.counts.pass()).living
     }
 }
 
-/// One behaviour's place on a floor.
+/// The place of one behaviour on a floor.
 ///
-/// What its pass knows is 1 where the behaviour rests, and else 0. By the floor's rule the number
-/// that rests is the sum of this over all places, so that nobody rests or rises without being
-/// counted, and nobody is counted twice.
+/// Its pass knows 1 if the behaviour rests, and else 0. By the floor's rule the number that rests
+/// is the sum of this over all places. So each behaviour that begins or ends its rest is counted,
+/// and none is counted twice.
 #[derive(Drop)]
 pub(crate) struct FloorPlace {
     floor: Arc<Floor, Global>,
@@ -201,7 +196,7 @@ pub(crate) struct FloorPlace {
 }
 
 impl FloorPlace {
-    /// A place on this floor, of a behaviour that is awake.
+    /// The place of a behaviour that is awake.
     pub(crate) fn on(floor: Arc<Floor, Global>) -> FloorPlace
         ensures { cell_view result.pass ≡ 0 }
     {
@@ -209,7 +204,8 @@ impl FloorPlace {
         FloorPlace { floor, pass }
     }
 
-    /// The behaviour rests from now on. False where no other living one is awake: then it does not.
+    /// The behaviour rests from now on. Returns false if no other living one is awake: then it
+    /// doesn't rest.
     pub(crate) fn begin_rest<R: Wait, S: RaceHook>(&mut self, rt: &R, hook: &mut S) -> bool
         requires { cell_view self.old.pass ≡ 0 }
         ensures { cell_view self.new.pass ≡ (if result then 1 else 0) }
@@ -229,7 +225,6 @@ impl FloorPlace {
         unreachable!()
     }
 
-    /// The behaviour rests no more.
     pub(crate) fn rise<R: Wait, S: RaceHook>(&mut self, rt: &R, hook: &mut S)
         requires { cell_view self.old.pass ≡ 1 }
         ensures { cell_view self.new.pass ≡ 0 }

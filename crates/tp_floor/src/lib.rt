@@ -1,7 +1,8 @@
-//! The floor, which counts how many behaviours of a run live and how many rest, and the notifier by
-//! which each is woken. The inboxes (`tp_inbox`) and the executor (`tp_exec`) use it.
+//! The floor counts how many behaviours of a run live and how many rest, and a notifier says when
+//! to wake one. The inboxes (`tp_inbox`) and the executor (`tp_exec`) use them. Start with
+//! [`floor::Floor`] and [`notifier::Notifier`].
 //!
-//! `Floor::new` alone takes memory: it answers 50 `Memory` where an allocation was refused.
+//! Only `Floor::new` allocates: it returns 50 `Memory` if an allocation was refused.
 #![tactic(auto)]
 
 pub mod floor;

@@ -1,7 +1,7 @@
 //! The notifier of an inbox: how many pushes were announced, and whether the owner rests.
 //!
-//! An owner rests where nothing of its `alt` can be chosen yet (ES 201 873-1, 20.2). What sleeps
-//! and is woken stands with the inbox; here is who is to be woken, and why.
+//! An owner rests while no branch of its `alt` can be chosen yet (ES 201 873-1, 20.2). The inbox
+//! lets it sleep and wakes it; the notifier says when, and why.
 ghost use Rattle.std.specs.Prelude.{◌≡◌, ◌<◌, ◌≤◌, ◌↔◌, ◌+◌, ◌%◌, ◌^◌, ℕ, true, false, None, Some};
 ghost use Rattle.std.specs.Prelude.{is_some, IfSome, IsSomeAnd, if◌then◌else◌};
 ghost use Rattle.crossbeam_utils.specs.Seq.{cell_view};
@@ -12,36 +12,34 @@ use std::alloc::Global;
 use std::marker::Model;
 use std::sync::{Arc, Wait};
 
-/// What a wait found.
+/// The result of a wait.
 #[derive(Clone, Copy, Debug, PartialEq, Eq)]
 pub enum Woken {
     /// The inbox holds a message.
     Arrived,
-    /// It holds none, and it was closed.
+    /// It holds none, and was closed.
     Closed,
     /// It holds none, it is open, and no other living behaviour is awake.
     Last,
 }
 
-/// The notifier of an inbox, which is kept under the inbox's lock, seen by contracts as how many
-/// pushes were announced, whether the inbox was closed, and for how many its owner rests. It has
-/// nothing of the messages.
+/// The notifier of an inbox, kept under the inbox's lock. Contracts see it as how many pushes were
+/// announced, whether the inbox was closed, and for how many pushes its owner rests. It has nothing
+/// of the messages.
 ///
-/// Whoever announces a push or closes the inbox ends the rest of an owner for whom that is
-/// something, and is told to wake it: so nobody rests for whom there is something. Who rests has a
-/// place on the floor that counts, and who doesn't has one that doesn't count.
+/// A call that announces a push or closes the inbox ends the rest of an owner for which that is
+/// something, and returns that it is to be woken. So no owner rests for which there is something.
+/// An owner that rests has a place on the floor that counts; one that is awake has a place that
+/// doesn't.
 ///
-/// A call that changes the floor's counts calls the hook that it is given, between its load of them
-/// and its exchange.
+/// A call that changes the floor's counts calls the given hook between its load of them and its
+/// exchange.
 #[derive(Drop)]
 pub struct Notifier {
-    /// How many pushes were announced.
     announced: u64,
-    /// Whether the inbox was closed.
     closed: bool,
-    /// Where the owner rests: how many it has taken out. It is woken once more were announced.
+    /// If the owner rests: how many it has taken out. It is woken after more were announced.
     awaits: Option<u64>,
-    /// The owner's place on the floor.
     place: FloorPlace,
 }
 
@@ -58,8 +56,8 @@ impl Model for Notifier {
 }
 
 impl Notifier {
-    /// The notifier of an open inbox, to which nothing was announced. Its owner is awake, and has a
-    /// place on this floor.
+    /// The notifier of an open inbox without announcements. Its owner is awake, and has a place on
+    /// this floor.
     pub fn new(floor: Arc<Floor, Global>) -> Notifier
         ensures announced { result.announced ≡ 0 }
         ensures closed { result.closed ≡ false }
@@ -73,8 +71,8 @@ impl Notifier {
         }
     }
 
-    /// One more push was announced. True where the owner rested and has not taken so many out: then
-    /// it rests no more, and is to be woken.
+    /// One more push was announced. Returns true if the owner rested and hasn't taken so many out:
+    /// then it rests no more, and is to be woken.
     pub fn announce<R: Wait, S: RaceHook>(&mut self, rt: &R, hook: &mut S) -> bool
         ensures announced { self.new.announced ≡ (self.old.announced + 1) % 2 ^ 64 }
         ensures closed { self.new.closed ≡ self.old.closed }
@@ -96,8 +94,8 @@ impl Notifier {
         wakes
     }
 
-    /// The inbox is closed from now on. True where the owner rested: then it rests no more, and is
-    /// to be woken.
+    /// The inbox is closed from now on. Returns true if the owner rested: then it rests no more,
+    /// and is to be woken.
     pub fn close<R: Wait, S: RaceHook>(&mut self, rt: &R, hook: &mut S) -> bool
         ensures announced { self.new.announced ≡ self.old.announced }
         ensures closed { self.new.closed ≡ true }
@@ -113,7 +111,7 @@ impl Notifier {
         wakes
     }
 
-    /// What an owner that has taken so many out finds at once. Nothing where it may rest.
+    /// What an owner that has taken so many out finds at once. `None` if it may rest.
     pub fn look(&self, taken: u64) -> Option<Woken>
         ensures arrived { result ≡ Some Woken.Arrived ↔ taken < self.now.announced }
         ensures closed { result ≡ Some Woken.Closed
@@ -130,8 +128,8 @@ impl Notifier {
     }
 
     /// The owner, which has taken so many out, rests from now on, unless no other living behaviour
-    /// is awake: then it is told so. Where it rests already, it is not counted a second time. There
-    /// is nothing for it: no more were announced than it has taken out, and the inbox is open.
+    /// is awake: then it returns that. An owner that rests already isn't counted again. There must
+    /// be nothing for it: no more were announced than it has taken out, and the inbox is open.
     pub fn begin_rest<R: Wait, S: RaceHook>(
         &mut self,
         rt: &R,
@@ -151,8 +149,6 @@ impl Notifier {
         None
     }
 
-    /// Whether the owner rests. It rests only while there is nothing for it: no more were announced
-    /// than it had taken out, and the inbox is open.
     pub fn rests(&self) -> bool
         ensures rests { result ≡ is_some self.now.awaits }
         ensures asleep { IfSome self.now.awaits (λ taken.
@@ -161,7 +157,7 @@ impl Notifier {
         self.awaits.is_some()
     }
 
-    /// What an owner that has taken so many out finds when it was woken.
+    /// What an owner that has taken so many out finds after it was woken.
     pub fn woken(&self, taken: u64) -> Woken
         ensures arrived { result ≡ Woken.Arrived ↔ taken < self.now.announced }
         ensures closed { result ≡ Woken.Closed ↔ self.now.announced ≤ taken }

@@ -17,7 +17,6 @@ use tp_order::answer::Answer;
 use tp_order::order::order_or_circle;
 use tp_refusal::memory::Memory;
 
-/// The least of these numbers, of which there is one at least.
 pub(crate) fn least(xs: &[usize]) -> usize
     requires { 0 < length xs.now }
     ensures { IsLeastOf xs.now result }
@@ -31,8 +30,8 @@ pub(crate) fn least(xs: &[usize]) -> usize
     least
 }
 
-/// A line of a trace whose routes are lawful that happens before itself, if there is one: the
-/// first, in the order of the text, of the circle that is found.
+/// A line that happens before itself, if there is one: of the circle found, the first in the order
+/// of the text. The trace's routes are lawful.
 pub(crate) fn circle_place(
     alloc: Global,
     trace: &IndexedTrace,

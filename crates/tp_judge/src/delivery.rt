@@ -13,14 +13,12 @@ use crate::trace::IndexedTrace;
 use std::alloc::Global;
 use tp_refusal::memory::Memory;
 
-/// The lines of a trace, gathered by routes.
 #[derive(Drop)]
 pub(crate) struct RouteRows<'t> {
     pub(crate) sent: Vec<Vec<&'t IndexedLine>>,
     pub(crate) came: Vec<Vec<&'t IndexedLine>>,
 }
 
-/// The lines of each route: those that send by it, and those that say what came by it.
 pub(crate) fn gather_routes<'t>(
     alloc: Global,
     trace: &'t IndexedTrace,
@@ -34,7 +32,6 @@ pub(crate) fn gather_routes<'t>(
     Ok(RouteRows { sent, came })
 }
 
-/// The first line at which this route isn't lawful, in the order of sending, if there is one.
 fn place_on(trace: &IndexedTrace, rows: &RouteRows<'_>, route: usize) -> Option<UnlawfulPlace>
     requires rows { AreRouteRows trace.now rows.now }
     requires route { route < length trace.now.joined.items }
@@ -46,7 +43,7 @@ fn place_on(trace: &IndexedTrace, rows: &RouteRows<'_>, route: usize) -> Option<
     route_place(&rows.sent[route], &rows.came[route])
 }
 
-/// For each route that isn't lawful the first line at which it isn't, in the order of sending.
+/// One place for each unlawful route: the first in the order of sending.
 pub(crate) fn route_places(
     alloc: Global,
     trace: &IndexedTrace,

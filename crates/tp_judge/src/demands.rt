@@ -1,4 +1,4 @@
-//! The demands on an order of the lines: what happens before what.
+//! The demands on an order of the lines: which line happens before which.
 ghost use Rattle.std.specs.Prelude.{◌≡◌, ◌++◌, ◌<◌, IfOk, OnOk, drop, length};
 ghost use Rattle.tp_judge.specs.Demands.{demands_of, from_each, pairs, route_demands, section_demands};
 ghost use Rattle.tp_judge.specs.LinesByNumber.{AreGathered, lines_at};
@@ -13,7 +13,6 @@ use std::alloc::Global;
 use tp_order::demand::Demand;
 use tp_refusal::memory::Memory;
 
-/// Each of the first lines comes before the one at its place among the others.
 fn add_pairs(
     demands: &mut Vec<Demand>,
     before: &[&IndexedLine],
@@ -32,7 +31,6 @@ fn add_pairs(
     Ok(())
 }
 
-/// Each line of a section comes before the next.
 fn add_section(demands: &mut Vec<Demand>, row: &[&IndexedLine]) -> Result<(), Memory>
     ensures { OnOk result (demands.new.items
         ≡ demands.old.items ++ pairs (lines_at row.now) (drop 1 (lines_at row.now))) }
@@ -43,7 +41,7 @@ fn add_section(demands: &mut Vec<Demand>, row: &[&IndexedLine]) -> Result<(), Me
     }
 }
 
-/// Each sending of a route both ends of which have a section comes before its arrival.
+/// Each sending comes before its arrival, if both ends of the route have a section.
 fn add_route(
     demands: &mut Vec<Demand>,
     trace: &IndexedTrace,
@@ -60,7 +58,6 @@ fn add_route(
     add_pairs(demands, &rows.sent[route], &rows.came[route])
 }
 
-/// Each line comes before the next of its section.
 fn sections_in_order(alloc: Global, trace: &IndexedTrace) -> Result<Vec<Demand>, Memory>
     requires { AreWithin trace.now }
     ensures { IfOk result (λ demands. demands.items
@@ -74,7 +71,6 @@ fn sections_in_order(alloc: Global, trace: &IndexedTrace) -> Result<Vec<Demand>,
     Ok(demands)
 }
 
-/// All demands of a trace.
 pub(crate) fn make_demands(
     alloc: Global,
     trace: &IndexedTrace,

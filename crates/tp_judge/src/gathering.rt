@@ -1,4 +1,4 @@
-//! The lines of a trace, gathered by a number of theirs.
+//! The lines of a trace, gathered by a number that they have.
 ghost use Rattle.std.specs.Prelude.{◌≡◌, [], All, IfOk, length};
 ghost use Rattle.tp_judge.specs.LinesByNumber.{AreGathered};
 ghost use Rattle.tp_judge.specs.Lines.{HasKeyBelow};
@@ -7,7 +7,6 @@ use crate::line::{By, IndexedLine};
 use std::alloc::Global;
 use tp_refusal::memory::Memory;
 
-/// So many empty rows.
 pub(crate) fn empty_rows<T: Drop>(alloc: Global, count: usize) -> Result<Vec<Vec<T>>, Memory>
     ensures size { IfOk result (λ rows. length rows.items ≡ count) }
     ensures empty { IfOk result (λ rows. All (λ row. row.items ≡ []) rows.items) }
@@ -19,7 +18,7 @@ pub(crate) fn empty_rows<T: Drop>(alloc: Global, count: usize) -> Result<Vec<Vec
     Ok(rows)
 }
 
-/// For each number below the count the lines that have it, in their order, in time linear in the
+/// For each number below `count` the lines with that number, in order. The work is linear in the
 /// count and the number of lines.
 pub(crate) fn gather_rows<'t>(
     alloc: Global,

@@ -13,7 +13,7 @@ use crate::trace::IndexedTrace;
 use std::alloc::Global;
 use tp_refusal::memory::Memory;
 
-/// The places of routes, and where there are none that of a circle.
+/// The places of routes, and if there are none, that of a circle.
 fn order_places(alloc: Global, trace: &IndexedTrace) -> Result<Vec<UnlawfulPlace>, Memory>
     requires { AreWithin trace.now }
     ensures lawful { IfOk result (λ places. (places.items ≡ []) ↔ IsOrderly trace.now) }
@@ -35,7 +35,7 @@ fn order_places(alloc: Global, trace: &IndexedTrace) -> Result<Vec<UnlawfulPlace
     }
 }
 
-/// Puts places in the order of their lines; those of one line stay as they are.
+/// Sorts places by their lines, and keeps the order of those of one line.
 fn put_in_order(places: &mut Vec<UnlawfulPlace>) -> Result<(), Memory>
     ensures sorted { OnOk result (AreInOrder places.new.items) }
     ensures same { OnOk result (IsPermutation places.old.items places.new.items) }
@@ -44,8 +44,8 @@ fn put_in_order(places: &mut Vec<UnlawfulPlace>) -> Result<(), Memory>
     Ok(())
 }
 
-/// The places where a trace isn't lawful, in the order of their lines: the first of each port and
-/// of each route that isn't, and where all routes are lawful one of a circle, if there is any.
+/// The places at which a trace isn't lawful, in the order of their lines: the first of each
+/// unlawful port and route, and if all routes are lawful, one of a circle, if there is any.
 pub fn judge(alloc: Global, trace: &IndexedTrace) -> Result<Vec<UnlawfulPlace>, Memory>
     requires { AreWithin trace.now }
     ensures lawful { IfOk result (λ places. (places.items ≡ []) ↔ IsLawful trace.now) }

@@ -1,9 +1,8 @@
-//! Whether a trace is lawful: it obeys the rules of ports and of delivery, and nothing in it
-//! happened before itself; and whether it is one run. Its names are numbers here, which
-//! `tp_referee` gives them.
+//! Decides whether a trace is lawful, that is, obeys the rules of ports and of delivery, and has no
+//! line that happens before itself; and whether it is one run. Names are numbers here, which
+//! `tp_referee` assigns. Start with [`judging::judge`] and [`one_run::one_run`].
 //!
-//! Where a call answers 50 `Memory`, an allocation was refused. A call that can't answer it takes
-//! no memory.
+//! 50 `Memory` means that an allocation was refused. A call that can't return it doesn't allocate.
 #![tactic(auto)]
 
 mod circles;

@@ -1,18 +1,17 @@
-//! The lines of a trace, with numbers in place of names and messages.
+//! The lines of a trace, with numbers instead of names and messages.
 ghost use Rattle.std.specs.Prelude.{◌≡◌};
 ghost use Rattle.tp_judge.specs.OneRun.{is_looking};
 ghost use Rattle.tp_judge.specs.Lines.{came_route, event_port, key_of, left_port, parcel_of, sent_route};
 
-/// A message, by its number: two messages have one number exactly where their bytes are the same.
+/// Two messages have the same number if and only if their bytes are the same.
 #[derive(Clone, Copy, PartialEq, Eq)]
 pub struct MessageId(pub u32);
 
-/// A message on its route: its number there, and what it is.
+/// A message with its number on its route.
 #[derive(Clone, Copy, PartialEq, Eq)]
 pub struct Parcel {
-    /// Its number on the route, from 0.
+    /// The number on the route, from 0.
     pub number: u64,
-    /// The message.
     pub message: MessageId,
 }
 
@@ -20,20 +19,16 @@ pub struct Parcel {
 /// and a port, so at one port a route stands for its sender.
 #[derive(Clone, Copy)]
 pub struct Mention {
-    /// The port, by its number.
     pub port: u32,
-    /// The route, by its number.
     pub route: u32,
-    /// The message on it.
     pub parcel: Parcel,
 }
 
-/// What a line says. A port is a number among the ports of all components.
+/// The content of a line. A port is a number among the ports of all components.
 #[derive(Clone, Copy)]
 pub enum Act {
-    /// The component sent it.
     Sent(Mention),
-    /// It came into the queue of its port.
+    /// It arrived in the queue of its port.
     Came(Mention),
     /// It was received.
     Took(Mention),
@@ -41,54 +36,46 @@ pub enum Act {
     Found(Mention),
     /// A `trigger` discarded it.
     Dropped(Mention),
-    /// It was queued still when the component ended.
+    /// It was still queued when the component ended.
     Left(Mention),
-    /// The port was cleared.
     Cleared(u32),
-    /// The port was started.
     Started(u32),
-    /// The port was stopped.
     Stopped(u32),
-    /// The port was halted.
     Halted(u32),
-    /// The component went on by an `[else]`.
+    /// The component chose `[else]`.
     Else,
-    /// The component ended.
     End,
-    /// A line on which no rule bears.
+    /// No rule concerns this line.
     Other,
 }
 
-/// A line of a section.
 #[derive(Clone, Copy)]
 pub struct IndexedLine {
     /// Its number in the text.
     pub number: u32,
-    /// The component whose section it is in. A component has one section at most.
+    /// The component of its section. A component has at most one section.
     pub component: u32,
-    /// What it says.
     pub act: Act,
 }
 
-/// By what lines are gathered.
+/// The number by which lines are gathered.
 #[derive(Clone, Copy)]
 pub enum By {
-    /// The sendings, by their route.
+    /// For sendings, the route.
     Sent,
-    /// The arrivals, by their route.
+    /// For arrivals, the route.
     Came,
-    /// What happened at a port, by the port.
+    /// For events at a port, the port.
     Port,
-    /// What was left in a queue, by the port.
+    /// For messages left in a queue, the port.
     Left,
-    /// The lines with which a component tells what was left, or that it ended, by the component.
+    /// For lines that say what was left, or that the component ended, the component.
     Closing,
-    /// All lines, by their component.
+    /// For all lines, the component.
     Component,
 }
 
 impl IndexedLine {
-    /// The number by which the line is gathered, if it is at all.
     pub fn key(&self, by: By) -> Option<u32>
         ensures { result ≡ key_of by self.now }
     {
@@ -102,7 +89,6 @@ impl IndexedLine {
         }
     }
 
-    /// The component whose section it closes, if it does.
     fn closed_section(&self) -> Option<u32>
         ensures { result ≡ key_of By.Closing self.now }
     {
@@ -114,7 +100,6 @@ impl IndexedLine {
 }
 
 impl Act {
-    /// The route of a sending.
     fn sent(self) -> Option<u32>
         ensures { result ≡ sent_route self }
     {
@@ -124,7 +109,6 @@ impl Act {
         }
     }
 
-    /// The route of an arrival.
     fn came(self) -> Option<u32>
         ensures { result ≡ came_route self }
     {
@@ -134,7 +118,6 @@ impl Act {
         }
     }
 
-    /// The port at which something happened.
     fn port(self) -> Option<u32>
         ensures { result ≡ event_port self }
     {
@@ -148,7 +131,6 @@ impl Act {
         }
     }
 
-    /// The port in whose queue it was left.
     fn left(self) -> Option<u32>
         ensures { result ≡ left_port self }
     {
@@ -158,7 +140,6 @@ impl Act {
         }
     }
 
-    /// Whether its component looked at ports.
     pub(crate) fn is_looking(self) -> bool
         ensures { result ≡ is_looking self }
     {
@@ -175,7 +156,6 @@ impl Act {
         }
     }
 
-    /// The parcel that was sent, or that came.
     pub(crate) fn parcel(self) -> Option<Parcel>
         ensures { result ≡ parcel_of self }
     {

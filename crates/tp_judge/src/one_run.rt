@@ -1,4 +1,4 @@
-//! Whether a trace is one run.
+//! Decides whether a trace is one run.
 ghost use Rattle.std.specs.Prelude.{IfOk, IsTrue};
 ghost use Rattle.tp_judge.specs.Delivered.{Delivered};
 ghost use Rattle.tp_judge.specs.Lawful.{AreLinesRouted, AreWithin};
@@ -12,19 +12,19 @@ use tp_order::answer::Answer;
 use tp_order::order::order_or_circle;
 use tp_refusal::memory::Memory;
 
-/// Whether all that the components did can have happened one after another, each message in its
-/// queue at once when it was sent.
+/// The result of the search for one order of everything that the components did, with each message
+/// in its queue as soon as it is sent.
 #[derive(Clone, Copy)]
 pub enum OneRun {
-    /// It can.
+    /// There is such an order.
     OneRun,
-    /// It can't: some message took its time. The number of a line that lies on a circle of the
-    /// demands that an order would have to meet, the first of the circle in the order of the text.
+    /// There is none, because some message took its time. The number is that of a line on a circle
+    /// of the demands on an order: the first of the circle in the order of the text.
     Delayed(u32),
 }
 
-/// Whether the order of the text is that of a run. To see it takes less than to look for an order,
-/// and a trace whose text has another order pays little for the look.
+/// Returns true only if the order of the text is that of a run. This check is cheaper than the
+/// search for an order, and costs little if the text has another order.
 fn runs_in_order(alloc: Global, trace: &IndexedTrace) -> Result<bool, Memory>
     requires within { AreWithin trace.now }
     requires routed { AreLinesRouted trace.now }
@@ -35,9 +35,9 @@ fn runs_in_order(alloc: Global, trace: &IndexedTrace) -> Result<bool, Memory>
     Ok(backward.is_empty())
 }
 
-/// Whether a trace whose routes are lawful is one run (ES 201 873-4), in time linear in the
+/// Decides whether a trace whose routes are lawful is one run (ES 201 873-4), in time linear in the
 /// numbers of its lines, components and routes. Its numbers are below its counts, and each line's
-/// port is that at the end of its route.
+/// port is the one at the end of its route.
 pub fn one_run(alloc: Global, trace: &IndexedTrace) -> Result<OneRun, Memory>
     requires within { AreWithin trace.now }
     requires routed { AreLinesRouted trace.now }

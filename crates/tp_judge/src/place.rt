@@ -1,37 +1,35 @@
-//! Where a trace breaks a rule.
+//! Places at which a trace breaks a rule.
 
 /// A rule that a line breaks.
 #[derive(Clone, Copy)]
 pub enum Rule {
     /// A message was taken, found or discarded at a stopped port.
     Stopped,
-    /// One that stands behind the mark of a halted port.
+    /// A message after the mark of a halted port was taken, found or discarded.
     Behind,
-    /// One that isn't the top of the queue.
+    /// A message that isn't the top of the queue was taken, found or discarded.
     NotTop,
-    /// What is told as left isn't what is queued.
+    /// The messages reported as left aren't those in the queue.
     Left,
-    /// A sending has not the next number of its route.
+    /// A sending doesn't have the next number of its route.
     Numbering,
-    /// What was sent never came.
+    /// A message that was sent never arrived.
     Lost,
-    /// What came had come before.
+    /// A message arrived twice.
     Doubled,
-    /// What came was never sent.
+    /// A message arrived that was never sent.
     Invented,
-    /// What came was sent under its number with another message.
+    /// Another message was sent under the number of one that arrived.
     Changed,
-    /// What came was sent before something that came earlier.
+    /// A message arrived after one that was sent later.
     Reordered,
-    /// The line comes before itself.
+    /// The line happens before itself.
     Circle,
 }
 
-/// A line that breaks a rule.
 #[derive(Clone, Copy)]
 pub struct UnlawfulPlace {
     /// The line's number in the text.
     pub line: u32,
-    /// The rule that it breaks.
     pub rule: Rule,
 }

@@ -18,7 +18,6 @@ use std::alloc::Global;
 use tp_queue::queue::Queue;
 use tp_refusal::memory::Memory;
 
-/// Whether this is queued at this place.
 fn is_queued(queue: &Queue<MessageId>, place: u64, mention: Mention) -> bool
     ensures { IsTrue result ↔ (slice_get queue.now.entries place ≡ Some (envelope_of mention)) }
 {
@@ -28,8 +27,8 @@ fn is_queued(queue: &Queue<MessageId>, place: u64, mention: Mention) -> bool
     }
 }
 
-/// The number of the line at which it is told that something isn't told as left: the first that
-/// says that the component ended, or the last where none does.
+/// The line at which a message is reported that isn't listed as left: the first that says that the
+/// component ended, or the last if none does.
 fn closer_number(closing: &[&IndexedLine]) -> u32
     requires { 0 < length closing.now }
     ensures { IsCloserNumber (lines_at closing.now) result }
@@ -42,7 +41,7 @@ fn closer_number(closing: &[&IndexedLine]) -> u32
     closing[closing.len() - 1].number
 }
 
-/// The same, and `None` where the section is open.
+/// `None` if the section is open.
 fn closer_of(closing: &[&IndexedLine]) -> Option<u32>
     ensures { IsCloserOf (lines_at closing.now) result }
 {
@@ -52,7 +51,7 @@ fn closer_of(closing: &[&IndexedLine]) -> Option<u32>
     Some(closer_number(closing))
 }
 
-/// Of each component the same: once, and not again for each of its ports.
+/// Worked out once for each component, and not for each of its ports.
 fn closers_of(alloc: Global, closing: &[Vec<&IndexedLine>]) -> Result<Vec<Option<u32>>, Memory>
     ensures { IfOk result (λ closers. AreClosers closing.now closers.items) }
 {
@@ -63,8 +62,8 @@ fn closers_of(alloc: Global, closing: &[Vec<&IndexedLine>]) -> Result<Vec<Option
     Ok(closers)
 }
 
-/// The first line where what is told as left isn't what is queued, if there is one. The section is
-/// closed by the line of this number, or open.
+/// The first line at which the messages reported as left aren't those in the queue. The line
+/// `closer` closes the section; without one it is open.
 fn left_place(
     queue: &Queue<MessageId>,
     left: &[&IndexedLine],
@@ -104,7 +103,6 @@ fn left_place(
     None
 }
 
-/// The first line at which the port isn't lawful, if there is one.
 fn port_place(
     alloc: Global,
     events: &[&IndexedLine],
@@ -123,7 +121,6 @@ fn port_place(
     }
 }
 
-/// The lines of a trace, gathered by ports and by what closes sections.
 #[derive(Drop)]
 struct PortRows<'t> {
     events: Vec<Vec<&'t IndexedLine>>,
@@ -149,7 +146,6 @@ fn gather_ports<'t>(alloc: Global, trace: &'t IndexedTrace) -> Result<PortRows<'
     })
 }
 
-/// The first line at which this port isn't lawful, if there is one.
 fn place_at(
     alloc: Global,
     trace: &IndexedTrace,
@@ -172,7 +168,7 @@ fn place_at(
     )
 }
 
-/// For each port that isn't lawful the first line at which it isn't.
+/// One place for each unlawful port: the first.
 pub(crate) fn port_places(alloc: Global, trace: &IndexedTrace) -> Result<Vec<UnlawfulPlace>, Memory>
     requires { AreWithin trace.now }
     ensures lawful { IfOk result (λ places. (places.items ≡ []) ↔ LawfulPorts trace.now) }

@@ -1,4 +1,4 @@
-//! A port's own lines, replayed at a queue.
+//! The lines of one port, replayed at a queue.
 ghost use Rattle.std.specs.Prelude.{◌≡◌, ◌++◌, ◌∷◌, [], ◌↔◌, IfOk, OnOk, IsTrue, Some};
 ghost use Rattle.std.specs.Option.{option_to_list};
 ghost use Rattle.tp_event.specs.declared.event.Event.TheVariants as event;
@@ -17,16 +17,15 @@ use tp_event::event::{Env, Status};
 use tp_queue::queue::Queue;
 use tp_refusal::memory::Memory;
 
-/// What a replay comes to.
+/// The result of a replay.
 #[derive(Drop)]
 pub(crate) enum Replayed {
-    /// All lines are lawful, and this is the queue behind them.
+    /// All lines are lawful, and this is the queue after them.
     Lawful(Queue<MessageId>),
-    /// The first that isn't.
+    /// The first line that isn't lawful.
     Unlawful(UnlawfulPlace),
 }
 
-/// The parcel in a queue.
 fn wrapped(mention: Mention) -> Env<MessageId>
     ensures { result ≡ envelope_of mention }
 {
@@ -37,7 +36,6 @@ fn wrapped(mention: Mention) -> Env<MessageId>
     }
 }
 
-/// Whether this is what stands at the place of the queue.
 pub(crate) fn is_env(env: &Env<MessageId>, mention: Mention) -> bool
     ensures { IsTrue result ↔ (env.now ≡ envelope_of mention) }
 {
@@ -46,7 +44,6 @@ pub(crate) fn is_env(env: &Env<MessageId>, mention: Mention) -> bool
         && env.msg == mention.parcel.message
 }
 
-/// Whether this is the top.
 fn is_top(queue: &Queue<MessageId>, mention: Mention) -> bool
     ensures { AtHistory queue.now (λ h. IsTrue result ↔ (top h ≡ Some (envelope_of mention))) }
 {
@@ -56,7 +53,6 @@ fn is_top(queue: &Queue<MessageId>, mention: Mention) -> bool
     }
 }
 
-/// Whether this stands behind the mark.
 fn is_behind(queue: &Queue<MessageId>, mention: Mention) -> bool
     ensures { AtHistory queue.now (λ h. IsTrue result ↔ IsBehind h (envelope_of mention)) }
 {
@@ -73,7 +69,7 @@ fn is_behind(queue: &Queue<MessageId>, mention: Mention) -> bool
     false
 }
 
-/// Why this can't be taken, found or discarded, since it isn't the top.
+/// Why a message that isn't the top can't be taken, found or discarded.
 fn reason(queue: &Queue<MessageId>, mention: Mention) -> Rule
     ensures { AtHistory queue.now (λ h. IsReason result h (envelope_of mention)) }
 {
@@ -84,7 +80,6 @@ fn reason(queue: &Queue<MessageId>, mention: Mention) -> Rule
     }
 }
 
-/// It comes.
 fn arrive(queue: &mut Queue<MessageId>, mention: Mention) -> Result<(), Memory>
     ensures { OnOk result (AtHistory queue.old (λ h.
         StandsFor queue.new (h ++ event.Arrive (envelope_of mention) ∷ []))) }
@@ -95,7 +90,7 @@ fn arrive(queue: &mut Queue<MessageId>, mention: Mention) -> Result<(), Memory>
     }
 }
 
-/// It is taken or discarded, where it is the top: either way it is out of the queue.
+/// Takes or discards the message, if it is the top: both remove it.
 fn take_out(queue: &mut Queue<MessageId>, mention: Mention) -> Option<Rule>
     ensures took { AtHistory queue.old (λ h. Replays h (acts.Took mention) queue.new result) }
     ensures dropped { AtHistory queue.old (λ h. Replays h (acts.Dropped mention) queue.new result) }
@@ -107,7 +102,6 @@ fn take_out(queue: &mut Queue<MessageId>, mention: Mention) -> Option<Rule>
     None
 }
 
-/// It is found, where it is the top, and stays there.
 fn find(queue: &Queue<MessageId>, mention: Mention) -> Option<Rule>
     ensures { AtHistory queue.now (λ h. Replays h (acts.Found mention) queue.now result) }
 {
@@ -117,7 +111,6 @@ fn find(queue: &Queue<MessageId>, mention: Mention) -> Option<Rule>
     None
 }
 
-/// The port operation of the line, if it is one.
 fn operate(queue: &mut Queue<MessageId>, act: Act)
     requires { IsOperation act }
     ensures { AtHistory queue.old (λ h. StandsFor queue.new (h ++ option_to_list (event_of act))) }
@@ -139,7 +132,7 @@ fn operate(queue: &mut Queue<MessageId>, act: Act)
     }
 }
 
-/// What the line says happens at the queue, or the rule is answered that it breaks.
+/// Replays a line, or returns the rule that it breaks.
 fn step(queue: &mut Queue<MessageId>, act: Act) -> Result<Option<Rule>, Memory>
     ensures { IfOk result (λ broken. AtHistory queue.old (λ h. Replays h act queue.new broken)) }
 {
@@ -152,7 +145,6 @@ fn step(queue: &mut Queue<MessageId>, act: Act) -> Result<Option<Rule>, Memory>
     Ok(None)
 }
 
-/// The port's lines, one after another, at a queue that is new.
 pub(crate) fn replay(alloc: Global, events: &[&IndexedLine]) -> Result<Replayed, Memory>
     ensures { IfOk result (IsReplay (lines_at events.now)) }
 {

@@ -9,7 +9,6 @@ ghost use Rattle.tp_judge.specs.Routed.{HasNumberFrom, NoNumberFrom};
 use crate::line::{IndexedLine, Parcel};
 use crate::place::{Rule, UnlawfulPlace};
 
-/// The parcel that the line at this place names.
 fn parcel_at(lines: &[&IndexedLine], place: usize) -> Parcel
     requires names { All NamesParcel (lines_at lines.now) }
     requires within { place < length lines.now }
@@ -22,7 +21,6 @@ fn parcel_at(lines: &[&IndexedLine], place: usize) -> Parcel
     }
 }
 
-/// The line at this place, as one that breaks a rule.
 fn told_at(rule: Rule, lines: &[&IndexedLine], place: usize) -> UnlawfulPlace
     requires { place < length lines.now }
     ensures rule { result.rule ≡ rule }
@@ -34,7 +32,6 @@ fn told_at(rule: Rule, lines: &[&IndexedLine], place: usize) -> UnlawfulPlace
     }
 }
 
-/// The first place at which the number isn't the next, if there is one.
 fn misnumbered(sent: &[&IndexedLine]) -> Option<usize>
     requires { All NamesParcel (lines_at sent.now) }
     ensures within { IfSome result (λ k. k < length sent.now) }
@@ -50,7 +47,6 @@ fn misnumbered(sent: &[&IndexedLine]) -> Option<usize>
     None
 }
 
-/// Whether what came at this place was sent there.
 fn agrees(sent: &[&IndexedLine], came: &[&IndexedLine], place: usize) -> bool
     requires sent { All NamesParcel (lines_at sent.now) }
     requires came { All NamesParcel (lines_at came.now) }
@@ -66,7 +62,6 @@ fn agrees(sent: &[&IndexedLine], came: &[&IndexedLine], place: usize) -> bool
     parcel_at(sent, place) == parcel
 }
 
-/// The first place at which something came that wasn't sent there, if there is one.
 fn first_difference(sent: &[&IndexedLine], came: &[&IndexedLine]) -> Option<usize>
     requires sent { All NamesParcel (lines_at sent.now) }
     requires came { All NamesParcel (lines_at came.now) }
@@ -83,7 +78,6 @@ fn first_difference(sent: &[&IndexedLine], came: &[&IndexedLine]) -> Option<usiz
     None
 }
 
-/// The first place from this one on where something came with the number, if there is one.
 fn find_from(came: &[&IndexedLine], from: usize, number: u64) -> Option<usize>
     requires { All NamesParcel (lines_at came.now) }
     ensures { MatchOption result
@@ -98,7 +92,7 @@ fn find_from(came: &[&IndexedLine], from: usize, number: u64) -> Option<usize>
     None
 }
 
-/// What is wrong where a message came that was sent later.
+/// The rule that is broken if a message arrived that was sent later.
 fn overtaken_at(sent: &[&IndexedLine], came: &[&IndexedLine], place: usize) -> UnlawfulPlace
     requires sent { All NamesParcel (lines_at sent.now) }
     requires came { All NamesParcel (lines_at came.now) }
@@ -120,7 +114,7 @@ fn overtaken_at(sent: &[&IndexedLine], came: &[&IndexedLine], place: usize) -> U
     }
 }
 
-/// What is wrong where another message came than was sent.
+/// The rule that is broken if another message arrived than was sent.
 fn fault_at(sent: &[&IndexedLine], came: &[&IndexedLine], place: usize) -> UnlawfulPlace
     requires sent { All NamesParcel (lines_at sent.now) }
     requires came { All NamesParcel (lines_at came.now) }
@@ -143,7 +137,6 @@ fn fault_at(sent: &[&IndexedLine], came: &[&IndexedLine], place: usize) -> Unlaw
     overtaken_at(sent, came, place)
 }
 
-/// The first line at which the route isn't lawful, in the order of sending, if there is one.
 pub(crate) fn route_place(sent: &[&IndexedLine], came: &[&IndexedLine]) -> Option<UnlawfulPlace>
     requires sent { All NamesParcel (lines_at sent.now) }
     requires came { All NamesParcel (lines_at came.now) }

@@ -13,30 +13,29 @@ use std::alloc::Global;
 use tp_order::demand::Demand;
 use tp_refusal::memory::Memory;
 
-/// Which of the demands are made.
+/// The demands to make.
 #[derive(Clone, Copy)]
 pub(crate) enum Which {
-    /// All.
     All,
-    /// Those that go back in the text. Where there are none, its own order meets all the others,
-    /// which needn't be kept to know it.
+    /// Those that go backward in the text. If there are none, the order of the text meets all
+    /// others, so that these need no memory.
     Backward,
 }
 
-/// What a component did last, and what came to it last, by the places of the lines.
+/// The latest lines of a component and of its arrivals, by their places.
 #[derive(Clone, Copy)]
 struct Latest {
-    /// The last line that says what it did itself.
+    /// The last line with an action of its own.
     own: Option<usize>,
-    /// The last one with which it looked at ports.
+    /// The last line with which it looked at ports.
     look: Option<usize>,
-    /// The sending of what came last.
+    /// The sending of the last arrival.
     sending: Option<usize>,
-    /// The same, or none where the component did something since.
+    /// The same, or `None` if the component has acted since.
     unseen: Option<usize>,
 }
 
-/// The demands of the lines so far, and of each component what it did last.
+/// The demands of the lines so far, and the latest lines of each component.
 #[derive(Drop)]
 struct Making {
     which: Which,
@@ -44,7 +43,6 @@ struct Making {
     latest: Vec<Latest>,
 }
 
-/// Whether the demand is made.
 fn is_made(which: Which, demand: Demand) -> bool
     ensures { result ≡ is_made which demand }
 {
@@ -54,7 +52,6 @@ fn is_made(which: Which, demand: Demand) -> bool
     }
 }
 
-/// The one line before the other, if there is one, and the demand is made.
 fn add(
     demands: &mut Vec<Demand>,
     which: Which,
@@ -74,7 +71,7 @@ fn add(
     Ok(())
 }
 
-/// A line comes behind the last one of its component, and behind the sending of what came since.
+/// A component's own line comes after its last one, and after the sending of what arrived since.
 fn add_own(
     demands: &mut Vec<Demand>,
     which: Which,
@@ -98,7 +95,8 @@ fn add_own(
     })
 }
 
-/// What came was sent behind the last line that looked, and behind the sending of what came before.
+/// The sending of an arrival comes after the last look, and after the sending of the arrival
+/// before.
 fn add_arrival(
     demands: &mut Vec<Demand>,
     which: Which,
@@ -120,7 +118,6 @@ fn add_arrival(
     })
 }
 
-/// One line more, of what a component did itself.
 fn note_own(making: &mut Making, trace: &IndexedTrace, place: usize) -> Result<(), Memory>
     requires within { AreWithin trace.now }
     requires delivered { Delivered trace.now }
@@ -138,7 +135,6 @@ fn note_own(making: &mut Making, trace: &IndexedTrace, place: usize) -> Result<(
     Ok(())
 }
 
-/// One line more, by which something came.
 fn note_arrival(
     making: &mut Making,
     trace: &IndexedTrace,
@@ -166,7 +162,6 @@ fn note_arrival(
     Ok(())
 }
 
-/// One line more.
 fn note(
     making: &mut Making,
     trace: &IndexedTrace,
@@ -189,7 +184,6 @@ fn note(
     }
 }
 
-/// These of the demands.
 pub(crate) fn make_those(
     alloc: Global,
     trace: &IndexedTrace,
@@ -220,7 +214,6 @@ pub(crate) fn make_those(
     Ok(demands)
 }
 
-/// All demands.
 pub(crate) fn make_run_demands(alloc: Global, trace: &IndexedTrace) -> Result<Vec<Demand>, Memory>
     requires within { AreWithin trace.now }
     requires routed { AreLinesRouted trace.now }

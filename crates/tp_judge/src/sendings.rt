@@ -1,4 +1,4 @@
-//! Where the messages of each route were sent.
+//! The places at which the messages of each route were sent.
 ghost use Rattle.std.specs.Prelude.{IfOk, length};
 ghost use Rattle.tp_judge.specs.Delivered.{Delivered};
 ghost use Rattle.tp_judge.specs.Lawful.{AreLinesRouted, AreWithin};
@@ -11,7 +11,6 @@ use crate::trace::IndexedTrace;
 use std::alloc::Global;
 use tp_refusal::memory::Memory;
 
-/// Of each route the places of its sendings, in their order.
 pub(crate) fn gather_sendings(
     alloc: Global,
     trace: &IndexedTrace,
@@ -29,7 +28,6 @@ pub(crate) fn gather_sendings(
     Ok(rows)
 }
 
-/// Where a message was sent that came.
 pub(crate) fn sending_place(trace: &IndexedTrace, rows: &[Vec<usize>], mention: Mention) -> usize
     requires routed { AreLinesRouted trace.now }
     requires delivered { Delivered trace.now }

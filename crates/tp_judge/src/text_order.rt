@@ -1,5 +1,5 @@
-//! Whether the order of the text is one in which all happens. That of many traces is, and to see it
-//! takes no memory, where to look for an order takes 48 bytes for each line.
+//! Checks whether everything happens in the order of the text, as in many traces. The check doesn't
+//! allocate; a search for an order takes 48 bytes for each line.
 ghost use Rattle.std.specs.Prelude.{◌≡◌, ◌<◌, ℕ, IsTrue, length};
 ghost use Rattle.tp_judge.specs.Before.{NoCircle};
 ghost use Rattle.tp_judge.specs.Delivered.{Delivered};
@@ -11,7 +11,6 @@ use crate::delivery::RouteRows;
 use crate::line::IndexedLine;
 use crate::trace::IndexedTrace;
 
-/// Whether each line has a lesser number than those behind it.
 fn are_ascending(lines: &[IndexedLine]) -> bool
     ensures { IsTrue result → AreAscending lines.now }
 {
@@ -26,7 +25,6 @@ fn are_ascending(lines: &[IndexedLine]) -> bool
     true
 }
 
-/// Whether each of the first lines has a lesser number than the one at its place among the others.
 fn stand_before(before: &[&IndexedLine], after: &[&IndexedLine]) -> bool
     ensures { IsTrue result → StandBefore (lines_at before.now) (lines_at after.now) }
 {
@@ -39,7 +37,6 @@ fn stand_before(before: &[&IndexedLine], after: &[&IndexedLine]) -> bool
     true
 }
 
-/// Whether on this route each sending stands before its arrival.
 fn is_sent_first(trace: &IndexedTrace, rows: &RouteRows<'_>, route: usize) -> bool
     requires rows { AreRouteRows trace.now rows.now }
     requires route { route < length trace.now.joined.items }
@@ -51,7 +48,6 @@ fn is_sent_first(trace: &IndexedTrace, rows: &RouteRows<'_>, route: usize) -> bo
     stand_before(&rows.sent[route], &rows.came[route])
 }
 
-/// Whether on each route each sending stands before its arrival.
 fn are_sent_first(trace: &IndexedTrace, rows: &RouteRows<'_>) -> bool
     requires { AreRouteRows trace.now rows.now }
     ensures { IsTrue result
@@ -65,7 +61,8 @@ fn are_sent_first(trace: &IndexedTrace, rows: &RouteRows<'_>) -> bool
     true
 }
 
-/// Whether each line stands behind all that happens before it. Then no line happens before itself.
+/// Returns true only if each line comes after everything that happens before it. Then no line
+/// happens before itself.
 pub(crate) fn stands_in_order(trace: &IndexedTrace, rows: &RouteRows<'_>) -> bool
     requires delivered { Delivered trace.now }
     requires rows { AreRouteRows trace.now rows.now }

@@ -1,17 +1,16 @@
-//! A trace, with numbers in place of its names.
+//! A trace with numbers instead of names.
 use crate::line::IndexedLine;
 
-/// The lines of all sections, in the order of the text, and what their numbers stand for.
+/// The lines of all sections, in the order of the text, and what their numbers mean.
 #[derive(Drop)]
 pub struct IndexedTrace {
-    /// The lines.
     pub lines: Vec<IndexedLine>,
-    /// Of each port the component that it belongs to.
+    /// For each port the component that it belongs to.
     pub owners: Vec<u32>,
-    /// Of each route whether both ends have a section.
+    /// For each route, whether both ends have a section.
     pub joined: Vec<bool>,
-    /// How many components there are.
+    /// The number of components.
     pub components: usize,
-    /// More than the number of any line.
+    /// Greater than the number of any line.
     pub numbers: usize,
 }
