@@ -1,4 +1,4 @@
-//! The components of a configuration, and what is known of their ports.
+//! The components of a configuration, and the partners of their ports.
 ghost use Rattle.std.specs.Prelude.{◌≡◌, ◌<◌, ◌++◌, ◌∷◌, [], map, length, option_map, slice_get, IfOk, OnErr, OnOk};
 ghost use Rattle.std.specs.Option.{option_copied, option_map_or};
 ghost use Rattle.tp_config.specs.Setup.{decl_at, ins, is_system, outs, ports_at};
@@ -13,19 +13,17 @@ use std::alloc::Global;
 use tp_refusal::memory::Memory;
 use tp_value::items::Items;
 
-/// A component of a configuration.
 #[derive(Drop)]
 pub(crate) struct Component {
-    /// Its name, which no other component has.
+    /// No other component has this name.
     pub(crate) name: String,
-    /// The place of its type among the configuration's.
+    /// The place of its type among the types of the configuration.
     pub(crate) kind: u32,
     pub(crate) role: Role,
-    /// What stands beside each of its ports.
+    /// The partners of each of its ports.
     pub(crate) links: Links,
 }
 
-/// The component of this number, if there is one.
 pub(crate) fn component_at(components: &[Component], comp: CompId) -> Option<&Component>
     ensures { option_copied result ≡ slice_get components.now comp.0 }
 {
@@ -38,7 +36,6 @@ fn type_at(types: &[CompType], kind: u32) -> Option<&CompType>
     types.get(kind as usize)
 }
 
-/// The type of a component.
 pub(crate) fn type_in<'a>(
     types: &'a [CompType],
     components: &[Component],
@@ -63,7 +60,6 @@ fn port_at(comp_type: &CompType, port: u32) -> Option<&PortType>
     }
 }
 
-/// Whether it is a port of the test system interface.
 pub(crate) fn is_system(components: &[Component], p: PortRef) -> bool
     ensures { result ≡ is_system (map member_of components.now) p }
 {
@@ -88,7 +84,6 @@ fn port_type<'a>(
     port_at(comp_type, p.port)
 }
 
-/// The message types that the port receives.
 pub(crate) fn ins<'a>(
     types: &'a [CompType],
     components: &[Component],
@@ -103,7 +98,6 @@ pub(crate) fn ins<'a>(
     }
 }
 
-/// The message types that the port sends.
 pub(crate) fn outs<'a>(
     types: &'a [CompType],
     components: &[Component],
@@ -118,7 +112,6 @@ pub(crate) fn outs<'a>(
     }
 }
 
-/// How many ports the component has.
 pub(crate) fn port_count(types: &[CompType], components: &[Component], comp: CompId) -> usize
     ensures { result
         ≡ length (ports_at (map ports_of types.now) (map member_of components.now) comp) }
@@ -129,7 +122,7 @@ pub(crate) fn port_count(types: &[CompType], components: &[Component], comp: Com
     }
 }
 
-/// What stands beside the port.
+/// The ports that the port is connected or mapped with.
 pub(crate) fn beside(components: &[Component], p: PortRef) -> &[PortRef]
     ensures { result.now ≡ links_at (map links_of components.now) p }
 {
@@ -139,7 +132,6 @@ pub(crate) fn beside(components: &[Component], p: PortRef) -> &[PortRef]
     }
 }
 
-/// Puts another list beside the port.
 fn put_beside(components: &mut Vec<Component>, p: PortRef, beside: Items<PortRef>)
     requires { p.port < length (row (map links_of components.old.items) p.comp) }
     ensures members { map member_of components.new.items ≡ map member_of components.old.items }
@@ -150,7 +142,6 @@ fn put_beside(components: &mut Vec<Component>, p: PortRef, beside: Items<PortRef
     component.links.set_partners(p.port, beside);
 }
 
-/// A list with one more port at its end.
 fn with_last(alloc: Global, ports: &[PortRef], last: PortRef) -> Result<Items<PortRef>, Memory>
     ensures { IfOk result (λ longer. longer ≡ ports.now ++ last ∷ []) }
 {
@@ -159,9 +150,9 @@ fn with_last(alloc: Global, ports: &[PortRef], last: PortRef) -> Result<Items<Po
     Ok(longer)
 }
 
-/// Joins two different ports: adds their pair, and puts each at the end of what stands beside the
-/// other. Both lists are made first, so that nothing has changed where an allocation is refused. A
-/// list has 64 ports at most, one for each component.
+/// Joins two different ports: adds their pair, and appends each to the partners of the other. It
+/// makes both lists first, so that nothing has changed if an allocation is refused. A list has at
+/// most 64 ports, one for each component.
 pub(crate) fn join_ports(
     alloc: Global,
     components: &mut Vec<Component>,

@@ -21,15 +21,15 @@ use tp_refusal::memory::Memory;
 /// 21.1, 21.3.1). Contracts see the component types, the components, and the pairs in the order of
 /// their statements; a pair itself has no order.
 ///
-/// At every moment the configuration is allowed: no port is connected with two ports of one
-/// component, a port has at most one mapping, no mapped port is connected, what a connected port
-/// sends the other receives, and the mapped ones fit together. No pair is there twice, no two
-/// components have one name, and at most one is the test system interface.
+/// The configuration is always allowed: no port is connected with two ports of one component, a
+/// port has at most one mapping, no mapped port is connected, a connected port receives what its
+/// partner sends, and mapped ports fit together. No pair occurs twice, no two components have the
+/// same name, and at most one is the test system interface.
 pub struct Config {
     types: Vec<CompType>,
     components: Vec<Component>,
-    /// The connected pairs, in the order of their statements. Contracts see them. No call looks
-    /// through them: it finds what stands beside a port in the port's component.
+    /// The connected pairs, in the order of their statements, for contracts. No call searches them:
+    /// it finds the partners of a port in the port's component.
     connected: Vec<(PortRef, PortRef)>,
     /// The mapped pairs, likewise.
     mapped: Vec<(PortRef, PortRef)>,
@@ -68,8 +68,8 @@ impl Model for Config {
 }
 
 impl Config {
-    /// A configuration with these component types, numbered from 0, no component and no pair. Later
-    /// calls take memory from `alloc`. Each type has at most 64 ports.
+    /// A configuration with these component types, numbered from 0, without components and pairs.
+    /// Later calls allocate from `alloc`. Each type has at most 64 ports.
     pub fn new(alloc: Global, types: Vec<CompType>) -> Config
         requires { All (λ t. length t.ports.entries ≤ 64) types.items }
         ensures empty { result ≡ empty_setup (map ports_of types.items) }
@@ -84,14 +84,14 @@ impl Config {
         }
     }
 
-    /// The component types, as they were given to [`Config::new`].
+    /// The component types given to [`Config::new`].
     pub fn types(&self) -> &[CompType]
         ensures { map ports_of result.now ≡ self.now.types }
     {
         self.types.as_slice()
     }
 
-    /// How many components there are, at most 64.
+    /// The number of components, at most 64.
     pub fn len(&self) -> usize
         ensures count { result ≡ length self.now.components }
         ensures lawful { IsSetup self.now }
@@ -107,7 +107,7 @@ impl Config {
         self.components[comp.0 as usize].name.as_str()
     }
 
-    /// What a component of this configuration is.
+    /// The role of a component of this configuration.
     pub fn role(&self, comp: CompId) -> Role
         requires { IsComponent self.now comp }
         ensures { option_map (λ m. m.role) (slice_get self.now.components comp.0) ≡ Some result }
@@ -115,8 +115,7 @@ impl Config {
         self.components[comp.0 as usize].role
     }
 
-    /// The number of the type of a component of this configuration, from 0, among the component
-    /// types.
+    /// The number, from 0, of the type of a component of this configuration.
     pub fn kind(&self, comp: CompId) -> u32
         requires { IsComponent self.now comp }
         ensures { option_map (λ m. m.kind) (slice_get self.now.components comp.0) ≡ Some result }
@@ -133,18 +132,18 @@ impl Config {
         &self.types[kind as usize]
     }
 
-    /// How many ports a component has. One that isn't there has none.
+    /// The number of ports of a component, or 0 if there is no such component.
     pub fn port_count(&self, comp: CompId) -> usize
         ensures { result ≡ length (ports_at self.now.types self.now.components comp) }
     {
         port_count(self.types.as_slice(), self.components.as_slice(), comp)
     }
 
-    /// Creates a component (21.3.1): a component of this name, whose type is the one of this
-    /// number, from 0, among the component types. Its number is the number of components before.
+    /// Creates a component with this name and the component type of this number, from 0 (21.3.1).
+    /// Returns the component's number, which is the number of components before.
     ///
-    /// 12 `Duplicate` exactly where a component has the name, or where it would be a second test
-    /// system interface; else 15 `Limit` exactly where there are 64 components. The configuration
+    /// 12 `Duplicate` if and only if a component has the name, or if it would be a second test
+    /// system interface; else 15 `Limit` if and only if there are 64 components. The configuration
     /// is then as before.
     pub fn create(&mut self, name: String, kind: u32, role: Role) -> Result<CompId, CreateFault>
         requires { kind < length self.old.types }
@@ -175,7 +174,7 @@ impl Config {
         Ok(comp)
     }
 
-    /// The component of this name, or `None` where no component has it.
+    /// The component with this name, or `None` if there is none.
     pub fn comp_of(&self, name: &str) -> Option<CompId>
         ensures there { IfSome result (λ comp.
             slice_get (names_of_components self.now) comp.0 ≡ Some name.now) }
@@ -187,8 +186,7 @@ impl Config {
         }
     }
 
-    /// The port of this name of the component, or `None` where the component has none of that name,
-    /// or where there is no such component.
+    /// The component's port with this name, or `None` if there is no such port or component.
     pub fn port_of(&self, comp: CompId, name: &str) -> Option<PortRef>
         ensures there { IfSome result (λ p. (p.comp ≡ comp)
             × (slice_get (port_names self.now comp) p.port ≡ Some name.now)) }
@@ -205,11 +203,11 @@ impl Config {
         }
     }
 
-    /// Connects two ports of this configuration (21.1.1). The two stand in either order.
+    /// Connects two ports of this configuration, in either order (21.1.1).
     ///
-    /// 25 `SystemPort`, 26 `SamePort`, 27 `Already`, 22 `Mixed`, 21 `TwoPortsOfOne`,
-    /// 20 `Directions`: the first of these whose cause holds. The configuration is then as before.
-    /// Looks at what stands beside the two ports, and not at the pairs of others.
+    /// It returns the first of these causes that holds: 25 `SystemPort`, 26 `SamePort`, 27
+    /// `Already`, 22 `Mixed`, 21 `TwoPortsOfOne`, 20 `Directions`. The configuration is then as
+    /// before. It looks only at the partners of the two ports.
     pub fn connect(&mut self, p: PortRef, q: PortRef) -> Result<(), ConnectFault>
         requires p_in { IsPort self.old p }
         requires q_in { IsPort self.old q }
@@ -229,12 +227,12 @@ impl Config {
         Ok(())
     }
 
-    /// Maps two ports of this configuration (21.1.1), one of them a port of the test system
-    /// interface. The two stand in either order.
+    /// Maps two ports of this configuration, in either order (21.1.1). One of them is a port of the
+    /// test system interface.
     ///
-    /// 28 `NotSystem`, 22 `Mixed`, 23 `NotOneToOne`, 24 `MapDirections`: the first of these whose
-    /// cause holds. The configuration is then as before. Looks at what stands beside the two ports,
-    /// and not at the pairs of others.
+    /// It returns the first of these causes that holds: 28 `NotSystem`, 22 `Mixed`, 23
+    /// `NotOneToOne`, 24 `MapDirections`. The configuration is then as before. It looks only at the
+    /// partners of the two ports.
     pub fn map(&mut self, p: PortRef, q: PortRef) -> Result<(), MapFault>
         requires p_in { IsPort self.old p }
         requires q_in { IsPort self.old q }
@@ -255,7 +253,7 @@ impl Config {
     }
 
     /// The routes from a port, in the order of the connecting statements. No two of them are equal,
-    /// and none of them is a route from another port. A port that isn't there has none.
+    /// and none of them is a route from another port. A port that doesn't exist has none.
     pub fn routes_from(&self, p: PortRef) -> Result<Vec<RouteId>, Memory>
         ensures routes { IfOk result (λ v. v.items ≡ routes_from self.now p) }
         ensures distinct { AreDistinctRoutes (routes_from self.now p) }
@@ -264,9 +262,9 @@ impl Config {
         routes_out(self.alloc, p, beside(self.components.as_slice(), p))
     }
 
-    /// The routes into a component, by receiving port, and then in the order of the connecting
-    /// statements. No two of them are equal, and they are the routes from any port to a port of the
-    /// component. A component that isn't there has none.
+    /// The routes into a component, sorted by receiving port, and then in the order of the
+    /// connecting statements. No two of them are equal. They are all routes from any port to a port
+    /// of the component. A component that doesn't exist has none.
     pub fn routes_into(&self, comp: CompId) -> Result<Vec<RouteId>, Memory>
         ensures routes { IfOk result (λ v. v.items ≡ routes_into self.now comp) }
         ensures distinct { AreDistinctRoutes (routes_into self.now comp) }
@@ -280,11 +278,11 @@ impl Config {
         )
     }
 
-    /// The route of a send at the port (22.2.1): the only route from it, or, where a component is
-    /// named, the one that leads to that component. Looks at the routes of this port alone.
+    /// The route of a send at the port (22.2.1): the only route from it, or the one to the
+    /// component `to`, if that is named. It looks only at the routes of this port.
     ///
-    /// 41 `NoRoute` exactly where there is no route, or none to the component named; 42 `NeedsTo`
-    /// exactly where there are several and no component is named.
+    /// 41 `NoRoute` if and only if there is no route, or none to the component named; 42 `NeedsTo`
+    /// if and only if there are several and no component is named.
     pub fn route(&self, p: PortRef, to: Option<CompId>) -> Result<RouteId, RouteFault>
         ensures route { MatchResult result
             (λ r. IsRoute self.now p to r)

@@ -1,4 +1,4 @@
-//! Why two ports are not connected.
+//! Reasons why two ports can't be connected.
 ghost use Rattle.std.specs.Prelude.{◌≡◌, find, map};
 ghost use Rattle.tp_config.specs.Shape.{links_of, member_of, ports_of};
 ghost use Rattle.tp_config.specs.Causes.{connect_order};
@@ -12,7 +12,7 @@ use crate::port_type::{CompType, PortRef};
 use thiserror::Error;
 use tp_refusal::refusal::Refusal;
 
-/// Why two ports were not connected, in the order in which the causes are looked at.
+/// Why two ports were not connected, in the order in which the causes are checked.
 #[derive(Clone, Copy, Debug, PartialEq, Eq, Error)]
 pub enum ConnectFault {
     /// 25 SystemPort: one of them is a port of the test system interface.
@@ -39,7 +39,7 @@ pub enum ConnectFault {
 }
 
 impl ConnectFault {
-    /// The refusal, by its number and name.
+    /// The refusal with its number and name.
     pub fn refusal(self) -> Refusal
         ensures { result ≡ connect_refusal self }
     {
@@ -55,8 +55,7 @@ impl ConnectFault {
     }
 }
 
-/// Why the two ports are not connected, as far as memory isn't wanting. It looks at what stands
-/// beside the two, and at no other port.
+/// The first cause that holds, apart from memory. It looks only at the partners of the two ports.
 pub(crate) fn connect_fault(
     types: &[CompType],
     components: &[Component],

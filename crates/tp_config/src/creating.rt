@@ -1,4 +1,4 @@
-//! Why a component is not created, and what has a name.
+//! Reasons why a component can't be created, and look-ups of names.
 ghost use Rattle.std.specs.Prelude.{◌≡◌, find, map, position};
 ghost use Rattle.std.specs.List.{list_any};
 ghost use Rattle.std.specs.String.{string_bytes};
@@ -29,7 +29,7 @@ pub enum CreateFault {
 }
 
 impl CreateFault {
-    /// The refusal, by its number and name.
+    /// The refusal with its number and name.
     pub fn refusal(self) -> Refusal
         ensures { result ≡ create_refusal self }
     {
@@ -41,42 +41,37 @@ impl CreateFault {
     }
 }
 
-/// Whether one of these has the name, said of what is kept.
 fn any_named(components: &[Component], name: &str) -> bool
     ensures { result ≡ list_any (λ c. bytes_eq (string_bytes c.name) name.now) components.now }
 {
     components.iter().any(|c| c.name.as_str() == name)
 }
 
-/// Whether a component has the name.
 fn has_name(components: &[Component], name: &str) -> bool
     ensures { result ≡ has_name (map member_of components.now) name.now }
 {
     any_named(components, name)
 }
 
-/// Whether one of these is the test system interface, said of what is kept.
 fn any_system(components: &[Component]) -> bool
     ensures { result ≡ list_any (λ c. is_system_role c.role) components.now }
 {
     components.iter().any(|c| c.role.is_system())
 }
 
-/// Whether a component is the test system interface.
 fn has_system(components: &[Component]) -> bool
     ensures { result ≡ has_system (map member_of components.now) }
 {
     any_system(components)
 }
 
-/// The place of the component with the name.
 pub(crate) fn component_place(components: &[Component], name: &str) -> Option<usize>
     ensures { result ≡ position (λ c. bytes_eq (string_bytes c.name) name.now) components.now }
 {
     components.iter().position(|c| c.name.as_str() == name)
 }
 
-/// Why a component of this name and role is not created, as far as memory isn't wanting.
+/// The first cause that holds, apart from memory.
 pub(crate) fn create_fault(components: &[Component], name: &str, role: Role) -> Option<CreateFault>
     ensures { result
         ≡ find (create_test (map member_of components.now) name.now role) create_order }

@@ -1,4 +1,4 @@
-//! Whether lists of message types fit together.
+//! Comparison of lists of message types.
 ghost use Rattle.std.specs.Prelude.{◌≡◌};
 ghost use Rattle.std.specs.Option.{option_copied};
 ghost use Rattle.std.specs.List.{list_any};
@@ -8,7 +8,7 @@ ghost use Rattle.tp_config.specs.Types.{HaveSame, listed_types, same_type};
 use crate::type_list::TypeList;
 use tp_value::types::Ty;
 
-/// The types of the list, each once, and none where there is no list.
+/// The types of the list, each once. None if there is no list.
 fn types_of(list: Option<&TypeList>) -> &[Ty]
     ensures { HaveSame result.now (listed_types (option_copied list.entry)) }
 {
@@ -18,7 +18,6 @@ fn types_of(list: Option<&TypeList>) -> &[Ty]
     }
 }
 
-/// Whether the type is among these.
 fn is_among(ty: Ty, these: Option<&TypeList>) -> bool
     ensures { result ≡ list_any (λ other. same_type other ty)
         (listed_types (option_copied these.entry)) }
@@ -29,7 +28,6 @@ fn is_among(ty: Ty, these: Option<&TypeList>) -> bool
     }
 }
 
-/// Whether each type of `these` is among those of the slice.
 #[tactic(auto, unfolding(crate::specs::Tests::are_among))]
 fn are_all_among(these: &[Ty], those: Option<&TypeList>) -> bool
     ensures { result ≡ are_among these.now (listed_types (option_copied those.entry)) }
@@ -37,8 +35,7 @@ fn are_all_among(these: &[Ty], those: Option<&TypeList>) -> bool
     these.iter().all(|ty| is_among(*ty, those))
 }
 
-/// Whether each type of `these` is among `those`. It looks once at each type of `these`, however
-/// often the list has it.
+/// Looks once at each type of `these`, however often the list has it.
 pub(crate) fn are_among(these: Option<&TypeList>, those: Option<&TypeList>) -> bool
     ensures { result
         ≡ are_among (listed_types (option_copied these.entry))

@@ -1,9 +1,9 @@
-//! The components of a test case, their ports, and which ports are connected and mapped: what is
-//! allowed, and which routes messages can take. The checks, `tp_setup`, make it, and a run asks it
-//! for routes.
+//! The components of a test case, their ports, and which ports are connected and mapped: which
+//! pairs are allowed, and which routes messages can take. The checks (`tp_setup`) make a
+//! [`config::Config`], and a run asks it for routes; start there.
 //!
-//! Where a call answers 50 `Memory`, an allocation was refused, and a configuration is as before. A
-//! call that can't answer it takes no memory.
+//! 50 `Memory` means that an allocation was refused, and the configuration is as before. A call
+//! that can't return it doesn't allocate.
 #![tactic(auto)]
 
 mod component;

@@ -1,4 +1,4 @@
-//! What stands beside each port of one component.
+//! The partners of each port of one component.
 ghost use Rattle.std.specs.Prelude.{◌≡◌, ◌<◌, [], length, replicate, IfOk};
 ghost use Rattle.std.specs.List.{slice_index_or, slice_set};
 
@@ -9,8 +9,8 @@ use tp_refusal::memory::Memory;
 use tp_value::items::Items;
 
 /// For each port of a component, in declared order, the ports that it is connected or mapped with,
-/// in the order of the statements. So a route is found, and why two ports are not connected or
-/// mapped, without a look at the pairs of other ports.
+/// in the order of the statements. So the calls that look for a route, or for a reason against a
+/// pair, don't search the pairs of other ports.
 #[derive(Drop)]
 pub(crate) struct Links {
     ports: Vec<Items<PortRef>>,
@@ -26,7 +26,6 @@ impl Model for Links {
 }
 
 impl Links {
-    /// Nothing beside any of so many ports.
     pub(crate) fn new(alloc: Global, count: usize) -> Result<Links, Memory>
         ensures { IfOk result (λ links. links ≡ replicate count []) }
     {
@@ -37,7 +36,6 @@ impl Links {
         Ok(Links { ports })
     }
 
-    /// What stands beside the port of this number, and nothing where there is none.
     pub(crate) fn at(&self, port: u32) -> &[PortRef]
         ensures { result.now ≡ slice_index_or self.now port [] }
     {
@@ -47,7 +45,6 @@ impl Links {
         }
     }
 
-    /// Puts another list beside the port of this number.
     pub(crate) fn set_partners(&mut self, port: u32, beside: Items<PortRef>)
         requires { port < length self.old }
         ensures { self.new ≡ slice_set self.old port beside }

@@ -1,4 +1,4 @@
-//! Why two ports are not mapped.
+//! Reasons why two ports can't be mapped.
 ghost use Rattle.std.specs.Prelude.{◌≡◌, find, map};
 ghost use Rattle.tp_config.specs.Shape.{links_of, member_of, ports_of};
 ghost use Rattle.tp_config.specs.Causes.{map_order};
@@ -12,7 +12,7 @@ use crate::port_type::{CompType, PortRef};
 use thiserror::Error;
 use tp_refusal::refusal::Refusal;
 
-/// Why two ports were not mapped, in the order in which the causes are looked at.
+/// Why two ports were not mapped, in the order in which the causes are checked.
 #[derive(Clone, Copy, Debug, PartialEq, Eq, Error)]
 pub enum MapFault {
     /// 28 NotSystem: none of them is a port of the test system interface, or both are.
@@ -34,7 +34,7 @@ pub enum MapFault {
 }
 
 impl MapFault {
-    /// The refusal, by its number and name.
+    /// The refusal with its number and name.
     pub fn refusal(self) -> Refusal
         ensures { result ≡ map_refusal self }
     {
@@ -48,8 +48,8 @@ impl MapFault {
     }
 }
 
-/// Whether q, a port of the test system interface, sends all that p sends, and p receives all that
-/// q receives.
+/// `q` is a port of the test system interface: it sends everything that `p` sends, and `p` receives
+/// everything that `q` receives.
 fn map_directed(types: &[CompType], components: &[Component], p: PortRef, q: PortRef) -> bool
     ensures { result ≡ map_directed (map ports_of types.now) (map member_of components.now) p q }
 {
@@ -58,8 +58,7 @@ fn map_directed(types: &[CompType], components: &[Component], p: PortRef, q: Por
     sent && received
 }
 
-/// Why the two ports are not mapped, as far as memory isn't wanting. It looks at what stands beside
-/// the two, and at no other port.
+/// The first cause that holds, apart from memory. It looks only at the partners of the two ports.
 pub(crate) fn map_fault(
     types: &[CompType],
     components: &[Component],

@@ -1,5 +1,5 @@
-//! Which ports a port is connected or mapped with, by what stands beside it. So the pairs of other
-//! ports are not looked at.
+//! Connections and mappings of a port, by its partners, so that the pairs of other ports aren't
+//! looked at.
 ghost use Rattle.std.specs.Prelude.{◌≡◌, map};
 ghost use Rattle.tp_config.specs.Shape.{links_of, member_of};
 ghost use Rattle.tp_config.specs.Tests.{has_other, is_beside, is_connected, is_mapped, same_bool};
@@ -7,14 +7,12 @@ ghost use Rattle.tp_config.specs.Tests.{has_other, is_beside, is_connected, is_m
 use crate::component::{Component, beside, is_system};
 use crate::port_type::PortRef;
 
-/// Whether both hold, or none.
 pub(crate) fn same_bool(a: bool, b: bool) -> bool
     ensures { result ≡ same_bool a b }
 {
     if a { b } else { !b }
 }
 
-/// Whether p is connected or mapped with q.
 #[tactic(auto, unfolding(crate::specs::Tests::is_beside))]
 pub(crate) fn is_beside(components: &[Component], p: PortRef, q: PortRef) -> bool
     ensures { result ≡ is_beside (map links_of components.now) p q }
@@ -22,7 +20,6 @@ pub(crate) fn is_beside(components: &[Component], p: PortRef, q: PortRef) -> boo
     beside(components, p).iter().any(|r| r.is(q))
 }
 
-/// Whether p is connected or mapped with another port of q's component.
 #[tactic(auto, unfolding(crate::specs::Tests::has_other))]
 pub(crate) fn has_other(components: &[Component], p: PortRef, q: PortRef) -> bool
     ensures { result ≡ has_other (map links_of components.now) p q }
@@ -32,9 +29,8 @@ pub(crate) fn has_other(components: &[Component], p: PortRef, q: PortRef) -> boo
         .any(|r| r.comp.0 == q.comp.0 && !r.is(q))
 }
 
-/// Whether p is connected. None of two connected ports is of the test system interface, and exactly
-/// one of two mapped ports is: so p is connected with a port beside it where both are of it or
-/// none.
+/// A port of the test system interface is never connected, and of two mapped ports exactly one
+/// belongs to it. So `p` is connected with a partner if both or neither belong to it.
 #[tactic(auto, unfolding(crate::specs::Tests::is_connected))]
 pub(crate) fn is_connected(components: &[Component], p: PortRef) -> bool
     ensures { result ≡ is_connected (map member_of components.now) (map links_of components.now) p }
@@ -45,8 +41,8 @@ pub(crate) fn is_connected(components: &[Component], p: PortRef) -> bool
         .any(|r| same_bool(system, is_system(components, *r)))
 }
 
-/// Whether p is mapped: with a port beside it where exactly one of the two is of the test system
-/// interface.
+/// The partner of a mapped port belongs to the test system interface if and only if the port
+/// doesn't.
 #[tactic(auto, unfolding(crate::specs::Tests::is_mapped))]
 pub(crate) fn is_mapped(components: &[Component], p: PortRef) -> bool
     ensures { result ≡ is_mapped (map member_of components.now) (map links_of components.now) p }

@@ -6,13 +6,13 @@ ghost use Rattle.tp_config.specs.Setup.{is_system_role};
 use crate::type_list::TypeList;
 use indexmap::IndexMap;
 
-/// How many components a configuration has at most.
+/// The maximum number of components of a configuration.
 pub const COMPONENT_LIMIT: usize = 64;
 
-/// How many ports a component type has at most.
+/// The maximum number of ports of a component type.
 pub const PORT_LIMIT: usize = 64;
 
-/// A type of message ports (ES 201 873-1, 6.2.9). A message type listed as `inout` stands in both
+/// A type of message ports (ES 201 873-1, 6.2.9). A message type listed as `inout` is in both
 /// lists.
 #[derive(Drop)]
 pub struct PortType {
@@ -23,7 +23,7 @@ pub struct PortType {
 }
 
 /// A type of components (ES 201 873-1, 6.2.10): the ports of each component of this type, by their
-/// names, in declared order. The names are compared by their bytes.
+/// names, in declared order. Names are compared by their bytes.
 pub struct CompType {
     /// The ports, numbered from 0 in this order.
     pub ports: IndexMap<String, PortType>,
@@ -37,21 +37,20 @@ impl Drop for CompType {
     }
 }
 
-/// A component, by its number: from 0, in the order in which they were created.
+/// A component, by its number: from 0, in the order of creation.
 #[derive(Clone, Copy, Debug, PartialEq, Eq, Hash)]
 pub struct CompId(pub u32);
 
 /// A port of a component.
 #[derive(Clone, Copy, Debug, PartialEq, Eq, Hash)]
 pub struct PortRef {
-    /// The component.
     pub comp: CompId,
-    /// The port's number, from 0, in the declared order of the component's type.
+    /// The port's number, from 0, in the declared order of the component type.
     pub port: u32,
 }
 
-/// The way of messages from a component to a port. The port that sends on it is determined by it,
-/// since no port is connected with two ports of one component.
+/// The route of messages from a component to a port. It determines the port that sends, because no
+/// port is connected with two ports of one component.
 #[derive(Clone, Copy, Debug, PartialEq, Eq, Hash)]
 pub struct RouteId {
     /// The component that sends.
@@ -60,17 +59,17 @@ pub struct RouteId {
     pub to: PortRef,
 }
 
-/// What a component is.
+/// The role of a component.
 #[derive(Clone, Copy, Debug)]
 pub enum Role {
     /// The main test component, or one that it created.
     Test,
-    /// The test system interface (ES 201 873-1, 9.2). A configuration has one at most.
+    /// The test system interface (ES 201 873-1, 9.2). A configuration has at most one.
     System,
 }
 
 impl PortRef {
-    /// Whether the two are the same port.
+    /// Returns whether the two are the same port.
     pub fn is(self, other: PortRef) -> bool
         ensures { result ≡ same_port self other }
     {
@@ -79,7 +78,7 @@ impl PortRef {
 }
 
 impl Role {
-    /// Whether it is that of the test system interface.
+    /// Returns whether it is the role of the test system interface.
     pub fn is_system(self) -> bool
         ensures { result ≡ is_system_role self }
     {

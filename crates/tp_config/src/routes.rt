@@ -24,7 +24,7 @@ pub enum RouteFault {
 }
 
 impl RouteFault {
-    /// The refusal, by its number and name.
+    /// The refusal with its number and name.
     pub fn refusal(self) -> Refusal
         ensures { result ≡ route_refusal self }
     {
@@ -35,14 +35,12 @@ impl RouteFault {
     }
 }
 
-/// The first of the ports that is of this component.
 fn port_beside(ports: &[PortRef], comp: CompId) -> Option<PortRef>
     ensures { result ≡ find (λ r. r.comp.0 == comp.0) ports.now }
 {
     ports.iter().copied().find(|r| r.comp.0 == comp.0)
 }
 
-/// The routes from p, beside which these ports stand.
 pub(crate) fn routes_out(
     alloc: Global,
     p: PortRef,
@@ -60,7 +58,7 @@ pub(crate) fn routes_out(
     Ok(routes)
 }
 
-/// The route from p, beside which these ports stand, or the one of them to that component.
+/// The only route from `p`, which has these partners, or the one to the component `to`.
 pub(crate) fn choose_route(
     p: PortRef,
     beside: &[PortRef],
@@ -90,7 +88,6 @@ pub(crate) fn choose_route(
     }
 }
 
-/// Adds the routes to p, beside which these ports stand.
 fn add_routes_to(routes: &mut Vec<RouteId>, p: PortRef, beside: &[PortRef]) -> Result<(), Memory>
     ensures { OnOk result
         (routes.new.items ≡ routes.old.items ++ map (λ q. route_to q p) beside.now) }
@@ -104,7 +101,6 @@ fn add_routes_to(routes: &mut Vec<RouteId>, p: PortRef, beside: &[PortRef]) -> R
     Ok(())
 }
 
-/// The routes to the first `count` ports of the component, by port.
 pub(crate) fn routes_in(
     alloc: Global,
     components: &[Component],

@@ -1,4 +1,4 @@
-//! Lists of message types, which several port types share.
+//! Lists of message types, which port types share.
 ghost use Rattle.std.specs.Prelude.{◌≡◌, IfOk};
 ghost use Rattle.std.specs.List.{IsDistinct, list_any};
 ghost use Rattle.tp_config.specs.Types.{HaveSame, same_type};
@@ -11,8 +11,8 @@ use tp_refusal::memory::Memory;
 use tp_value::items::Items;
 use tp_value::types::Ty;
 
-/// Message types in their order, with the set of them, so that one is looked for without a look at
-/// each, and who goes through them meets each once.
+/// Message types in their order, with the set of them: a type is found without comparing it with
+/// each, and a loop over the set meets each once.
 #[derive(Drop)]
 struct Listed {
     items: Items<Ty>,
@@ -31,7 +31,6 @@ impl Model for Listed {
     ghost invariant = { λ l. HaveSame l.known.keys l.items };
 }
 
-/// The set of these types.
 fn known_types(alloc: Global, types: &[Ty]) -> Result<IndexSet<Ty>, Memory>
     ensures { IfOk result (λ known. HaveSame known.keys types.now) }
 {
@@ -43,7 +42,6 @@ fn known_types(alloc: Global, types: &[Ty]) -> Result<IndexSet<Ty>, Memory>
 }
 
 impl Listed {
-    /// These types.
     fn new(alloc: Global, items: Items<Ty>) -> Result<Listed, Memory>
         ensures { IfOk result (λ listed. listed ≡ items) }
     {
@@ -51,14 +49,12 @@ impl Listed {
         Ok(Listed { items, known })
     }
 
-    /// The types, the first at place 0.
     fn as_slice(&self) -> &[Ty]
         ensures { result.now ≡ self.now }
     {
         self.items.as_slice()
     }
 
-    /// The types, each once.
     fn distinct(&self) -> &[Ty]
         ensures same { HaveSame result.now self.now }
         ensures once { IsDistinct same_type result.now }
@@ -66,7 +62,6 @@ impl Listed {
         self.known.as_slice()
     }
 
-    /// Whether the type is one of these.
     fn has(&self, ty: Ty) -> bool
         ensures { result ≡ list_any (λ other. same_type other ty) self.now }
     {
@@ -74,9 +69,9 @@ impl Listed {
     }
 }
 
-/// The message types that a port type receives or sends, in the order in which it lists them
-/// (ES 201 873-1, 6.2.9). Contracts see the list. It never changes, and several port types may
-/// share one list: each then holds a handle of its own, and the types stand in memory once.
+/// The message types that a port type receives or sends, in the order in which it lists them (ES
+/// 201 873-1, 6.2.9). Contracts see the list. It never changes, and several port types may share
+/// one list: each then holds its own handle, and the types are in memory once.
 #[derive(Drop)]
 pub struct TypeList {
     listed: Arc<Listed>,
@@ -93,7 +88,7 @@ impl Model for TypeList {
 }
 
 impl TypeList {
-    /// The types of these items, in their order.
+    /// A list of these types, in their order.
     pub fn from_items(alloc: Global, items: Items<Ty>) -> Result<TypeList, Memory>
         ensures { IfOk result (λ list. list ≡ items) }
     {
@@ -101,8 +96,8 @@ impl TypeList {
         Ok(TypeList { listed })
     }
 
-    /// A second handle of the same list. It copies no type, whatever the length. 50 `Memory` only
-    /// where the list can have no more handles.
+    /// A second handle of the same list. It copies no type, however long the list is. 50 `Memory`
+    /// only if the list can have no more handles.
     pub fn share(&self) -> Result<TypeList, Memory>
         ensures { IfOk result (λ other. other ≡ self.now) }
     {
@@ -125,7 +120,7 @@ impl TypeList {
         self.listed.distinct()
     }
 
-    /// Whether the type is one of these, found without a look at each.
+    /// Returns whether the type is one of these, without comparing it with each.
     pub fn has(&self, ty: Ty) -> bool
         ensures { result ≡ list_any (λ other. same_type other ty) self.now }
     {

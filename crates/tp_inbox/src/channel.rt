@@ -1,4 +1,4 @@
-//! What the ends of one inbox share.
+//! The parts that the ends of one inbox share.
 ghost use Rattle.std.specs.Prelude.{◌≡◌, ◌<◌, length};
 ghost use Rattle.tp_inbox.specs.Routed.{AreRoutes, env_of, route_at};
 
@@ -14,23 +14,24 @@ use tp_floor::notifier::{Notifier, Woken};
 use tp_history::stamped::Stamped;
 use tp_value::message::Message;
 
-/// What an owner and its senders share: the queue, the routes into the component, and the notifier.
+/// The parts that an owner and its senders share: the queue, the routes into the component, and the
+/// notifier.
 ///
-/// A push comes before it is announced, and only what is announced wakes. An owner may so take out
-/// what isn't announced yet: it counts what it took, and waits for more than that, so that the
-/// announcement which comes later wakes nobody for what is gone. No waking is lost, since the owner
-/// looks and comes to rest under the one lock under which a push is announced: either it finds the
-/// announcement, or the announcement finds it at rest. Whoever ends a rest takes it from the floor
-/// under that same lock, and only then wakes: so a behaviour that is on its way back counts as
-/// awake. No notifier is taken while the floor is changed.
+/// A push comes before its announcement, and only an announcement wakes. So an owner may take out
+/// what isn't announced yet. It counts what it took, and waits for more than that, so that the
+/// later announcement doesn't wake it for what is gone. No waking is lost, because the owner looks
+/// and begins to rest under the lock under which a push is announced: either it finds the
+/// announcement, or the announcement finds it at rest. A call that ends a rest takes it from the
+/// floor under that lock before it wakes, so that a behaviour on its way back counts as awake. No
+/// notifier is taken while the floor is changed.
 pub(crate) struct Channel {
-    /// The queue. It has a rule, and no lock.
+    /// The queue has a rule, and no lock.
     pub(crate) queue: InboxQueue,
-    /// Whose inbox it is.
+    /// The component whose inbox it is.
     pub(crate) comp: CompId,
-    /// How many ports that component has.
+    /// The number of ports of that component.
     pub(crate) ports: usize,
-    /// The routes into the component. An envelope names its route by the place in this list.
+    /// The routes into the component. An envelope names its route by its place in this list.
     pub(crate) routes: Vec<RouteId>,
     notifier: Mutex<Notifier>,
     waking: Condvar,
@@ -38,7 +39,7 @@ pub(crate) struct Channel {
 }
 
 impl Channel {
-    /// An open inbox over this queue, to which nothing was announced.
+    /// An open inbox without announcements.
     pub(crate) fn over(
         queue: InboxQueue,
         comp: CompId,
@@ -62,22 +63,22 @@ impl Channel {
         }
     }
 
-    /// Announces a push, and wakes the owner where it rests and has not taken this one out yet.
+    /// Announces a push, and wakes the owner if it rests and hasn't taken this one out yet.
     pub(crate) fn announce<R: Wait>(&self, rt: &R) {
         let mut notifier = self.notifier.lock(rt);
         let wakes = notifier.announce(rt, &mut NoHook);
         self.wake(notifier, wakes);
     }
 
-    /// Closes the inbox, and wakes the owner where it rests.
+    /// Closes the inbox, and wakes the owner if it rests.
     pub(crate) fn close<R: Wait>(&self, rt: &R) {
         let mut notifier = self.notifier.lock(rt);
         let wakes = notifier.close(rt, &mut NoHook);
         self.wake(notifier, wakes);
     }
 
-    /// Gives the notifier back, and wakes the owner where it is to be woken. It wakes all that wait
-    /// at this inbox: a wait only borrows the owner, so nothing here rules out that there are two.
+    /// Releases the notifier, and wakes the owner if it is to be woken. It wakes all that wait at
+    /// this inbox, because a wait only borrows the owner, so that there may be two.
     fn wake(&self, notifier: MutexGuard<Notifier>, wakes: bool) {
         drop(notifier);
         if wakes {
@@ -101,7 +102,7 @@ impl Channel {
         notifier.woken(taken)
     }
 
-    /// The port to which an envelope goes, what arrives there, and its stamp.
+    /// The port of an envelope, the arrival there, and its stamp.
     pub(crate) fn addressed(&self, envelope: InboxEnvelope) -> (u32, Env<Message>, u64)
         requires { envelope.place < length self.now.routes.items }
         ensures port { result.0 ≡ (route_at self.now.routes.items envelope.place).to.port }

@@ -1,4 +1,4 @@
-//! What an inbox carries.
+//! The envelopes of an inbox.
 use tp_history::stamped::Stamped;
 
 /// A message on its way into a component.
@@ -8,6 +8,5 @@ pub(crate) struct InboxEnvelope {
     pub place: usize,
     /// Its number on its route, from 0.
     pub number: u64,
-    /// The message, with its stamp.
     pub stamped: Stamped,
 }

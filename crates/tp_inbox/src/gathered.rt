@@ -1,4 +1,4 @@
-//! What is left of an inbox once its senders have ended.
+//! What remains of an inbox after its senders have ended.
 ghost use Rattle.std.specs.Prelude.{◌≡◌, ◌++◌, ◌≤◌, [], All, IfErr, IfOk};
 ghost use Rattle.std.specs.Prelude.{length, map, vec_capacity};
 ghost use Rattle.tp_history.specs.History.{arrivals};
@@ -22,19 +22,19 @@ use tp_history::desk::Desk;
 use tp_refusal::memory::Memory;
 use tp_value::message::Message;
 
-/// What was still in an inbox, in order: the port where it arrives, what arrives, its stamp.
+/// The messages left in an inbox, in order: the port of arrival, the arrival, its stamp.
 pub type Rest = Vec<(u32, Env<Message>, u64)>;
 
-/// An owner with its senders, all of them ended, seen by contracts as its inbox, the arrivals that
-/// the owner has drained, those that were taken out after that and are kept here, and what each
-/// sender has put.
+/// An owner with its senders, all of which have ended. Contracts see it as its inbox, the arrivals
+/// that the owner has drained, those that were taken out after that and are kept here, and what
+/// each sender has put.
 #[derive(Drop)]
 pub struct Gathered {
     channel: Arc<Channel, Global>,
     pass: InboxPass,
-    /// The components whose senders came back, in their order. What each has put the pass knows.
+    /// The components whose senders came back, in their order. The pass knows what each has put.
     sources: Vec<CompId>,
-    /// What was taken out and not drained, with the ports where it arrives, and the stamps.
+    /// What was taken out and not drained, with the ports of arrival and the stamps.
     rest: Rest,
 }
 
@@ -62,7 +62,7 @@ impl Model for Gathered {
     ghost invariant = { IsGathered };
 }
 
-/// The envelope that was in hand, if any, as the first of the rest.
+/// The envelope in hand, if there is one, as the first of the rest.
 fn with_hand(channel: &Channel, mut rest: Rest, hand: Option<InboxEnvelope>) -> Rest
     requires empty { rest.items ≡ [] }
     requires room { 1 ≤ vec_capacity rest }
@@ -75,9 +75,9 @@ fn with_hand(channel: &Channel, mut rest: Rest, hand: Option<InboxEnvelope>) -> 
     rest
 }
 
-/// Takes the owner and its senders in, after all of them have ended: the senders that
-/// [`inbox`](crate::making::inbox) gave with this owner, in its order. It keeps what each has put
-/// and what was drained.
+/// Takes the owner and its senders, after all of them have ended: the senders that
+/// [`inbox`](crate::making::inbox) returned with this owner, in its order. It keeps what each has
+/// put and what was drained.
 pub fn gather<R: Wait>(rt: &R, owner: Owner, senders: Vec<Sender>) -> Gathered
     requires { AreSenders owner.inbox senders.items }
     ensures are { AreRoutes owner.inbox.comp owner.inbox.ports owner.inbox.routes }
@@ -119,12 +119,12 @@ pub fn gather<R: Wait>(rt: &R, owner: Owner, senders: Vec<Sender>) -> Gathered
 }
 
 impl Gathered {
-    /// What was still in the inbox, in order: the port where it arrives, what arrives, its stamp.
-    /// The arrivals in the desk from a component, followed by those in this rest, are what its
-    /// sender has put, in its order over all routes; and on each route they are numbered from 0.
-    /// Nothing is compared for this; it follows from the rule of the queue.
+    /// The messages left in the inbox, in order: the port of arrival, the arrival, its stamp. For
+    /// each sender, the arrivals from its component in the desk, followed by those in this rest,
+    /// are what it has put, in its order over all routes; and on each route they are numbered from
+    /// 0. No comparison is made for this, because it follows from the rule of the queue.
     ///
-    /// 50 `Memory` hands this back, and it may be settled again.
+    /// 50 `Memory` returns this object, which may be settled again.
     pub fn settle<R: Wait>(self, rt: &R, desk: &Desk) -> Result<Rest, (Memory, Gathered)>
         requires desk { IsDeskOf self.inbox desk.now }
         requires arrivals { arrivals desk.now.log ≡ self.drained }

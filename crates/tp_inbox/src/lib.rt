@@ -1,9 +1,9 @@
-//! The inbox of a component, to which several threads put messages, and from which the component's
-//! own moves them to its ports: its senders, its owner, and what is left once all have ended.
-//! `tp_behaviour` puts and moves; `tp_exec` makes inboxes and settles them.
+//! The inbox of a component: several threads put messages into it, and the component's own thread
+//! moves them to its ports. `tp_exec` makes one by [`making::inbox`], which returns its owner, its
+//! senders and a closer; start there. `tp_behaviour` puts and moves messages, and `tp_exec` settles
+//! what is left once all have ended.
 //!
-//! Where a call answers 50 `Memory`, an allocation was refused. A call that can't answer it takes
-//! no memory.
+//! 50 `Memory` means that an allocation was refused. A call that can't return it doesn't allocate.
 #![tactic(auto)]
 
 mod channel;

@@ -1,4 +1,4 @@
-//! How an inbox is made.
+//! The making of an inbox.
 ghost use Rattle.std.specs.Prelude.{◌≡◌, ◌≢◌, ◌<◌, ◌+◌, [], ◌∷◌, All, AllPairs, IfNone, IfOk, IfSome, OnOk, length, map};
 ghost use Rattle.std.specs.List.{HoldsAt};
 ghost use Rattle.tp_config.specs.Setup.{IsComponent, ports_at};
@@ -24,7 +24,6 @@ use tp_config::port_type::{CompId, RouteId};
 use tp_floor::floor::Floor;
 use tp_refusal::memory::Memory;
 
-/// The routes into a component, by receiving port, then in the order of the connecting statements.
 fn routes_of(config: &Config, comp: CompId) -> Result<Vec<RouteId>, Memory>
     ensures routes { IfOk result (λ v. v.items ≡ routes_into config.now comp) }
     ensures are { IfOk result (λ v. AreRoutes
@@ -36,7 +35,6 @@ fn routes_of(config: &Config, comp: CompId) -> Result<Vec<RouteId>, Memory>
     Ok(routes)
 }
 
-/// The place of each of these routes.
 fn places_of(alloc: Global, routes: &[RouteId]) -> Result<IndexMap<RouteId, usize>, Memory>
     requires { AllPairs (λ (r q : RouteId). r ≢ q) routes.now }
     ensures { IfOk result (λ places. AreFiled (length routes.now) routes.now places) }
@@ -49,7 +47,7 @@ fn places_of(alloc: Global, routes: &[RouteId]) -> Result<IndexMap<RouteId, usiz
     Ok(places)
 }
 
-/// The place of this component's sender, where there is one.
+/// The place of this component's sender, if there is one.
 fn sender_of(senders: &[Sender], source: CompId) -> Option<usize>
     ensures some { IfSome result (λ k. (k < length senders.now)
         × HoldsAt (λ s. s.source ≡ source) senders.now k) }
@@ -92,7 +90,7 @@ fn add_route(
 }
 
 /// A sender for each component that has routes into this inbox, with all of these, in the order of
-/// the first of these, with passes that are split off this one.
+/// their first routes. Their passes are split off `pass`.
 fn split(
     alloc: Global,
     channel: &Arc<Channel, Global>,
@@ -116,8 +114,7 @@ fn split(
     Ok(senders)
 }
 
-/// The owner of an inbox from which nothing was drained, with a pass from which that of each route
-/// was split off.
+/// An owner that has drained nothing. The pass of each route was split off its pass.
 fn begin_owner(
     alloc: Global,
     channel: Arc<Channel, Global>,
@@ -147,8 +144,8 @@ fn begin_owner(
 }
 
 /// The inbox of a component of the configuration: its owner, a sender for each component that has
-/// routes into this one, in the order of the first of these in [`Config::routes_into`], and what
-/// closes it. The floor is the one that the behaviours of the run stand on.
+/// routes into it, in the order of their first routes in [`Config::routes_into`], and its closer.
+/// The floor is that of all behaviours of the run.
 pub fn inbox(
     alloc: Global,
     config: &Config,

@@ -25,23 +25,22 @@ use tp_history::stamped::Stamped;
 use tp_refusal::memory::Memory;
 use tp_value::message::Message;
 
-/// The owner of an inbox, seen by contracts as its inbox and the arrivals that it has drained, in
+/// The owner of an inbox. Contracts see it as its inbox and the arrivals that it has drained, in
 /// order.
 #[derive(Drop)]
 pub struct Owner {
     pub(crate) channel: Arc<Channel, Global>,
     pub(crate) pass: InboxPass,
-    /// An envelope that was taken out of the queue and could not be moved.
+    /// An envelope that was taken out of the queue and couldn't be moved.
     pub(crate) hand: Option<InboxEnvelope>,
-    /// How many envelopes were taken out of the queue.
+    /// The number of envelopes taken out of the queue.
     pub(crate) taken: u64,
-    /// How many envelopes of each route were drained.
+    /// The number of envelopes drained from each route.
     pub(crate) counts: Vec<u64>,
-    /// The place of each route.
     pub(crate) places: IndexMap<RouteId, usize>,
     /// Room for the components whose senders come back.
     pub(crate) sources: Vec<CompId>,
-    /// Room for what is still in the inbox at the end.
+    /// Room for what is left in the inbox at the end.
     pub(crate) rest: Vec<(u32, Env<Message>, u64)>,
 }
 
@@ -62,7 +61,7 @@ impl Model for Owner {
     ghost invariant = { IsOwner };
 }
 
-/// The next envelope of the queue. Nothing where the queue was found empty.
+/// The next envelope of the queue, or `None` if the queue was found empty.
 pub(crate) fn take_out<R: Wait>(
     rt: &R,
     queue: &InboxQueue,
@@ -78,8 +77,8 @@ pub(crate) fn take_out<R: Wait>(
     queue.pop_as::<TakeOut, R>(rt, pass)
 }
 
-/// The envelope in hand, or else the next of the queue, which is counted as taken out. Nothing
-/// where there is none in hand and the queue was found empty.
+/// The envelope in hand, or else the next of the queue, which is counted as taken out. `None` if
+/// there is neither.
 fn next_envelope<R: Wait>(
     rt: &R,
     queue: &InboxQueue,
@@ -107,9 +106,7 @@ fn next_envelope<R: Wait>(
     Some(envelope)
 }
 
-/// Moves an envelope to its port.
-///
-/// Where it answers 50 `Memory`, the envelope is in hand, where none was.
+/// Moves an envelope to its port. After 50 `Memory` the envelope is in hand; none was before.
 fn deliver(
     channel: &Channel,
     hand: &mut Option<InboxEnvelope>,
@@ -141,7 +138,6 @@ fn deliver(
     }
 }
 
-/// What a wait finds at once where there is an envelope in hand.
 fn in_hand(hand: &Option<InboxEnvelope>) -> Option<Woken>
     ensures { result ≡ option_map (λ _. Woken.Arrived) hand.now }
 {
@@ -152,10 +148,8 @@ fn in_hand(hand: &Option<InboxEnvelope>) -> Option<Woken>
 }
 
 impl Owner {
-    /// Moves the envelope in hand, or else the next of the queue, to its port. False where there is
-    /// none in hand and the queue was found empty.
-    ///
-    /// Where it answers 50 `Memory`, the envelope is in hand.
+    /// Moves the envelope in hand, or else the next of the queue, to its port. Returns false if
+    /// there is neither. After 50 `Memory` the envelope is in hand.
     fn move_next<R: Wait>(&mut self, rt: &R, desk: &mut Desk) -> Result<bool, Memory>
         requires desk { IsDeskOf self.old.inbox desk.old }
         requires arrivals { arrivals desk.old.log ≡ self.old.drained }
@@ -180,11 +174,11 @@ impl Owner {
         Ok(true)
     }
 
-    /// Moves what has come into the inbox to the ports of the desk, in the order of the queue, and
-    /// answers how many messages it moved. Each move is an `Arrive` in the desk's history.
+    /// Moves what has arrived in the inbox to the ports of the desk, in the order of the queue, and
+    /// returns the number of messages moved. Each move is an `Arrive` in the desk's history.
     ///
-    /// Where it answers 50 `Memory`, what was moved is in the desk, and the rest is in the inbox,
-    /// in its order; the next drain goes on with it.
+    /// After 50 `Memory` the desk has what was moved, and the inbox the rest, in its order; the
+    /// next drain goes on with it.
     pub fn drain<R: Wait>(&mut self, rt: &R, desk: &mut Desk) -> Result<u64, Memory>
         requires desk { IsDeskOf self.old.inbox desk.old }
         requires arrivals { arrivals desk.old.log ≡ self.old.drained }
@@ -206,8 +200,8 @@ impl Owner {
         unreachable!()
     }
 
-    /// How many messages of this route this owner has drained, over all drains: none of a route
-    /// that leads to another component. Looks at no history.
+    /// The number of messages of this route that this owner has drained, over all drains: 0 for a
+    /// route that leads to another component. It searches no history.
     pub fn drained(&self, route: RouteId) -> u64
         ensures { result ≡ drained_on self.now route }
     {
@@ -218,7 +212,7 @@ impl Owner {
     }
 
     /// Waits until the inbox holds a message, or is closed, or no other living behaviour is awake.
-    /// A message that a drain could not move counts as in the inbox.
+    /// A message that a drain couldn't move counts as in the inbox.
     pub fn wait<R: Wait>(&self, rt: &R) -> Woken {
         if let Some(found) = in_hand(&self.hand) {
             return found;
@@ -227,15 +221,15 @@ impl Owner {
     }
 }
 
-/// Closes an inbox.
+/// A handle that closes an inbox.
 #[derive(Drop)]
 pub struct Closer {
     pub(crate) channel: Arc<Channel, Global>,
 }
 
 impl Closer {
-    /// Closes the inbox: its owner, where it waits or comes to wait, finds no more than what is
-    /// there already. Messages can be put and drained as before.
+    /// Closes the inbox: a wait of its owner, now or later, finds only what is there already.
+    /// Messages can be put and drained as before.
     pub fn close<R: Wait>(&self, rt: &R) {
         self.channel.close(rt);
     }

@@ -1,33 +1,32 @@
 //! The rule of an inbox's queue, and its kinds of step.
 //!
-//! The rule speaks of whole envelopes: for each sender, of whom there may be any number and who may
-//! have any number of routes, its part of what the owner has taken out, followed by what the queue
-//! holds, is what the sender has put, in its order over all its routes; and on each route they are
-//! numbered from 0. It holds between any two steps of any threads.
+//! The rule speaks of whole envelopes, for any number of senders with any number of routes. What
+//! the owner has taken out of a sender's, followed by what the queue holds of them, is what the
+//! sender has put, in its order over all its routes; and on each route they are numbered from 0.
+//! The rule holds between any two steps of any threads.
 use crate::envelope::InboxEnvelope;
 use crossbeam_queue::protocol::{Join, Lesson, Outcome, Protocol, Split};
 use crossbeam_queue::{RuledSegQueue, SegPass};
 use std::collections::LinkedList;
 
-/// What a pass knows. No value of it is made: it stands in contracts alone.
+/// The knowledge of a pass. It exists in contracts alone.
 pub(crate) struct View {
-    /// It is a sender's.
+    /// True for a sender's pass.
     pub sends: bool,
     /// The places of the sender's routes.
     pub places: LinkedList<usize>,
     /// What the sender has put, in its order over all its routes.
     pub put: LinkedList<InboxEnvelope>,
-    /// It is the owner's.
+    /// True for the owner's pass.
     pub owns: bool,
-    /// How many routes the owner has split off.
+    /// The number of routes that the owner has split off.
     pub split_off: usize,
     /// What the owner has taken out, in order.
     pub taken: LinkedList<InboxEnvelope>,
-    /// Of each sender that has joined, the places of its routes and what it had put.
+    /// For each sender that has joined, the places of its routes and what it had put.
     pub known: LinkedList<(LinkedList<usize>, LinkedList<InboxEnvelope>)>,
 }
 
-/// The rule itself.
 pub(crate) struct DeliveryRule;
 
 impl Protocol<InboxEnvelope, View> for DeliveryRule {
@@ -39,7 +38,7 @@ impl Protocol<InboxEnvelope, View> for DeliveryRule {
     ghost first = { owner_pass 0 [] [] };
 }
 
-/// A new route, and the pass of a sender that has it alone; and a sender's pass when it comes back.
+/// A new route, with the pass of a sender that has it alone; and the return of a sender's pass.
 pub(crate) struct Route;
 
 impl Split<View> for Route {
@@ -60,7 +59,7 @@ impl Join<View> for Route {
     ghost spent = { spent };
 }
 
-/// A sender that takes over the routes of another, which has put nothing.
+/// A sender takes over the routes of another, which has put nothing.
 pub(crate) struct Takeover;
 
 impl Join<View> for Takeover {
@@ -72,7 +71,7 @@ impl Join<View> for Takeover {
     ghost spent = { spent };
 }
 
-/// An envelope that a sender pushes.
+/// A sender pushes an envelope.
 pub(crate) struct Put;
 
 impl Outcome<InboxEnvelope, View> for Put {
@@ -81,7 +80,7 @@ impl Outcome<InboxEnvelope, View> for Put {
     ghost then = { PutsEnvelope };
 }
 
-/// An envelope that the owner takes out, and what it learns where it looks into the queue.
+/// The owner takes out an envelope, and learns what it sees in the queue.
 pub(crate) struct TakeOut;
 
 impl Outcome<InboxEnvelope, View> for TakeOut {
@@ -96,8 +95,7 @@ impl Lesson<InboxEnvelope, View> for TakeOut {
     ghost fact = { Knows };
 }
 
-/// The queue of an inbox.
 pub(crate) type InboxQueue = RuledSegQueue<InboxEnvelope, View, DeliveryRule>;
 
-/// What a sender or the owner reaches the queue with.
+/// The access of a sender or the owner to the queue.
 pub(crate) type InboxPass = SegPass<InboxEnvelope, View>;

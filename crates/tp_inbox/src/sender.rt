@@ -23,7 +23,7 @@ use tp_history::stamped::Stamped;
 use tp_refusal::memory::Memory;
 use tp_value::message::Message;
 
-/// How many messages a route takes.
+/// The maximum number of messages on a route.
 pub const ROUTE_LIMIT: u64 = 100_000;
 
 /// Why a message was not put.
@@ -37,21 +37,21 @@ pub enum PutFault {
     Memory,
 }
 
-/// The sender of one component into one inbox, on all routes from the one to the other, seen by
-/// contracts as its inbox, the component, the routes and its ledger: the list of the messages that
-/// it has put, in order, with their routes, numbers and stamps. The ledger is what its pass knows,
-/// in contracts alone: a sender keeps no more of it than how many there were on each route.
+/// The sender of one component into one inbox, on all routes from one to the other. Contracts see
+/// it as its inbox, the component, the routes and its ledger: the list of the messages that it has
+/// put, in order, with their routes, numbers and stamps. The ledger is what its pass knows, in
+/// contracts alone: a sender itself keeps only the number of messages on each route.
 ///
-/// It may be moved into a thread of its own. There is no order between what different senders put.
+/// It may be moved into a thread of its own. The order of what different senders put is open.
 #[derive(Drop)]
 pub struct Sender {
     pub(crate) channel: Arc<Channel, Global>,
     pub(crate) pass: InboxPass,
-    /// The component that sends by it.
+    /// The component that sends with it.
     pub(crate) source: CompId,
     /// The places of its routes among the routes into the inbox's component, in order.
     pub(crate) places: Vec<usize>,
-    /// How many messages it has put on each of its routes.
+    /// The number of messages that it has put on each of its routes.
     pub(crate) counts: Vec<u64>,
 }
 
@@ -80,7 +80,7 @@ impl Model for Sender {
 }
 
 impl Sender {
-    /// A sender with this one route, that has put nothing. Its pass is one that has this route.
+    /// A sender with this one route that has put nothing. Its pass has this route.
     pub(crate) fn begin(
         alloc: Global,
         channel: Arc<Channel, Global>,
@@ -107,7 +107,7 @@ impl Sender {
         })
     }
 
-    /// Takes over a route that it has not, from a pass that has put nothing on it. It has put
+    /// Takes over a route that it doesn't have, from a pass that has put nothing on it. It has put
     /// nothing itself.
     pub(crate) fn extend(&mut self, other: InboxPass, place: usize) -> Result<(), Memory>
         requires queue { IsSegPassOf self.old.inbox.queue other }
@@ -126,12 +126,12 @@ impl Sender {
         Ok(())
     }
 
-    /// Puts a stamped message into the inbox on one of its routes, and answers its number there,
-    /// from 0. The inbox holds it from then on, behind all that this sender has put before on any
-    /// of its routes, until the owner takes it out.
+    /// Puts a stamped message into the inbox on one of its routes, and returns its number there,
+    /// from 0. The inbox then holds it, after everything that this sender has put before on any of
+    /// its routes, until the owner takes it out.
     ///
-    /// 15 `Limit` exactly where the route has taken [`ROUTE_LIMIT`] messages. This and 50 `Memory`
-    /// hand the message back, and the sender and the inbox are as before.
+    /// 15 `Limit` if and only if the route has taken [`ROUTE_LIMIT`] messages. This and 50 `Memory`
+    /// return the message, and leave the sender and the inbox as before.
     pub fn put<R: Wait>(
         &mut self,
         rt: &R,
@@ -168,11 +168,11 @@ impl Sender {
     }
 
     /// Sends a message: notes it at this desk under the next stamp of its history, and puts it on
-    /// this one of the routes. The two are one: it is noted where it is put, and nowhere else. The
-    /// desk is of one thread, so nobody sees a note before its message is put.
+    /// this one of the routes. Both happen or neither. The desk belongs to one thread, so that no
+    /// thread sees the note before the message is put.
     ///
-    /// 15 `Limit` only where the route has taken all that it takes; 50 `Memory` also where no stamp
-    /// is left. Either hands the message back, and nothing is put or noted then.
+    /// 15 `Limit` only if the route is full; 50 `Memory` also if no stamp is left. Either returns
+    /// the message, and nothing is put or noted.
     pub fn send<R: Wait>(
         &mut self,
         rt: &R,
@@ -203,7 +203,7 @@ impl Sender {
         Err((fault, back.message))
     }
 
-    /// How many routes it has: each leads to the inbox's component, and no two are equal.
+    /// The number of its routes. Each leads to the inbox's component, and no two are equal.
     pub fn ways(&self) -> usize
         ensures count { result ≡ length self.now.routes }
         ensures aimed { All (λ r. r.to.comp ≡ self.now.inbox.comp) self.now.routes }
@@ -212,7 +212,7 @@ impl Sender {
         self.places.len()
     }
 
-    /// How many messages it has put on this one of its routes.
+    /// The number of messages that it has put on this one of its routes.
     pub fn count(&self, way: usize) -> u64
         requires { way < length self.now.routes }
         ensures { result ≡ length (put_on_way self.now way) }
@@ -235,7 +235,7 @@ impl Sender {
         self.channel.comp
     }
 
-    /// The component that sends by it.
+    /// The component that sends with it.
     pub fn source(&self) -> CompId
         ensures { result ≡ self.now.source }
     {

@@ -1,4 +1,4 @@
-//! What was put into an inbox that is settled, route by route.
+//! The messages put into a settled inbox, route by route.
 ghost use Rattle.std.specs.Prelude.{◌≡◌, ◌++◌, IfOk, OnOk};
 ghost use Rattle.std.specs.List.{flat_map};
 ghost use Rattle.tp_history.specs.History.{arrived_from};
@@ -14,7 +14,6 @@ use tp_history::entry::Entry;
 use tp_refusal::memory::Memory;
 use tp_value::message::Message;
 
-/// Adds a copy of the message that came to this port, if it came on the route.
 fn add_message(
     alloc: Global,
     route: RouteId,
@@ -31,7 +30,6 @@ fn add_message(
     Ok(())
 }
 
-/// The same of an entry, which may be another than an arrival.
 fn add_entry(
     alloc: Global,
     route: RouteId,
@@ -47,7 +45,6 @@ fn add_entry(
     }
 }
 
-/// Copies of the messages in a history that came on the route.
 fn messages_of(alloc: Global, route: RouteId, log: &[Entry]) -> Result<Vec<Message>, Memory>
     ensures { IfOk result (λ ms. ms.items ≡ flat_map (message_of_entry route) log.now) }
 {
@@ -58,9 +55,9 @@ fn messages_of(alloc: Global, route: RouteId, log: &[Entry]) -> Result<Vec<Messa
     Ok(messages)
 }
 
-/// Copies of the messages that were put on this route into an inbox, in order, once it is settled:
-/// those that came to the desk of its component, and behind them those in the rest. By the clause
-/// `delivered` of [`settle`](crate::gathered::Gathered::settle) it is what their sender has put.
+/// Copies of the messages that were put on this route into an inbox that is settled, in order:
+/// those that arrived at the desk of its component, and then those in the rest. By the clause
+/// `delivered` of [`settle`](crate::gathered::Gathered::settle) they are what their sender has put.
 pub fn put_on_route(
     alloc: Global,
     desk: &Desk,

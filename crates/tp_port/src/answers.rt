@@ -11,7 +11,6 @@ use tp_event::event::Env;
 use tp_queue::queue::Queue;
 use tp_refusal::memory::Memory;
 
-/// Adds a word, a number and the end of the line.
 pub fn write_count(out: &mut String, word: &str, count: u64) -> Result<(), Memory>
     ensures { OnOk result (string_bytes out.new ≡ string_bytes out.old
         ++ counted_text word.now count) }
@@ -23,7 +22,6 @@ pub fn write_count(out: &mut String, word: &str, count: u64) -> Result<(), Memor
     Ok(())
 }
 
-/// Adds the envelope's sender and value, and the end of the line.
 pub fn write_envelope(out: &mut String, senders: &Senders<'_>, env: &Env<i64>) -> Result<(), Memory>
     ensures { OnOk result (string_bytes out.new ≡ string_bytes out.old
         ++ envelope_text senders.now env.now) }
@@ -36,7 +34,7 @@ pub fn write_envelope(out: &mut String, senders: &Senders<'_>, env: &Env<i64>) -
     Ok(())
 }
 
-/// Adds the word and the envelope, or `no` where there is none.
+/// Adds the word and the envelope, or `no` if there is none.
 pub fn write_envelope_or_no(
     out: &mut String,
     senders: &Senders<'_>,
@@ -56,7 +54,6 @@ pub fn write_envelope_or_no(
     Ok(())
 }
 
-/// Adds the entry at this place of the queue, if there is one.
 fn write_queued(
     out: &mut String,
     senders: &Senders<'_>,
@@ -73,7 +70,7 @@ fn write_queued(
     }
 }
 
-/// Adds what is left in the queue.
+/// Adds the messages left in the queue.
 pub fn write_left(out: &mut String, senders: &Senders<'_>, queue: &Queue<i64>) -> Result<(), Memory>
     ensures { OnOk result (string_bytes out.new ≡ string_bytes out.old
         ++ text_of_left senders.now queue.now.entries) }

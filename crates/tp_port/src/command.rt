@@ -1,4 +1,4 @@
-//! The lines of a queue file, read.
+//! The lines of a queue file, as they are read.
 ghost use Rattle.std.specs.Prelude.{◌≡◌, ◌∷◌, [], codes, Some, ◌↔◌, ℤ, IfSome, IsTrue, MatchOption, FitsSigned};
 ghost use Rattle.std.specs.Int.{w64};
 ghost use Rattle.std.specs.List.{list_all};
@@ -11,43 +11,35 @@ ghost use Rattle.tp_port.specs.Command.{IsRead, queue_line, wish_of, words_left}
 use crate::pattern::IntegerPattern;
 use tp_text::cut::{first_word, utf8_text};
 
-/// The most letters and digits that a name has.
+/// The maximum number of letters and digits of a name.
 pub const NAME_LIMIT: usize = 20;
 
-/// The first word of a line: its name in small letters.
+/// The first word of a line: its name in lower-case letters.
 #[derive(Clone, Copy)]
 pub enum CommandVerb {
-    /// `arrive`
     Arrive,
-    /// `receive`
     Receive,
-    /// `check`
     Check,
-    /// `trigger`
     Trigger,
-    /// `clear`
     Clear,
-    /// `start`
     Start,
-    /// `stop`
     Stop,
-    /// `halt`
     Halt,
 }
 
-/// What a receiving operation asks of a message: its matching criteria (ES 201 873-1, 22.2.2).
+/// The matching criteria of a receiving operation (ES 201 873-1, 22.2.2).
 #[derive(Clone, Copy)]
 pub struct Criteria<'t> {
     /// The wanted value.
     pub value: IntegerPattern,
-    /// The name after `from`, if there is one.
+    /// The name after `from`.
     pub from: Option<&'t str>,
 }
 
-/// A line of a queue file. Its names lie in the text.
+/// A line of a queue file. Its names are slices of the text.
 #[derive(Clone, Copy)]
 pub enum Command<'t> {
-    /// `arrive NAME INT`: a message comes from this sender.
+    /// `arrive NAME INT`: a message from this sender arrives.
     Arrive(&'t str, i64),
     /// `receive PAT [from NAME]`.
     Receive(Criteria<'t>),
@@ -55,17 +47,12 @@ pub enum Command<'t> {
     Check(Criteria<'t>),
     /// `trigger PAT [from NAME]`.
     Trigger(Criteria<'t>),
-    /// `clear`.
     Clear,
-    /// `start`.
     Start,
-    /// `stop`.
     Stop,
-    /// `halt`.
     Halt,
 }
 
-/// The verb that a word is.
 #[inline(always)]
 fn verb_in(word: &[u8]) -> Option<CommandVerb>
     ensures { MatchOption result
@@ -85,14 +72,13 @@ fn verb_in(word: &[u8]) -> Option<CommandVerb>
     }
 }
 
-/// Whether all bytes are letters and digits.
 fn is_alphanumeric(bytes: &[u8]) -> bool
     ensures { result ≡ list_all is_ascii_alphanumeric bytes.now }
 {
     bytes.iter().all(|byte| byte.is_ascii_alphanumeric())
 }
 
-/// Whether a word is a name: a letter, then letters and digits, 1 to 20 in all.
+/// A name is a letter, then letters and digits, 1 to 20 in all.
 fn is_name(word: &[u8]) -> bool
     ensures { IsTrue result ↔ IsName word.now }
 {
@@ -104,7 +90,6 @@ fn is_name(word: &[u8]) -> bool
     }
 }
 
-/// The name that a word is.
 fn name_of(word: &[u8]) -> Option<&str>
     ensures { MatchOption result
         (¬ IsName word.now)
@@ -113,8 +98,7 @@ fn name_of(word: &[u8]) -> Option<&str>
     if is_name(word) { utf8_text(word) } else { None }
 }
 
-/// Whether a word begins as an integer in decimal does, with a digit from 1 to 9, before which a
-/// `-` may stand; or is `0`.
+/// A digit from 1 to 9, before which a `-` may stand; or the whole word `0`.
 fn begins_as_integer(word: &[u8]) -> bool
     ensures { IsTrue result ↔ BeginsAsInteger word.now }
 {
@@ -124,7 +108,7 @@ fn begins_as_integer(word: &[u8]) -> bool
     }
 }
 
-/// The integer that a word can be read as, in whatever form.
+/// The integer that a word can be read as, in any form.
 fn parse_integer(word: &[u8]) -> Option<i64>
     ensures every { (n : ℤ) → FitsSigned w64 n → word.now ≡ signed_decimal n → result ≡ Some n }
     ensures decimal { IfSome result (λ n. BeginsAsInteger word.now → word.now ≡ signed_decimal n) }
@@ -133,7 +117,7 @@ fn parse_integer(word: &[u8]) -> Option<i64>
     text.parse::<i64>().ok()
 }
 
-/// The integer that a word is: in decimal, of 64 signed bits, without a leading zero or a `+`.
+/// In decimal, with 64 signed bits, without a leading zero or a `+`.
 fn integer_of(word: &[u8]) -> Option<i64>
     ensures { MatchOption result
         ((n : ℤ) → FitsSigned w64 n → word.now ≡ signed_decimal n → ⊥)
@@ -146,7 +130,6 @@ fn integer_of(word: &[u8]) -> Option<i64>
     }
 }
 
-/// The pattern that a word is.
 fn pattern_of(word: &[u8]) -> Option<IntegerPattern>
     ensures { MatchOption result
         ((p : _) → PatternFits p → word.now ≡ pattern_text p → ⊥)
@@ -159,7 +142,6 @@ fn pattern_of(word: &[u8]) -> Option<IntegerPattern>
     Some(IntegerPattern::Number(value))
 }
 
-/// The one word that there is.
 fn only_word(words: Option<&[u8]>) -> Option<&[u8]>
     ensures { MatchOption result
         ((word : _) → words_left words.entry ≡ word ∷ [] → ⊥)
@@ -186,7 +168,6 @@ fn sender_named(words: &[u8]) -> Option<&str>
     name_of(name)
 }
 
-/// The criteria of a receiving operation.
 fn criteria_of(words: Option<&[u8]>) -> Option<Criteria<'_>>
     ensures { MatchOption result
         ((wish : _) → IsWish wish → words_left words.entry ≡ wish_words wish → ⊥)
@@ -206,7 +187,6 @@ fn criteria_of(words: Option<&[u8]>) -> Option<Criteria<'_>>
     }
 }
 
-/// The sender and the value of an arrival.
 fn arrival_of(words: Option<&[u8]>) -> Option<(&str, i64)>
     ensures { MatchOption result
         ((name : _) (n : ℤ) → IsArriveLine name n
@@ -220,7 +200,7 @@ fn arrival_of(words: Option<&[u8]>) -> Option<(&str, i64)>
     Some((sender, value))
 }
 
-/// The command that has no operands, where no word follows.
+/// The command, if no word follows: it has no operands.
 fn alone<'t>(command: Command<'t>, words: Option<&[u8]>) -> Option<Command<'t>>
     requires { operands (queue_line command) ≡ [] }
     ensures { IsRead (verb_of (queue_line command.entry)) (words_left words.entry) result }
@@ -231,7 +211,6 @@ fn alone<'t>(command: Command<'t>, words: Option<&[u8]>) -> Option<Command<'t>>
     }
 }
 
-/// The command that this verb and the words after it are.
 #[inline(always)]
 fn command_with(verb: CommandVerb, words: Option<&[u8]>) -> Option<Command<'_>>
     ensures { IsRead verb (words_left words.entry) result }
@@ -251,9 +230,9 @@ fn command_with(verb: CommandVerb, words: Option<&[u8]>) -> Option<Command<'_>>
     }
 }
 
-/// The command that a line is, its end left out: one space between words and none elsewhere, names
-/// of 1 to 20 letters and digits with a letter first, integers of 64 signed bits in decimal without
-/// a leading zero or a `+`. `None` for any other line, an empty one too.
+/// Reads a line without its end. There is one space between words and none elsewhere. Names have 1
+/// to 20 letters and digits, with a letter first. Integers have 64 signed bits, in decimal without
+/// a leading zero or a `+`. `None` for any other line, including an empty one.
 // Inlined, as what tells the verb is: a call hands a command's seven words back through memory.
 #[inline(always)]
 pub fn command_of(line: &[u8]) -> Option<Command<'_>>
@@ -270,7 +249,7 @@ pub fn command_of(line: &[u8]) -> Option<Command<'_>>
     command_with(verb, rest)
 }
 
-/// A text says one list of lines at most: a law, and no work.
+/// A law without work: a text is at most one list of lines.
 pub fn says_one_at_most()
     ensures { SaysOneAtMost }
 {}

@@ -19,20 +19,17 @@ use tp_queue::queue::Queue;
 use tp_refusal::limit::TEXT_LIMIT;
 use tp_refusal::memory::Memory;
 
-/// A queue file that is carried out, line by line. What has happened at the port is kept by nobody:
-/// contracts speak of whichever history the queue stands for.
+/// The execution of a queue file, line by line. It doesn't keep the history of the port: contracts
+/// speak of any history that the queue stands for.
 #[derive(Drop)]
 pub struct Engine<'t> {
-    /// The senders that were seen.
+    /// The senders seen so far.
     senders: Senders<'t>,
     queue: Queue<i64>,
-    /// How many messages arrived.
     arrivals: u64,
-    /// The answers so far.
     answers: String,
 }
 
-/// Answers a `receive`.
 fn answer_receive(
     queue: &mut Queue<i64>,
     senders: &Senders<'_>,
@@ -51,7 +48,6 @@ fn answer_receive(
     Ok(())
 }
 
-/// Answers a `check`.
 fn answer_check(
     queue: &Queue<i64>,
     senders: &Senders<'_>,
@@ -70,7 +66,6 @@ fn answer_check(
     Ok(())
 }
 
-/// Answers a `trigger`.
 fn answer_trigger(
     queue: &mut Queue<i64>,
     senders: &Senders<'_>,
@@ -92,7 +87,7 @@ fn answer_trigger(
 }
 
 impl<'t> Engine<'t> {
-    /// Before the first line.
+    /// The state before the first line.
     pub fn new(alloc: Global) -> Engine<'t>
         ensures progress { HasReached result first_progress }
         ensures answers { string_bytes result.answers ≡ [] }
@@ -206,7 +201,7 @@ impl<'t> Engine<'t> {
         Ok(())
     }
 
-    /// Carries the command out, and adds its answer.
+    /// Executes the command, and adds its answer.
     pub fn perform(&mut self, command: Command<'t>) -> Result<(), Memory>
         requires { HasCounted self.old TEXT_LIMIT }
         ensures { OnOk result (CarriesLine self.old self.new (queue_line command.entry)) }
@@ -223,7 +218,7 @@ impl<'t> Engine<'t> {
         }
     }
 
-    /// The answers, what is left in the queue behind them.
+    /// The answers, and then what is left in the queue.
     pub fn finish(self) -> Result<String, Memory>
         ensures { IfOk result (λ out. (s : Progress) → HasReached self.entry s
             → string_bytes out ≡ string_bytes self.entry.answers ++ left_text s.senders s.history) }

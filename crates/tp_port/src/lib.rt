@@ -1,8 +1,9 @@
-//! Mode `queue`: a queue file, which replays what happens at one message port, and a queue with its
-//! history. No run uses it.
+//! Mode `queue`: a queue file replays what happens at one message port. Also a queue that keeps its
+//! history, for programs. Start with [`replay::replay`] or [`port_queue::PortQueue`]; `tpr` calls
+//! the first, and runs use neither.
 //!
-//! Where a call answers 50 `Memory`, an allocation was refused. A `PortQueue` is then as before,
-//! and what was to arrive is handed back. A call that can't answer it takes no memory.
+//! 50 `Memory` means that an allocation was refused. A `PortQueue` is then as before, and the
+//! message that was to arrive is returned. A call that can't return it doesn't allocate.
 #![tactic(auto)]
 
 mod answers;

@@ -1,7 +1,7 @@
 //! The wanted part of a receiving operation in a queue file.
 use tp_event::payload::Wanted;
 
-/// Which integers are wanted.
+/// The integers that are wanted.
 #[derive(Clone, Copy)]
 pub enum IntegerPattern {
     /// `?`: every integer.

@@ -15,16 +15,16 @@ use tp_event::payload::{Payload, Wanted};
 use tp_queue::queue::Queue;
 use tp_refusal::memory::Memory;
 
-/// A queue with its history (ES 201 873-1, 9.1; ES 201 873-4, port states), seen by contracts as
-/// that history: the list of the port's events. It is for whoever has no other list of them.
+/// A queue with its history (ES 201 873-1, 9.1; ES 201 873-4, port states). Contracts see it as
+/// that history: the list of the port's events. Use it if your program keeps no list of them
+/// itself.
 ///
-/// What is queued, whether the port is started, halted or stopped, and what is deliverable are
-/// defined from the history alone. The queue in it decides, and never looks at the history.
+/// The history alone defines what is queued, whether the port is started, halted or stopped, and
+/// what is deliverable. The queue inside decides, and never searches the history.
 #[derive(Drop)]
 pub struct PortQueue<M: Payload> {
-    /// The history.
     events: Vec<Event<M>>,
-    /// What is decided from.
+    /// The queue that decides.
     queue: Queue<M>,
     alloc: Global,
 }
@@ -42,8 +42,8 @@ impl<M: Payload> Model for PortQueue<M> {
 }
 
 impl<M: Payload> PortQueue<M> {
-    /// A started port's queue with nothing in it, which takes its memory from `alloc` as messages
-    /// come: so is each port when its component is created (ES 201 873-1, 21.3.1).
+    /// The empty queue of a started port, as when its component is created (ES 201 873-1, 21.3.1).
+    /// It allocates from `alloc` as messages arrive.
     pub fn new(alloc: Global) -> Self
         ensures { result ≡ [] }
     {
@@ -54,8 +54,8 @@ impl<M: Payload> PortQueue<M> {
         }
     }
 
-    /// A message comes, and goes to the end of the queue, whatever the status: a halted or stopped
-    /// port queues too (9.1: a port is an unbounded first-in first-out queue).
+    /// A message arrives at the end of the queue, whatever the status: a halted or stopped port
+    /// queues too (9.1: a port is an unbounded first-in first-out queue).
     pub fn arrive(&mut self, env: Env<M>) -> Result<(), (Memory, Env<M>)>
         ensures ok { OnOk result (self.new ≡ self.old ++ event.Arrive env ∷ []) }
         ensures err { IfErr result (λ back. (back.1 ≡ env) × (self.new ≡ self.old)) }
@@ -72,9 +72,9 @@ impl<M: Payload> PortQueue<M> {
         Ok(())
     }
 
-    /// Takes the top message out where it is deliverable, `wanted` admits it and it comes from the
-    /// sender `from`, if one is given (22.2.2). Otherwise the answer is `None`, and nothing
-    /// happens: a message further down is never looked at.
+    /// Takes the top message out if it is deliverable, `wanted` admits it and it comes from the
+    /// sender `from`, if one is given (22.2.2). Otherwise it returns `None`, and nothing happens: a
+    /// message below the top is never looked at.
     pub fn receive<W: Wanted<M>>(
         &mut self,
         wanted: &W,
@@ -101,7 +101,7 @@ impl<M: Payload> PortQueue<M> {
     }
 
     /// Finds the top message as [`receive`](PortQueue::receive) does, and leaves it in the queue
-    /// (22.4). That it was found goes into the history.
+    /// (22.4). The history notes that it was found.
     pub fn check<W: Wanted<M>>(
         &mut self,
         wanted: &W,
@@ -119,9 +119,9 @@ impl<M: Payload> PortQueue<M> {
         Ok(self.queue.top())
     }
 
-    /// Takes the top message out where it is deliverable, whether it is wanted or not (22.2.3): it
-    /// is received by the same test as in [`receive`](PortQueue::receive), and else discarded.
-    /// `Nothing` where no message is deliverable; nothing happens then.
+    /// Takes the top message out if it is deliverable, whether it is wanted or not (22.2.3): it is
+    /// received by the same test as in [`receive`](PortQueue::receive), and else discarded. If no
+    /// message is deliverable, it returns `Nothing`, and nothing happens.
     pub fn trigger<W: Wanted<M>>(
         &mut self,
         wanted: &W,
@@ -151,7 +151,7 @@ impl<M: Payload> PortQueue<M> {
         }
     }
 
-    /// Discards every queued message, on both sides of a mark, and answers how many there were
+    /// Discards every queued message, before and after a mark, and returns how many there were
     /// (22.5.1). A halted port stays halted, with the mark at the top; a stopped one stays stopped.
     pub fn clear(&mut self) -> Result<u64, Memory>
         ensures count { IfOk result (λ discarded. discarded ≡ length (queued self.old)) }
@@ -163,8 +163,8 @@ impl<M: Payload> PortQueue<M> {
         Ok(self.queue.clear())
     }
 
-    /// Discards every queued message, on both sides of a mark, removes the mark, starts the port,
-    /// also one that was never stopped, and answers how many messages there were (22.5.2).
+    /// Discards every queued message, before and after a mark, removes the mark, starts the port,
+    /// even if it was never stopped, and returns how many messages there were (22.5.2).
     pub fn start(&mut self) -> Result<u64, Memory>
         ensures count { IfOk result (λ discarded. discarded ≡ length (queued self.old)) }
         ensures ok { OnOk result (self.new ≡ self.old ++ event.Started ∷ []) }
@@ -175,8 +175,8 @@ impl<M: Payload> PortQueue<M> {
         Ok(self.queue.start())
     }
 
-    /// Stops the port (22.5.3). What is queued stays queued; nothing of it is deliverable. On a
-    /// halted port the mark is thereby at the top.
+    /// Stops the port (22.5.3). Queued messages stay in the queue, and none of them is deliverable.
+    /// On a halted port the mark moves to the top.
     pub fn stop(&mut self) -> Result<(), Memory>
         ensures ok { OnOk result (self.new ≡ self.old ++ event.Stopped ∷ []) }
         ensures err { OnErr result (self.new ≡ self.old) }
@@ -187,10 +187,9 @@ impl<M: Payload> PortQueue<M> {
         Ok(())
     }
 
-    /// Halts a started port: puts the mark behind the last queued message, and answers how many
-    /// messages are ahead of it (22.5.4). Those are still deliverable, and what comes from now on
-    /// isn't. `None` on a halted or stopped port, where it has no effect but that it goes into the
-    /// history.
+    /// Halts a started port: puts the mark after the last queued message, and returns how many
+    /// messages are ahead of it (22.5.4). These are still deliverable; later arrivals aren't. On a
+    /// halted or stopped port it returns `None`, and only the history changes.
     pub fn halt(&mut self) -> Result<Option<u64>, Memory>
         ensures count { IfOk result (λ count. count ≡ halted_count (status_of self.old) self.old) }
         ensures ok { OnOk result (self.new ≡ self.old ++ event.Halted ∷ []) }
@@ -201,15 +200,16 @@ impl<M: Payload> PortQueue<M> {
         Ok(self.queue.halt())
     }
 
-    /// Whether the port may send: it is started (22.5.3 and 22.5.4 disallow it).
+    /// Returns whether the port may send, that is, whether it is started (22.5.3 and 22.5.4
+    /// disallow it otherwise).
     pub fn may_send(&self) -> bool
         ensures { IsTrue result ↔ (status_of self.now ≡ status.Started) }
     {
         self.queue.may_send()
     }
 
-    /// How many queued messages are deliverable: all of a started port, those ahead of the mark of
-    /// a halted one, none of a stopped one.
+    /// The number of deliverable messages: all of a started port, those ahead of the mark of a
+    /// halted one, none of a stopped one.
     pub fn ahead(&self) -> u64
         ensures count { result ≡ limit self.now - gone self.now }
         ensures within { gone self.now ≤ limit self.now }
@@ -217,29 +217,29 @@ impl<M: Payload> PortQueue<M> {
         self.queue.ahead()
     }
 
-    /// Whether the port is started, halted or stopped.
+    /// The status: started, halted or stopped.
     pub fn status(&self) -> Status
         ensures { result ≡ status_of self.now }
     {
         self.queue.status()
     }
 
-    /// How many messages are queued, on both sides of a mark.
+    /// The number of queued messages, before and after a mark.
     pub fn queued_len(&self) -> u64
         ensures { result ≡ length (queued self.now) }
     {
         self.queue.queued_len()
     }
 
-    /// The queued message at this place, from 0, the oldest; `None` where there are no more.
+    /// The queued message at this place, with the oldest at 0. `None` if there are no more.
     pub fn queued_at(&self, place: u64) -> Option<&Env<M>>
         ensures { option_copied result ≡ slice_get (queued self.now) place }
     {
         self.queue.queued_at(place)
     }
 
-    /// The message that a receiving operation sees: the oldest that is queued, where it is
-    /// deliverable, else `None` (22.2.2: only the top is looked at).
+    /// The message that a receiving operation sees: the oldest one queued, if it is deliverable
+    /// (22.2.2: only the top is looked at).
     pub fn top(&self) -> Option<&Env<M>>
         ensures { option_copied result ≡ top self.now }
     {

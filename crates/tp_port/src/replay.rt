@@ -1,4 +1,4 @@
-//! A queue file, read, carried out and answered.
+//! A queue file that is read, executed and answered.
 ghost use Rattle.std.specs.Prelude.{◌≡◌, ◌<◌, ◌≤◌, ◌↔◌, length, All, IsErrOf, IfErr, IfOk, IfSome, List, MatchOption, OnOk, Some, false, string_bytes};
 ghost use Rattle.tp_text.specs.Watching.{HasFailed, reader_left};
 ghost use Rattle.tp_text.specs.Cutting.{lines_of};
@@ -19,13 +19,13 @@ use tp_text::watched::{Watched, write_bytes};
 /// Why a queue file was not replayed.
 #[derive(Clone, Copy, Debug, PartialEq, Eq, Error)]
 pub enum QueueFault {
-    /// 1 BadLine: the line of this number, from 1, is the first that no queue file has.
+    /// 1 BadLine: the line of this number, from 1, is the first that isn't valid in a queue file.
     #[error("line {0} is no line of a queue file")]
     BadLine(u64),
-    /// 2 Read: the reader answered an error.
+    /// 2 Read: the reader returned an error.
     #[error("the text could not be read")]
     Read,
-    /// 3 Write: the writer answered an error, or took no byte.
+    /// 3 Write: the writer returned an error, or took no byte.
     #[error("the answers could not be written")]
     Write,
     /// 15 Limit: the text has more than [`TEXT_LIMIT`] bytes.
@@ -51,7 +51,6 @@ impl From<ReadFault> for QueueFault {
     }
 }
 
-/// The number of the first line that no queue file has, from 1.
 fn first_bad(text: &[u8]) -> Option<u64>
     ensures { MatchOption result (All IsGood (lines_of text.now)) (IsFirstBad (lines_of text.now)) }
 {
@@ -68,7 +67,7 @@ fn first_bad(text: &[u8]) -> Option<u64>
     None
 }
 
-/// Why a text is refused: its first bad line, and want of memory where it has none.
+/// The first bad line. Out of memory if there is none.
 fn refusal_of(text: &[u8]) -> QueueFault
     ensures { IsRefusedFor text.now result }
 {
@@ -78,7 +77,6 @@ fn refusal_of(text: &[u8]) -> QueueFault
     }
 }
 
-/// The answers to the lines of a text.
 fn answers_to(alloc: Global, text: &[u8]) -> Result<String, QueueFault>
     requires { length text.now ≤ 1048576 }
     ensures ok { IfOk result (λ out. (lines : List QueueLine)
@@ -103,12 +101,12 @@ fn answers_to(alloc: Global, text: &[u8]) -> Result<String, QueueFault>
     }
 }
 
-/// Carries out the lines of a text as a queue file, and writes their answers, what is left in the
-/// queue behind them.
+/// Executes the lines of a text as a queue file, and writes their answers, and then what is left in
+/// the queue.
 ///
-/// Refused are, in this order, 15 `Limit` a text of more than [`TEXT_LIMIT`] bytes, 1 `BadLine` its
-/// first line that no queue file has, and 50 `Memory`: each before anything is written. 3 `Write`
-/// where the writer has failed: a front of the answers is written then.
+/// It rejects, in this order, 15 `Limit` a text of more than [`TEXT_LIMIT`] bytes, 1 `BadLine` its
+/// first invalid line, and 50 `Memory`, each before anything is written. 3 `Write` if the writer
+/// has failed, after a front of the answers.
 pub fn replay_text<W: Write>(
     alloc: Global,
     text: &[u8],
@@ -139,10 +137,10 @@ pub fn replay_text<W: Write>(
     }
 }
 
-/// Reads a queue file, carries it out, and writes the answers to its lines and what is left in the
-/// queue behind them.
+/// Reads a queue file, executes it, and writes the answers to its lines, and then what is left in
+/// the queue.
 ///
-/// Refused is what [`read_text`] refuses, and then what [`replay_text`] does.
+/// It returns the refusals of [`read_text`], and then those of [`replay_text`].
 pub fn replay<R: Read, W: Write>(
     alloc: Global,
     reader: &mut Watched<R>,

@@ -8,7 +8,7 @@ use std::alloc::Global;
 use std::marker::Model;
 use tp_refusal::memory::Memory;
 
-/// The names of senders, numbered from 0 by first occurrence. Each name lies in the text.
+/// The names of senders, numbered from 0 by first occurrence. Each name is a slice of the text.
 #[derive(Drop)]
 pub struct Senders<'t> {
     names: IndexSet<&'t str>,
@@ -23,7 +23,6 @@ impl<'t> Model for Senders<'t> {
 }
 
 impl<'t> Senders<'t> {
-    /// No sender.
     pub fn new(alloc: Global) -> Senders<'t>
         ensures { result ≡ [] }
     {
@@ -32,7 +31,7 @@ impl<'t> Senders<'t> {
         }
     }
 
-    /// The number of the sender of this name, which is seen from now on.
+    /// The number of the sender with this name, which is known from now on.
     pub fn number(&mut self, name: &'t str) -> Result<u32, Memory>
         requires { length self.old < 2 ^ 32 }
         ensures seen { OnOk result (self.new ≡ with_sender self.old name.now) }
@@ -43,7 +42,7 @@ impl<'t> Senders<'t> {
         Ok(number as u32)
     }
 
-    /// The number of the wanted sender, if one is named, who is seen from now on.
+    /// The number of the wanted sender, if one is named; it is known from now on.
     pub fn wanted(&mut self, from: Option<&'t str>) -> Result<Option<u32>, Memory>
         requires { length self.old < 2 ^ 32 }
         ensures seen { OnOk result (self.new ≡ seen_if self.old (option_copied from.entry)) }

@@ -3,8 +3,8 @@ ghost use Rattle.std.specs.Prelude.{◌≡◌, ◌↔◌, IsTrue};
 
 use crate::value::Value;
 
-/// Whether two values are equal: of one kind, with equal contents in the same order. It calls
-/// itself once for each level of nesting.
+/// Returns whether two values are equal: of one kind, with equal contents in the same order. It
+/// calls itself once for each level of nesting.
 #[cycle(equal)]
 pub fn are_equal(left: &Value, right: &Value) -> bool
     ensures { IsTrue result ↔ (left.now ≡ right.now) }
@@ -33,7 +33,6 @@ pub fn are_equal(left: &Value, right: &Value) -> bool
     }
 }
 
-/// Whether two lists of values are equal.
 #[cycle(equal)]
 fn all_equal(left: &[Value], right: &[Value]) -> bool
     ensures { IsTrue result ↔ (left.now ≡ right.now) }

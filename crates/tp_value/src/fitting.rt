@@ -1,4 +1,4 @@
-//! Which templates fit a type.
+//! Templates that fit a type.
 ghost use Rattle.std.specs.Prelude.{◌↔◌, IsTrue};
 ghost use Rattle.tp_value.specs.HasType.{AllHave, FieldsHave};
 ghost use Rattle.tp_value.specs.Matches.{is_many};
@@ -8,8 +8,8 @@ use crate::template::Template;
 use crate::types::{Field, Ty, TypeDef, Types};
 use crate::typing::has_type;
 
-/// Whether the lower bound of a range is at most the upper, where there are both
-/// (ES 201 873-1, B.1.2.5).
+/// Returns whether the lower bound of a range is at most the upper, if both are given (ES 201
+/// 873-1, B.1.2.5).
 pub fn are_ordered(lower: Option<i64>, upper: Option<i64>) -> bool
     ensures { IsTrue result ↔ AreOrdered lower upper }
 {
@@ -22,8 +22,8 @@ pub fn are_ordered(lower: Option<i64>, upper: Option<i64>) -> bool
     }
 }
 
-/// Whether the template fits the type, so that it may stand where values of the type are matched
-/// (ES 201 873-1, 15 and B.1). `*` fits only among the elements of a record of.
+/// Returns whether the template fits the type, so that it may stand where values of the type are
+/// matched (ES 201 873-1, 15 and B.1). `*` fits only among the elements of a record of.
 ///
 /// It calls itself once for each level of nesting.
 #[cycle(template_fits)]
@@ -51,7 +51,6 @@ pub fn template_fits(types: &Types, ty: Ty, template: &Template) -> bool
     }
 }
 
-/// Whether each template fits the type.
 #[cycle(template_fits)]
 fn all_fit(types: &Types, ty: Ty, members: &[Template]) -> bool
     ensures { IsTrue result ↔ AllHave (λ m t. Fits types.now t m) ty members.now }
@@ -64,7 +63,6 @@ fn all_fit(types: &Types, ty: Ty, members: &[Template]) -> bool
     true
 }
 
-/// Whether there is one template that fits the declared type for each field.
 #[cycle(template_fits)]
 fn fields_fit(types: &Types, declared: &[Field], members: &[Template]) -> bool
     ensures { IsTrue result ↔ FieldsHave (λ m t. Fits types.now t m) declared.now members.now }
@@ -80,7 +78,6 @@ fn fields_fit(types: &Types, declared: &[Field], members: &[Template]) -> bool
     true
 }
 
-/// Whether each template is `*` or fits the type.
 #[cycle(template_fits)]
 fn elements_fit(types: &Types, ty: Ty, members: &[Template]) -> bool
     ensures { IsTrue result ↔ ElementsFit is_many (λ m t. Fits types.now t m) ty members.now }

@@ -6,10 +6,10 @@ use std::alloc::Global;
 use std::marker::Model;
 use tp_refusal::memory::Memory;
 
-/// A list of items, which contracts see as the list of its items alone: two of the same items are
-/// equal, whatever room was allocated for each. So a copy can equal its original.
+/// A list of items that contracts see as the list of its items alone: two lists of the same items
+/// are equal, whatever room is allocated for each. So a copy can equal its original.
 ///
-/// It may stand inside a type that it holds, as a list of values inside a value.
+/// A type may contain a list of itself, as a value contains a list of values.
 #[derive(Debug, Drop)]
 pub struct Items<T> {
     items: Vec<T>,
@@ -27,7 +27,7 @@ impl<T> Model for Items<T> {
 }
 
 impl<T> Items<T> {
-    /// No items. A later [`Items::push`] takes memory from `alloc`.
+    /// An empty list. A later [`Items::push`] allocates from `alloc`.
     pub fn new(alloc: Global) -> Items<T>
         ensures { result ≡ [] }
     {
@@ -50,21 +50,21 @@ impl<T> Items<T> {
         self.items.as_slice()
     }
 
-    /// How many items there are.
+    /// The number of items.
     pub fn len(&self) -> usize
         ensures { result ≡ length self.now }
     {
         self.items.len()
     }
 
-    /// Whether there are none.
+    /// Returns whether there are none.
     pub fn is_empty(&self) -> bool
         ensures { IsTrue result ↔ (self.now ≡ []) }
     {
         self.items.is_empty()
     }
 
-    /// The item at this place, from 0, or `None` past the last.
+    /// The item at this place, from 0, or `None` after the last.
     pub fn get(&self, at: usize) -> Option<&T>
         ensures item { option_copied result ≡ slice_get self.now at }
         ensures within { OnSome result (at < length self.now) }

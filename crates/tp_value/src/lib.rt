@@ -1,8 +1,9 @@
-//! The data that messages are made of: types, values, templates, whether a value matches a
-//! template; and verdicts. The checks, a run and the search for verdicts use it.
+//! The data of messages: types, values, templates, and whether a value matches a template; and
+//! verdicts. The checks, a run and the search for verdicts use it. Start with [`value::Value`],
+//! [`types::Types`] and [`template::Template`].
 //!
-//! Where a call answers 50 `Memory`, an allocation was refused: what it borrows is as before, and
-//! what it was handed is dropped. A call that can't answer it takes no memory.
+//! 50 `Memory` means that an allocation was refused: what the call borrows is as before, and what
+//! it was given is dropped. A call that can't return it doesn't allocate.
 #![tactic(auto)]
 
 pub mod equal;

@@ -1,4 +1,4 @@
-//! Whether a value matches a template.
+//! The match of a value with a template.
 ghost use Rattle.std.specs.Prelude.{◌≡◌, ◌↔◌, ◌<◌, ◌≤◌, IsTrue, length, drop, []};
 ghost use Rattle.tp_value.specs.Cuts.{HasCut, PieceOf};
 ghost use Rattle.tp_value.specs.Steps.{StepIs};
@@ -12,7 +12,6 @@ use crate::scan::ScanMove;
 use crate::template::Template;
 use crate::value::Value;
 
-/// Whether the number is within these bounds.
 fn is_in_range(lower: Option<i64>, upper: Option<i64>, number: i64) -> bool
     ensures { IsTrue result ↔ (AtLeast lower number × AtMost upper number) }
 {
@@ -27,7 +26,6 @@ fn is_in_range(lower: Option<i64>, upper: Option<i64>, number: i64) -> bool
     above && below
 }
 
-/// The number, where the value is an integer.
 fn number(value: &Value) -> Option<i64>
     ensures { result ≡ integer_in (out-Value value.now) }
 {
@@ -40,7 +38,6 @@ fn number(value: &Value) -> Option<i64>
     }
 }
 
-/// The characters, where the value is a charstring.
 fn text(value: &Value) -> Option<&[u8]>
     ensures { option_copied result ≡ charstring_in (out-Value value.now) }
 {
@@ -53,7 +50,6 @@ fn text(value: &Value) -> Option<&[u8]>
     }
 }
 
-/// The values of the fields, where the value is a record.
 fn fields(value: &Value) -> Option<&[Value]>
     ensures { option_copied result ≡ fields_in (out-Value value.now) }
 {
@@ -66,7 +62,6 @@ fn fields(value: &Value) -> Option<&[Value]>
     }
 }
 
-/// The elements, where the value is a record of.
 fn elements(value: &Value) -> Option<&[Value]>
     ensures { option_copied result ≡ elements_in (out-Value value.now) }
 {
@@ -79,11 +74,11 @@ fn elements(value: &Value) -> Option<&[Value]>
     }
 }
 
-/// Whether the value matches the template (ES 201 873-1, 15.7 and B.1). No type is asked.
+/// Returns whether the value matches the template (ES 201 873-1, 15.7 and B.1). It uses no types.
 ///
 /// The work is linear in the sizes for values and records. For a pattern, or a list with `*`, it is
-/// at most the number of parts times the number of characters or elements, comparisons of elements
-/// counted. It calls itself once for each level of nesting.
+/// at most the number of parts times the number of characters or elements, with comparisons of
+/// elements counted. It calls itself once for each level of nesting.
 #[cycle(matches)]
 pub fn matches(template: &Template, value: &Value) -> bool
     ensures { IsTrue result ↔ Matches template.now value.now }
@@ -113,7 +108,6 @@ pub fn matches(template: &Template, value: &Value) -> bool
     }
 }
 
-/// Whether some member matches.
 #[cycle(matches)]
 fn some_matches(members: &[Template], value: &Value) -> bool
     ensures { IsTrue result ↔ SomeMatches Matches members.now value.now }
@@ -126,7 +120,6 @@ fn some_matches(members: &[Template], value: &Value) -> bool
     false
 }
 
-/// Whether each field's template matches its field.
 #[cycle(matches)]
 fn fields_match(members: &[Template], fields: &[Value]) -> bool
     ensures { IsTrue result ↔ FieldsMatch Matches members.now fields.now }
@@ -160,7 +153,6 @@ fn list_step(members: &[Template], part: usize, elements: &[Value], at: usize) -
     }
 }
 
-/// Whether all templates from here on are `*`.
 fn only_many(members: &[Template], from: usize) -> bool
     requires { from ≤ length members.now }
     ensures { IsTrue result
@@ -174,8 +166,8 @@ fn only_many(members: &[Template], from: usize) -> bool
     true
 }
 
-/// Whether there is a cut of the elements for the templates: goes on from template to template, and
-/// where it is stuck goes back to the last `*`, which then takes one element more.
+/// Searches for a cut of the elements: it goes from template to template, and if it is stuck goes
+/// back to the last `*`, which then takes one element more.
 #[cycle(matches)]
 fn list_matches(members: &[Template], elements: &[Value]) -> bool
     ensures { IsTrue result

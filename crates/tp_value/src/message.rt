@@ -1,4 +1,4 @@
-//! Messages, and which of them a receiving operation wants.
+//! Messages, and those that a receiving operation wants.
 use crate::matching::matches;
 use crate::template::Template;
 use crate::types::Ty;
@@ -7,7 +7,7 @@ use std::alloc::Global;
 use tp_event::payload::{Payload, Wanted};
 use tp_refusal::memory::Memory;
 
-/// What a send sends: a value under a type (ES 201 873-1, 22.2.1). A message of a script has a
+/// A message to send: a value under a type (ES 201 873-1, 22.2.1). A message of a script has a
 /// value of its type; one that a caller builds may have another.
 #[derive(Debug, Drop)]
 pub struct Message {
@@ -17,7 +17,7 @@ pub struct Message {
     pub value: Value,
 }
 
-/// The copy equals the original, and takes no memory, as the copy of a [`Value`] takes none.
+/// The copy equals the original and doesn't allocate, like the copy of a [`Value`].
 impl Payload for Message {
     fn copy(&self, alloc: Global) -> Result<Message, Memory> {
         Ok(Message {
@@ -30,13 +30,13 @@ impl Payload for Message {
 /// The wanted part of a receiving operation (ES 201 873-1, 22.2.2).
 #[derive(Drop)]
 pub enum MsgTemplate {
-    /// No type and no template: every message.
+    /// Every message: no type and no template.
     Any,
-    /// The messages of this very type whose value matches the template.
+    /// The messages of exactly this type whose value matches the template.
     Of(Ty, Template),
 }
 
-/// Whether a message is wanted.
+/// Returns whether a message is wanted.
 impl Wanted<Message> for MsgTemplate {
     ghost use Rattle.tp_value.specs.Admits.{Admits};
 

@@ -1,4 +1,4 @@
-//! Whether a charstring matches a pattern.
+//! The match of a charstring with a pattern.
 ghost use Rattle.std.specs.Prelude.{◌≡◌, ◌↔◌, ◌<◌, ◌≤◌, IsTrue, length, drop, []};
 ghost use Rattle.tp_value.specs.Cuts.{HasCut};
 ghost use Rattle.tp_value.specs.Steps.{StepIs};
@@ -7,7 +7,6 @@ ghost use Rattle.tp_value.specs.Matches.{is_many_part, AdmitsChar, IsTextPiece};
 use crate::scan::ScanMove;
 use crate::template::PatternPart;
 
-/// Whether the part is `*`.
 fn is_many(part: PatternPart) -> bool
     ensures { result ≡ is_many_part part }
 {
@@ -17,7 +16,6 @@ fn is_many(part: PatternPart) -> bool
     }
 }
 
-/// Whether the part stands for one character, and for this one.
 fn admits(part: PatternPart, char: u8) -> bool
     ensures { IsTrue result ↔ AdmitsChar part char }
 {
@@ -44,7 +42,6 @@ fn next_step(parts: &[PatternPart], part: usize, text: &[u8], at: usize) -> Scan
     }
 }
 
-/// Whether all parts from here on are `*`.
 fn only_many(parts: &[PatternPart], from: usize) -> bool
     requires { from ≤ length parts.now }
     ensures { IsTrue result ↔ HasCut IsTextPiece (drop from parts.now) [] }
@@ -57,8 +54,8 @@ fn only_many(parts: &[PatternPart], from: usize) -> bool
     true
 }
 
-/// Whether there is a cut of the text for the parts: goes on from part to part, and where it is
-/// stuck goes back to the last `*`, which then takes one character more.
+/// Searches for a cut of the text: it goes from part to part, and if it is stuck goes back to the
+/// last `*`, which then takes one character more.
 pub fn text_matches(parts: &[PatternPart], text: &[u8]) -> bool
     ensures { IsTrue result ↔ HasCut IsTextPiece parts.now text.now }
 {

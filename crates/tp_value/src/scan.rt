@@ -1,6 +1,6 @@
-//! The steps by which a scan looks for a cut.
+//! The steps of a search for a cut.
 
-/// What a scan does next: pass a `*`, pass one part with one element, or go back.
+/// The next step of a scan: past a `*`, past one part with one element, or back.
 #[derive(Clone, Copy, Drop)]
 pub enum ScanMove {
     AnyOrNone,

@@ -7,11 +7,11 @@ use std::marker::Model;
 use std::sync::Arc;
 use tp_refusal::memory::Memory;
 
-/// A list of items with one owner or several, in any threads, which contracts see as the list of
-/// its items alone. Nobody changes it, and its last owner drops it. So a copy of the list needs no
-/// copy of an item: it is one more owner.
+/// A list of items with one or several owners, in any threads. Contracts see it as the list of its
+/// items alone. No call changes it, and its last owner drops it. So a copy of the list copies no
+/// item: it is one more owner.
 ///
-/// It may stand inside a type that it holds, as a list of values inside a value.
+/// A type may contain a list of itself, as a value contains a list of values.
 #[derive(Debug, Drop)]
 pub struct Shared<T> {
     items: Arc<Items<T>, Global>,
@@ -29,7 +29,7 @@ impl<T> Model for Shared<T> {
 }
 
 impl<T> Shared<T> {
-    /// One more owner of the list. Takes no memory: 50 `Memory` only where the list has 2^63 - 1
+    /// One more owner of the list. It doesn't allocate: 50 `Memory` only if the list has 2^63 - 1
     /// owners, for which no memory has room.
     pub fn share(&self) -> Result<Shared<T>, Memory>
         ensures { IfOk result (λ other. other ≡ self.now) }

@@ -13,27 +13,26 @@ pub enum PatternPart {
     Literal(u8),
     /// `?`: any one character.
     One,
-    /// `*`: any number of characters, none included.
+    /// `*`: any number of characters, including none.
     AnyOrNone,
 }
 
-/// A template of values (ES 201 873-1, 15). Which types it fits says
-/// [`template_fits`](crate::fitting::template_fits), and which values match it
-/// [`matches`](crate::matching::matches).
+/// A template of values (ES 201 873-1, 15). [`template_fits`](crate::fitting::template_fits) says
+/// which types it fits, and [`matches`](crate::matching::matches) which values match it.
 ///
-/// As of values, the depth is bounded by memory and by the stack alone.
+/// As with values, only memory and the stack bound the depth.
 #[derive(Debug, Drop)]
 pub enum Template {
     /// A specific value (B.1.1).
     Exact(Value),
     /// `?`: any value (B.1.2.3).
     Any,
-    /// `*`: any number of elements, none included (B.1.3.2). It stands only among the elements of a
-    /// `List`, and by itself matches nothing.
+    /// `*`: any number of elements, including none (B.1.3.2). It stands only among the elements of
+    /// a `List`, and by itself matches nothing.
     AnyOrNone,
-    /// `(t1, t2, ..)`: what one member matches (B.1.2.1).
+    /// `(t1, t2, ..)`: values that match some member (B.1.2.1).
     OneOf(Items<Template>),
-    /// `complement (t1, ..)`: what no member matches (B.1.2.2).
+    /// `complement (t1, ..)`: values that match no member (B.1.2.2).
     NoneOf(Items<Template>),
     /// `(lower .. upper)`: the integers from the lower to the upper bound, both included. An absent
     /// bound is `-infinity` or `infinity` (B.1.2.5).
@@ -51,7 +50,7 @@ impl Template {
     ghost use Rattle.std.specs.Prelude.{◌≡◌, IfOk};
     ghost use Rattle.tp_value.specs.Matches.{is_many};
 
-    /// Whether it is `*`.
+    /// Returns whether it is `*`.
     pub fn is_many(&self) -> bool
         ensures { result ≡ is_many self.now }
     {
@@ -89,7 +88,6 @@ impl Template {
     }
 }
 
-/// A copy of each.
 #[cycle(copy_template)]
 fn copy_all(alloc: Global, templates: &[Template]) -> Result<Items<Template>, Memory>
     ensures { IfOk result (λ twins. twins ≡ templates.now) }

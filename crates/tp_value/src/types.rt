@@ -11,7 +11,7 @@ use thiserror::Error;
 /// A type of values (ES 201 873-1, 6).
 #[derive(Clone, Copy, Debug, PartialEq, Eq, Hash)]
 pub enum Ty {
-    /// `integer`, here of 64 signed bits (6.1.0).
+    /// `integer`, here with 64 signed bits (6.1.0).
     Integer,
     /// `boolean` (6.1.0).
     Boolean,
@@ -24,7 +24,7 @@ pub enum Ty {
 /// A field of a record type (6.2.1).
 #[derive(Drop)]
 pub struct Field {
-    /// Its name, the bytes as they are written.
+    /// Its name, as the bytes that are written.
     pub name: Items<u8>,
     /// The type of its values.
     pub ty: Ty,
@@ -42,7 +42,7 @@ pub enum TypeDef {
 /// Why a type was not added.
 #[derive(Clone, Copy, Debug, PartialEq, Eq, Error)]
 pub enum AddFault {
-    /// 12 Duplicate: the name is there.
+    /// 12 Duplicate: the name is taken.
     #[error("the name is there")]
     Duplicate,
     /// 50 Memory: an allocation was refused.
@@ -92,7 +92,7 @@ impl Types {
     ghost use Rattle.std.specs.Option.{option_copied};
     ghost use Rattle.tp_value.specs.Types.{named, names_of_types, type_number};
 
-    /// No types. A later [`Types::add`] takes memory from `alloc`.
+    /// No types. A later [`Types::add`] allocates from `alloc`.
     pub fn new(alloc: Global) -> Types
         ensures { result ≡ [] }
     {
@@ -101,17 +101,17 @@ impl Types {
         }
     }
 
-    /// How many types there are.
+    /// The number of types.
     pub fn len(&self) -> usize
         ensures { result ≡ length self.now }
     {
         self.definitions.len()
     }
 
-    /// Adds a type and answers its number, which is the number of types before. There are fewer
+    /// Adds a type and returns its number, which is the number of types before. There are fewer
     /// than 4,294,967,295 of them.
     ///
-    /// 12 `Duplicate` exactly where the name is there; the types are then as before.
+    /// 12 `Duplicate` if and only if the name is taken; the types are then as before.
     pub fn add(&mut self, name: String, definition: TypeDef) -> Result<u32, AddFault>
         requires { length self.old < u32.MAX }
         ensures number { IfOk result (λ number. number ≡ length self.old) }
@@ -129,7 +129,7 @@ impl Types {
         Ok(number)
     }
 
-    /// The number of the type of this name, or `None` where no type has it.
+    /// The number of the type with this name, or `None` if there is none.
     pub fn find(&self, name: &str) -> Option<u32>
         ensures number { result ≡ type_number self.now name.now }
         ensures there { IfSome result (λ number.
@@ -142,7 +142,7 @@ impl Types {
         }
     }
 
-    /// The name of the type of this number, or `None` where there is no such number.
+    /// The name of the type with this number, or `None` if there is none.
     pub fn name(&self, number: u32) -> Option<&str>
         ensures { option_copied result ≡ slice_get (names_of_types self.now) number }
     {
@@ -152,7 +152,7 @@ impl Types {
         }
     }
 
-    /// The definition that a type names, or `None` where it names none.
+    /// The definition that a type refers to, or `None` if there is none.
     pub fn definition(&self, ty: Ty) -> Option<&TypeDef>
         ensures { option_copied result ≡ named self.now ty }
     {

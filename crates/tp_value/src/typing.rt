@@ -1,11 +1,11 @@
-//! Which values have a type.
+//! Values that have a type.
 ghost use Rattle.std.specs.Prelude.{◌↔◌, IsTrue};
 ghost use Rattle.tp_value.specs.HasType.{ArePrintable, AllHave, FieldsHave, HasType};
 
 use crate::types::{Field, Ty, TypeDef, Types};
 use crate::value::Value;
 
-/// Whether all are the characters 32 to 126, which a charstring may have (ES 201 873-1, 6.1.1).
+/// Returns whether all characters are among 32 to 126, those of a charstring (ES 201 873-1, 6.1.1).
 pub fn are_printable(text: &[u8]) -> bool
     ensures { IsTrue result ↔ ArePrintable text.now }
 {
@@ -17,7 +17,8 @@ pub fn are_printable(text: &[u8]) -> bool
     true
 }
 
-/// Whether the value has the type (ES 201 873-1, 6). A number that names no type has no values.
+/// Returns whether the value has the type (ES 201 873-1, 6). A number that names no type has no
+/// values.
 ///
 /// It calls itself once for each level of nesting of the value, however often a type refers to
 /// itself.
@@ -46,7 +47,6 @@ pub fn has_type(types: &Types, ty: Ty, value: &Value) -> bool
     }
 }
 
-/// Whether there is one value of the declared type for each field.
 #[cycle(has_type)]
 fn fields_have(types: &Types, declared: &[Field], values: &[Value]) -> bool
     ensures { IsTrue result ↔ FieldsHave (λ v t. HasType types.now t v) declared.now values.now }
@@ -62,7 +62,6 @@ fn fields_have(types: &Types, declared: &[Field], values: &[Value]) -> bool
     true
 }
 
-/// Whether each value has the type.
 #[cycle(has_type)]
 fn all_have(types: &Types, ty: Ty, values: &[Value]) -> bool
     ensures { IsTrue result ↔ AllHave (λ v t. HasType types.now t v) ty values.now }

@@ -2,18 +2,18 @@
 ghost use Rattle.std.specs.Prelude.{◌≡◌, ◌≢◌, ◌<◌};
 ghost use Rattle.tp_value.specs.Verdicts.{verdict_of_rank, worse};
 
-/// What a test has come to (ES 201 873-1, 24.1), each worse than the one before.
+/// The verdict of a test (ES 201 873-1, 24.1). Each is worse than the one before.
 #[derive(Clone, Copy, Debug)]
 pub enum Verdict {
-    /// Nothing was said yet.
+    /// No verdict was set.
     None,
     /// The system under test did what was expected.
     Pass,
-    /// Neither a pass nor a fail can be told.
+    /// Neither pass nor fail can be decided.
     Inconc,
     /// The system under test did something else.
     Fail,
-    /// The test itself went wrong. Only the system sets it, and nothing overrides it.
+    /// The test itself failed. Only the system sets it, and nothing overrides it.
     Error,
 }
 
@@ -46,7 +46,7 @@ impl Verdict {
     }
 
     /// The verdict after a statement has set `verdict`, which is not `Error`: the worse of the two,
-    /// so that a verdict never gets better (24.2).
+    /// so that a verdict never improves (24.2).
     pub fn set(self, verdict: Verdict) -> Verdict
         requires { verdict ≢ Verdict.Error }
         ensures { result ≡ worse self verdict }
@@ -54,7 +54,7 @@ impl Verdict {
         self.join(verdict)
     }
 
-    /// The worse of two verdicts, as the overall verdict is the worst of the local ones (24.1).
+    /// The worse of two verdicts. The overall verdict is the worst of the local ones (24.1).
     pub fn join(self, other: Verdict) -> Verdict
         ensures { result ≡ worse self other }
     {

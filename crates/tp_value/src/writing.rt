@@ -11,7 +11,6 @@ use itoa::Buffer;
 use std::io::Write;
 use tp_text::watched::{Watched, write_bytes};
 
-/// Writes an integer.
 fn write_number<W: Write>(number: i64, out: &mut Watched<W>)
     ensures { Writes W.contents out.old out.new (signed_decimal number) }
 {
@@ -19,7 +18,6 @@ fn write_number<W: Write>(number: i64, out: &mut Watched<W>)
     write_bytes(buffer.format(number).as_bytes(), out)
 }
 
-/// Writes a boolean.
 fn write_truth<W: Write>(truth: bool, out: &mut Watched<W>)
     ensures { Writes W.contents out.old out.new (bool_text truth) }
 {
@@ -30,14 +28,13 @@ fn write_truth<W: Write>(truth: bool, out: &mut Watched<W>)
     }
 }
 
-/// The place of the first quote.
 fn quote_place(text: &[u8]) -> Option<usize>
     ensures { result ≡ position (λ byte. byte == 34) text.now }
 {
     text.iter().position(|byte| *byte == b'"')
 }
 
-/// What stands up to the first quote, which it ends with, and what stands behind it.
+/// The text up to the first quote, which is its end, and the text after it.
 fn cut_at_quote(text: &[u8]) -> Option<(&[u8], &[u8])>
     ensures cut { MatchOption result
         (escaped text.now ≡ text.now)
@@ -50,7 +47,6 @@ fn cut_at_quote(text: &[u8]) -> Option<(&[u8], &[u8])>
     }
 }
 
-/// Writes a charstring.
 fn write_text<W: Write>(text: &[u8], out: &mut Watched<W>)
     ensures { Writes W.contents out.old out.new (quoted text.now) }
 {
@@ -65,7 +61,6 @@ fn write_text<W: Write>(text: &[u8], out: &mut Watched<W>)
     write_bytes(b"\"", out)
 }
 
-/// Writes what stands before the item at this place: a comma and a space, or nothing at the first.
 fn separate<W: Write>(place: usize, out: &mut Watched<W>)
     ensures { Writes W.contents out.old out.new (separator place) }
 {
@@ -76,12 +71,11 @@ fn separate<W: Write>(place: usize, out: &mut Watched<W>)
     }
 }
 
-/// Writes the text of a value of the type, in the core notation of values (ES 201 873-1, 6): `-1`,
-/// `true`, `"a""b"`, `{f := v, g := w}` for a record, `{v, w}` for a record of, `{}` for an empty
-/// one of either.
+/// Writes a value of the type in the core notation (ES 201 873-1, 6): `-1`, `true`, `"a""b"`, `{f
+/// := v, g := w}` for a record, `{v, w}` for a record of, `{}` for an empty one of either.
 ///
-/// Ask [`has_type`](crate::typing::has_type) first: of a value that hasn't the type what is written
-/// tells nothing. Where the writer fails, a front of the text is written. It calls itself once for
+/// Ask [`has_type`](crate::typing::has_type) first: if the value doesn't have the type, the text is
+/// meaningless. If the writer fails, it has written a front of the text. The call recurses once for
 /// each level of nesting.
 #[cycle(write)]
 pub fn write_value<W: Write>(types: &Types, ty: Ty, value: &Value, out: &mut Watched<W>)
@@ -106,7 +100,6 @@ pub fn write_value<W: Write>(types: &Types, ty: Ty, value: &Value, out: &mut Wat
     }
 }
 
-/// Writes a record's fields, in braces.
 #[cycle(write)]
 fn write_fields<W: Write>(types: &Types, declared: &[Field], values: &[Value], out: &mut Watched<W>)
     ensures { Writes W.contents out.old out.new
@@ -123,7 +116,6 @@ fn write_fields<W: Write>(types: &Types, declared: &[Field], values: &[Value], o
     write_bytes(b"}", out)
 }
 
-/// Writes the elements of a record of, in braces.
 #[cycle(write)]
 fn write_elements<W: Write>(types: &Types, ty: Ty, values: &[Value], out: &mut Watched<W>)
     ensures { Writes W.contents out.old out.new
