@@ -1,4 +1,4 @@
-//! The rules of a module, and why the checks refuse one.
+//! The rules of a module, and its refusals.
 ghost use Rattle.std.specs.Prelude.{◌≡◌};
 ghost use Rattle.tp_name.specs.Told.{rule_refusal};
 ghost use Rattle.tp_name.specs.declared.fault.ModuleFault.TheVariants as module_fault;
@@ -33,7 +33,7 @@ pub enum ModuleRule {
 }
 
 impl ModuleRule {
-    /// The refusal that tells the rule: from 11 to 18, or from 20 to 28.
+    /// The refusal of the rule: 11 to 18, or 20 to 28.
     pub fn refusal(self) -> Refusal
         ensures { result ≡ rule_refusal self }
     {
@@ -73,17 +73,15 @@ pub enum ModuleFault {
     /// The module breaks a rule.
     #[error("refused {rule} line {line}")]
     Refused {
-        /// The rule.
         rule: ModuleRule,
-        /// The line at which what breaks it begins.
+        /// The line at which the fault begins.
         line: u32,
     },
-    /// 50: memory was refused, which says nothing about the module.
+    /// 50: an allocation was refused, which says nothing about the module.
     #[error("fault {}", Refusal::Memory)]
     Memory(Memory),
 }
 
-/// The module breaks the rule at this line.
 pub fn refused(rule: ModuleRule, line: u32) -> ModuleFault
     ensures { result ≡ ModuleFault.Refused rule line }
 {

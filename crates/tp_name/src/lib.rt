@@ -1,8 +1,8 @@
-//! Names of a script, tables of them, each name once with its number; and which rule a module
-//! breaks, and at which line. All checks use it.
+//! Names of a script, and tables of them, each name once with its number; and the rule and the line
+//! of a refusal. All checks use it. Start with [`name_set::NameSet`] and [`fault::ModuleFault`].
 //!
-//! Where a call answers 50 `Memory`, an allocation was refused, and the table is as before. A call
-//! that can't answer it takes no memory.
+//! 50 `Memory` means that an allocation was refused, and the table is as before. A call that can't
+//! return it doesn't allocate.
 #![tactic(auto)]
 
 pub mod fault;

@@ -1,4 +1,4 @@
-//! Names, and where they stand.
+//! Names and their places.
 ghost use Rattle.std.specs.Prelude.{◌≡◌, IfSome, IfNone};
 ghost use Rattle.std.specs.Str.{bytes_eq};
 ghost use Rattle.tp_name.specs.Named.{IsPlace, IsAbsent, texts};
@@ -10,15 +10,13 @@ pub struct Name<'m> {
     pub text: &'m str,
 }
 
-/// Whether this is the name.
 fn is_called(other: &Name, name: &str) -> bool
     ensures { result ≡ bytes_eq other.now.text.now name.now }
 {
     other.text == name
 }
 
-/// The first place of the name among these, from 0, or `None` where it stands nowhere. It goes over
-/// the names one by one, so it is for short lists.
+/// The first place of the name, from 0. It compares the names one by one, so it is for short lists.
 pub fn find(names: &[Name], name: &str) -> Option<usize>
     ensures there { IfSome result (λ place. IsPlace (texts names.now) name.now place) }
     ensures absent { IfNone result (IsAbsent (texts names.now) name.now) }

@@ -11,7 +11,7 @@ use tp_refusal::memory::Memory;
 /// Why a name was not added.
 #[derive(Clone, Copy, Debug, Error)]
 pub enum NameFault {
-    /// 12 Duplicate: the name is there.
+    /// 12 Duplicate: the name is taken.
     #[error("the name is there")]
     Duplicate,
     /// 15 Limit: there are 4,294,967,295 names.
@@ -39,7 +39,6 @@ impl Drop for NameSet<'_> {
 impl NameFault {
     ghost use Rattle.std.specs.Prelude.{◌≡◌};
 
-    /// This fault at a line.
     pub fn at(self, line: u32) -> ModuleFault
         ensures duplicate { self ≡ NameFault.Duplicate
             → result ≡ ModuleFault.Refused ModuleRule.Duplicate line }
@@ -71,7 +70,7 @@ impl<'m> NameSet<'m> {
     ghost use Rattle.tp_name.specs.Tables.{AreDistinct, IsNumbered, place_of_name};
     ghost use Rattle.tp_name.specs.Named.{IsAbsent, IsPlace};
 
-    /// No names. A later [`NameSet::add`] takes memory from `alloc`.
+    /// A later [`NameSet::add`] allocates from `alloc`.
     pub fn new(alloc: Global) -> NameSet<'m>
         ensures empty { result ≡ [] }
         ensures numbered { IsNumbered result }
@@ -82,7 +81,6 @@ impl<'m> NameSet<'m> {
         }
     }
 
-    /// How many names there are.
     pub fn len(&self) -> usize
         ensures { result ≡ length self.now }
     {
@@ -91,8 +89,8 @@ impl<'m> NameSet<'m> {
 
     /// Adds a name, whose number is the number of names before.
     ///
-    /// 12 `Duplicate` exactly where the name is there; otherwise 15 `Limit` where 4,294,967,295
-    /// names are there. The names are then as before.
+    /// 12 `Duplicate` if and only if the name is taken; else 15 `Limit` if there are 4,294,967,295
+    /// names. The names are then as before.
     pub fn add(&mut self, name: &'m str) -> Result<(), NameFault>
         ensures ok { OnOk result (self.new ≡ self.old ++ name.now ∷ []) }
         ensures duplicate { IsErrOf result NameFault.Duplicate ↔ Contains self.old name.now }
@@ -115,7 +113,6 @@ impl<'m> NameSet<'m> {
         Ok(())
     }
 
-    /// The number of the name, or `None` where it is not there.
     pub fn find(&self, name: &str) -> Option<u32>
         ensures place { result ≡ place_of_name self.now name.now }
         ensures known { IsSome result ↔ Contains self.now name.now }
@@ -130,7 +127,6 @@ impl<'m> NameSet<'m> {
         }
     }
 
-    /// Whether the name is there.
     pub fn has(&self, name: &str) -> bool
         ensures test { result ≡ is_some (place_of_name self.now name.now) }
         ensures known { IsTrue result ↔ Contains self.now name.now }

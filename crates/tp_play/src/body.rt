@@ -1,4 +1,4 @@
-//! The bodies of a test case: what its statements stand for.
+//! The bodies of a test case, with resolved statements.
 use tp_event::operation::{PortOperation, ReceiveKind};
 use tp_value::items::Items;
 use tp_value::shared::Shared;
@@ -6,16 +6,14 @@ use tp_value::template::PatternPart;
 use tp_value::types::Ty;
 use tp_value::verdict::Verdict;
 
-/// A value to be sent, in which a loop variable may stand for an integer (ES 201 873-1, 22.2.1).
+/// A value to send, in which a loop variable may stand for an integer (ES 201 873-1, 22.2.1).
 #[derive(Drop)]
 pub enum SendValue {
-    /// An integer.
     Int(i64),
-    /// A boolean.
     Bool(bool),
-    /// A charstring, as its characters, which each message that is made of it shares.
+    /// A charstring, as its characters, which all messages made of it share.
     Text(Shared<u8>),
-    /// What the loop variable at this place holds; the outermost one has place 0.
+    /// The value of the loop variable at this place; the outermost one has place 0.
     Turn(usize),
     /// A record, as the values of its fields in declared order.
     Record(Items<SendValue>),
@@ -23,12 +21,11 @@ pub enum SendValue {
     List(Items<SendValue>),
 }
 
-/// A message to be sent, in which loop variables may stand for integers.
+/// A message to send, in which loop variables may stand for integers.
 #[derive(Drop)]
 pub struct SendMsg {
     /// The type under which it is sent.
     pub ty: Ty,
-    /// The value.
     pub value: SendValue,
 }
 
@@ -45,7 +42,7 @@ pub enum RecvTemplate {
     OneOf(Items<RecvTemplate>),
     /// `complement (t1, ..)`
     NoneOf(Items<RecvTemplate>),
-    /// `(lower .. upper)`; an absent bound is `-infinity` or `infinity`.
+    /// `(lower .. upper)`; a missing bound is `-infinity` or `infinity`.
     Range(Option<i64>, Option<i64>),
     /// `pattern "..."`
     Pattern(Items<PatternPart>),
@@ -55,32 +52,32 @@ pub enum RecvTemplate {
     List(Items<RecvTemplate>),
 }
 
-/// What a receiving operation wants, where loop variables may stand for integers.
+/// The wanted part of a receiving operation, in which loop variables may stand for integers.
 #[derive(Drop)]
 pub enum RecvMsg {
-    /// No template: every message.
+    /// Every message: there is no template.
     Any,
-    /// The messages of this very type whose value matches the template.
+    /// The messages of exactly this type whose value matches the template.
     Of(Ty, RecvTemplate),
 }
 
-/// What is sent.
+/// The message of a send.
 #[derive(Drop)]
 pub enum Sent {
     /// A message that is written out.
     Written(SendMsg),
-    /// What the variable at this place of the body's variables holds.
+    /// The message held by the variable at this place of the body's variables.
     Variable(usize),
 }
 
-/// To whom a message is sent.
+/// The receiver of a send.
 #[derive(Clone, Copy)]
 pub enum Receiver {
-    /// Nobody is named.
+    /// No receiver is named.
     Nobody,
     /// The component at this place of the references.
     Reference(usize),
-    /// The component that the variable at this place of the body's variables holds.
+    /// The component held by the variable at this place of the body's variables.
     Variable(usize),
     /// `all component`
     All,
@@ -91,9 +88,7 @@ pub enum Receiver {
 pub struct SendOperation {
     /// The port, by its place in the component type.
     pub port: u32,
-    /// What is sent.
     pub sent: Sent,
-    /// To whom.
     pub to: Receiver,
 }
 
@@ -102,15 +97,13 @@ pub struct SendOperation {
 pub struct Receiving {
     /// The port, by its place in the component type.
     pub port: u32,
-    /// What it does with a message.
     pub kind: ReceiveKind,
-    /// What it wants.
     pub wanted: RecvMsg,
-    /// The component behind `from`, by its place among the references.
+    /// The component after `from`, by its place among the references.
     pub sender: Option<usize>,
-    /// The variable that the value is put into, by its place among the body's variables.
+    /// The variable that stores the value, by its place among the body's variables.
     pub value_to: Option<usize>,
-    /// The variable that the sender is put into, by its place among the body's variables.
+    /// The variable that stores the sender, by its place among the body's variables.
     pub sender_to: Option<usize>,
 }
 
@@ -118,7 +111,6 @@ pub struct Receiving {
 #[derive(Drop)]
 #[cycle(body)]
 pub enum ResolvedStatement {
-    /// A send.
     Send(SendOperation),
     /// A receiving operation that stands alone.
     Receive(Receiving),
@@ -130,34 +122,33 @@ pub enum ResolvedStatement {
     SetVerdict(Verdict),
     /// `alt`: its branches, and the block of `[else]`.
     Alt(Items<ResolvedBranch>, Option<Items<ResolvedStatement>>),
-    /// A counted `for`: the first value of its variable, what it stays below, and its block.
+    /// A counted `for`: the first value of its variable, the bound that the variable stays below,
+    /// and its block.
     For(i64, i64, Items<ResolvedStatement>),
 }
 
-/// A branch of an `alt` behind a receiving operation (ES 201 873-1, 20.2).
+/// A branch of an `alt` with a receiving operation (ES 201 873-1, 20.2).
 #[derive(Drop)]
 #[cycle(body)]
 pub struct ResolvedBranch {
-    /// The operation.
     pub receiving: Receiving,
-    /// What is done then.
+    /// The statements after the operation.
     pub block: Items<ResolvedStatement>,
 }
 
-/// What a variable of a body holds (ES 201 873-1, 11.1).
+/// The type of a variable of a body (ES 201 873-1, 11.1).
 #[derive(Clone, Copy)]
 pub enum VariableType {
     /// A value of this type.
     Message(Ty),
-    /// A component, of whatever type.
+    /// A component of any type.
     Component,
 }
 
-/// A body: the types of its variables, in the order of the text, and its statements.
+/// A body: its variables, in the order of the text, and its statements.
 pub struct Body {
-    /// The variables, each without a value at first.
+    /// The variables have no value at first.
     pub variables: Items<VariableType>,
-    /// The statements.
     pub statements: Items<ResolvedStatement>,
 }
 

@@ -1,4 +1,4 @@
-//! Messages and templates, with the values of the loop variables.
+//! Messages and templates, filled with the values of the loop variables.
 ghost use Rattle.std.specs.Prelude.{◌≡◌, ◌≤◌, All, FitsSigned, IfOk, length, map};
 ghost use Rattle.std.specs.Int.{w64};
 ghost use Rattle.tp_play.specs.Fills.{filled, filled_template, filled_wanted, greatest, needed, needed_by_template, needed_by_wanted};
@@ -13,7 +13,6 @@ use tp_value::shared::Shared;
 use tp_value::template::Template;
 use tp_value::value::Value;
 
-/// What a value comes to.
 #[cycle(fill)]
 #[tactic(auto, using(crate::proofs::FilledValueEquations::values))]
 fn fill_value(alloc: Global, value: &SendValue, turns: &[i64]) -> Result<Value, Memory>
@@ -36,7 +35,6 @@ fn fill_value(alloc: Global, value: &SendValue, turns: &[i64]) -> Result<Value, 
     }
 }
 
-/// What values come to.
 #[cycle(fill)]
 #[tactic(auto, using(crate::proofs::FilledValueEquations::values))]
 fn fill_values(alloc: Global, values: &[SendValue], turns: &[i64]) -> Result<Items<Value>, Memory>
@@ -51,7 +49,7 @@ fn fill_values(alloc: Global, values: &[SendValue], turns: &[i64]) -> Result<Ite
     Ok(Items::from_vec(made))
 }
 
-/// Reads the integers, and changes nothing: each is then known to have 64 bits.
+/// It changes nothing: after it each integer is known to have 64 bits.
 fn read_integers(integers: &[i64])
     ensures { All (FitsSigned w64) integers.now }
 {
@@ -60,9 +58,9 @@ fn read_integers(integers: &[i64])
     }
 }
 
-/// The message that a send sends, where the loop variables around it hold these integers, the
-/// outermost first: one for each loop variable of which the message speaks (ES 201 873-1, 22.2.1).
-/// Under all types under which it has its type whatever the loop variables hold, its value has it.
+/// Makes the message of a send. `turns` has the values of the loop variables around it, the
+/// outermost first: one for each loop variable in the message (ES 201 873-1, 22.2.1). For all types
+/// under which the message has its type whatever the loop variables hold, its value has it.
 pub fn fill_message(alloc: Global, message: &SendMsg, turns: &[i64]) -> Result<Message, Memory>
     requires given { needed message.now.value ≤ length turns.now }
     ensures ty { IfOk result (λ made. made.ty ≡ message.now.ty) }
@@ -77,7 +75,6 @@ pub fn fill_message(alloc: Global, message: &SendMsg, turns: &[i64]) -> Result<M
     })
 }
 
-/// What a template comes to.
 #[cycle(template)]
 #[tactic(auto, using(crate::proofs::FilledValueEquations::templates))]
 fn fill_one(alloc: Global, template: &RecvTemplate, turns: &[i64]) -> Result<Template, Memory>
@@ -115,7 +112,6 @@ fn fill_one(alloc: Global, template: &RecvTemplate, turns: &[i64]) -> Result<Tem
     }
 }
 
-/// What templates come to.
 #[cycle(template)]
 #[tactic(auto, using(crate::proofs::FilledValueEquations::templates))]
 fn fill_all(
@@ -134,10 +130,10 @@ fn fill_all(
     Ok(Items::from_vec(made))
 }
 
-/// What a receiving operation wants, where the loop variables around it hold these integers, the
-/// outermost first: one for each loop variable of which the template speaks (ES 201 873-1, 15 and
-/// Annex B). Under all types under which it fits its type whatever the loop variables hold, what is
-/// made fits it.
+/// Makes the wanted part of a receiving operation. `turns` has the values of the loop variables
+/// around it, the outermost first: one for each loop variable in the template (ES 201 873-1, 15 and
+/// Annex B). For all types under which the template fits its type whatever the loop variables hold,
+/// the result fits it.
 pub fn fill_template(alloc: Global, wanted: &RecvMsg, turns: &[i64]) -> Result<MsgTemplate, Memory>
     requires given { needed_by_wanted wanted.now ≤ length turns.now }
     ensures value { IfOk result (λ made. made ≡ filled_wanted turns.now wanted.now) }

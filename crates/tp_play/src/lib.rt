@@ -1,9 +1,9 @@
-//! The test case as it is carried out: a body for each component, in which names are resolved, and
-//! what its messages and templates come to. The checks, `tp_body` and `tp_script`, make it.
-//! `tp_behaviour` carries it out, and `tp_program` translates it.
+//! The test case in executable form: a body for each component, with names resolved, and the values
+//! of its messages and templates. The checks (`tp_body` and `tp_script`) make a
+//! [`test_case::TestCase`]; `tp_behaviour` executes it, and `tp_program` translates it. Start
+//! there.
 //!
-//! Where a call answers 50 `Memory`, an allocation was refused. A call that can't answer it takes
-//! no memory.
+//! 50 `Memory` means that an allocation was refused. A call that can't return it doesn't allocate.
 #![tactic(auto)]
 
 pub mod bodies;

@@ -20,13 +20,13 @@ use tp_value::types::Types;
 /// A test case whose module obeys the rules: its components and what each of them does. Contracts
 /// see the configuration, the types and each component's behaviour.
 ///
-/// At every moment it can be executed: each component can do what it is there for, so that each
-/// port, reference, variable and loop variable of which its body speaks is there.
+/// It can always be executed: each port, reference, variable and loop variable in the body of a
+/// component exists.
 pub struct TestCase {
     config: Config,
     types: Types,
     bodies: Bodies,
-    /// Which body each component has, by its number.
+    /// The body of each component, by its number.
     instances: Vec<Option<Instance>>,
 }
 
@@ -46,15 +46,14 @@ impl Drop for TestCase {
 /// What a component does.
 #[derive(Clone, Copy)]
 pub struct Behaviour<'t> {
-    /// Its body. Components that start the same function have the same.
+    /// Components that start the same function have the same body.
     pub body: &'t Body,
     /// The components that the references of the body name, by their places: `mtc` at 0, the
-    /// component itself at 1, then the arguments of its start, then those of the component
+    /// component itself at 1, then the arguments of its start, then the components of the component
     /// variables of the test case.
     pub references: &'t [CompId],
 }
 
-/// The instance of the component of this number, if it has one.
 fn instance_at(instances: &[Option<Instance>], comp: CompId) -> Option<&Instance>
     ensures { option_copied result ≡ slice_index_or instances.now comp.0 None }
 {
@@ -64,7 +63,6 @@ fn instance_at(instances: &[Option<Instance>], comp: CompId) -> Option<&Instance
     }
 }
 
-/// The body that is meant.
 fn body_of(bodies: &Bodies, which_body: WhichBody) -> Option<&Body>
     ensures { option_copied result ≡ body_in bodies.now which_body }
 {
@@ -74,7 +72,6 @@ fn body_of(bodies: &Bodies, which_body: WhichBody) -> Option<&Body>
     }
 }
 
-/// What the component of this number does.
 fn find_behaviour<'t>(
     bodies: &'t Bodies,
     instances: &'t [Option<Instance>],
@@ -122,7 +119,7 @@ impl Model for TestCase {
 }
 
 impl TestCase {
-    /// The test case of these components, types and behaviours, which can be executed.
+    /// A test case of these components, types and behaviours. It can be executed.
     pub fn new(config: Config, types: Types, behaviours: Behaviours) -> TestCase
         requires { let all = map (behaviour_of behaviours.bodies) behaviours.instances.items in
             IsReady (record { config = config; types = types; behaviours = all }) }
@@ -141,9 +138,9 @@ impl TestCase {
         }
     }
 
-    /// How many components there are, at most 64. They are numbered from 0: `mtc`, those that are
-    /// created in their order, and the test system interface where the test case has a `system`
-    /// clause (ES 201 873-1, 9.1, 21.3.1).
+    /// The number of components, at most 64. They are numbered from 0: `mtc`, those that are
+    /// created in their order, and the test system interface if the test case has a `system` clause
+    /// (ES 201 873-1, 9.1, 21.3.1).
     pub fn components(&self) -> usize
         ensures count { result ≡ length self.now.config.components }
         ensures few { result ≤ 64 }
@@ -153,7 +150,6 @@ impl TestCase {
         self.config.len()
     }
 
-    /// The component of this number.
     pub fn component(&self, number: usize) -> CompId
         requires { number < length self.now.config.components }
         ensures number { result.0 ≡ number }
@@ -174,8 +170,8 @@ impl TestCase {
         CompId(0)
     }
 
-    /// The component that is the test system interface, or `None` where none is
-    /// (ES 201 873-1, 9.2). It is the last one.
+    /// The test system interface, which is the last component, or `None` if there is none (ES 201
+    /// 873-1, 9.2).
     pub fn system(&self) -> Option<CompId>
         ensures { MatchOption result (HasNoSystem self.now.config) (IsSystem self.now.config) }
     {
@@ -204,8 +200,8 @@ impl TestCase {
 
     /// What the component does: the test case's own body for `mtc`, that of its function for a
     /// component that is started, and that of `sut` for the test system interface. `None` for a
-    /// test system interface without `sut`, and where there is no such component. The component can
-    /// do it.
+    /// test system interface without `sut`, and if there is no such component. The component can do
+    /// it.
     pub fn body(&self, comp: CompId) -> Option<Behaviour<'_>>
         ensures behaviour { option_map as_behaviour result ≡ behaviour_at self.now comp.0 }
         ensures can { IfSome result (λ c.

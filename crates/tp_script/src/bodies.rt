@@ -22,7 +22,7 @@ use tp_setup::prepared::Prepared;
 use tp_setup::sorted::as_function;
 use tp_tree::tree::{Definition, Function, Module};
 
-/// Whose body a function's is: a function named `sut` plays the system under test.
+/// A function named `sut` plays the system under test.
 fn plays(function: &Function) -> BehaviourKind
     ensures { result ≡ plays_of function.now }
 {
@@ -33,7 +33,6 @@ fn plays(function: &Function) -> BehaviourKind
     }
 }
 
-/// The test case's own body.
 fn resolve_main(alloc: Global, prepared: &Prepared) -> Result<Body, ModuleFault>
     ensures body { IfOk result (IsMainBody (known_in prepared.now) prepared.now.case.case.now) }
     ensures refused { IsSoundKnown (known_in prepared.now)
@@ -58,7 +57,6 @@ fn resolve_main(alloc: Global, prepared: &Prepared) -> Result<Body, ModuleFault>
     resolve_body(alloc, &scope, line, &case.variables, &case.statements)
 }
 
-/// The body of a function.
 fn resolve_function<'m>(
     alloc: Global,
     prepared: &Prepared<'m>,
@@ -87,7 +85,6 @@ fn resolve_function<'m>(
     )
 }
 
-/// The bodies of the functions among the definitions, in the order of the text.
 fn resolve_functions<'m>(
     alloc: Global,
     definitions: &'m [Definition],
@@ -115,10 +112,10 @@ fn resolve_functions<'m>(
 
 /// The bodies of a module: the test case's own, and those of its functions, started or not.
 ///
-/// The first fault is the answer, the test case's own body first and then the functions in the
-/// order of the text. Of each: 12 `Duplicate` and 15 `Limit` for its parameters; 11 `Unknown` at
-/// the line of its definition for the component type behind its `runs on`; then those of
-/// [`resolve_body`].
+/// It returns the first fault: those of the test case's own body come first, then those of the
+/// functions in the order of the text. For each: 12 `Duplicate` and 15 `Limit` for its parameters;
+/// 11 `Unknown` at the line of its definition for the component type after its `runs on`; then
+/// those of [`resolve_body`].
 pub fn resolve_bodies<'m>(
     alloc: Global,
     parsed: &'m Module,

@@ -23,8 +23,8 @@ use tp_setup::prepared::Prepared;
 use tp_setup::preparing::prepare;
 use tp_tree::tree::Module;
 
-/// The fourth pass and the fifth: the bodies, and what each component does with them. The first
-/// fault is the answer.
+/// The fourth and the fifth pass: the bodies, and what each component does with them. It returns
+/// the first fault.
 fn resolve_behaviours<'m>(
     alloc: Global,
     parsed: &'m Module,
@@ -49,7 +49,6 @@ fn resolve_behaviours<'m>(
     Ok(Behaviours { bodies, instances })
 }
 
-/// The test case of what the passes made.
 fn assemble(prepared: Prepared<'_>, behaviours: Behaviours) -> TestCase
     requires { let all = map (behaviour_of behaviours.bodies) behaviours.instances.items in
         IsReady (record {
@@ -69,7 +68,7 @@ fn assemble(prepared: Prepared<'_>, behaviours: Behaviours) -> TestCase
 
 /// Checks a module, and makes its test case.
 ///
-/// The first fault of the first pass that finds one is the answer: a
+/// It returns the first fault of the first pass that finds one: a
 /// [`ModuleRule`](tp_name::fault::ModuleRule), at its line. The passes are the three of
 /// [`prepare`]; the bodies, [`resolve_bodies`]; and the size, 15 `Limit`, [`check_size`].
 pub fn check(alloc: Global, parsed: &Module) -> Result<TestCase, ModuleFault>

@@ -1,4 +1,4 @@
-//! Why a text has no test case.
+//! Reasons why a text has no test case.
 ghost use Rattle.std.specs.Prelude.{◌≡◌};
 ghost use Rattle.tp_script.specs.Told.{of_module, of_text, script_refusal};
 
@@ -12,14 +12,14 @@ use tp_token::fault::{ScriptFault, TextRule};
 /// A rule that a script breaks. There is no other.
 #[derive(Clone, Copy, Debug, PartialEq, Eq)]
 pub enum ScriptRule {
-    /// One that its text breaks as it is read.
+    /// A rule that the text breaks as it is read.
     Text(TextRule),
-    /// One that its module breaks.
+    /// A rule that the module breaks.
     Module(ModuleRule),
 }
 
 impl ScriptRule {
-    /// The refusal that tells the rule: 10, from 11 to 18, or from 20 to 28.
+    /// The refusal of the rule: 10, 11 to 18, or 20 to 28.
     pub fn refusal(self) -> Refusal
         ensures { result ≡ script_refusal self }
     {
@@ -44,12 +44,11 @@ pub enum TestCaseFault {
     /// It breaks a rule.
     #[error("refused {rule} line {line}")]
     Refused {
-        /// The rule.
         rule: ScriptRule,
         /// The line, as in [`ScriptFault`] and [`ModuleFault`].
         line: u32,
     },
-    /// 50: memory was refused, which says nothing about the text.
+    /// 50: an allocation was refused, which says nothing about the text.
     #[error("fault {}", Refusal::Memory)]
     Memory(Memory),
 }

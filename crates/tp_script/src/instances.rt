@@ -1,4 +1,4 @@
-//! What the components of a test case do.
+//! The behaviours of a test case's components.
 ghost use Rattle.std.specs.Prelude.{◌≡◌, ◌<◌, ◌≤◌, ◌+◌, [], Some, IfErr, IfNone, IfOk, IfSome, IsSome, OnOk, length, map, slice_get};
 ghost use Rattle.std.specs.Option.{option_copied};
 ghost use Rattle.tp_play.specs.declared.instance.WhichBody.TheVariants as which_body;
@@ -12,7 +12,6 @@ use tp_play::instance::{Instance, WhichBody};
 use tp_setup::prepared::Prepared;
 use tp_setup::starts::{StartedComponent, Starts};
 
-/// Adds the components of so many component variables, which are numbered from 1.
 fn add_variables(references: &mut Vec<CompId>, count: u32) -> Result<(), ModuleFault>
     ensures numbers { OnOk result (Numbers count
         (map (λ c. c.0) references.old.items) (map (λ c. c.0) references.new.items)) }
@@ -43,7 +42,7 @@ fn references(
     Ok(made)
 }
 
-/// How many component variables there are. 15 `Limit` where there are more than 4,294,967,295.
+/// 15 `Limit` if there are more than 4,294,967,295 component variables.
 fn variable_count(prepared: &Prepared) -> Result<u32, ModuleFault>
     ensures count { IfOk result (λ count. count ≡ length prepared.now.variables) }
     ensures refused { IfErr result (λ _. 4294967295 < length prepared.now.variables) }
@@ -55,7 +54,7 @@ fn variable_count(prepared: &Prepared) -> Result<u32, ModuleFault>
     Ok(count as u32)
 }
 
-/// The component behind this many others after `mtc`, or `None` where its number is too large.
+/// The component after `mtc` and this many others. `None` if its number is too large.
 fn component_behind(others: usize) -> Option<CompId>
     ensures number { IfSome result (λ comp. comp.0 ≡ others + 1) }
     ensures many { IfNone result (4294967295 ≤ others) }
@@ -66,21 +65,18 @@ fn component_behind(others: usize) -> Option<CompId>
     Some(CompId(others as u32 + 1))
 }
 
-/// How many components are started.
 fn started_count(starts: &Starts) -> usize
     ensures { result ≡ length starts.now.places.items }
 {
     starts.places.as_slice().len()
 }
 
-/// The start at this place.
 fn start_at(starts: &Starts, place: u32) -> Option<&StartedComponent>
     ensures { option_copied result ≡ slice_get starts.now.starts.items place }
 {
     starts.starts.get(place as usize)
 }
 
-/// What `mtc` does.
 fn main_instance(alloc: Global, count: u32) -> Result<Instance, ModuleFault>
     ensures which_body { IfOk result (λ instance. instance.which_body ≡ which_body.TestCase) }
     ensures references { IfOk result (λ instance.
@@ -94,7 +90,6 @@ fn main_instance(alloc: Global, count: u32) -> Result<Instance, ModuleFault>
     })
 }
 
-/// What the component of the variable at this place does, which the start at that place starts.
 fn started_instance(
     alloc: Global,
     prepared: &Prepared,
@@ -122,8 +117,8 @@ fn started_instance(
     })
 }
 
-/// What the test system interface does, which stands behind all other components: nothing where no
-/// function is named `sut`.
+/// The test system interface comes after all other components. It does nothing if no function is
+/// named `sut`.
 fn system_instance(
     alloc: Global,
     prepared: &Prepared,
@@ -149,7 +144,6 @@ fn system_instance(
     }))
 }
 
-/// What `mtc` and the components of the component variables do.
 fn test_instances(
     alloc: Global,
     prepared: &Prepared,
@@ -173,11 +167,10 @@ fn test_instances(
 }
 
 /// What each component of a test case does, by its number: `mtc`, the components of the component
-/// variables, and the test system interface where there is a `system` clause.
+/// variables, and the test system interface if there is a `system` clause.
 ///
-/// At the line of the test case 15 `Limit` where there are more than 4,294,967,295 component
-/// variables, or components, and 18 `NotStarted` where a component variable has the place of no
-/// start.
+/// At the line of the test case: 15 `Limit` if there are more than 4,294,967,295 component
+/// variables, or components, and 18 `NotStarted` if a component variable has the place of no start.
 pub fn make_instances(
     alloc: Global,
     prepared: &Prepared,

@@ -1,8 +1,9 @@
 //! The reader of scripts: the tree of a text, all checks of its module in their order, and the test
-//! case that they make of it. The programs, `tpr` and `tpr_ordered`, use it.
+//! case that they make of it. The programs `tpr` and `tpr_ordered` call [`reading::read_script`];
+//! start there.
 //!
-//! Where a call answers 50 `Memory`, an allocation was refused, which says nothing about the
-//! script. A call that can't answer it takes no memory.
+//! 50 `Memory` means that an allocation was refused, and says nothing about the script. A call that
+//! can't return it doesn't allocate.
 #![tactic(auto)]
 
 mod bodies;

@@ -8,9 +8,9 @@ use std::alloc::Global;
 use tp_play::test_case::TestCase;
 use tp_syntax::parser::parse;
 
-/// Reads a text as a module, and checks it: the test case of the text.
+/// Reads a text as a module, checks it, and returns its test case.
 ///
-/// The first fault is the answer: those of [`parse`], and then those of [`check`].
+/// It returns the first fault: those of [`parse`] come before those of [`check`].
 pub fn read_script(alloc: Global, text: &[u8]) -> Result<TestCase, TestCaseFault>
     ensures script { IfOk result (IsScriptOf text.now) }
     ensures fault { IfErr result (IsScriptFaultOf text.now) }

@@ -1,4 +1,4 @@
-//! What the bodies of a module may speak of.
+//! The names that the bodies of a module may use.
 ghost use Rattle.std.specs.Prelude.{◌≡◌, IfErr, IfOk, map, slice_get};
 ghost use Rattle.std.specs.Option.{option_copied};
 ghost use Rattle.tp_body.specs.declared.scope.Scope.{Scope};
@@ -17,15 +17,14 @@ use tp_setup::prepared::Prepared;
 use tp_setup::unique_names::declare_parameters;
 use tp_tree::tree::Parameter;
 
-/// The component type at this place.
 fn kind_at(kinds: &[CompType], place: u32) -> Option<&CompType>
     ensures { option_copied result ≡ slice_get kinds.now place }
 {
     kinds.get(place as usize)
 }
 
-/// The names of the parameters, in their order. 12 `Duplicate` at the line of the second of two
-/// that are equal, 15 `Limit` at the line of one behind 4,294,967,295 others.
+/// 12 `Duplicate` at the line of the second of two equal parameters, 15 `Limit` at the line of one
+/// after 4,294,967,295 others.
 pub fn parameter_names(alloc: Global, parameters: &[Parameter]) -> Result<NameSet<'_>, ModuleFault>
     ensures names { IfOk result (λ names. names ≡ map (λ p. declared p.name) parameters.now) }
     ensures refused { IfErr result (IsRefusedBy (IsNumbered
@@ -36,8 +35,8 @@ pub fn parameter_names(alloc: Global, parameters: &[Parameter]) -> Result<NameSe
     Ok(names)
 }
 
-/// What a behaviour may speak of that runs on the component type of this name and has these
-/// parameters. 11 `Unknown` at the line where there is no such type. Takes no memory.
+/// The names that a behaviour may use. It runs on the component type of this name, and has these
+/// parameters. 11 `Unknown` at the line if there is no such type. It doesn't allocate.
 pub fn scope_of<'m>(
     prepared: &'m Prepared<'m>,
     runs_on: &str,

@@ -1,4 +1,4 @@
-//! The fifth pass of the checks: how many statements there are.
+//! The fifth pass of the checks: the number of statements.
 ghost use Rattle.std.specs.Prelude.{◌≡◌, ◌<◌, ◌≤◌, IfErr, IfOk, OnOk, map, sum};
 ghost use Rattle.std.specs.List.{slice_index_or};
 ghost use Rattle.tp_name.specs.Refused.{IsRefusedBy, TellsAt};
@@ -14,7 +14,6 @@ use tp_play::bodies::Bodies;
 use tp_play::body::Body;
 use tp_play::instance::{Instance, WhichBody};
 
-/// How many statements each body has, up to [`SIZE_CEILING`].
 fn count_bodies(alloc: Global, bodies: &[Body]) -> Result<Vec<u64>, ModuleFault>
     ensures sizes { IfOk result (λ sizes.
         sizes.items ≡ map (λ b. capped (size_of_body b)) bodies.now) }
@@ -27,7 +26,6 @@ fn count_bodies(alloc: Global, bodies: &[Body]) -> Result<Vec<u64>, ModuleFault>
     Ok(sizes)
 }
 
-/// The size at this place, or 0.
 fn size_at(sizes: &[u64], place: u32) -> u64
     ensures { result ≡ slice_index_or sizes.now place 0 }
 {
@@ -37,7 +35,6 @@ fn size_at(sizes: &[u64], place: u32) -> u64
     }
 }
 
-/// The size of what a component does, where the bodies have these sizes.
 fn instance_size(main: u64, functions: &[u64], instance: &Option<Instance>) -> u64
     ensures { result ≡ size_of_instance main functions.now instance.now }
 {
@@ -61,8 +58,8 @@ fn count_instances(main: u64, functions: &[u64], instances: &[Option<Instance>])
     sum
 }
 
-/// 15 `Limit` at the line where all components together have more than 100,000 statements to carry
-/// out, a `for` being as many copies of its block as it has turns. Each body is counted once,
+/// 15 `Limit` at the line if all components together have more than 100,000 statements to execute.
+/// A `for` counts as a copy of its block for each turn. The size of each body is worked out once,
 /// however many components have it.
 pub fn check_size(
     alloc: Global,

@@ -1,4 +1,4 @@
-//! Bytes by what they can be part of.
+//! Kinds of bytes.
 ghost use Rattle.std.specs.Prelude.{◌≡◌};
 ghost use Rattle.tp_token.specs.Byte.{byte_kind, is_word_byte, is_digit, is_printable};
 
@@ -9,7 +9,7 @@ pub enum Kind {
     Letter,
     /// `0` to `9`.
     Digit,
-    /// `_`, which begins nothing.
+    /// `_`, which begins no token.
     Underscore,
     /// `"`, which begins and ends a text.
     Quote,
@@ -19,7 +19,6 @@ pub enum Kind {
     Other,
 }
 
-/// What the byte can be part of.
 #[tactic(auto, unfolding(crate::specs::Byte::byte_kind))]
 pub fn byte_kind(byte: u8) -> Kind
     ensures { result ≡ byte_kind byte }
@@ -34,7 +33,7 @@ pub fn byte_kind(byte: u8) -> Kind
     }
 }
 
-/// Whether a name or a reserved word may hold the byte.
+/// Returns whether a name or a reserved word may contain the byte.
 pub fn is_word_byte(byte: u8) -> bool
     ensures { result ≡ is_word_byte byte }
 {
@@ -44,14 +43,13 @@ pub fn is_word_byte(byte: u8) -> bool
     )
 }
 
-/// Whether the byte is a digit.
 pub fn is_digit(byte: u8) -> bool
     ensures { result ≡ is_digit byte }
 {
     matches!(byte_kind(byte), Kind::Digit)
 }
 
-/// Whether a text may hold the byte.
+/// Returns whether a text may contain the byte.
 pub fn is_printable(byte: u8) -> bool
     ensures { result ≡ is_printable byte }
 {

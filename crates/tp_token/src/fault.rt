@@ -1,4 +1,4 @@
-//! Why a text of the notation is refused.
+//! Reasons why a text is refused as a script.
 ghost use Rattle.std.specs.Prelude.{◌≡◌};
 ghost use Rattle.tp_token.specs.Told.{text_refusal};
 ghost use Rattle.tp_token.specs.declared.fault.ScriptFault.TheVariants as script_fault;
@@ -19,7 +19,7 @@ pub enum TextRule {
 }
 
 impl TextRule {
-    /// The refusal that tells the rule: 10 or 15.
+    /// The refusal of the rule: 10 or 15.
     pub fn refusal(self) -> Refusal
         ensures { result ≡ text_refusal self }
     {
@@ -38,25 +38,22 @@ impl fmt::Display for TextRule {
     }
 }
 
-/// Why a text is not read.
+/// Why a text can't be read.
 #[derive(Clone, Copy, Debug, PartialEq, Eq, Error)]
 pub enum ScriptFault {
     /// The text breaks a rule of the notation.
     #[error("refused {rule} line {line}")]
     Refused {
-        /// The rule.
         rule: TextRule,
-        /// Where: one more than the number of bytes 10 before the place, or 0 for a text that is
-        /// too long.
+        /// One more than the number of bytes 10 before the place, or 0 for a text that is too long.
         line: u32,
     },
-    /// 50: memory was refused, which says nothing about the text.
+    /// 50: an allocation was refused, which says nothing about the text.
     #[error("fault {}", Refusal::Memory)]
     Memory(Memory),
 }
 
 impl ScriptFault {
-    /// 10 `Syntax` at the line: no token, or not this one, can stand there.
     pub fn syntax(line: u32) -> ScriptFault
         ensures { result ≡ ScriptFault.Refused TextRule.Syntax line }
     {
@@ -66,7 +63,6 @@ impl ScriptFault {
         }
     }
 
-    /// 15 `Limit` at the line: there is more of something than the profile allows.
     pub fn limit(line: u32) -> ScriptFault
         ensures { result ≡ ScriptFault.Refused TextRule.Limit line }
     {

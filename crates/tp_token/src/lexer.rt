@@ -12,13 +12,13 @@ use crate::token::{Placed, Token};
 use std::alloc::Global;
 use tp_refusal::limit::TEXT_LIMIT;
 
-/// The tokens of the text, in order, each with its line. It reads the text once, and borrows names
-/// from it.
+/// Returns the tokens of the text, in order, each with its line. It reads the text once, and
+/// borrows names from it.
 ///
-/// The first fault in the text is answered:
-/// - 15 `Limit` at line 0, before all else: the text has more bytes than [`TEXT_LIMIT`];
+/// It returns the first fault in the text:
+/// - 15 `Limit` at line 0, before all others: the text has more than [`TEXT_LIMIT`] bytes;
 /// - 10 `Syntax` at the line of a byte that begins no token, of the opening quote of a text that
-///   isn't closed or holds a character other than 32 to 126, of the `/*` of a comment that isn't
+///   isn't closed or contains a character other than 32 to 126, of the `/*` of a comment that isn't
 ///   closed (`/*/` isn't);
 /// - 15 `Limit` at the line of a name of more than 64 characters, or of a number above
 ///   9223372036854775808.
@@ -45,24 +45,23 @@ pub fn lex<'t>(alloc: Global, text: &'t [u8]) -> Result<Vec<Placed<'t>>, ScriptF
     Ok(tokens)
 }
 
-/// The law that a text has one list of tokens, so that what [`lex`] answers is the only one that it
-/// could. It does nothing.
+/// A text has one list of tokens, so that [`lex`] returns the only possible one. This is a law
+/// without work.
 pub fn tokens_are_unique()
     ensures { TokensAreUnique }
 {}
 
-/// The law that [`lex`] refuses no good text: where a text has tokens within the limits and isn't
-/// too long, the refusals that `lex` may answer leave want of memory alone. It does nothing.
+/// [`lex`] refuses no good text: if a text has tokens within the limits and isn't too long, `lex`
+/// can refuse it only because memory runs out. This is a law without work.
 pub fn good_texts_are_accepted()
     ensures { GoodTextsAreAccepted }
 {}
 
-/// The law that bytes spell a reserved word exactly where they are its spelling. It does nothing.
+/// Bytes spell a reserved word if and only if they are its spelling. This is a law without work.
 pub fn words_are_spelled()
     ensures { WordsAreSpelled }
 {}
 
-/// Adds the token, if there is one.
 fn add<'t>(
     tokens: &mut Vec<Placed<'t>>,
     found: Option<Token<'t>>,
@@ -78,7 +77,8 @@ fn add<'t>(
     Ok(())
 }
 
-/// How many lines end in a piece. A token holds no line end, so that its bytes aren't looked at.
+/// The number of lines that end in a piece. A token contains no line end, so that its bytes aren't
+/// looked at.
 fn lines_in(is_token: bool, piece: &[u8]) -> u32
     requires short { length piece.now ≤ 1048576 }
     requires token { IsTrue is_token → newlines piece.now ≡ 0 }

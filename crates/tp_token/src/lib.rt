@@ -1,8 +1,8 @@
 //! The tokens of a script: names, reserved words, numbers, texts and symbols, each with its line.
-//! The parser, `tp_syntax`, begins with them.
+//! The parser, `tp_syntax`, calls [`lexer::lex`]; start there.
 //!
-//! Where a call answers 50 `Memory`, an allocation was refused, which says nothing about the
-//! script. A call that can't answer it takes no memory.
+//! 50 `Memory` means that an allocation was refused, and says nothing about the script. A call that
+//! can't return it doesn't allocate.
 #![tactic(auto)]
 
 mod byte;

@@ -14,16 +14,17 @@ use crate::token::{Symbol, Token};
 use crate::word::word_of;
 use std::alloc::Global;
 
-/// How many characters a name may have.
+/// The maximum number of characters of a name.
 const LONGEST_NAME: usize = 64;
 
-/// The greatest number that a token may be: the least integer is this with a `-` before it.
+/// The greatest number that a token may be. The least integer is this with a `-` before it.
 const GREATEST_IN_TOKEN: u64 = 9_223_372_036_854_775_808;
 
-/// The piece at the front: its token, if it is one, and how many bytes it has. `line` is the line
-/// of its first byte.
+/// The piece at the front: its token, if it is one, and its number of bytes. `line` is the line of
+/// its first byte.
 ///
-/// The faults are those of [`lex`](crate::lexer::lex) but for the length of the text, at this line.
+/// The faults are those of [`lex`](crate::lexer::lex), except for the length of the text, at this
+/// line.
 #[tactic(auto, using(crate::proofs::PieceAtFront::piece_of_token, crate::proofs::PieceAtFront::blank_at))]
 pub fn piece<'t>(
     alloc: Global,
@@ -63,8 +64,7 @@ pub fn piece<'t>(
     }
 }
 
-/// The name or reserved word at the front, and how many bytes it has. 15 `Limit`: the name has more
-/// than 64.
+/// 15 `Limit` if the name has more than 64 characters.
 fn word<'t>(bytes: &'t [u8], line: u32) -> Result<(Token<'t>, usize), ScriptFault>
     requires { BeginsAs Kind.Letter bytes.now }
     ensures token { IfOk result (λ r. TokenAt bytes.now (lexeme_of r.0) r.1) }
@@ -85,7 +85,6 @@ fn word<'t>(bytes: &'t [u8], line: u32) -> Result<(Token<'t>, usize), ScriptFaul
     Ok((Token::Name(spelling), size))
 }
 
-/// How many bytes at the front a name may hold.
 fn word_len(bytes: &[u8]) -> usize
     ensures { result ≡ prefix_len is_word_byte bytes.now }
 {
@@ -96,7 +95,7 @@ fn word_len(bytes: &[u8]) -> usize
     n
 }
 
-/// The number at the front, and how many bytes it has. 15 `Limit`: it is too great.
+/// 15 `Limit` if the number is too great.
 fn number(bytes: &[u8], line: u32) -> Result<(u64, usize), ScriptFault>
     requires { BeginsAs Kind.Digit bytes.now }
     ensures token { IfOk result (λ r. TokenAt bytes.now (number r.0) r.1) }
@@ -111,7 +110,6 @@ fn number(bytes: &[u8], line: u32) -> Result<(u64, usize), ScriptFault>
     Ok((value, size))
 }
 
-/// How many digits stand at the front.
 fn digits_len(bytes: &[u8]) -> usize
     ensures { result ≡ prefix_len is_digit bytes.now }
 {
@@ -122,7 +120,7 @@ fn digits_len(bytes: &[u8]) -> usize
     n
 }
 
-/// The number that the digits spell. 15 `Limit`: it is too great.
+/// 15 `Limit` if the number is too great.
 fn spelled_number(digits: &[u8], line: u32) -> Result<u64, ScriptFault>
     requires { Run is_digit digits.now }
     ensures value { IfOk result (λ n. n ≡ value_on 0 digits.now) }
@@ -143,7 +141,7 @@ fn spelled_number(digits: &[u8], line: u32) -> Result<u64, ScriptFault>
     Ok(value)
 }
 
-/// What a digit counts: `0` is 48.
+/// The value of a digit: `0` is 48.
 fn digit_value(digit: u8) -> u8
     ensures low { result ≤ 207 }
     ensures value { result ≡ digit - 48 }
@@ -151,8 +149,8 @@ fn digit_value(digit: u8) -> u8
     digit.saturating_sub(48)
 }
 
-/// The text at the front, and how many bytes it has, quotes included. 10 `Syntax`: it isn't closed,
-/// or holds a character other than 32 to 126.
+/// The text at the front, and its number of bytes, with the quotes. 10 `Syntax` if it isn't closed,
+/// or contains a character other than 32 to 126.
 fn text(alloc: Global, bytes: &[u8], line: u32) -> Result<(Vec<u8>, usize), ScriptFault>
     requires { BeginsAs Kind.Quote bytes.now }
     ensures token { IfOk result (λ r. TokenAt bytes.now (text r.0.items) r.1) }
@@ -163,8 +161,8 @@ fn text(alloc: Global, bytes: &[u8], line: u32) -> Result<(Vec<u8>, usize), Scri
     Ok((characters, size + 1))
 }
 
-/// The characters up to the closing quote, each doubled quote as one, and how many bytes they and
-/// the closing quote have.
+/// The characters up to the closing quote, each doubled quote as one, and the number of bytes up to
+/// and with the closing quote.
 fn quoted(alloc: Global, bytes: &[u8], line: u32) -> Result<(Vec<u8>, usize), ScriptFault>
     ensures spelled { IfOk result (λ r. take r.1 bytes.now ≡ doubled r.0.items ++ 34 ∷ []) }
     ensures within { IfOk result (λ r. r.1 ≤ length bytes.now) }
@@ -193,7 +191,6 @@ fn quoted(alloc: Global, bytes: &[u8], line: u32) -> Result<(Vec<u8>, usize), Sc
     Err(ScriptFault::syntax(line))
 }
 
-/// The symbol at the front, and how many bytes it has, or `None` where none stands there.
 fn symbol(bytes: &[u8]) -> Option<(Symbol, usize)>
     requires { BeginsAs Kind.Other bytes.now }
     ensures token { IfSome result (λ r. TokenAt bytes.now (symbol r.0) r.1) }
@@ -223,8 +220,7 @@ fn symbol(bytes: &[u8]) -> Option<(Symbol, usize)>
     }
 }
 
-/// How many bytes the comment at the front has. 10 `Syntax`: no comment begins there, or it isn't
-/// closed.
+/// 10 `Syntax` if no comment begins here, or if it isn't closed.
 fn comment(bytes: &[u8], line: u32) -> Result<usize, ScriptFault>
     requires some { 0 < length bytes.now }
     requires slash { slice_index bytes.now 0 ≡ 47 }
@@ -245,7 +241,6 @@ fn comment(bytes: &[u8], line: u32) -> Result<usize, ScriptFault>
     }
 }
 
-/// How many bytes stand before the end of the line, or of the text.
 fn line_comment(bytes: &[u8]) -> usize
     ensures within { result ≤ length bytes.now }
     ensures value { result ≡ prefix_len is_in_line bytes.now }
@@ -257,7 +252,7 @@ fn line_comment(bytes: &[u8]) -> usize
     n
 }
 
-/// How many bytes stand before the first `*/`, if there is one.
+/// The number of bytes before the first `*/`.
 fn block_comment(bytes: &[u8]) -> Option<usize>
     ensures within { IfSome result (λ n. n + 2 ≤ length bytes.now) }
     ensures mark { IfSome result (λ n. take (n + 2) bytes.now ≡ take n bytes.now ++ codes "*/") }

@@ -45,7 +45,6 @@ pub enum Symbol {
 }
 
 impl Symbol {
-    /// Whether it is this symbol.
     pub fn is(self, other: Symbol) -> bool
         ensures { IsTrue result ↔ (self ≡ other) }
     {
@@ -53,27 +52,22 @@ impl Symbol {
     }
 }
 
-/// A token.
 #[derive(Debug, Drop)]
 pub enum Token<'t> {
-    /// A name: a letter, then letters, digits and `_`, 64 characters at most, and no reserved word.
+    /// A letter, then letters, digits and `_`, at most 64 characters. It isn't a reserved word.
     Name(&'t str),
-    /// A reserved word.
     Word(Word),
-    /// A number without a sign, at most 9223372036854775808, the greatest that has a place in the
-    /// notation (behind a `-`).
+    /// A number without a sign, at most 9223372036854775808, which is valid only after a `-`.
     Number(u64),
-    /// A text: what stands between its quotes, each doubled quote as one. Its characters are 32 to
-    /// 126, one byte each.
+    /// The text between its quotes, each doubled quote as one. Its characters are 32 to 126, one
+    /// byte each.
     Text(Vec<u8>),
-    /// A symbol.
     Symbol(Symbol),
 }
 
-/// A token and the line where it begins.
+/// A token and the line on which it begins.
 #[derive(Drop)]
 pub struct Placed<'t> {
-    /// The token.
     pub token: Token<'t>,
     /// One more than the number of bytes 10 before it, from 1.
     pub line: u32,

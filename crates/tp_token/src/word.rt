@@ -1,9 +1,9 @@
-//! The reserved words (ES 201 873-1, Annex A, has more: the others may be names here).
+//! The reserved words. The others of ES 201 873-1, Annex A, may be names here.
 ghost use Rattle.std.specs.Prelude.{◌≡◌, ◌↔◌, ℕ, List, IsTrue, length, map};
 ghost use Rattle.tp_token.specs.Word.{first_spelled, word_of};
 
-/// A reserved word: one that can't be a name. `SelfWord` is `self` and `NoneWord` is `none`; each
-/// of the others is the word of its own name, in small letters.
+/// A word that can't be a name. `SelfWord` is `self` and `NoneWord` is `none`; each of the others
+/// is the word of its own name, in lower-case letters.
 #[derive(Clone, Copy, PartialEq, Eq, Debug)]
 pub enum Word {
     Module,
@@ -61,7 +61,6 @@ pub enum Word {
 }
 
 impl Word {
-    /// Whether it is this word.
     pub fn is(self, other: Word) -> bool
         ensures { IsTrue result ↔ (self ≡ other) }
     {
@@ -69,7 +68,7 @@ impl Word {
     }
 }
 
-/// How each reserved word is spelled, from the shortest to the longest. There is no other one.
+/// The spelling of each reserved word, from the shortest to the longest. There is no other one.
 pub const WORDS: [(&str, Word); 52] = [
     ("of", Word::Of),
     ("in", Word::In),
@@ -125,14 +124,14 @@ pub const WORDS: [(&str, Word); 52] = [
     ("complement", Word::Complement),
 ];
 
-/// The reserved word that is spelled so, or `None` where the text is none: then it may be a name.
+/// The reserved word with this spelling. `None` if the text is none: then it may be a name.
 pub fn word_of(text: &str) -> Option<Word>
     ensures { result ≡ word_of text.now }
 {
     first_spelled(text, words_of_length(text.len()))
 }
 
-/// The part of the table where a text of so many characters is found if it stands in the table.
+/// The part of the table with the words of this length.
 fn words_of_length(size: usize) -> &'static [(&'static str, Word)]
     ensures { (bs : List ℕ) → length bs ≡ size →
         first_spelled bs (map (λ entry. (entry.0.now, entry.1)) result.now) ≡ word_of bs }
@@ -152,7 +151,6 @@ fn words_of_length(size: usize) -> &'static [(&'static str, Word)]
     }
 }
 
-/// The word of the first entry that is spelled so.
 fn first_spelled(text: &str, table: &[(&str, Word)]) -> Option<Word>
     ensures { result ≡ first_spelled text.now (map (λ entry. (entry.0.now, entry.1)) table.now) }
 {

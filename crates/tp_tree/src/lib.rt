@@ -1,5 +1,6 @@
-//! The tree of a module, as the core notation writes it (ES 201 873-1): data, without functions.
-//! The parser, `tp_syntax`, makes it, and the checks, `tp_setup` and `tp_body`, go through it.
+//! The tree of a module in the core notation (ES 201 873-1): data without functions. The parser,
+//! `tp_syntax`, makes a [`tree::Module`], and the checks, `tp_setup` and `tp_body`, go through it.
+//! Start there.
 #![tactic(auto)]
 
 pub mod message;
