@@ -1,20 +1,19 @@
-//! What arrives at a message port, and what happens there.
+//! Messages at a port, and the events there.
 
-/// A message on its way: what a connection carries, and what a port's queue holds.
+/// A message on its way: what a connection carries, and what a port's queue contains.
 ///
-/// The core calls its parts the sender of a message and the message itself (ES 201 873-1, 22.2.1);
-/// the number is this project's own and lets a reader tell two equal messages apart.
+/// The standard calls its parts the sender of a message and the message itself (ES 201 873-1,
+/// 22.2.1); the number is this project's own, and distinguishes equal messages for a reader.
 #[derive(Debug, Drop)]
 pub struct Env<M> {
-    /// Who sent it: a component, numbered by the user of the queue. `from` compares this number.
+    /// The component that sent it, numbered by the user of the queue. `from` compares this number.
     pub sender: u32,
     /// Its number on its way, from 0. A queue only keeps it.
     pub number: u64,
-    /// The message.
     pub msg: M,
 }
 
-/// Whether a port is started, halted or stopped (ES 201 873-1, 22.5).
+/// The status of a port (ES 201 873-1, 22.5).
 #[derive(Clone, Copy, Debug)]
 pub enum Status {
     /// It sends, and every queued message can be received.
@@ -25,11 +24,10 @@ pub enum Status {
     Stopped,
 }
 
-/// One thing that happened at a port. The history of a port is the list of its events, the oldest
-/// first.
+/// One event at a port. The history of a port is the list of its events, the oldest first.
 #[derive(Debug, Drop)]
 pub enum Event<M> {
-    /// A message came, and went to the end of the queue, whatever the port's status.
+    /// A message arrived at the end of the queue, whatever the port's status.
     Arrive(Env<M>),
     /// `receive`, or a `trigger` that matched, took the top message out (22.2.2, 22.2.3).
     Took(Env<M>),
@@ -43,16 +41,16 @@ pub enum Event<M> {
     Started,
     /// `stop` stopped the port (22.5.3).
     Stopped,
-    /// `halt` was carried out, with an effect or without one (22.5.4).
+    /// `halt` was executed, with or without an effect (22.5.4).
     Halted,
 }
 
-/// What a `trigger` did (ES 201 873-1, 22.2.3).
+/// The result of a `trigger` (ES 201 873-1, 22.2.3).
 #[derive(Debug, Drop)]
 pub enum TriggerAnswer<M> {
-    /// The top message satisfied the criteria, and was taken out.
+    /// The top message matched, and was taken out.
     Took(Env<M>),
-    /// The top message didn't satisfy the criteria, and was discarded.
+    /// The top message didn't match, and was discarded.
     Dropped(Env<M>),
     /// No message is deliverable.
     Nothing,

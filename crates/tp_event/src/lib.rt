@@ -1,7 +1,7 @@
-//! What can happen at a port: envelopes, events, operations, and what a type of message must offer.
-//! Queues, histories and traces are made of it.
+//! The events of a port: envelopes, events, operations, and the traits of a message and of what a
+//! receiver wants. Queues, histories and traces are made of them. Start with [`event::Event`].
 //!
-//! Only the copy of a message takes memory.
+//! Only the copy of a message allocates.
 #![tactic(auto)]
 
 pub mod event;

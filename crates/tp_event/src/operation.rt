@@ -1,6 +1,6 @@
-//! What a test case does at a port.
+//! The operations at a port.
 
-/// What a receiving operation does with a message (ES 201 873-1, 22.2.2 to 22.2.4).
+/// The kind of a receiving operation (ES 201 873-1, 22.2.2 to 22.2.4).
 #[derive(Clone, Copy)]
 pub enum ReceiveKind {
     /// `receive`: takes the message that matches.
@@ -14,12 +14,8 @@ pub enum ReceiveKind {
 /// An operation on a port (ES 201 873-1, 22.5).
 #[derive(Clone, Copy)]
 pub enum PortOperation {
-    /// `start`
     Start,
-    /// `stop`
     Stop,
-    /// `halt`
     Halt,
-    /// `clear`
     Clear,
 }

@@ -25,18 +25,17 @@ use tp_queue::queue::Queue;
 use tp_refusal::memory::Memory;
 use tp_value::message::Message;
 
-/// The ports of one component and its history, seen by contracts as the component, the number of
-/// its ports and the history.
+/// The ports of one component and its history. Contracts see the component, the number of its ports
+/// and the history.
 ///
-/// Each port is given by its place in declared order, from 0, and its queue stands for the history
-/// that the component's history says of it. That is the only history: no port keeps one of its own.
-/// A call works on the port's queue, and looks at no history.
+/// A port is a place in declared order, from 0, and its queue stands for what the component's
+/// history says of it. That is the only history: no port keeps its own. A call works on the port's
+/// queue, and searches no history.
 #[derive(Drop)]
 pub struct Desk {
     comp: CompId,
     /// The ports in declared order.
     ports: Vec<Queue<Message>>,
-    /// The history.
     log: Vec<Entry>,
     /// The greatest stamp in the history.
     clock: u64,
@@ -60,7 +59,7 @@ impl Model for Desk {
 
 impl Desk {
     /// The desk of a component of the configuration: all its ports are started (ES 201 873-1,
-    /// 21.3.1), and nothing has happened.
+    /// 21.3.1), and the history is empty.
     pub fn new(alloc: Global, config: &Config, comp: CompId) -> Result<Desk, Memory>
         requires { IsComponent config.now comp }
         ensures desk { IfOk result (λ desk. desk
@@ -70,7 +69,6 @@ impl Desk {
         Desk::with_ports(alloc, comp, config.port_count(comp))
     }
 
-    /// A desk with so many ports.
     fn with_ports(alloc: Global, comp: CompId, count: usize) -> Result<Desk, Memory>
         ensures desk { IfOk result (λ desk. desk ≡ new_desk comp count) }
         ensures none { IfOk result (λ desk. arrivals desk.log ≡ []) }
@@ -88,8 +86,8 @@ impl Desk {
         })
     }
 
-    /// A message comes to this port, with the stamp of its sending: [`Queue::arrive`] there,
-    /// and an `Arrive` in the history.
+    /// A message arrives at this port, with the stamp of its sending: [`Queue::arrive`] there, and
+    /// an `Arrive` in the history.
     pub fn arrive(
         &mut self,
         port: u32,
@@ -112,7 +110,7 @@ impl Desk {
         Ok(())
     }
 
-    /// [`Queue::receive`] at this port, in this branch; what it took is in the history.
+    /// [`Queue::receive`] at this port, in this branch. The history notes what it took.
     pub fn receive<W: Wanted<Message>>(
         &mut self,
         port: u32,
@@ -136,8 +134,8 @@ impl Desk {
         Ok(taken)
     }
 
-    /// [`Queue::trigger`] at this port, in this branch; what it took or discarded is in the
-    /// history.
+    /// [`Queue::trigger`] at this port, in this branch. The history notes what it took or
+    /// discarded.
     pub fn trigger<W: Wanted<Message>>(
         &mut self,
         port: u32,
@@ -170,8 +168,8 @@ impl Desk {
         }
     }
 
-    /// [`Queue::check`] at this port, in this branch; that it was found is in the history. The
-    /// answer refers into the port's queue.
+    /// [`Queue::check`] at this port, in this branch. The history notes what it found. The result
+    /// refers into the port's queue.
     pub fn check<W: Wanted<Message>>(
         &mut self,
         port: u32,
@@ -233,8 +231,7 @@ impl Desk {
         Ok(())
     }
 
-    /// [`Queue::halt`] at this port, and a `Halted` in the history, whether it has an effect or
-    /// not.
+    /// [`Queue::halt`] at this port, and a `Halted` in the history, even if it has no effect.
     pub fn halt(&mut self, port: u32) -> Result<Option<u64>, Memory>
         requires { port < self.old.ports }
         ensures count { IfOk result (λ count. count
@@ -248,8 +245,8 @@ impl Desk {
         Ok(ahead)
     }
 
-    /// Notes what the behaviour did itself: an entry `Sent`, `Else`, `Verdict` or `Failed`. The
-    /// stamp of a sending is above all stamps before it, as [`Desk::stamp`] offers one.
+    /// Notes an action of the behaviour: an entry `Sent`, `Else`, `Verdict` or `Failed`. The stamp
+    /// of a sending is above all stamps before it, like that of [`Desk::stamp`].
     pub fn note(&mut self, entry: Entry) -> Result<(), (Memory, Entry)>
         requires note { NamesNoPort entry }
         requires timely { IsTimely self.old.log entry }
@@ -264,10 +261,8 @@ impl Desk {
         Ok(())
     }
 
-    /// Notes that this message is sent on this route, under this number there and the next stamp,
-    /// and hands it out under that stamp, to be put.
-    ///
-    /// 50 `Memory` also where no stamp is left.
+    /// Notes the sending of this message on this route, under this number and the next stamp, and
+    /// returns it with that stamp, to be put. 50 `Memory` also if no stamp is left.
     pub fn note_sending(
         &mut self,
         route: RouteId,
@@ -294,8 +289,8 @@ impl Desk {
         Ok(put)
     }
 
-    /// Takes the latest entry out of the history again, a sending under the stamp that was next:
-    /// what was noted, and then couldn't be put. The desk is as before that entry.
+    /// Removes the latest entry from the history, a sending under the stamp that was next: it was
+    /// noted, and then couldn't be put. The desk is as before that entry.
     pub fn withdraw(&mut self)
         requires { (before : Journal) × NotesSending before self.old }
         ensures { NotesSending self.new self.old }
@@ -305,21 +300,20 @@ impl Desk {
         self.clock -= 1;
     }
 
-    /// The next stamp, one above the greatest in the history. None where the numbers are used up.
+    /// The next stamp, one above the greatest in the history. `None` if the numbers are used up.
     pub fn stamp(&self) -> Option<u64>
         ensures { SomeIff result (clock_of self.now.log + 1 < 2 ^ 64) (clock_of self.now.log + 1) }
     {
         self.clock.checked_add(1)
     }
 
-    /// Whose desk it is.
+    /// The component whose desk it is.
     pub fn comp(&self) -> CompId
         ensures { result ≡ self.now.comp }
     {
         self.comp
     }
 
-    /// How many ports there are.
     pub fn port_count(&self) -> usize
         ensures { result ≡ self.now.ports }
     {
@@ -336,7 +330,6 @@ impl Desk {
         self.log.as_slice()
     }
 
-    /// How many entries the history has.
     pub fn entry_count(&self) -> u64
         ensures { result ≡ length self.now.log }
     {

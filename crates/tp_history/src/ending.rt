@@ -6,8 +6,8 @@ use crate::send_fault::SendFault;
 pub enum End {
     /// At the end of its statements.
     Done,
-    /// At a send that couldn't be carried out, by this fault.
+    /// At a send that failed with this fault.
     Error(SendFault),
-    /// At a receiving operation or an `alt` of which no branch can be chosen any more.
+    /// At a receiving operation or an `alt` none of whose branches can be chosen any more.
     Waiting,
 }

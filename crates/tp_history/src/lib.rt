@@ -1,9 +1,9 @@
-//! A component's desk: its ports, with the one history of all that the component did and got; and
-//! what that is made of. The inbox moves messages to it, the behaviour works at it, and the report
-//! is made of it.
+//! A component's desk: its ports, with the one history of everything that the component did and
+//! got. The inbox moves messages to it, the behaviour works at it, and the report is made of it.
+//! Start with [`desk::Desk`] and [`entry::Entry`].
 //!
-//! Where a call answers 50 `Memory`, an allocation was refused: the desk is as before, and what it
-//! was handed comes back. A call that can't answer it takes no memory.
+//! 50 `Memory` means that an allocation was refused: the desk is as before, and the call returns
+//! what it was given. A call that can't return it doesn't allocate.
 #![tactic(auto)]
 
 pub mod desk;

@@ -1,12 +1,12 @@
-//! Why a send can't be carried out.
+//! Reasons why a send fails.
 ghost use Rattle.std.specs.Prelude.{◌≡◌};
 ghost use Rattle.tp_history.specs.Faults.{send_refusal};
 
 use tp_config::routes::RouteFault;
 use tp_refusal::refusal::Refusal;
 
-/// Why a send can't be carried out, which ends the behaviour (ES 201 873-1, 22.2.1, 24.1): the
-/// first of these causes that holds, in this order.
+/// Why a send failed, which ends the behaviour (ES 201 873-1, 22.2.1, 24.1): the first of these
+/// causes that holds, in this order.
 #[derive(Clone, Copy, Debug)]
 pub enum SendFault {
     /// 40 NotSending: the port isn't started.
@@ -20,7 +20,7 @@ pub enum SendFault {
 }
 
 impl SendFault {
-    /// The refusal, by its number and name.
+    /// The refusal with its number and name.
     pub fn refusal(self) -> Refusal
         ensures { result ≡ send_refusal self }
     {

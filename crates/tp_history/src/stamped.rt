@@ -5,13 +5,11 @@ use tp_event::payload::Payload;
 use tp_refusal::memory::Memory;
 use tp_value::message::Message;
 
-/// A message with the stamp of its sending: a number that is above all stamps that its sender had
-/// sent or got before. So a message has a greater stamp than each that it depends on.
+/// A message with the stamp of its sending: a number above all stamps that its sender had sent or
+/// got before. So a message has a greater stamp than each message that it depends on.
 #[derive(Debug, Drop)]
 pub struct Stamped {
-    /// The stamp.
     pub stamp: u64,
-    /// The message.
     pub message: Message,
 }
 

@@ -1,12 +1,11 @@
-//! What is answered to demands.
+//! The answer to demands.
 
-/// An order that meets all demands, or numbers of which each has to come before the next one, and
-/// the last one before the first.
+/// An order that meets all demands, or a circle of demands.
 #[derive(Drop)]
 pub enum Answer {
-    /// An order of all numbers, in which each demand is met.
+    /// All numbers, in an order that meets each demand.
     Ordered(Vec<usize>),
-    /// Numbers that can't be put in order: by one demand each has to come before the next, and the
-    /// last before the first.
+    /// Numbers without an order: by one demand each must come before the next, and the last before
+    /// the first.
     Circle(Vec<usize>),
 }

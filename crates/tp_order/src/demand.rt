@@ -2,16 +2,13 @@
 ghost use Rattle.std.specs.Prelude.{◌↔◌, All, IsTrue};
 ghost use Rattle.tp_order.specs.Order.{IsBelow};
 
-/// Of two numbers, which has to come before which.
 #[derive(Clone, Copy)]
 pub struct Demand {
-    /// The one that has to come first.
     pub before: usize,
-    /// The one that has to come behind it.
     pub after: usize,
 }
 
-/// Whether the demands name only numbers below the count.
+/// Returns whether the demands name only numbers below the count.
 pub fn are_below(count: usize, demands: &[Demand]) -> bool
     ensures { IsTrue result ↔ All (IsBelow count) demands.now }
 {

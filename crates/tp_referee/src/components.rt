@@ -14,7 +14,7 @@ use tp_trace::tree::Trace;
 /// them is kept or looked up twice.
 pub struct Components<'t> {
     trace: &'t Trace<'t>,
-    /// The names of those that have no section.
+    /// The names of those without a section.
     others: NumberedWords<'t>,
 }
 
@@ -39,7 +39,6 @@ impl<'t> Model for Components<'t> {
 }
 
 impl<'t> Components<'t> {
-    /// Those that have a section.
     pub fn new(alloc: Global, trace: &'t Trace<'t>) -> Components<'t>
         ensures { result ≡ names_of trace.now }
     {
@@ -49,7 +48,6 @@ impl<'t> Components<'t> {
         }
     }
 
-    /// How many components there are.
     pub fn len(&self) -> usize
         requires { length self.now < 2 ^ 64 }
         ensures count { result ≡ length self.now }
@@ -58,7 +56,7 @@ impl<'t> Components<'t> {
         self.trace.section_count() + self.others.len()
     }
 
-    /// The number of the component of this name, which is there from now on.
+    /// The number of the component with this name, which it has from now on.
     pub fn number(&mut self, name: &'t [u8]) -> Result<u32, Memory>
         requires { length self.old < 4294967296 }
         ensures there { IfOk result (λ number. slice_get self.new number ≡ Some name.now) }

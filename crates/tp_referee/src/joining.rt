@@ -1,4 +1,4 @@
-//! Which routes have a section at both ends.
+//! Routes with a section at both ends.
 ghost use Rattle.std.specs.Prelude.{◌≡◌, ◌↔◌, ◌<◌, ◌^◌, ℕ, Contains, IfOk, IsTrue, Some, List, length, map, slice_get, true};
 ghost use Rattle.tp_trace.specs.Tree.{names_of};
 ghost use Rattle.tp_referee.specs.Kept.{Keeps};
@@ -10,7 +10,7 @@ use std::alloc::Global;
 use tp_refusal::memory::Memory;
 use tp_trace::tree::Trace;
 
-/// Of each component whether it has a section: those that do stand first.
+/// For each component, whether it has a section: those with one come first.
 pub fn sections_of(
     alloc: Global,
     trace: &Trace<'_>,
@@ -29,7 +29,7 @@ pub fn sections_of(
     Ok(sections)
 }
 
-/// Of each port the component that it belongs to.
+/// For each port the component that it belongs to.
 pub fn owners_of(alloc: Global, ports: &[PortKey]) -> Result<Vec<u32>, Memory>
     ensures { IfOk result (λ owners. owners.items ≡ map (λ port. port.component) ports.now) }
 {
@@ -37,14 +37,12 @@ pub fn owners_of(alloc: Global, ports: &[PortKey]) -> Result<Vec<u32>, Memory>
     Ok(owners)
 }
 
-/// Whether this one has a section.
 fn is_section(sections: &[bool], component: u32) -> bool
     ensures { IsTrue result ↔ (slice_get sections.now component ≡ Some true) }
 {
     matches!(sections.get(component as usize), Some(true))
 }
 
-/// Whether both of these have a section.
 fn are_sections(sections: &[bool], one: u32, other: u32) -> bool
     ensures { IsTrue result
         ↔ ((slice_get sections.now one ≡ Some true) × (slice_get sections.now other ≡ Some true)) }
@@ -52,14 +50,12 @@ fn are_sections(sections: &[bool], one: u32, other: u32) -> bool
     is_section(sections, one) && is_section(sections, other)
 }
 
-/// The component that a port belongs to, where there is one.
 fn owner_of(owners: &[u32], port: u32) -> Option<u32>
     ensures { result ≡ slice_get owners.now port }
 {
     owners.get(port as usize).copied()
 }
 
-/// Whether both ends of a route have a section.
 fn is_joined(route: RouteKey, owners: &[u32], sections: &[bool]) -> bool
     ensures { IsTrue result ↔ IsJoinedBy owners.now sections.now route }
 {
@@ -69,7 +65,7 @@ fn is_joined(route: RouteKey, owners: &[u32], sections: &[bool]) -> bool
     }
 }
 
-/// Of each route whether both ends have a section.
+/// For each route, whether both ends have a section.
 pub fn joined_of(
     alloc: Global,
     routes: &[RouteKey],

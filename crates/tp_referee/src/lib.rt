@@ -1,8 +1,7 @@
-//! Mode `judge`: the names of a trace are numbered, it is judged by `tp_judge`, and what is said of
-//! it is written.
+//! Mode `judge`: numbers the names of a trace, lets `tp_judge` judge it, and writes the ruling.
+//! `tpr` calls [`ruling::referee`]; start there.
 //!
-//! Where a call answers 50 `Memory`, an allocation was refused. A call that can't answer it takes
-//! no memory.
+//! 50 `Memory` means that an allocation was refused. A call that can't return it doesn't allocate.
 #![tactic(auto)]
 
 mod components;

@@ -1,4 +1,4 @@
-//! The lines of a trace, with numbers in place of names and messages.
+//! The lines of a trace, with numbers instead of names and messages.
 ghost use Rattle.std.specs.Prelude.{◌≡◌, ◌<◌, ◌≤◌, ◌+◌, IfOk, OnOk, length, slice_get};
 ghost use Rattle.std.specs.List.{AllZip};
 ghost use Rattle.tp_trace.specs.Tree.{IsTrace, names_of, told_of};
@@ -17,16 +17,14 @@ use tp_refusal::memory::Memory;
 use tp_trace::line::Line;
 use tp_trace::tree::Trace;
 
-/// Whether the line begins a section.
 fn is_beginning(line: &Line<'_>) -> bool
     ensures { result ≡ is_beginning (told_of line.now) }
 {
     matches!(line, Line::Component(_))
 }
 
-/// Takes a line of this number, in the section of the component of that number, behind the
-/// beginnings of so many sections, and answers the number of the component in whose section the
-/// next line stands if it begins none.
+/// Takes the line `number`, which is in the section of component `here`, after the beginnings of
+/// `begun` sections. Returns the component of the next line's section, unless that line begins one.
 fn step<'t>(
     tables: &mut Tables<'t>,
     lines: &mut Vec<IndexedLine>,
@@ -60,7 +58,7 @@ fn step<'t>(
     }
 }
 
-/// The lines of the sections, in numbers; the tables are filled with what these stand for.
+/// The lines of the sections in numbers. The tables get the names of these.
 fn number_lines<'t>(
     alloc: Global,
     trace: &Trace<'t>,
@@ -92,7 +90,7 @@ fn number_lines<'t>(
 /// A trace in numbers. Each port, name of a port, route and message has the number of its first
 /// occurrence; the components with a section come first, in the order of their sections.
 ///
-/// It takes 40 bytes for each line, and what stands in the tables as long as it works.
+/// It takes 40 bytes for each line, and the contents of the tables while it works.
 pub fn number_trace(alloc: Global, trace: &Trace<'_>) -> Result<IndexedTrace, Memory>
     requires { length trace.now ≤ 268435456 }
     ensures numbering { IfOk result (IsNumberingOf trace.now) }
@@ -114,8 +112,8 @@ pub fn number_trace(alloc: Global, trace: &Trace<'_>) -> Result<IndexedTrace, Me
     })
 }
 
-/// Two lines of a trace in numbers have one number for their component, port, route or message
-/// exactly where the lines of the text name the same: a law, and no work.
+/// Two lines of a trace in numbers have the same number for their component, port, route or message
+/// if and only if the lines of the text name the same. This is a law without work.
 pub fn numbers_are_names()
     ensures { IsOneToOne }
 {}

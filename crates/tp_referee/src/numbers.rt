@@ -6,7 +6,7 @@ use indexmap::IndexSet;
 use std::hash::Hash;
 use tp_refusal::memory::Memory;
 
-/// The number of a key by first occurrence, from 0. The key is there from now on.
+/// The number of a key by first occurrence, from 0. The key has it from now on.
 pub fn number_of<K: Eq + Hash + Drop>(keys: &mut IndexSet<K>, key: K) -> Result<u32, Memory>
     requires { length keys.old.keys < 4294967296 }
     ensures there { IfOk result (λ number. (found : K)

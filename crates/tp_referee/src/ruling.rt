@@ -1,4 +1,4 @@
-//! What is said of the text of a trace.
+//! The ruling on the text of a trace.
 ghost use Rattle.std.specs.Prelude.{IfErr, IfOk};
 ghost use Rattle.tp_trace.specs.Faults.{IsFaultOf};
 ghost use Rattle.tp_judge.specs.Lawful.{AreLinesRouted, AreWithin};
@@ -13,7 +13,7 @@ use tp_judge::trace::IndexedTrace;
 use tp_refusal::memory::Memory;
 use tp_trace::reading::{TraceFault, read_trace};
 
-/// What is said of a trace.
+/// The ruling on a trace.
 #[derive(Drop)]
 pub enum Ruling {
     /// It is lawful, and one run or not.
@@ -22,7 +22,6 @@ pub enum Ruling {
     Unlawful(Vec<UnlawfulPlace>),
 }
 
-/// What is said of a trace in numbers.
 fn ruling_on(alloc: Global, trace: &IndexedTrace) -> Result<Ruling, Memory>
     requires within { AreWithin trace.now }
     requires routed { AreLinesRouted trace.now }
@@ -36,7 +35,7 @@ fn ruling_on(alloc: Global, trace: &IndexedTrace) -> Result<Ruling, Memory>
     Ok(Ruling::Unlawful(places))
 }
 
-/// Reads a text as a trace, and numbers that. Its lines as they are read are there no more then.
+/// Reads a text as a trace, and numbers it. The lines as they were read are freed then.
 fn number_text(alloc: Global, text: &[u8]) -> Result<IndexedTrace, TraceFault>
     ensures numbered { IfOk result (IsNumberedText text.now) }
     ensures within { IfOk result AreWithin }
@@ -48,10 +47,10 @@ fn number_text(alloc: Global, text: &[u8]) -> Result<IndexedTrace, TraceFault>
     Ok(numbered)
 }
 
-/// Says of a text whether it is a lawful trace, and where it isn't.
+/// Returns whether a text is a lawful trace, and where it isn't.
 ///
-/// Refused is what [`read_trace`] refuses. The time is linear in the text, but for the sorting of
-/// the places, unless its names were made to collide in a table: the seed of the hashes is fixed.
+/// It refuses what [`read_trace`] refuses. The time is linear in the text, except for sorting the
+/// places, and unless its names were chosen to collide in a table: the seed of the hashes is fixed.
 pub fn referee(alloc: Global, text: &[u8]) -> Result<Ruling, TraceFault>
     ensures ruling { IfOk result (IsRulingOf text.now) }
     ensures fault { IfErr result (IsFaultOf text.now) }

@@ -1,4 +1,4 @@
-//! What the numbers of a trace stand for.
+//! The tables of the numbers in a trace.
 ghost use Rattle.std.specs.Prelude.{◌≡◌, ◌<◌, ◌≤◌, [], IfOk, OnOk, Some, length, slice_get};
 ghost use Rattle.tp_trace.specs.Tree.{letter_of, names_of, told_of};
 ghost use Rattle.tp_referee.specs.Numbering.{AreTablesDistinct, IsAct, IsComponentNumber, IsMention, IsOperated, IsPassed, IsPortNumber, act_of, operation_act, receiver_of, sender_of};
@@ -18,24 +18,19 @@ use tp_trace::tree::Trace;
 /// A port: the number of its component, and that of its name among the names of ports.
 #[derive(Clone, Copy, PartialEq, Eq, Hash)]
 pub struct PortKey {
-    /// The number of the component.
     pub component: u32,
-    /// The number of the port's name.
     pub name: u32,
 }
 
 /// A route: the number of its sender, a component, and that of the port at its end.
 #[derive(Clone, Copy, PartialEq, Eq, Hash)]
 pub struct RouteKey {
-    /// The number of the sender.
     pub sender: u32,
-    /// The number of the port.
     pub port: u32,
 }
 
-/// What the numbers stand for: the place of each in its table.
+/// Each number is a place in its table.
 pub struct Tables<'t> {
-    /// The components, by their names.
     pub components: Components<'t>,
     /// The names of ports.
     pub names: NumberedWords<'t>,
@@ -63,7 +58,6 @@ impl Drop for Tables<'_> {
     }
 }
 
-/// What became of a message.
 fn act_of(fate: MessageVerb, mention: Mention) -> Act
     ensures { result ≡ act_of fate mention }
 {
@@ -77,7 +71,7 @@ fn act_of(fate: MessageVerb, mention: Mention) -> Act
     }
 }
 
-/// Who sent it, and whose port it is for, where it is told here of a message from or to the other.
+/// The sender and the receiver of a message that is reported here, from or to the other component.
 fn ends(fate: MessageVerb, here: u32, other: u32) -> (u32, u32)
     ensures sender { result.0 ≡ sender_of fate here other }
     ensures receiver { result.1 ≡ receiver_of fate here other }
@@ -92,7 +86,6 @@ fn ends(fate: MessageVerb, here: u32, other: u32) -> (u32, u32)
     }
 }
 
-/// An operation on the port of this number.
 fn operation_act(operation: PortOperation, port: u32) -> Act
     ensures { result ≡ operation_act operation port }
 {
@@ -105,7 +98,6 @@ fn operation_act(operation: PortOperation, port: u32) -> Act
 }
 
 impl<'t> Tables<'t> {
-    /// Nothing has a number but the components of the sections.
     pub fn new(alloc: Global, trace: &'t Trace<'t>) -> Result<Tables<'t>, Memory>
         ensures components { IfOk result (λ t. t.components ≡ names_of trace.now) }
         ensures size { IfOk result (λ t. size t ≡ length (names_of trace.now)) }
@@ -124,7 +116,7 @@ impl<'t> Tables<'t> {
         })
     }
 
-    /// Named for the sake of its clause, that nothing has two numbers.
+    /// It exists for its clause: no name has two numbers.
     pub fn know_distinct(&self)
         requires { HasRoom 0 self.now }
         ensures { AreTablesDistinct self.now }
@@ -136,7 +128,6 @@ impl<'t> Tables<'t> {
         let _ = self.messages.len();
     }
 
-    /// The number of the component of this name.
     pub fn component(&mut self, name: &'t [u8]) -> Result<u32, Memory>
         requires room { HasRoom 1 self.old }
         requires whole { IsWhole self.old }
@@ -147,7 +138,7 @@ impl<'t> Tables<'t> {
         self.components.number(name)
     }
 
-    /// The number of a port that has been given its name's number.
+    /// The number of a port whose name has a number.
     fn port_key(&mut self, component: u32, name: u32) -> Result<u32, Memory>
         requires room { HasRoom 1 self.old }
         requires whole { IsWhole self.old }
@@ -160,7 +151,6 @@ impl<'t> Tables<'t> {
         number_of(&mut self.ports, PortKey { component, name })
     }
 
-    /// The number of a name of ports.
     fn name(&mut self, name: &'t [u8]) -> Result<u32, Memory>
         requires room { HasRoom 1 self.old }
         requires whole { IsWhole self.old }
@@ -171,7 +161,6 @@ impl<'t> Tables<'t> {
         self.names.number(name)
     }
 
-    /// The number of the port of this name of the component of this number.
     fn port(&mut self, component: u32, name: &'t [u8]) -> Result<u32, Memory>
         requires room { HasRoom 2 self.old }
         requires whole { IsWhole self.old }
@@ -184,7 +173,6 @@ impl<'t> Tables<'t> {
         self.port_key(component, word)
     }
 
-    /// The number of the route from this sender to this port.
     fn route(&mut self, sender: u32, port: u32) -> Result<u32, Memory>
         requires room { HasRoom 1 self.old }
         requires whole { IsWhole self.old }
@@ -196,7 +184,6 @@ impl<'t> Tables<'t> {
         number_of(&mut self.routes, RouteKey { sender, port })
     }
 
-    /// The number of a message.
     fn message(&mut self, text: &'t [u8]) -> Result<u32, Memory>
         requires room { HasRoom 1 self.old }
         requires whole { IsWhole self.old }
@@ -207,7 +194,7 @@ impl<'t> Tables<'t> {
         self.messages.number(text)
     }
 
-    /// A message between the components of these numbers.
+    /// A message between these two components.
     fn mention(
         &mut self,
         sender: u32,
@@ -235,7 +222,7 @@ impl<'t> Tables<'t> {
         })
     }
 
-    /// What became of a message, as it is told in the section of the component of this number.
+    /// A line on a message in the section of component `here`.
     fn passed(
         &mut self,
         here: u32,
@@ -255,7 +242,7 @@ impl<'t> Tables<'t> {
         Ok(act_of(fate, mention))
     }
 
-    /// An operation on a port of the component of this number.
+    /// An operation on a port of component `here`.
     fn operated(
         &mut self,
         here: u32,
@@ -273,7 +260,7 @@ impl<'t> Tables<'t> {
         Ok(operation_act(operation, port))
     }
 
-    /// What a line tells, in the section of the component of this number.
+    /// A line in the section of component `here`.
     pub fn act(&mut self, here: u32, line: &Line<'t>) -> Result<Act, Memory>
         requires room { HasRoom 5 self.old }
         requires whole { IsWhole self.old }

@@ -8,7 +8,7 @@ use std::alloc::Global;
 use std::marker::Model;
 use tp_refusal::memory::Memory;
 
-/// Words, no two of them equal, numbered from 0 by first occurrence. Each lies in the text.
+/// Words, no two of them equal, numbered from 0 by first occurrence. Each is a slice of the text.
 pub struct NumberedWords<'t> {
     words: IndexSet<&'t [u8]>,
 }
@@ -30,7 +30,6 @@ impl<'t> Model for NumberedWords<'t> {
 }
 
 impl<'t> NumberedWords<'t> {
-    /// No words.
     pub fn new(alloc: Global) -> NumberedWords<'t>
         ensures { result ≡ [] }
     {
@@ -39,7 +38,6 @@ impl<'t> NumberedWords<'t> {
         }
     }
 
-    /// How many words there are.
     pub fn len(&self) -> usize
         ensures count { result ≡ length self.now }
         ensures distinct { AllPairs (λ a b. a ≢ b) self.now }
@@ -47,7 +45,7 @@ impl<'t> NumberedWords<'t> {
         self.words.len()
     }
 
-    /// The number of a word, which is there from now on.
+    /// The number of a word, which it has from now on.
     pub fn number(&mut self, word: &'t [u8]) -> Result<u32, Memory>
         requires { length self.old < 4294967296 }
         ensures there { IfOk result (λ number. slice_get self.new number ≡ Some word.now) }

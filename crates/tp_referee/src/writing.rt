@@ -1,4 +1,4 @@
-//! The text of what is said of a trace.
+//! The text of a ruling.
 ghost use Rattle.std.specs.Prelude.{◌≡◌};
 ghost use Rattle.std.specs.List.{flat_map};
 ghost use Rattle.tp_text.specs.Watching.{Writes};
@@ -10,7 +10,6 @@ use tp_judge::one_run::OneRun;
 use tp_judge::place::{Rule, UnlawfulPlace};
 use tp_text::watched::{Watched, write_bytes, write_number};
 
-/// The word for a rule.
 fn rule_word(rule: Rule) -> &'static [u8]
     ensures { result.now ≡ rule_text rule }
 {
@@ -29,7 +28,6 @@ fn rule_word(rule: Rule) -> &'static [u8]
     }
 }
 
-/// Writes the line of a place.
 fn write_place<W: Write>(writer: &mut Watched<W>, place: UnlawfulPlace)
     ensures { Writes W.contents writer.old writer.new (place_text place) }
 {
@@ -40,7 +38,6 @@ fn write_place<W: Write>(writer: &mut Watched<W>, place: UnlawfulPlace)
     write_bytes(b"\n", writer);
 }
 
-/// Writes the lines of places.
 fn write_places<W: Write>(writer: &mut Watched<W>, places: &[UnlawfulPlace])
     ensures { Writes W.contents writer.old writer.new (flat_map place_text places.now) }
 {
@@ -49,7 +46,6 @@ fn write_places<W: Write>(writer: &mut Watched<W>, places: &[UnlawfulPlace])
     }
 }
 
-/// Writes whether a lawful trace is one run.
 fn write_run<W: Write>(writer: &mut Watched<W>, run: OneRun)
     ensures { Writes W.contents writer.old writer.new (run_text run) }
 {
@@ -63,7 +59,6 @@ fn write_run<W: Write>(writer: &mut Watched<W>, run: OneRun)
     }
 }
 
-/// Writes that a trace is lawful, and whether it is one run.
 fn write_lawful<W: Write>(writer: &mut Watched<W>, run: OneRun)
     ensures { Writes W.contents writer.old writer.new (lawful_text run) }
 {
@@ -71,9 +66,9 @@ fn write_lawful<W: Write>(writer: &mut Watched<W>, run: OneRun)
     write_run(writer, run)
 }
 
-/// Writes what is said of a trace: `lawful`, and `one run` or `delayed line L`; or a line
-/// `unlawful RULE line L` for each place. Where the writer fails, a front of the text is written.
-/// It writes in small pieces: give it a writer with a buffer.
+/// Writes a ruling: `lawful`, and `one run` or `delayed line L`; or a line `unlawful RULE line L`
+/// for each place. If the writer fails, it has written a front of the text. It writes in small
+/// pieces: use a writer with a buffer.
 pub fn write_ruling<W: Write>(writer: &mut Watched<W>, ruling: &Ruling)
     ensures { Writes W.contents writer.old writer.new (ruling_text ruling.now) }
 {

@@ -1,7 +1,8 @@
-//! What `tpr` refuses: the number and name of each refusal, want of memory, and how long a text may
-//! be. Each crate that refuses something takes them from here.
+//! The refusals of `tpr`: the number and name of each, the error for out of memory, and the maximum
+//! length of a text. Each crate that refuses something takes them from here. Start with
+//! [`refusal::Refusal`].
 //!
-//! Nothing here takes memory.
+//! Nothing here allocates.
 #![tactic(auto)]
 
 pub mod limit;

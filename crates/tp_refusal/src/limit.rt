@@ -1,4 +1,4 @@
 //! The limit on the text of a script or a queue file.
 
-/// The most bytes that a text may have: 1 MiB.
+/// The maximum number of bytes of a text: 1 MiB.
 pub const TEXT_LIMIT: usize = 1_048_576;

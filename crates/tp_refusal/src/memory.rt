@@ -1,8 +1,8 @@
-//! Want of memory.
+//! The error for out of memory.
 use std::alloc::{AllocError, AllocFailed};
 use thiserror::Error;
 
-/// Memory was refused. Every crate answers it, as 50 `Memory`, where an allocation failed.
+/// An allocation was refused. Every crate reports it as 50 `Memory`.
 #[derive(Clone, Copy, Debug, PartialEq, Eq, Error)]
 #[error("out of memory")]
 pub struct Memory;

@@ -4,10 +4,10 @@ ghost use Rattle.tp_refusal.specs.Label.{label};
 
 use std::fmt;
 
-/// Why something was refused, or what went wrong: each number and name of the product, once.
+/// Why something was refused, or what failed: each number and name, once.
 #[derive(Clone, Copy, Debug, PartialEq, Eq)]
 pub enum Refusal {
-    /// A line that no queue file, or no trace, has.
+    /// A line that isn't valid in a queue file, or in a trace.
     BadLine,
     /// The text could not be read.
     Read,
@@ -15,7 +15,7 @@ pub enum Refusal {
     Write,
     /// A token, or the end of the text, where it can't stand.
     Syntax,
-    /// A name that nothing has.
+    /// An unknown name.
     Unknown,
     /// A name that is taken.
     Duplicate,
@@ -23,13 +23,13 @@ pub enum Refusal {
     WrongType,
     /// A message type that the port doesn't send, or doesn't receive.
     Direction,
-    /// More than the profile allows of something.
+    /// More of something than the profile allows.
     Limit,
     /// A statement, signature or start that the system under test can't have.
     NotInSut,
     /// `all component.done` is missing.
     NoDone,
-    /// A component that isn't started, or started twice.
+    /// A component that isn't started, or is started twice.
     NotStarted,
     /// A connection whose message types don't fit together.
     Directions,
@@ -45,30 +45,30 @@ pub enum Refusal {
     SystemPort,
     /// A connection of a port with itself.
     SamePort,
-    /// A connection that is there.
+    /// A connection that exists.
     Already,
     /// A mapping without a port of the test system interface, or with two.
     NotSystem,
     /// A send at a port that isn't started.
     NotSending,
-    /// A send to where no connection or mapping leads.
+    /// A send on no connection or mapping.
     NoRoute,
-    /// A send that has to name one of several receivers.
+    /// A send that must name one of several receivers.
     NeedsTo,
     /// A send of, or to, a variable without a value.
     UnsetVariable,
-    /// Memory was refused.
+    /// An allocation was refused.
     Memory,
-    /// A thread could not be started.
+    /// A thread couldn't be started.
     NoThread,
-    /// A behaviour was ended as waiting while one of its branches was open.
+    /// A behaviour ended as waiting although one of its branches was open.
     Restless,
-    /// No one order of all that the components did gives what each sent and received.
+    /// No one order of everything that the components did gives what each sent and received.
     NoOrder,
 }
 
 impl Refusal {
-    /// The number, from 1 to 62, and the name, in ASCII letters, as every printed text gives them.
+    /// The number, from 1 to 62, and the name, in ASCII letters, as every printed text has them.
     pub const fn label(self) -> (u8, &'static str)
         ensures number { result.0 ≡ (label self).0 }
         ensures name { result.1.now ≡ (label self).1 }

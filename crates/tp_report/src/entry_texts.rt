@@ -18,14 +18,13 @@ use tp_play::test_case::TestCase;
 use tp_text::watched::{Watched, write_bytes};
 use tp_value::message::Message;
 
-/// A port of a component.
 fn at(comp: CompId, port: u32) -> PortRef
     ensures { result ≡ component_port comp port }
 {
     PortRef { comp, port }
 }
 
-/// Writes what came to a port: nothing in a report, a line in a trace.
+/// An arrival has no line in a report, and one in a trace.
 fn write_arrival<W: Write>(
     test_case: &TestCase,
     telling: Telling,
@@ -47,7 +46,7 @@ fn write_arrival<W: Write>(
     }
 }
 
-/// Writes an entry of the component's history: a line, but for an arrival only in a trace.
+/// Writes the line of an entry. An arrival has one only in a trace.
 fn write_entry<W: Write>(
     test_case: &TestCase,
     telling: Telling,
@@ -99,7 +98,6 @@ fn write_entry<W: Write>(
     }
 }
 
-/// Writes the component's history.
 pub fn write_entries<W: Write>(
     test_case: &TestCase,
     telling: Telling,

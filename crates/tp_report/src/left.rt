@@ -1,4 +1,4 @@
-//! What is left in a component's queues.
+//! The messages left in a component's queues.
 ghost use Rattle.std.specs.Prelude.{All, codes};
 ghost use Rattle.std.specs.List.{flat_map};
 ghost use Rattle.tp_text.specs.Watching.{Writes};
@@ -16,7 +16,7 @@ use tp_queue::queue::Queue;
 use tp_text::watched::Watched;
 use tp_value::message::Message;
 
-/// Writes what is left at a port, the oldest first.
+/// Writes the messages left at a port, the oldest first.
 fn write_queued<W: Write>(
     test_case: &TestCase,
     port: PortRef,
@@ -37,7 +37,7 @@ fn write_queued<W: Write>(
     }
 }
 
-/// Writes what is left at the ports of the component, in declared order.
+/// In the declared order of the ports.
 pub fn write_left<W: Write>(test_case: &TestCase, desk: &Desk, out: &mut Watched<W>)
     requires own { IsDeskIn test_case.now.config desk.now.comp desk.now }
     ensures { Writes W.contents out.old out.new (left_below test_case.now desk.now desk.now.ports) }

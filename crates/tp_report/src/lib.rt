@@ -1,7 +1,8 @@
-//! What a run reports: the components' histories, their ends and verdicts; and the text of that, as
-//! a report or a trace. `tp_exec` makes reports, and the programs write them.
+//! The report of a run: the components' histories, their ends and verdicts; and its text, as a
+//! report or a trace. `tp_exec` makes a [`report::Report`], and the programs write it by
+//! [`writing::write_report`]; start there.
 //!
-//! Nothing here takes memory. Texts are written in small pieces: give them a writer with a buffer.
+//! Nothing here allocates. Texts are written in small pieces: use a writer with a buffer.
 #![tactic(auto)]
 
 mod backward;

@@ -22,7 +22,7 @@ use tp_text::watched::{Watched, write_bytes, write_number};
 use tp_value::message::Message;
 use tp_value::verdict::Verdict;
 
-/// Writes the name of a component, as the first of its lines.
+/// The name of a component is the first of its lines.
 pub fn write_heading<W: Write>(test_case: &TestCase, comp: CompId, out: &mut Watched<W>)
     requires { IsComponent test_case.now.config comp }
     ensures { Writes W.contents out.old out.new (heading test_case.now comp) }
@@ -32,7 +32,7 @@ pub fn write_heading<W: Write>(test_case: &TestCase, comp: CompId, out: &mut Wat
     write_bytes(b"\n", out)
 }
 
-/// Writes a word, with the space behind it, and a verdict.
+/// `word` ends with a space.
 pub fn write_verdict<W: Write>(word: &[u8], verdict: Verdict, out: &mut Watched<W>)
     ensures { Writes W.contents out.old out.new (word.now ++ line (verdict_word verdict ∷ [])) }
 {
@@ -41,7 +41,7 @@ pub fn write_verdict<W: Write>(word: &[u8], verdict: Verdict, out: &mut Watched<
     write_bytes(b"\n", out)
 }
 
-/// Writes a word, with the space behind it, and the number of the refusal by which a send failed.
+/// `word` ends with a space; the number is that of the refusal.
 pub fn write_failure<W: Write>(word: &[u8], fault: SendFault, out: &mut Watched<W>)
     ensures { Writes W.contents out.old out.new
         (word.now ++ line (decimal (label (send_refusal fault)).0 ∷ [])) }
@@ -51,7 +51,6 @@ pub fn write_failure<W: Write>(word: &[u8], fault: SendFault, out: &mut Watched<
     write_bytes(b"\n", out)
 }
 
-/// Writes how a behaviour ended.
 pub fn write_end<W: Write>(ending: End, out: &mut Watched<W>)
     ensures { Writes W.contents out.old out.new (end_text ending) }
 {
@@ -62,7 +61,7 @@ pub fn write_end<W: Write>(ending: End, out: &mut Watched<W>)
     }
 }
 
-/// Writes a word, with the space behind it, and a port.
+/// `word` ends with a space.
 pub fn write_port<W: Write>(test_case: &TestCase, word: &[u8], port: PortRef, out: &mut Watched<W>)
     requires { IsPort test_case.now.config port }
     ensures { Writes W.contents out.old out.new
@@ -73,7 +72,6 @@ pub fn write_port<W: Write>(test_case: &TestCase, word: &[u8], port: PortRef, ou
     write_bytes(b"\n", out)
 }
 
-/// Writes what happened to a message at a port.
 pub fn write_envelope<W: Write>(
     test_case: &TestCase,
     fate: Fate,
@@ -96,7 +94,6 @@ pub fn write_envelope<W: Write>(
     write_rest(test_case.types(), env.number, &env.msg, out)
 }
 
-/// Writes what was sent.
 pub fn write_sent<W: Write>(
     test_case: &TestCase,
     route: RouteId,

@@ -1,4 +1,5 @@
-//! How the lines on messages begin. Most begin as the last one of their kind did, so that is kept.
+//! The openings of lines on messages. Most are like the last one of their kind, which is therefore
+//! kept.
 ghost use Rattle.std.specs.Prelude.{◌≡◌, ◌≤◌, ◌++◌, ◌↔◌, IfSome, IsTrue, drop, length};
 ghost use Rattle.tp_text.specs.Watching.{Writes};
 ghost use Rattle.tp_config.specs.Setup.{Setup};
@@ -11,34 +12,33 @@ use tp_config::config::Config;
 use tp_config::port_type::{CompId, PortRef};
 use tp_text::watched::{Watched, write_bytes};
 
-/// Room for an opening's text that is kept. A longer one is written piece by piece.
+/// Room for the text of an opening. A longer one is written piece by piece.
 const ROOM: usize = 128;
 
-/// What a line says of a message at a port of the component itself.
+/// What happened to a message at a port of the component itself.
 #[derive(Clone, Copy, PartialEq, Eq)]
 pub enum Fate {
-    /// It came into the queue of the port.
+    /// It arrived in the queue of the port.
     Came,
-    /// It was taken.
     Took,
     /// A `check` found it.
     Found,
     /// A `trigger` discarded it.
     Dropped,
-    /// It was still queued in the end.
+    /// It was still queued at the end.
     Left,
 }
 
-/// What a line on a message begins with.
+/// The opening of a line on a message.
 #[derive(Clone, Copy)]
 pub enum Opening {
     /// The port that the message was sent to.
     Sent(PortRef),
-    /// What happened to the message, at which port, and who sent it.
+    /// The message's fate, the port, and the sender.
     At(Fate, PortRef, CompId),
 }
 
-/// The pieces of an opening, in their order: a word, and two names with what stands between them.
+/// The pieces of an opening, in order: a word, and two names with the text between them.
 #[derive(Clone, Copy)]
 struct OpeningPieces<'a> {
     word: &'a [u8],
@@ -48,7 +48,7 @@ struct OpeningPieces<'a> {
 }
 
 impl Fate {
-    /// The word for it, with the space behind it.
+    /// The word ends with a space.
     fn word(self) -> &'static [u8]
         ensures { result.now ≡ fate_word self }
     {
@@ -61,7 +61,6 @@ impl Fate {
         }
     }
 
-    /// Whether it is this one.
     fn is(self, other: Fate) -> bool
         ensures { IsTrue result ↔ (self ≡ other) }
     {
@@ -70,7 +69,6 @@ impl Fate {
 }
 
 impl Opening {
-    /// Whether it is this one.
     fn is(self, other: Opening) -> bool
         ensures { IsTrue result ↔ (self ≡ other) }
     {
@@ -88,7 +86,6 @@ impl Opening {
         }
     }
 
-    /// Its pieces.
     fn pieces(self, config: &Config) -> OpeningPieces<'_>
         requires { NamesKnown config.now self }
         ensures { pieces_text result ≡ opening_text config.now self }
@@ -110,7 +107,7 @@ impl Opening {
     }
 }
 
-/// Puts these bytes before this place, where there is room, and answers where they begin.
+/// Puts these bytes before `end` and returns their start, if there is room.
 fn try_put(bytes: &[u8], text: &mut [u8], end: usize) -> Option<usize>
     requires { end ≤ length text.old }
     ensures { IfSome result (λ start. (start ≤ end)
@@ -122,7 +119,7 @@ fn try_put(bytes: &[u8], text: &mut [u8], end: usize) -> Option<usize>
     Some(put_bytes(bytes, text, end))
 }
 
-/// Puts the pieces before the end, and answers where they begin; nothing where there is no room.
+/// Puts the pieces before the end of `text` and returns their start, if there is room.
 fn put_pieces(pieces: OpeningPieces<'_>, text: &mut [u8; ROOM]) -> Option<usize>
     ensures { IfSome result (λ start. (start ≤ 128) × (drop start text.new
         ≡ pieces_text pieces.entry)) }
@@ -133,7 +130,6 @@ fn put_pieces(pieces: OpeningPieces<'_>, text: &mut [u8; ROOM]) -> Option<usize>
     try_put(pieces.word, text, front)
 }
 
-/// Writes the pieces.
 fn write_pieces<W: Write>(pieces: OpeningPieces<'_>, out: &mut Watched<W>)
     ensures { Writes W.contents out.old out.new (pieces_text pieces.entry) }
 {
@@ -143,21 +139,20 @@ fn write_pieces<W: Write>(pieces: OpeningPieces<'_>, out: &mut Watched<W>)
     write_bytes(pieces.back, out)
 }
 
-/// The opening whose text was put together last, and that text.
+/// The last opening that was put together, with its text.
 #[derive(Drop)]
 pub struct KeptOpening {
-    /// The opening: nothing before the first one, and where the last had no room.
+    /// `None` before the first opening, and if the last one had no room.
     of: Option<Opening>,
-    /// Its text, which ends with the array.
+    /// The text ends with the array.
     text: [u8; ROOM],
-    /// Where its text begins.
+    /// The start of the text.
     start: usize,
 }
 
 impl KeptOpening {
     ghost use Rattle.tp_report.specs.LineOpenings.{HasItsText};
 
-    /// One that keeps nothing yet.
     pub fn new() -> KeptOpening
         ensures { (setup : Setup) → HasItsText setup result }
     {
@@ -168,7 +163,6 @@ impl KeptOpening {
         }
     }
 
-    /// Whether it is that of this opening.
     fn is_of(&self, opening: Opening) -> bool
         ensures { IsTrue result → self.now.of ≡ Some opening }
     {
@@ -178,7 +172,7 @@ impl KeptOpening {
         }
     }
 
-    /// Keeps that of this opening, and answers whether there is room for it.
+    /// Keeps the text of this opening. Returns false if there is no room for it.
     fn keep(&mut self, config: &Config, opening: Opening) -> bool
         requires { NamesKnown config.now opening }
         ensures kept { HasItsText config.now self.new }
@@ -196,7 +190,7 @@ impl KeptOpening {
         }
     }
 
-    /// Writes an opening: in one piece where it is kept or there is room for it.
+    /// Writes an opening: in one piece if it is kept or there is room for it.
     pub fn write<W: Write>(&mut self, config: &Config, opening: Opening, out: &mut Watched<W>)
         requires named { NamesKnown config.now opening }
         requires kept { HasItsText config.now self.old }
@@ -210,18 +204,17 @@ impl KeptOpening {
     }
 }
 
-/// What is kept while a history is written: what was sent has its own, since lines on what was sent
-/// and on what was received are often in turn.
+/// The openings kept while a history is written: one for each direction, because lines on sent and
+/// on received messages often alternate.
 #[derive(Drop)]
 pub struct KeptOpenings {
-    /// That of the last line on what was sent.
+    /// That of the last line on a message sent.
     pub sent: KeptOpening,
     /// That of the last line on a message at a port of the component itself.
     pub received: KeptOpening,
 }
 
 impl KeptOpenings {
-    /// Nothing is kept yet.
     pub fn new() -> KeptOpenings
         ensures sent { (setup : Setup) → HasItsText setup result.sent }
         ensures received { (setup : Setup) → HasItsText setup result.received }

@@ -14,7 +14,7 @@ use tp_value::message::Message;
 use tp_value::types::{Ty, Types};
 use tp_value::value::Value;
 
-/// The integer that is the message's value, where its type is `integer`.
+/// `None` if the message's type isn't `integer`.
 fn message_integer(message: &Message) -> Option<i64>
     ensures { IfSome result (IsInteger message.now) }
 {
@@ -41,7 +41,6 @@ fn write_integer<W: Write>(number: u64, integer: i64, out: &mut Watched<W>)
     write_bytes(&text[start..], out)
 }
 
-/// Writes the rest of a line on a message.
 pub fn write_rest<W: Write>(types: &Types, number: u64, message: &Message, out: &mut Watched<W>)
     ensures { Writes W.contents out.old out.new
         (rest_of_line (decimal number ∷ message_text types.now message.now ∷ [])) }

@@ -1,11 +1,10 @@
-//! Which lines are written of a report.
+//! The two forms of a report.
 
-/// In which of two forms a report is written.
+/// The form in which a report is written.
 #[derive(Clone, Copy)]
 pub enum Telling {
-    /// Those of a report, which has none for an arrival.
+    /// A report, without lines for arrivals.
     Report,
-    /// Those of a trace: the same, and a line for each arrival at its place in its component's
-    /// history.
+    /// A trace: a report with a line for each arrival at its place in its component's history.
     Trace,
 }

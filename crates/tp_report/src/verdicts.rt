@@ -9,9 +9,7 @@ use tp_history::ending::End;
 use tp_history::entry::Entry;
 use tp_value::verdict::Verdict;
 
-/// The local verdict of a component after one more entry of its history, where this was its verdict
-/// before (ES 201 873-1, 24.1, 24.2).
-///
+/// The local verdict of a component after one more entry of its history (ES 201 873-1, 24.1, 24.2).
 /// Before the first entry it is `None`.
 pub fn verdict_after(verdict: Verdict, entry: &Entry) -> Verdict
     ensures { (before : List Entry) → verdict ≡ local_verdict before
@@ -24,8 +22,7 @@ pub fn verdict_after(verdict: Verdict, entry: &Entry) -> Verdict
     }
 }
 
-/// The local verdict of a component with this history: `Error` where its behaviour failed, else the
-/// worst that it has set.
+/// `Error` if the behaviour failed, else the worst verdict that it has set.
 pub fn local_verdict(log: &[Entry]) -> Verdict
     ensures { result ≡ local_verdict log.now }
 {
@@ -36,7 +33,7 @@ pub fn local_verdict(log: &[Entry]) -> Verdict
     verdict
 }
 
-/// The overall verdict after one more component, where this was the verdict of those before.
+/// The overall verdict after one more component.
 fn overall_after(verdict: Verdict, component: &CompReport) -> Verdict
     ensures { (before : List CompReport)
         → verdict ≡ overall_verdict (endings before) (locals before)
@@ -49,8 +46,7 @@ fn overall_after(verdict: Verdict, component: &CompReport) -> Verdict
     }
 }
 
-/// The overall verdict of a run with these components: `Error` where a behaviour waits in the end,
-/// else the worst of the local ones (24.1).
+/// `Error` if a behaviour waits at the end, else the worst of the local verdicts (24.1).
 pub fn overall_verdict(components: &[CompReport]) -> Verdict
     ensures { result ≡ overall_verdict (endings components.now) (locals components.now) }
 {

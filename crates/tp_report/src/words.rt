@@ -28,7 +28,6 @@ pub fn write_spaced<W: Write>(number: u64, out: &mut Watched<W>)
     write_bytes(&text[start - 1..], out)
 }
 
-/// The name of a component.
 pub fn component_name(config: &Config, comp: CompId) -> &[u8]
     requires { IsComponent config.now comp }
     ensures { result.now ≡ component_name config.now comp }
@@ -36,7 +35,6 @@ pub fn component_name(config: &Config, comp: CompId) -> &[u8]
     config.name(comp).as_bytes()
 }
 
-/// Writes the name of a component.
 pub fn write_component_name<W: Write>(config: &Config, comp: CompId, out: &mut Watched<W>)
     requires { IsComponent config.now comp }
     ensures { Writes W.contents out.old out.new (component_name config.now comp) }
@@ -44,7 +42,6 @@ pub fn write_component_name<W: Write>(config: &Config, comp: CompId, out: &mut W
     write_bytes(component_name(config, comp), out)
 }
 
-/// The name of a port.
 pub fn port_name(config: &Config, port: PortRef) -> &[u8]
     requires { IsPort config.now port }
     ensures { result.now ≡ port_name config.now port }
@@ -59,7 +56,6 @@ pub fn port_name(config: &Config, port: PortRef) -> &[u8]
     }
 }
 
-/// Writes the name of a port.
 pub fn write_port_name<W: Write>(config: &Config, port: PortRef, out: &mut Watched<W>)
     requires { IsPort config.now port }
     ensures { Writes W.contents out.old out.new (port_name config.now port) }
@@ -67,7 +63,7 @@ pub fn write_port_name<W: Write>(config: &Config, port: PortRef, out: &mut Watch
     write_bytes(port_name(config, port), out)
 }
 
-/// The name of the named type of this number; nothing where there is none.
+/// Empty if no type has this number.
 fn named_type(types: &Types, number: u32) -> &[u8]
     ensures { result.now ≡ type_name types.now (ty.Named number) }
 {
@@ -77,7 +73,6 @@ fn named_type(types: &Types, number: u32) -> &[u8]
     }
 }
 
-/// Writes the name of a type, and a colon.
 fn write_type<W: Write>(types: &Types, ty: Ty, out: &mut Watched<W>)
     ensures { Writes W.contents out.old out.new (type_name types.now ty ++ codes ":") }
 {
@@ -92,14 +87,13 @@ fn write_type<W: Write>(types: &Types, ty: Ty, out: &mut Watched<W>)
     }
 }
 
-/// Whether the message's value has its type.
 fn is_typed(types: &Types, message: &Message) -> bool
     ensures { result ≡ is_typed types.now message.now.ty message.now.value }
 {
     has_type(types, message.ty, &message.value)
 }
 
-/// Writes a message: its type and its value, or `-` where the value hasn't the type.
+/// Writes a message: its type and its value, or `-` if the value doesn't have the type.
 pub fn write_message<W: Write>(types: &Types, message: &Message, out: &mut Watched<W>)
     ensures { Writes W.contents out.old out.new (message_text types.now message.now) }
 {
@@ -110,7 +104,6 @@ pub fn write_message<W: Write>(types: &Types, message: &Message, out: &mut Watch
     write_value(types, message.ty, &message.value, out)
 }
 
-/// The word for a verdict.
 pub fn verdict_word(verdict: Verdict) -> &'static [u8]
     ensures { result.now ≡ verdict_word verdict }
 {

@@ -13,7 +13,6 @@ use std::io::Write;
 use tp_play::test_case::TestCase;
 use tp_text::watched::Watched;
 
-/// Writes what is reported of one component.
 fn write_component<W: Write>(
     test_case: &TestCase,
     telling: Telling,
@@ -32,7 +31,6 @@ fn write_component<W: Write>(
     write_left(test_case, &component.desk, out)
 }
 
-/// Writes what is reported of each component.
 fn write_components<W: Write>(
     test_case: &TestCase,
     telling: Telling,
@@ -48,12 +46,11 @@ fn write_components<W: Write>(
     }
 }
 
-/// Writes the text of a report of this test case, or of its trace, which has a line for each
-/// arrival too. A message is its type and its value, or `-` where the value hasn't the type. The
-/// report is one of this test case: its components, ports and senders are those of the
-/// configuration.
+/// Writes a report of this test case, or its trace, which also has a line for each arrival. A
+/// message is its type and its value, or `-` if the value doesn't have the type. The components,
+/// ports and senders of the report are those of the configuration.
 ///
-/// Where the writer fails, a front of the text is written.
+/// If the writer fails, it has written a front of the text.
 pub fn write_report<W: Write>(
     test_case: &TestCase,
     telling: Telling,

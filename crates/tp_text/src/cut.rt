@@ -1,4 +1,4 @@
-//! Texts cut into lines, lines into words, and the text that a word is.
+//! Texts cut into lines, lines into words, and bytes as a text.
 ghost use Rattle.std.specs.Prelude.{◌≡◌, ◌∷◌, ◌++◌, ◌<◌, ◌==◌, MatchOption, length, position, true};
 ghost use Rattle.std.specs.Option.{option_copied};
 ghost use Rattle.std.specs.Str.{IsUtf8};
@@ -6,15 +6,15 @@ ghost use Rattle.tp_text.specs.Cutting.{IsFrontOf, IsLeftOf, after_space, lacks,
 
 use std::str;
 
-/// The place of the first byte that is this one.
+/// The first place of this byte.
 fn find_byte(separator: u8, text: &[u8]) -> Option<usize>
     ensures { result ≡ position (λ byte. byte == separator) text.now }
 {
     text.iter().position(|byte| *byte == separator)
 }
 
-/// The first line of a text, and what follows it. A line ends at a byte 10, which is in neither and
-/// which the last line may lack. The text isn't empty, since an empty one has no line.
+/// The first line of a text that isn't empty, and the text after it. A line ends at a byte 10,
+/// which is in neither and which the last line may lack.
 pub fn first_line(text: &[u8]) -> (&[u8], &[u8])
     requires { 0 < length text.now }
     ensures lines { lines_of text.now ≡ result.0.now ∷ lines_of result.1.now }
@@ -28,9 +28,9 @@ pub fn first_line(text: &[u8]) -> (&[u8], &[u8])
     }
 }
 
-/// The first word of a line, and what stands behind the space that follows it, where one does: so
-/// `None` where the line has one word alone, and an empty rest where it ends with its only space. A
-/// word has no space; it is empty where the line is, or begins with one.
+/// The first word of a line, and the rest after the space that follows it. The rest is `None` if
+/// the line has only one word, and empty if the line ends with its only space. A word contains no
+/// space. It is empty if the line is, or begins with a space.
 pub fn first_word(line: &[u8]) -> (&[u8], Option<&[u8]>)
     ensures words { words_of line.now ≡ result.0.now ∷ words_after (option_copied result.1) }
     ensures parts { line.now ≡ result.0.now ++ after_space (option_copied result.1) }
@@ -42,7 +42,7 @@ pub fn first_word(line: &[u8]) -> (&[u8], Option<&[u8]>)
     }
 }
 
-/// The text that bytes are, and `None` exactly where they aren't UTF-8.
+/// The bytes as a text, or `None` if and only if they aren't UTF-8.
 pub fn utf8_text(bytes: &[u8]) -> Option<&str>
     ensures { MatchOption result (¬ IsUtf8 bytes.now) (λ text. text.now ≡ bytes.now) }
 {

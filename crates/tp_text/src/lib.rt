@@ -1,8 +1,8 @@
 //! Texts: read whole from any reader, cut into lines and words, and written by a writer that
-//! remembers a failure. What reads a file or a trace, or writes an answer, uses it.
+//! remembers a failure. Every crate that reads a file or a trace, or writes an answer, uses it.
+//! Start with [`text::read_text`] and [`watched::Watched`].
 //!
-//! Where a call answers 50 `Memory`, an allocation was refused. A call that can't answer it takes
-//! no memory.
+//! 50 `Memory` means that an allocation was refused. A call that can't return it doesn't allocate.
 #![tactic(auto)]
 
 pub mod cut;

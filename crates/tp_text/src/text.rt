@@ -1,4 +1,4 @@
-//! A whole text, read within the limit.
+//! A whole text, read within a limit.
 ghost use Rattle.std.specs.Prelude.{◌≡◌, ◌≢◌, ◌+◌, ◌<◌, ◌≤◌, ◌^◌, Err, IfErr, IfOk, IfSome, OnErr, OnOk, drop, length, take, vec_len};
 ghost use Rattle.std.specs.Result.{result_err};
 ghost use Rattle.std.specs.Io.KnownBytes.{Consumes, IsAtEnd, Keeps};
@@ -12,16 +12,16 @@ use std::io::{ErrorKind, Read};
 use thiserror::Error;
 use tp_refusal::limit::TEXT_LIMIT;
 
-/// How many bytes are asked for at first.
+/// The number of bytes of the first read.
 const FIRST_READ: usize = 8_192;
 
 /// Why a text was not read.
 #[derive(Clone, Copy, Debug, PartialEq, Eq, Error)]
 pub enum ReadFault {
-    /// 2 Read: the reader answered an error.
+    /// 2 Read: the reader returned an error.
     #[error("the text could not be read")]
     Read,
-    /// 15 Limit: the text has more bytes than it may have.
+    /// 15 Limit: the text has more bytes than the limit.
     #[error("the text is too long")]
     Limit,
     /// 50 Memory: an allocation was refused.
@@ -29,11 +29,11 @@ pub enum ReadFault {
     Memory,
 }
 
-/// Reads all that the reader has, and at most one byte more than [`TEXT_LIMIT`].
+/// Reads everything that the reader has, and at most one byte more than [`TEXT_LIMIT`].
 ///
-/// 2 `Read` where the reader answers an error, and only there; an interrupted read is tried again.
-/// 15 `Limit` where there are more bytes, as soon as one more is read. Whichever fault comes first
-/// is answered; what was read isn't put back.
+/// 2 `Read` if and only if the reader returns an error; an interrupted read is tried again. 15
+/// `Limit` if there are more bytes, as soon as one more is read. The fault that comes first is
+/// returned; bytes that were read aren't put back.
 pub fn read_text<R: Read>(alloc: Global, reader: &mut Watched<R>) -> Result<Vec<u8>, ReadFault>
     ensures whole { IfOk result (λ text.
         IfSome (reader_left R.remaining reader.old) (λ all. text.items ≡ all)) }
@@ -48,8 +48,8 @@ pub fn read_text<R: Read>(alloc: Global, reader: &mut Watched<R>) -> Result<Vec<
     read_up_to(alloc, reader, TEXT_LIMIT)
 }
 
-/// Reads all that the reader has, and at most one byte more than the limit. The faults are those of
-/// [`read_text`], with this limit in place of its own.
+/// Reads everything that the reader has, and at most one byte more than the limit. The faults are
+/// those of [`read_text`], with this limit instead of its own.
 pub fn read_within<R: Read>(
     alloc: Global,
     reader: &mut Watched<R>,
@@ -68,7 +68,6 @@ pub fn read_within<R: Read>(
     read_up_to(alloc, reader, limit as usize)
 }
 
-/// Reads all that the reader has, and at most one byte more than the limit.
 fn read_up_to<R: Read>(
     alloc: Global,
     reader: &mut Watched<R>,
@@ -100,8 +99,8 @@ fn read_up_to<R: Read>(
     Err(ReadFault::Limit)
 }
 
-/// One read, behind the first bytes of a text, `size` of them. It answers how many more there are
-/// then, and 0 only at the end.
+/// One read, after the first `size` bytes of a text. It returns the number of bytes read, and 0
+/// only at the end.
 fn read_more<R: Read>(
     reader: &mut Watched<R>,
     text: &mut Vec<u8>,
@@ -134,7 +133,7 @@ fn read_more<R: Read>(
     read_behind(reader, text.as_mut_slice(), size)
 }
 
-/// One read into what is behind the first `size` bytes, tried again where it is interrupted.
+/// One read into the bytes after the first `size`, tried again if it is interrupted.
 fn read_behind<R: Read>(
     reader: &mut Watched<R>,
     text: &mut [u8],
@@ -156,7 +155,7 @@ fn read_behind<R: Read>(
     read_again(reader, &mut text[size..])
 }
 
-/// One read, tried again where it is interrupted.
+/// One read, tried again if it is interrupted.
 fn read_again<R: Read>(reader: &mut Watched<R>, part: &mut [u8]) -> Result<usize, ReadFault>
     requires { 0 < length part.old }
     ensures within { IfOk result (λ count. count ≤ length part.new) }
@@ -181,8 +180,8 @@ fn read_again<R: Read>(reader: &mut Watched<R>, part: &mut [u8]) -> Result<usize
     Err(ReadFault::Read)
 }
 
-/// Makes room for a byte behind those of this number: where there is none, twice as much as there
-/// was, and never more than one byte beyond the limit.
+/// Makes room for a byte after the first `size`: if there is none, twice as much as there was, and
+/// at most one byte beyond the limit.
 fn make_room(text: &mut Vec<u8>, size: usize, limit: usize) -> Result<(), AllocError>
     requires limit { limit < 2 ^ 62 }
     requires size { size ≤ limit }
@@ -202,8 +201,7 @@ fn make_room(text: &mut Vec<u8>, size: usize, limit: usize) -> Result<(), AllocE
     text.resize(next_room(size, limit), 0)
 }
 
-/// The room behind a room that is full: twice as much, and never more than one byte beyond the
-/// limit.
+/// The room after a full room: twice as much, and at most one byte beyond the limit.
 fn next_room(size: usize, limit: usize) -> usize
     requires limit { limit < 2 ^ 62 }
     requires size { size ≤ limit }

@@ -1,4 +1,4 @@
-//! A reader or a writer that remembers whether it failed, and what is written through it.
+//! A reader or a writer that remembers whether it failed, and writes through it.
 ghost use Rattle.std.specs.Prelude.{◌≡◌, ◌≢◌, ◌⊎◌, ◌≤◌, [], false, IfErr, IsErr, IsTrue, MatchResult, Ok, length, take};
 ghost use Rattle.std.specs.Fmt.{decimal};
 ghost use Rattle.std.specs.Io.{ReadsAtMost, WritesAtMost};
@@ -10,15 +10,15 @@ use itoa::Buffer;
 use std::io;
 use std::io::{ErrorKind, Read, Write};
 
-/// A reader or a writer, and whether it has failed: it answered an error, or, as a writer, took no
-/// byte. To be interrupted is no failure; whoever is interrupted tries again.
+/// A reader or a writer, and whether it has failed: it returned an error, or, as a writer, took no
+/// byte. An interruption isn't a failure; the caller tries again.
 #[derive(Drop)]
 pub struct Watched<T> {
     inner: T,
     failed: bool,
 }
 
-/// Whether a call that answered this error was only interrupted.
+/// Returns whether a call with this error was only interrupted.
 fn is_interrupted(error: &io::Error) -> bool
     ensures { IsTrue result → error_kind error.now ≡ ErrorKind.Interrupted }
 {
@@ -26,7 +26,6 @@ fn is_interrupted(error: &io::Error) -> bool
 }
 
 impl<T> Watched<T> {
-    /// One that hasn't failed.
     pub fn new(inner: T) -> Watched<T>
         ensures inner { result.inner ≡ inner }
         ensures well { result.failed ≡ false }
@@ -37,14 +36,13 @@ impl<T> Watched<T> {
         }
     }
 
-    /// Whether it has failed.
     pub fn has_failed(&self) -> bool
         ensures { result ≡ self.now.failed }
     {
         self.failed
     }
 
-    /// It counts as failed from here on: it was interrupted each time.
+    /// It counts as failed from now on, because it was interrupted each time.
     pub(crate) fn give_up(&mut self)
         ensures inner { self.new.inner ≡ self.old.inner }
         ensures failed { HasFailed self.new }
@@ -52,7 +50,7 @@ impl<T> Watched<T> {
         self.failed = true;
     }
 
-    /// What was watched.
+    /// The reader or the writer.
     pub fn into_inner(self) -> T
         ensures { result ≡ self.inner }
     {
@@ -127,7 +125,7 @@ impl<W: Write> Write for Watched<W> {
     }
 }
 
-/// One write of these bytes: how many of them the writer took. None where there are none, or it has
+/// One write of these bytes. Returns how many the writer took: 0 if there are none, or if it has
 /// failed before.
 #[inline(always)]
 fn write_some<W: Write>(bytes: &[u8], out: &mut Watched<W>) -> usize
@@ -143,7 +141,8 @@ fn write_some<W: Write>(bytes: &[u8], out: &mut Watched<W>) -> usize
     }
 }
 
-/// Writes these bytes, write by write. It stands apart, so that what is mostly enough is inlined.
+/// Writes these bytes, write by write. It is a function of its own, so that the usual case is
+/// inlined.
 #[cold]
 #[inline(never)]
 fn write_rest<W: Write>(bytes: &[u8], out: &mut Watched<W>)
@@ -162,8 +161,8 @@ fn write_rest<W: Write>(bytes: &[u8], out: &mut Watched<W>)
     out.give_up();
 }
 
-/// Writes these bytes: all of them, or a front of them, and then the writer has failed. Nothing is
-/// written by a writer that has failed before. An interrupted write is tried again.
+/// Writes these bytes: all of them, or a front of them, and then the writer has failed. If it has
+/// failed before, nothing is written. An interrupted write is tried again.
 #[inline(always)]
 pub fn write_bytes<W: Write>(bytes: &[u8], out: &mut Watched<W>)
     ensures { Writes W.contents out.old out.new bytes.now }
@@ -174,7 +173,6 @@ pub fn write_bytes<W: Write>(bytes: &[u8], out: &mut Watched<W>)
     }
 }
 
-/// Writes a number, in decimal.
 pub fn write_number<W: Write>(number: u64, out: &mut Watched<W>)
     ensures { Writes W.contents out.old out.new (decimal number) }
 {
@@ -182,7 +180,7 @@ pub fn write_number<W: Write>(number: u64, out: &mut Watched<W>)
     write_bytes(buffer.format(number).as_bytes(), out);
 }
 
-/// Hands on what the writer holds back, such as a buffer. It has failed then where that failed.
+/// Flushes the writer. If that fails, the writer has failed.
 pub fn flush<W: Write>(out: &mut Watched<W>)
     ensures { Writes W.contents out.old out.new [] }
 {

@@ -1,8 +1,7 @@
-//! Traces: what each line tells, and the text of a trace read into its lines. `tp_referee` reads
-//! them.
+//! Traces: what each line says, and the reader of a trace's text. `tp_referee` calls
+//! [`reading::read_trace`]; start there.
 //!
-//! Where a call answers 50 `Memory`, an allocation was refused. A call that can't answer it takes
-//! no memory.
+//! 50 `Memory` means that an allocation was refused. A call that can't return it doesn't allocate.
 #![tactic(auto)]
 
 pub mod form;

@@ -1,4 +1,4 @@
-//! The lines of a trace, and what each of them tells.
+//! The lines of a trace.
 
 use tp_event::operation::PortOperation;
 
@@ -7,7 +7,7 @@ use tp_event::operation::PortOperation;
 pub enum MessageVerb {
     /// `sent`: the component sent it.
     Sent,
-    /// `came`: it came into the queue of its port.
+    /// `came`: it arrived in the queue of its port.
     Came,
     /// `took`: a `receive`, or a `trigger` that matched, took it.
     Took,
@@ -19,7 +19,7 @@ pub enum MessageVerb {
     Left,
 }
 
-/// The first word of a line of a report on which no rule of ports bears.
+/// The first word of a line of a report that no rule of ports concerns.
 #[derive(Clone, Copy)]
 pub enum Remark {
     /// `set VERDICT`
@@ -30,26 +30,25 @@ pub enum Remark {
     Verdict,
 }
 
-/// A message, as a line tells of it. Its parts lie in the text.
+/// A message in a line. Its parts are slices of the text.
 #[derive(Clone, Copy)]
 pub struct MessageWords<'t> {
-    /// The component at the other end: that it was sent to in a line `sent`, and that sent it in
-    /// any other.
+    /// The component at the other end: the receiver in a line `sent`, the sender in any other.
     pub component: &'t [u8],
-    /// The port that it is for: of the receiving component in every line.
+    /// The port of the receiving component, in every line.
     pub port: &'t [u8],
     /// Its number on its route, below 2^63.
     pub number: u64,
-    /// The message itself: one byte or more.
+    /// The message itself: at least one byte.
     pub text: &'t [u8],
 }
 
-/// What a line tells. Its words lie in the text.
+/// A line. Its words are slices of the text.
 #[derive(Clone, Copy)]
 pub enum Line<'t> {
     /// `component NAME`: the section of this component begins.
     Component(&'t [u8]),
-    /// A message was sent, came, was taken, found or discarded, or was left.
+    /// A message was sent, arrived, was taken, found or discarded, or was left.
     Message(MessageVerb, MessageWords<'t>),
     /// `cleared PORT`, `started PORT`, `stopped PORT`, `halted PORT`: the port operation.
     Operation(PortOperation, &'t [u8]),
@@ -57,7 +56,7 @@ pub enum Line<'t> {
     Else,
     /// `set VERDICT`, `failed CODE`, `verdict VERDICT`.
     Remark(Remark, &'t [u8]),
-    /// `end ..`: how the component ended, in whatever words.
+    /// `end ..`: how the component ended, in any words.
     End(&'t [u8]),
     /// `result VERDICT`, the last line of all: it belongs to no section.
     Result(&'t [u8]),

@@ -1,4 +1,4 @@
-//! The names of the components whose sections there are.
+//! The names of the components that have a section.
 ghost use Rattle.std.specs.Prelude.{◌≡◌, ◌≢◌, ◌∷◌, ◌++◌, ◌↔◌, [], AllPairs, Contains, IfOk, IsSome, length, MatchBool, OnErr};
 
 use indexmap::IndexSet;
@@ -6,7 +6,7 @@ use std::alloc::Global;
 use std::marker::Model;
 use tp_refusal::memory::Memory;
 
-/// Names, no two of them equal, in the order in which they were added. Each lies in the text.
+/// Names, no two of them equal, in the order in which they were added. Each is a slice of the text.
 pub struct Names<'t> {
     names: IndexSet<&'t [u8]>,
 }
@@ -30,7 +30,6 @@ impl<'t> Model for Names<'t> {
 impl<'t> Names<'t> {
     ghost use Rattle.tp_trace.specs.Tree.{section_named};
 
-    /// No names.
     pub fn new(alloc: Global) -> Names<'t>
         ensures { result ≡ [] }
     {
@@ -39,7 +38,6 @@ impl<'t> Names<'t> {
         }
     }
 
-    /// How many names there are.
     pub fn len(&self) -> usize
         ensures count { result ≡ length self.now }
         ensures distinct { AllPairs (λ a b. a ≢ b) self.now }
@@ -47,7 +45,6 @@ impl<'t> Names<'t> {
         self.names.len()
     }
 
-    /// The place of a name, from 0, if it is there.
     pub fn find(&self, name: &[u8]) -> Option<usize>
         ensures place { result ≡ section_named self.now name.now }
         ensures known { IsSome result ↔ Contains self.now name.now }
@@ -58,7 +55,7 @@ impl<'t> Names<'t> {
         }
     }
 
-    /// Adds a name, unless it is there, and says whether it was added.
+    /// Adds a name and returns true, unless it is there.
     pub fn add(&mut self, name: &'t [u8]) -> Result<bool, Memory>
         ensures added { IfOk result (λ added. MatchBool added
             (¬ Contains self.old name.now × (self.new ≡ self.old ++ name.now ∷ []))

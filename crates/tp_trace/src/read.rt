@@ -1,4 +1,4 @@
-//! What a line tells.
+//! The reader of a line.
 ghost use Rattle.std.specs.Prelude.{◌≡◌, ◌∷◌, ◌++◌, ◌<◌, ◌^◌, ◌↔◌, ℕ, codes, IsTrue, MatchBool, MatchOption, None, Some, false, length, true};
 ghost use Rattle.std.specs.Char.{is_ascii_graphic};
 ghost use Rattle.std.specs.List.{list_all};
@@ -18,7 +18,6 @@ use tp_text::cut::{first_word, utf8_text};
 /// The greatest number of a message.
 const GREATEST_NUMBER: u64 = 9_223_372_036_854_775_807;
 
-/// What a word says of a message.
 fn fate_of(word: &[u8]) -> Option<MessageVerb>
     ensures { MatchOption result
         ((fate : _) → word.now ≡ fate_text fate → ⊥)
@@ -35,7 +34,6 @@ fn fate_of(word: &[u8]) -> Option<MessageVerb>
     }
 }
 
-/// The port operation that a word is.
 fn operation_of(word: &[u8]) -> Option<PortOperation>
     ensures { MatchOption result
         ((operation : _) → word.now ≡ operation_text operation → ⊥)
@@ -50,7 +48,6 @@ fn operation_of(word: &[u8]) -> Option<PortOperation>
     }
 }
 
-/// The remark that a word begins.
 fn remark_of(word: &[u8]) -> Option<Remark>
     ensures { MatchOption result
         ((remark : _) → word.now ≡ remark_text remark → ⊥)
@@ -64,7 +61,6 @@ fn remark_of(word: &[u8]) -> Option<Remark>
     }
 }
 
-/// The verb that a word is.
 fn verb_of(word: &[u8]) -> Option<Verb>
     ensures { MatchOption result
         ((verb : _) → word.now ≡ verb_text verb → ⊥)
@@ -88,14 +84,12 @@ fn verb_of(word: &[u8]) -> Option<Verb>
     }
 }
 
-/// Whether all bytes are among 33 to 126.
 fn is_graphic(bytes: &[u8]) -> bool
     ensures { result ≡ list_all is_ascii_graphic bytes.now }
 {
     bytes.iter().all(|byte| byte.is_ascii_graphic())
 }
 
-/// Whether all bytes are among 33 to 126, and none is a `.`.
 fn is_undotted(bytes: &[u8]) -> bool
     ensures { result ≡ list_all is_port_byte bytes.now }
 {
@@ -104,21 +98,18 @@ fn is_undotted(bytes: &[u8]) -> bool
         .all(|byte| byte.is_ascii_graphic() && *byte != b'.')
 }
 
-/// Whether the bytes are the name of a component.
 fn is_word(word: &[u8]) -> bool
     ensures { IsTrue result ↔ IsComponentName word.now }
 {
     !word.is_empty() && is_graphic(word)
 }
 
-/// Whether the bytes are the name of a port.
 fn is_port(word: &[u8]) -> bool
     ensures { IsTrue result ↔ IsPortName word.now }
 {
     !word.is_empty() && is_undotted(word)
 }
 
-/// Whether the bytes are a verdict.
 fn is_verdict(word: &[u8]) -> bool
     ensures { MatchBool result (IsVerdictWord word.now) (¬ IsVerdictWord word.now) }
 {
@@ -128,7 +119,7 @@ fn is_verdict(word: &[u8]) -> bool
     }
 }
 
-/// The number that a word can be read as, in whatever form.
+/// The number that a word can be read as, in any form.
 fn parse_number(word: &[u8]) -> Option<u64>
     ensures { (n : ℕ) → n < 2 ^ 63 → word.now ≡ decimal n → result ≡ Some n }
 {
@@ -136,7 +127,7 @@ fn parse_number(word: &[u8]) -> Option<u64>
     text.parse::<u64>().ok()
 }
 
-/// The number that a word is: in decimal, below 2^63, without a leading zero or a `+`.
+/// In decimal, below 2^63, without a leading zero or a `+`.
 fn number_of(word: &[u8]) -> Option<u64>
     ensures { MatchOption result
         ((n : ℕ) → n < 2 ^ 63 → word.now ≡ decimal n → ⊥)
@@ -154,7 +145,6 @@ fn number_of(word: &[u8]) -> Option<u64>
     }
 }
 
-/// Whether the bytes are what stands behind this remark.
 fn is_remark(remark: Remark, word: &[u8]) -> bool
     ensures { MatchBool result (IsRemark remark word.now) (¬ IsRemark remark word.now) }
 {
@@ -164,7 +154,7 @@ fn is_remark(remark: Remark, word: &[u8]) -> bool
     }
 }
 
-/// The number of a message, and what it says.
+/// The number and the content of a message.
 fn contents_of(rest: Option<&[u8]>) -> Option<(u64, &[u8])>
     ensures { MatchOption result
         ((n : ℕ) (text : _) → IsContents n text
@@ -181,7 +171,7 @@ fn contents_of(rest: Option<&[u8]>) -> Option<(u64, &[u8])>
     Some((number, text))
 }
 
-/// What stands before the last `.`, and what behind it, where there is one.
+/// The text before the last `.`, and the text after it.
 fn around_last_dot(word: &[u8]) -> Option<(&[u8], &[u8])>
     ensures { MatchOption result
         (lacks 46 word.now ≡ true)
@@ -197,7 +187,6 @@ fn around_last_dot(word: &[u8]) -> Option<(&[u8], &[u8])>
     None
 }
 
-/// The message behind `sent`.
 fn sent_of(rest: &[u8]) -> Option<MessageWords<'_>>
     ensures { MatchOption result
         ((letter : _) → IsLetter letter → rest.now ≡ letter_text fate.Sent letter → ⊥)
@@ -217,7 +206,6 @@ fn sent_of(rest: &[u8]) -> Option<MessageWords<'_>>
     })
 }
 
-/// The message behind a word that tells what became of it at its port.
 fn passed_of(rest: &[u8]) -> Option<MessageWords<'_>>
     ensures { MatchOption result
         ((letter : _) → IsLetter letter → rest.now ≡ letter_text fate.Came letter → ⊥)
@@ -237,7 +225,6 @@ fn passed_of(rest: &[u8]) -> Option<MessageWords<'_>>
     })
 }
 
-/// The message behind a word that says this of it.
 fn message_of(fate: MessageVerb, rest: &[u8]) -> Option<MessageWords<'_>>
     ensures { MatchOption result
         ((letter : _) → IsLetter letter → rest.now ≡ letter_text fate letter → ⊥)
@@ -253,14 +240,14 @@ fn message_of(fate: MessageVerb, rest: &[u8]) -> Option<MessageWords<'_>>
     }
 }
 
-/// The line, where what stands behind its verb is as it must be.
+/// The line, if the condition on what follows its verb holds.
 fn line_where(holds: bool, line: Line<'_>) -> Option<Line<'_>>
     ensures { MatchOption result (holds ≡ false) (λ l. (holds ≡ true) × (l ≡ line.entry)) }
 {
     if holds { Some(line) } else { None }
 }
 
-/// The line of this verb with this behind it.
+/// The line of this verb, followed by `rest`.
 fn line_behind(verb: Verb, rest: &[u8]) -> Option<Line<'_>>
     ensures { IsRead verb (Some rest.now) result }
 {
@@ -278,7 +265,6 @@ fn line_behind(verb: Verb, rest: &[u8]) -> Option<Line<'_>>
     }
 }
 
-/// The line of this verb alone.
 fn line_alone(verb: Verb) -> Option<Line<'static>>
     ensures { IsRead verb None result }
 {
@@ -288,7 +274,6 @@ fn line_alone(verb: Verb) -> Option<Line<'static>>
     }
 }
 
-/// The line of this verb, with what stands behind it, where something does.
 fn line_with(verb: Verb, rest: Option<&[u8]>) -> Option<Line<'_>>
     ensures { IsRead verb (option_copied rest.entry) result }
 {
@@ -298,8 +283,8 @@ fn line_with(verb: Verb, rest: Option<&[u8]>) -> Option<Line<'_>>
     }
 }
 
-/// What a line tells, its end left out, and `None` where it tells nothing: one space between words
-/// and none elsewhere.
+/// Reads a line without its end. There is one space between words and none elsewhere. `None` if no
+/// line of a trace is spelled so.
 pub fn trace_line(bytes: &[u8]) -> Option<Line<'_>>
     ensures { MatchOption result
         ((told : Told) → Spells bytes.now told → ⊥)

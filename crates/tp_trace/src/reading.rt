@@ -1,4 +1,4 @@
-//! A text, read as a trace.
+//! The reader of a trace's text.
 ghost use Rattle.std.specs.Prelude.{◌≡◌, ◌+◌, ◌<◌, ◌≤◌, ◌==◌, ◌↔◌, IsErrOf, IfErr, IfOk, MatchOption, length, count_by};
 ghost use Rattle.tp_text.specs.Cutting.{IsFrontOf, IsLeftOf};
 ghost use Rattle.tp_trace.specs.Line.{Told, Spells};
@@ -16,13 +16,13 @@ use thiserror::Error;
 use tp_refusal::memory::Memory;
 use tp_text::cut::first_line;
 
-/// The most bytes that the text of a trace may have: 256 MiB.
+/// The maximum number of bytes of a trace: 256 MiB.
 pub const TRACE_LIMIT: usize = 268_435_456;
 
-/// Why a text was not read as a trace.
+/// Why a text can't be read as a trace.
 #[derive(Clone, Copy, Debug, Error)]
 pub enum TraceFault {
-    /// 1 BadLine: the line of this number, from 1, is the first of another form than a trace has.
+    /// 1 BadLine: the line of this number, from 1, is the first with another form than a trace has.
     #[error("line {0} is no line of a trace")]
     BadLine(u64),
     /// 15 Limit: the text has more than [`TRACE_LIMIT`] bytes.
@@ -66,7 +66,7 @@ impl<T: Drop> From<AllocFailed<T>> for TraceFault {
     }
 }
 
-/// For how many lines to make room: one more than there are bytes 10.
+/// The number of lines for which to make room: one more than there are bytes 10.
 fn room_for(text: &[u8]) -> usize
     requires { length text.now ≤ 268435456 }
     ensures { result ≡ count_by (λ byte. byte == 10) text.now + 1 }
@@ -74,7 +74,7 @@ fn room_for(text: &[u8]) -> usize
     text.iter().filter(|byte| **byte == b'\n').count() + 1
 }
 
-/// Where a line lies in a text, with which the rest of the text begins.
+/// The place of a line in a text. The rest of the text begins with it.
 fn span_of(text: &[u8], rest: &[u8], line: &[u8]) -> Span
     requires size { length text.now ≤ 268435456 }
     requires left { IsLeftOf text.now rest.now }
@@ -89,8 +89,7 @@ fn span_of(text: &[u8], rest: &[u8], line: &[u8]) -> Span
     }
 }
 
-/// Whether the section of a component, where the line begins one, is the first of its name, which
-/// is then noted.
+/// If the line begins a section, notes the name of its component, and returns whether it is new.
 fn is_new<'t>(names: &mut Names<'t>, line: &Line<'t>) -> Result<bool, Memory>
     ensures { IfOk result (λ new. Notes names.old names.new (told_of line.now) new) }
 {
@@ -100,8 +99,8 @@ fn is_new<'t>(names: &mut Names<'t>, line: &Line<'t>) -> Result<bool, Memory>
     }
 }
 
-/// The place behind a line, where it tells something that may stand in this place behind lines that
-/// have begun the sections of these names. The name of a section that it begins is noted.
+/// The place after a line, if the line is valid at this place, after sections with these names. If
+/// it begins a section, its name is noted.
 fn step<'t>(
     names: &mut Names<'t>,
     place: TracePosition,
@@ -125,8 +124,8 @@ fn step<'t>(
 
 /// Reads a text as a trace.
 ///
-/// Refused are 15 `Limit` a text of more than [`TRACE_LIMIT`] bytes, and 1 `BadLine` its first line
-/// that doesn't tell anything or that may not stand behind those before it.
+/// 15 `Limit` for a text of more than [`TRACE_LIMIT`] bytes, else 1 `BadLine` for its first line
+/// that isn't valid, or that may not follow those before it.
 pub fn read_trace<'t>(alloc: Global, text: &'t [u8]) -> Result<Trace<'t>, TraceFault>
     ensures trace { IfOk result (IsTraceOf text.now) }
     ensures fault { IfErr result (IsFaultOf text.now) }
@@ -152,13 +151,13 @@ pub fn read_trace<'t>(alloc: Global, text: &'t [u8]) -> Result<Trace<'t>, TraceF
     Ok(Trace::of(text, spans, names))
 }
 
-/// A text tells one list of lines at most, so that it is one trace: a law, and no work.
+/// A text is at most one list of lines, and so one trace. This is a law without work.
 pub fn says_one_at_most()
     ensures { SaysOneAtMost }
 {}
 
-/// What [`read_trace`] refuses as a bad line is bad whatever stands behind it, so that no trace is
-/// refused: a law, and no work.
+/// A line that [`read_trace`] refuses is bad whatever follows it, so that no trace is refused. This
+/// is a law without work.
 pub fn bad_lines_stay_bad()
     ensures { BadLinesStayBad }
 {}

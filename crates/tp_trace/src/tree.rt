@@ -1,4 +1,4 @@
-//! A trace: a text that has the form of one, cut into its lines.
+//! A trace: a text with the form of one, cut into its lines.
 ghost use Rattle.std.specs.Prelude.{◌≡◌, ◌≢◌, ◌<◌, All, AllPairs, Some, length, map, slice_get};
 ghost use Rattle.tp_trace.specs.Spans.{IsSpanOf, span_texts};
 ghost use Rattle.tp_trace.specs.Tree.{HoldsTrace, IsTrace, names_of, section_named, told_in, told_of};
@@ -8,22 +8,20 @@ use crate::names::Names;
 use crate::read::trace_line;
 use std::marker::Model;
 
-/// Where a line lies in a text.
+/// The place of a line in a text.
 #[derive(Clone, Copy)]
 pub struct Span {
-    /// Where it begins.
     pub start: u32,
-    /// Where it ends.
     pub end: u32,
 }
 
-/// A trace. Contracts see what its lines tell, in order: the line of number L in the text stands at
-/// the place L - 1. Its words lie in the text; it takes 8 bytes for each line, and a table of the
-/// names of its sections.
+/// A trace. Contracts see the content of its lines, in order: line L of the text is at the place L
+/// - 1. Its words are slices of the text; it takes 8 bytes for each line, and a table of the names
+/// of its sections.
 #[derive(Drop)]
 pub struct Trace<'t> {
     text: &'t [u8],
-    /// Where the lines lie in the text: half of what slices would take.
+    /// The places of the lines in the text, in half the memory of slices.
     spans: Vec<Span>,
     /// The components of the sections, in order.
     names: Names<'t>,
@@ -43,7 +41,6 @@ impl<'t> Model for Trace<'t> {
 }
 
 impl<'t> Trace<'t> {
-    /// The trace of the lines that lie there in the text, whose sections have these names.
     pub(crate) fn of(text: &'t [u8], spans: Vec<Span>, names: Names<'t>) -> Trace<'t>
         requires holds { HoldsTrace (span_texts text.now spans.items) names }
         requires within { All (IsSpanOf (length text.now)) spans.items }
@@ -52,7 +49,6 @@ impl<'t> Trace<'t> {
         Trace { text, spans, names }
     }
 
-    /// How many lines there are.
     pub fn line_count(&self) -> usize
         ensures count { result ≡ length self.now }
         ensures trace { IsTrace self.now }
@@ -60,7 +56,7 @@ impl<'t> Trace<'t> {
         self.spans.len()
     }
 
-    /// What the line at this place tells: places are numbered from 0, lines from 1.
+    /// The line at this place. Places are numbered from 0, lines from 1.
     pub fn line(&self, place: usize) -> Line<'t>
         requires { place < length self.now }
         ensures { slice_get self.now place ≡ Some (told_of result) }
@@ -72,7 +68,6 @@ impl<'t> Trace<'t> {
         }
     }
 
-    /// How many sections there are.
     pub fn section_count(&self) -> usize
         ensures count { result ≡ length (names_of self.now) }
         ensures distinct { AllPairs (λ a b. a ≢ b) (names_of self.now) }
@@ -80,7 +75,7 @@ impl<'t> Trace<'t> {
         self.names.len()
     }
 
-    /// Which section is that of this component, numbered from 0 in their order, if one is.
+    /// The number of this component's section, from 0 in their order.
     pub fn section_of(&self, name: &[u8]) -> Option<usize>
         ensures { result ≡ section_named (names_of self.now) name.now }
     {

@@ -1,7 +1,7 @@
-//! The law on which the answer rests, as a function whose contract it is. It does nothing.
+//! The law on which the result rests. It is the contract of a function that does nothing.
 ghost use Rattle.tp_verdicts.specs.Laws.{NoResultIsMissed};
 
-/// The law that the machine of a test case comes to each verdict that a run of it reports.
+/// The machine of a test case reaches each verdict that a run of it reports.
 pub fn none_is_missed()
     ensures { NoResultIsMissed }
 {}

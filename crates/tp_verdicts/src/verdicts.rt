@@ -1,23 +1,22 @@
-//! The verdicts that a test case can come to.
+//! The verdicts that a test case can have.
 use tp_config::port_type::CompId;
 use tp_value::verdict::Verdict;
 
-/// A verdict that a test case can come to, and the components by whose steps one after another a
-/// run comes to it.
+/// A verdict that a test case can have, and the components whose steps, one after another, lead a
+/// run to it.
 #[derive(Drop)]
 pub struct FoundVerdict {
     pub verdict: Verdict,
     pub order: Vec<CompId>,
 }
 
-/// The verdicts that a test case can come to.
 #[derive(Drop)]
 pub struct Verdicts {
     /// Each once, in the order none, pass, inconc, fail, error.
     pub found: Vec<FoundVerdict>,
-    /// How many states were looked at.
+    /// The number of states looked at.
     pub states: u32,
-    /// Whether none was missed. If not, there are more states than the limit, or the program of the
-    /// test case would be too large.
+    /// True if none was missed. False if there are more states than the limit, or if the program of
+    /// the test case would be too large.
     pub is_complete: bool,
 }

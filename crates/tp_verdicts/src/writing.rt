@@ -13,7 +13,6 @@ use tp_report::words::{verdict_word, write_component_name};
 use tp_text::watched::{Watched, write_bytes, write_number};
 use tp_value::verdict::Verdict;
 
-/// Writes the word for each of the verdicts, each behind these bytes.
 fn write_words<W: Write>(before: &[u8], found: &[FoundVerdict], out: &mut Watched<W>)
     ensures { Writes W.contents out.old out.new (flat_map (word_behind before.now) found.now) }
 {
@@ -23,7 +22,7 @@ fn write_words<W: Write>(before: &[u8], found: &[FoundVerdict], out: &mut Watche
     }
 }
 
-/// Writes that the test case comes to this verdict and to no other.
+/// Writes that the test case has this verdict and no other.
 fn write_always<W: Write>(verdict: Verdict, out: &mut Watched<W>)
     ensures { Writes W.contents out.old out.new (always_line verdict) }
 {
@@ -32,7 +31,7 @@ fn write_always<W: Write>(verdict: Verdict, out: &mut Watched<W>)
     write_bytes(b"\n", out)
 }
 
-/// Writes that the test case comes to these verdicts and to no other: to the first, and the others.
+/// Writes that the test case has several verdicts and no other.
 fn write_several<W: Write>(first: &FoundVerdict, others: &[FoundVerdict], out: &mut Watched<W>)
     ensures { Writes W.contents out.old out.new (several_line first.now others.now) }
 {
@@ -41,8 +40,7 @@ fn write_several<W: Write>(first: &FoundVerdict, others: &[FoundVerdict], out: &
     write_bytes(b"\n", out)
 }
 
-/// Writes that the test case comes to these verdicts and to no other: to the first, and the others,
-/// if there are any.
+/// Writes that the test case has these verdicts and no other.
 fn write_decided<W: Write>(first: &FoundVerdict, others: &[FoundVerdict], out: &mut Watched<W>)
     ensures { Writes W.contents out.old out.new (said_of true (first.now ∷ others.now)) }
 {
@@ -52,7 +50,7 @@ fn write_decided<W: Write>(first: &FoundVerdict, others: &[FoundVerdict], out: &
     write_several(first, others, out)
 }
 
-/// Writes that nothing is promised, and to which verdicts the test case was seen to come.
+/// Writes that nothing is promised, and the verdicts found.
 fn write_undecided<W: Write>(found: &[FoundVerdict], out: &mut Watched<W>)
     ensures { Writes W.contents out.old out.new (undecided_lines found.now) }
 {
@@ -64,7 +62,6 @@ fn write_undecided<W: Write>(found: &[FoundVerdict], out: &mut Watched<W>)
     }
 }
 
-/// Writes what is said of the verdicts.
 fn write_said<W: Write>(is_complete: bool, found: &[FoundVerdict], out: &mut Watched<W>)
     ensures { Writes W.contents out.old out.new (said_of is_complete found.now) }
 {
@@ -77,7 +74,6 @@ fn write_said<W: Write>(is_complete: bool, found: &[FoundVerdict], out: &mut Wat
     }
 }
 
-/// Writes how many states were looked at.
 fn write_states<W: Write>(states: u32, out: &mut Watched<W>)
     ensures { Writes W.contents out.old out.new (states_line states) }
 {
@@ -86,7 +82,6 @@ fn write_states<W: Write>(states: u32, out: &mut Watched<W>)
     write_bytes(b"\n", out)
 }
 
-/// Writes the names of the components, each behind a space.
 fn write_names<W: Write>(config: &Config, order: &[CompId], out: &mut Watched<W>)
     requires { All (IsComponent config.now) order.now }
     ensures { Writes W.contents out.old out.new (flat_map (name_behind config.now) order.now) }
@@ -97,7 +92,6 @@ fn write_names<W: Write>(config: &Config, order: &[CompId], out: &mut Watched<W>
     }
 }
 
-/// Writes a verdict and its order.
 fn write_order<W: Write>(config: &Config, found: &FoundVerdict, out: &mut Watched<W>)
     requires { HasNames config.now found.now }
     ensures { Writes W.contents out.old out.new (order_line config.now found.now) }
@@ -108,7 +102,6 @@ fn write_order<W: Write>(config: &Config, found: &FoundVerdict, out: &mut Watche
     write_bytes(b"\n", out)
 }
 
-/// Writes each verdict and its order.
 fn write_orders<W: Write>(config: &Config, found: &[FoundVerdict], out: &mut Watched<W>)
     requires { All (HasNames config.now) found.now }
     ensures { Writes W.contents out.old out.new (flat_map (order_line config.now) found.now) }
@@ -118,7 +111,7 @@ fn write_orders<W: Write>(config: &Config, found: &[FoundVerdict], out: &mut Wat
     }
 }
 
-/// Writes each verdict and its order, but where there is one verdict and no other.
+/// If there is one verdict and no other, nothing is written.
 fn write_needed_orders<W: Write>(
     config: &Config,
     is_complete: bool,
@@ -133,14 +126,13 @@ fn write_needed_orders<W: Write>(
     }
 }
 
-/// Writes the verdicts that a test case with this configuration can come to: `always VERDICT` for
-/// one and no other; `VERDICT or VERDICT ..` for these and no other; `undecided` where some may be
-/// missed, and then `seen VERDICT ..` where some were found. Behind that `states N`; and unless it
-/// is one and no other, for each a line `VERDICT: COMPONENT COMPONENT ..`, the components of its
-/// order.
+/// Writes the verdicts that a test case with this configuration can have: `always VERDICT` for one
+/// and no other; `VERDICT or VERDICT ..` for these and no other; `undecided` if some may be missed,
+/// and then `seen VERDICT ..` if some were found. After that `states N`; and unless it is one and
+/// no other, for each a line `VERDICT: COMPONENT COMPONENT ..`, the components of its order.
 ///
-/// Where the writer fails, a front of the text is written. It writes in small pieces: give it a
-/// writer with a buffer.
+/// If the writer fails, it has written a front of the text. It writes in small pieces: use a writer
+/// with a buffer.
 pub fn write_verdicts<W: Write>(config: &Config, verdicts: &Verdicts, out: &mut Watched<W>)
     requires { All (HasNames config.now) verdicts.now.found.items }
     ensures { Writes W.contents out.old out.new (verdicts_text config.now verdicts.now) }
