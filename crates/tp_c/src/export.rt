@@ -1,8 +1,9 @@
-//! What C calls. A port is memory of the caller, as many bytes as [`tp_port_size`] says; the caller
-//! doesn't look into it.
+//! The functions that C calls. A port is memory of the caller, of [`tp_port_size`] bytes; the
+//! caller doesn't look into it.
 //!
-//! Each function but the first two wants a port at the address, or room for one, and nobody else
-//! uses that during the call. The caller has to see to it: nothing checks a program in C.
+//! Each function except the first two needs the address of a port, or of room for one, which
+//! nothing else uses during the call. The caller is responsible for this: nothing checks a program
+//! in C.
 ghost use Rattle.std.specs.Prelude.{ℕ, []};
 ghost use types.Logic.{sem};
 ghost use Rattle.tp_queue.specs.Queues.{QueueState, StandsFor};
@@ -14,12 +15,12 @@ use std::alloc::Global;
 use std::mem::{align_of, size_of};
 use tp_queue::queue::Queue;
 
-/// What is at an address that C has: a `Queue<u64>`, or room for one.
+/// The object at an address of the caller: a `Queue<u64>`, or room for one.
 pub struct Opaque {
     byte: u8,
 }
 
-/// How many bytes a port has.
+/// The size of a port in bytes.
 #[unsafe(no_mangle)]
 pub extern "C" fn tp_port_size() -> usize {
     size_of::<Queue<u64>>()
@@ -31,7 +32,7 @@ pub extern "C" fn tp_port_align() -> usize {
     align_of::<Queue<u64>>()
 }
 
-/// Makes a started port with nothing queued, in room that the caller has. Takes no memory.
+/// Makes a started port with an empty queue, in room of the caller. It doesn't allocate.
 #[unsafe(no_mangle)]
 pub unsafe extern "C" fn tp_port_init(alloc: Global, port: *mut Opaque)
     requires* { sem 𝓛 (Room port) }
@@ -40,8 +41,8 @@ pub unsafe extern "C" fn tp_port_init(alloc: Global, port: *mut Opaque)
     (port as *mut Queue<u64>).write(port::new(alloc));
 }
 
-/// Frees the memory of a port, and leaves the room for one. Its messages are numbers, and are lost:
-/// a caller that owns something by them frees that first.
+/// Frees the memory of a port, and leaves room for one. Its messages are numbers, and are lost: if
+/// they stand for something that the caller owns, the caller frees that first.
 #[unsafe(no_mangle)]
 pub unsafe extern "C" fn tp_port_drop(port: *mut Opaque)
     ghost q: { QueueState ℕ }
@@ -51,8 +52,8 @@ pub unsafe extern "C" fn tp_port_drop(port: *mut Opaque)
     port::let_go((port as *mut Queue<u64>).read());
 }
 
-/// Puts a message at the end of the queue, whatever the status. Returns false where memory was
-/// refused: nothing has happened then. `number` is only kept.
+/// Puts a message at the end of the queue, whatever the status. Returns false if memory was
+/// refused, and then nothing has happened. `number` is only kept.
 #[unsafe(no_mangle)]
 pub unsafe extern "C" fn tp_port_arrive(
     port: *mut Opaque,
@@ -144,8 +145,8 @@ pub unsafe extern "C" fn tp_port_stop(port: *mut Opaque) -> u64
     port::stop(&mut *(port as *mut Queue<u64>))
 }
 
-/// Halts a started port: what comes from now on isn't deliverable. Returns false on any other, where
-/// it has no effect.
+/// Halts a started port: later arrivals aren't deliverable. On any other port it has no effect, and
+/// returns false.
 #[unsafe(no_mangle)]
 pub unsafe extern "C" fn tp_port_halt(port: *mut Opaque) -> bool
     ghost q: { QueueState ℕ }
@@ -155,7 +156,7 @@ pub unsafe extern "C" fn tp_port_halt(port: *mut Opaque) -> bool
     port::halt(&mut *(port as *mut Queue<u64>))
 }
 
-/// Returns how many queued messages are deliverable.
+/// Returns the number of deliverable messages.
 #[unsafe(no_mangle)]
 pub unsafe extern "C" fn tp_port_ahead(port: *mut Opaque) -> u64
     ghost q: { QueueState ℕ }
@@ -165,7 +166,7 @@ pub unsafe extern "C" fn tp_port_ahead(port: *mut Opaque) -> u64
     port::ahead(&mut *(port as *mut Queue<u64>))
 }
 
-/// Returns how many messages are queued.
+/// Returns the number of queued messages.
 #[unsafe(no_mangle)]
 pub unsafe extern "C" fn tp_port_len(port: *mut Opaque) -> u64
     ghost q: { QueueState ℕ }
@@ -175,8 +176,8 @@ pub unsafe extern "C" fn tp_port_len(port: *mut Opaque) -> u64
     port::len(&mut *(port as *mut Queue<u64>))
 }
 
-/// Returns the message at this place of the queue, from 0, the oldest, whether deliverable or not;
-/// nothing where there are no more.
+/// Returns the message at this place of the queue, deliverable or not, with the oldest at 0. If
+/// there are no more, the answer is empty.
 #[unsafe(no_mangle)]
 pub unsafe extern "C" fn tp_port_at(port: *mut Opaque, place: u64) -> Answer
     ghost q: { QueueState ℕ }
@@ -186,7 +187,7 @@ pub unsafe extern "C" fn tp_port_at(port: *mut Opaque, place: u64) -> Answer
     port::at(&mut *(port as *mut Queue<u64>), place)
 }
 
-/// Returns 0 where the port is started, 1 where it is halted, 2 where it is stopped.
+/// Returns 0 if the port is started, 1 if it is halted, 2 if it is stopped.
 #[unsafe(no_mangle)]
 pub unsafe extern "C" fn tp_port_status(port: *mut Opaque) -> u32
     ghost q: { QueueState ℕ }

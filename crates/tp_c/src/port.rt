@@ -9,8 +9,8 @@ use tp_event::event::{Env, Status, TriggerAnswer};
 use tp_event::payload::Wanted;
 use tp_queue::queue::Queue;
 
-/// Whether the caller wants the top message. The caller has looked at it by a `check` before, since
-/// no function of the caller can cross.
+/// Whether the caller wants the top message. The caller has looked at it by a `check` before,
+/// because no function of the caller can cross.
 #[derive(Clone, Copy)]
 struct Fits {
     fits: bool,
@@ -24,17 +24,16 @@ impl Wanted<u64> for Fits {
     }
 }
 
-/// What a call found: `tp_answer` of the header.
+/// The result of a call: `tp_answer` of the header.
 #[repr(C)]
 #[derive(Drop)]
 pub struct Answer {
     /// One of the three below.
     pub outcome: u32,
-    /// Who sent the message.
+    /// The sender of the message.
     pub sender: u32,
-    /// Its number on its way.
+    /// The message's number on its way.
     pub number: u64,
-    /// The message.
     pub message: u64,
 }
 
@@ -69,7 +68,7 @@ fn answer_of(outcome: u32, env: &Env<u64>) -> Answer
     }
 }
 
-/// A sender that may be named: C has no `Option`.
+/// A sender that may be named. C has no `Option`.
 fn sender_named(named: bool, from: u32) -> Option<u32>
     ensures { result ≡ the_sender named from }
 {
@@ -82,10 +81,10 @@ pub(crate) fn new(alloc: Global) -> Queue<u64>
     Queue::new(alloc)
 }
 
-/// Lets the queue go with its memory. Its messages are numbers, and are lost.
+/// Frees the memory of the queue. Its messages are numbers, and are lost.
 pub(crate) fn let_go(_queue: Queue<u64>) {}
 
-/// False where memory was refused: nothing has happened then.
+/// False if memory was refused: then nothing has happened.
 pub(crate) fn arrive(queue: &mut Queue<u64>, sender: u32, number: u64, message: u64) -> bool
     ensures { Arrived queue.old sender number message result queue.new }
 {
@@ -138,7 +137,7 @@ pub(crate) fn clear(queue: &mut Queue<u64>) -> u64
     queue.clear()
 }
 
-/// Answers how many messages are queued.
+/// Returns the number of queued messages.
 pub(crate) fn stop(queue: &mut Queue<u64>) -> u64
     ensures { Stopped queue.old result queue.new }
 {
@@ -146,7 +145,7 @@ pub(crate) fn stop(queue: &mut Queue<u64>) -> u64
     queue.queued_len()
 }
 
-/// Whether the port was started, so that the `halt` had an effect.
+/// Returns whether the port was started, so that the `halt` had an effect.
 pub(crate) fn halt(queue: &mut Queue<u64>) -> bool
     ensures { Halted queue.old result queue.new }
 {

@@ -1,8 +1,8 @@
-//! The queue of one message port, of any type of message: what is queued, what can be received, and
-//! the rules of a port's history. Mode `queue` (`tp_port`), the ports of a run (`tp_history`) and
-//! the judge of traces (`tp_judge`) use it.
+//! The queue of one message port, for any type of message: what is queued, what can be received,
+//! and the rules of a port's history. Mode `queue` (`tp_port`), the ports of a run (`tp_history`)
+//! and the judge of traces (`tp_judge`) use [`queue::Queue`]; start there.
 //!
-//! `Queue::arrive` alone takes memory.
+//! Only `Queue::arrive` allocates.
 #![tactic(auto)]
 
 pub mod queue;

@@ -1,4 +1,4 @@
-//! The queue of a message port, which keeps no history.
+//! The queue of a message port. It keeps no history.
 ghost use Rattle.std.specs.Prelude.{◌≡◌, ◌↔◌, ◌≤◌, ◌∷◌, ◌++◌, [], IfErr, IsTrue, OnOk, length, slice_get};
 ghost use Rattle.std.specs.Option.{option_copied};
 ghost use Rattle.tp_event.specs.declared.event.Event.TheVariants as event;
@@ -15,18 +15,18 @@ use tp_event::event::{Env, Status, TriggerAnswer};
 use tp_event::payload::Wanted;
 use tp_refusal::memory::Memory;
 
-/// The queue of one message port (ES 201 873-1, 9.1; ES 201 873-4, port states), seen by contracts
-/// as its state: what is queued, the status, and how many of the queued messages can be received.
+/// The queue of one message port (ES 201 873-1, 9.1; ES 201 873-4, port states). Contracts see it
+/// as its state: the queued messages, the status, and how many of these messages can be received.
 ///
-/// A call that changes the queue speaks of a whole history all the same: whichever history, the
-/// list of the port's events, the queue stood for, it stands for that history with the event of the
-/// call behind it. So whoever keeps the history, or has one in mind, knows what the queue is; the
-/// queue keeps none.
+/// The contract of a call that changes the queue nevertheless speaks of a whole history, the list
+/// of the port's events: if the queue stood for some history before the call, it stands for this
+/// history and the event of the call after it. So a caller who keeps the history, or has one in
+/// mind, knows the queue; the queue itself keeps none.
 #[derive(Drop)]
 pub struct Queue<M: Drop> {
     /// The queued messages, the oldest first.
     entries: VecDeque<Env<M>>,
-    /// How many entries are ahead of the mark, where the port is halted.
+    /// If the port is halted: the number of entries ahead of the mark.
     ahead: usize,
     status: Status,
 }
@@ -42,8 +42,8 @@ impl<M: Drop> Model for Queue<M> {
 }
 
 impl<M: Drop> Queue<M> {
-    /// A started port's queue with nothing in it, which takes its memory from `alloc` as messages
-    /// come: so is each port when its component is created (ES 201 873-1, 21.3.1).
+    /// The empty queue of a started port, as when its component is created (ES 201 873-1, 21.3.1).
+    /// It allocates from `alloc` as messages arrive.
     pub fn new(alloc: Global) -> Self
         ensures { StandsFor result [] }
     {
@@ -54,10 +54,9 @@ impl<M: Drop> Queue<M> {
         }
     }
 
-    /// A message comes, and goes to the end of the queue, whatever the status: a halted or stopped
-    /// port queues too (9.1: a port is an unbounded first-in first-out queue).
-    ///
-    /// 50 `Memory` where an allocation was refused: the envelope comes back.
+    /// A message arrives at the end of the queue, whatever the status: a halted or stopped port
+    /// queues too (9.1: a port is an unbounded first-in first-out queue). 50 `Memory` if an
+    /// allocation was refused; it returns the envelope.
     pub fn arrive(&mut self, env: Env<M>) -> Result<(), (Memory, Env<M>)>
         ensures ok { OnOk result (AtHistory self.old (λ h.
             StandsFor self.new (h ++ event.Arrive env ∷ []))) }
@@ -69,9 +68,9 @@ impl<M: Drop> Queue<M> {
         Ok(())
     }
 
-    /// Halts a started port: puts the mark behind the last queued message, and answers how many
-    /// messages are ahead of it (22.5.4). Those are still deliverable, and what comes from now on
-    /// isn't. `None` on a halted or stopped port, where it has no effect.
+    /// Halts a started port: puts the mark after the last queued message, and returns how many
+    /// messages are ahead of it (22.5.4). These are still deliverable; later arrivals aren't. On a
+    /// halted or stopped port it has no effect, and returns `None`.
     pub fn halt(&mut self) -> Option<u64>
         ensures count { AtHistory self.old (λ h. result ≡ halted_count (status_of h) h) }
         ensures after { AtHistory self.old (λ h. StandsFor self.new (h ++ event.Halted ∷ [])) }
@@ -86,9 +85,9 @@ impl<M: Drop> Queue<M> {
         }
     }
 
-    /// Takes the top message out where it is deliverable, `wanted` admits it and it comes from the
-    /// sender `from`, if one is given (22.2.2). Otherwise the answer is `None`, and nothing
-    /// happens: a message further down is never looked at.
+    /// Takes the top message out if it is deliverable, `wanted` admits it and it comes from the
+    /// sender `from`, if one is given (22.2.2). Otherwise it returns `None`, and nothing happens: a
+    /// message below the top is never looked at.
     pub fn receive<W: Wanted<M>>(&mut self, wanted: &W, from: Option<u32>) -> Option<Env<M>>
         ensures { AtHistory self.old (λ h.
             ReceivesFor (W.admits wanted.now) from h result self.new) }
@@ -114,9 +113,9 @@ impl<M: Drop> Queue<M> {
         self.top()
     }
 
-    /// Takes the top message out where it is deliverable, whether it is wanted or not (22.2.3): it
-    /// is received by the same test as in [`receive`](Queue::receive), and else discarded.
-    /// `Nothing` where no message is deliverable; nothing happens then.
+    /// Takes the top message out if it is deliverable, whether it is wanted or not (22.2.3): it is
+    /// received by the same test as in [`receive`](Queue::receive), and else discarded. If no
+    /// message is deliverable, it returns `Nothing`, and nothing happens.
     pub fn trigger<W: Wanted<M>>(&mut self, wanted: &W, from: Option<u32>) -> TriggerAnswer<M>
         ensures { AtHistory self.old (λ h.
             TriggersFor (W.admits wanted.now) from h result self.new) }
@@ -129,8 +128,8 @@ impl<M: Drop> Queue<M> {
         }
     }
 
-    /// Takes the top out, whatever it is, where there is one: as a `receive` that wants any message
-    /// from anyone does (22.2.2), and a `trigger` that discards it (22.2.3).
+    /// Takes the top message out, if there is one: like a `receive` of any message from any sender
+    /// (22.2.2), or a `trigger` that discards it (22.2.3).
     pub fn take_top(&mut self) -> Option<Env<M>>
         ensures { AtHistory self.old (λ h. TakesOut h result self.new) }
     {
@@ -142,7 +141,7 @@ impl<M: Drop> Queue<M> {
         self.entries.pop_front()
     }
 
-    /// Discards every queued message, on both sides of a mark, and answers how many there were
+    /// Discards every queued message, before and after a mark, and returns how many there were
     /// (22.5.1). A halted port stays halted, with the mark at the top; a stopped one stays stopped.
     pub fn clear(&mut self) -> u64
         ensures count { AtHistory self.old (λ h. result ≡ length (queued h)) }
@@ -154,8 +153,8 @@ impl<M: Drop> Queue<M> {
         discarded
     }
 
-    /// Discards every queued message, on both sides of a mark, removes the mark, starts the port,
-    /// also one that was never stopped, and answers how many messages there were (22.5.2).
+    /// Discards every queued message, before and after a mark, removes the mark, starts the port,
+    /// even if it was never stopped, and returns how many messages there were (22.5.2).
     pub fn start(&mut self) -> u64
         ensures count { AtHistory self.old (λ h. result ≡ length (queued h)) }
         ensures after { AtHistory self.old (λ h. StandsFor self.new (h ++ event.Started ∷ [])) }
@@ -166,23 +165,24 @@ impl<M: Drop> Queue<M> {
         discarded
     }
 
-    /// Stops the port (22.5.3). What is queued stays queued; nothing of it is deliverable. On a
-    /// halted port the mark is thereby at the top.
+    /// Stops the port (22.5.3). Queued messages stay in the queue, and none of them is deliverable.
+    /// On a halted port the mark moves to the top.
     pub fn stop(&mut self)
         ensures { AtHistory self.old (λ h. StandsFor self.new (h ++ event.Stopped ∷ [])) }
     {
         self.status = Status::Stopped;
     }
 
-    /// Whether the port may send: it is started (22.5.3 and 22.5.4 disallow it).
+    /// Returns whether the port may send, that is, whether it is started (22.5.3 and 22.5.4
+    /// disallow it otherwise).
     pub fn may_send(&self) -> bool
         ensures { IsTrue result ↔ (self.now.status ≡ status.Started) }
     {
         self.status == Status::Started
     }
 
-    /// How many queued messages are deliverable: all of a started port, those ahead of the mark of
-    /// a halted one, none of a stopped one.
+    /// The number of deliverable messages: all of a started port, those ahead of the mark of a
+    /// halted one, none of a stopped one.
     pub fn ahead(&self) -> u64
         ensures count { result ≡ self.now.ahead }
         ensures within { AtHistory self.now (λ h. gone h ≤ limit h) }
@@ -194,9 +194,10 @@ impl<M: Drop> Queue<M> {
         }
     }
 
-    /// Whether the port is started, halted or stopped.
+    /// The status: started, halted or stopped.
     ///
-    /// Each queue stands for some history: no clause on histories is empty.
+    /// Its contract also says that each queue stands for some history, so that no clause on
+    /// histories is empty.
     pub fn status(&self) -> Status
         ensures status { result ≡ self.now.status }
         ensures history { HasHistory self.now }
@@ -204,22 +205,22 @@ impl<M: Drop> Queue<M> {
         self.status
     }
 
-    /// How many messages are queued, on both sides of a mark.
+    /// The number of queued messages, before and after a mark.
     pub fn queued_len(&self) -> u64
         ensures { result ≡ length self.now.entries }
     {
         self.entries.len() as u64
     }
 
-    /// The queued message at this place, from 0, the oldest; `None` where there are no more.
+    /// The queued message at this place, with the oldest at 0. `None` if there are no more.
     pub fn queued_at(&self, place: u64) -> Option<&Env<M>>
         ensures { option_copied result ≡ slice_get self.now.entries place }
     {
         self.entries.get(place as usize)
     }
 
-    /// The message that a receiving operation sees: the oldest that is queued, where it is
-    /// deliverable, else `None` (22.2.2: only the top is looked at).
+    /// The message that a receiving operation sees: the oldest one queued, if it is deliverable
+    /// (22.2.2: only the top is looked at).
     pub fn top(&self) -> Option<&Env<M>>
         ensures { AtHistory self.now (λ h. option_copied result ≡ top h) }
     {
@@ -230,7 +231,7 @@ impl<M: Drop> Queue<M> {
         }
     }
 
-    /// Whether there is a top, and a receiving operation succeeds with it.
+    /// Returns whether there is a top, and a receiving operation succeeds with it.
     fn offers<W: Wanted<M>>(&self, wanted: &W, from: Option<u32>) -> bool
         ensures { AtHistory self.now (λ h. Offers (W.admits wanted.now) from h result) }
     {

@@ -1,4 +1,4 @@
-//! Whether a script is right.
+//! Mode `check`.
 ghost use Rattle.std.specs.Prelude.{◌≡◌, IfErr, IfOk, IfSome, OnOk};
 ghost use Rattle.tp_text.specs.Watching.{HasFailed, Writes, reader_left};
 ghost use Rattle.tp_script.specs.Scripts.{IsScriptOf};
@@ -21,7 +21,7 @@ use tp_token::fault::TextRule;
 /// Why a script isn't accepted.
 #[derive(Clone, Copy)]
 pub enum CheckFault {
-    /// 2 Read: the reader answered an error.
+    /// 2 Read: the reader returned an error.
     Read,
     /// The script breaks a rule, or memory was refused.
     Script(TestCaseFault),
@@ -45,7 +45,7 @@ impl From<ReadFault> for CheckFault {
     }
 }
 
-/// Reads a script, and checks it: its test case.
+/// Reads and checks a script, and returns its test case.
 pub fn check_script<R: Read>(alloc: Global, reader: &mut Watched<R>) -> Result<TestCase, CheckFault>
     ensures script { IfOk result (λ made.
         IfSome (reader_left R.remaining reader.old) (λ text. IsScriptOf text made)) }
@@ -63,7 +63,6 @@ pub fn check_script<R: Read>(alloc: Global, reader: &mut Watched<R>) -> Result<T
     }
 }
 
-/// Writes the line of a fault.
 fn write_check_fault<W: Write>(writer: &mut Watched<W>, fault: CheckFault)
     ensures { Writes W.contents writer.old writer.new (check_fault_text fault) }
 {
@@ -76,7 +75,6 @@ fn write_check_fault<W: Write>(writer: &mut Watched<W>, fault: CheckFault)
     }
 }
 
-/// The status of a fault.
 fn check_fault_status(fault: CheckFault) -> u8
     ensures { result ≡ check_fault_status fault }
 {
@@ -86,7 +84,7 @@ fn check_fault_status(fault: CheckFault) -> u8
     }
 }
 
-/// Prints the line of a fault, and answers its status. `None` where the writer failed.
+/// Prints the line of a fault, and returns its status. `None` if the writer failed.
 pub fn answer_check_fault<W: Write>(writer: &mut Watched<W>, fault: CheckFault) -> Option<u8>
     ensures { IsAnswered W.contents (IsJust (check_fault_text fault) (check_fault_status fault))
         writer.old writer.new result }
@@ -95,7 +93,6 @@ pub fn answer_check_fault<W: Write>(writer: &mut Watched<W>, fault: CheckFault) 
     status_if_written(writer, check_fault_status(fault))
 }
 
-/// Prints that a script is right. The status is 0; `None` where the writer failed.
 fn answer_accepted<W: Write>(writer: &mut Watched<W>) -> Option<u8>
     ensures { IsAnswered W.contents (IsJust accepted_text 0) writer.old writer.new result }
 {
@@ -103,11 +100,10 @@ fn answer_accepted<W: Write>(writer: &mut Watched<W>) -> Option<u8>
     status_if_written(writer, ANSWERED)
 }
 
-/// Reads a script and checks it: prints `accepted` where it is right, and else the line of its
-/// first fault.
+/// Reads and checks a script: prints `accepted`, or the line of its first fault.
 ///
-/// The status is 0 where it is right; 2 where it was refused: `refused 2 Read`, or
-/// `refused CODE NAME line L` for a [`ScriptRule`], as [`read_script`] says.
+/// The status is 0 if it is accepted, and 2 if it is refused: `refused 2 Read`, or `refused CODE
+/// NAME line L` for a [`ScriptRule`] of [`read_script`].
 pub fn answer_check<R: Read, W: Write>(
     alloc: Global,
     reader: &mut Watched<R>,

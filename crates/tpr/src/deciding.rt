@@ -1,4 +1,4 @@
-//! Which verdicts a test case can come to.
+//! Mode `verdicts`.
 ghost use Rattle.std.specs.Prelude.{◌≡◌};
 ghost use Rattle.tp_text.specs.Watching.{reader_left};
 ghost use Rattle.tp_verdicts.specs.Found.{IsVerdictsOf};
@@ -17,12 +17,11 @@ use tp_verdicts::finding::find_verdicts;
 use tp_verdicts::verdicts::Verdicts;
 use tp_verdicts::writing::write_verdicts;
 
-/// The status where a test case can come to several verdicts.
+/// The status if a test case can have several verdicts.
 const SEVERAL: u8 = 2;
-/// The status where nothing is promised of a test case's verdicts.
+/// The status if nothing is promised of a test case's verdicts.
 const UNDECIDED: u8 = 3;
 
-/// The status where these are the verdicts.
 fn verdicts_status(verdicts: &Verdicts) -> u8
     ensures { result ≡ verdicts_status verdicts.now }
 {
@@ -36,7 +35,7 @@ fn verdicts_status(verdicts: &Verdicts) -> u8
     }
 }
 
-/// Prints the verdicts of this test case, and answers their status. `None` where the writer failed.
+/// Prints these verdicts, and returns their status. `None` if the writer failed.
 fn answer_found<W: Write>(
     test_case: &TestCase,
     verdicts: &Verdicts,
@@ -49,7 +48,6 @@ fn answer_found<W: Write>(
     status_if_written(writer, verdicts_status(verdicts))
 }
 
-/// Prints that memory was refused. The status is 3; `None` where the writer failed.
 fn answer_want_of_memory<W: Write>(writer: &mut Watched<W>) -> Option<u8>
     ensures { IsAnswered W.contents (IsJust memory_text 3) writer.old writer.new result }
 {
@@ -57,7 +55,7 @@ fn answer_want_of_memory<W: Write>(writer: &mut Watched<W>) -> Option<u8>
     status_if_written(writer, FAULTED)
 }
 
-/// Prints the verdicts that this test case can come to, or that memory was refused.
+/// Prints the verdicts that this test case can have, or that memory was refused.
 fn decide<W: Write>(alloc: Global, test_case: &TestCase, writer: &mut Watched<W>) -> Option<u8>
     ensures { IsAnswered W.contents (IsDecidedOf test_case.now) writer.old writer.new result }
 {
@@ -67,11 +65,12 @@ fn decide<W: Write>(alloc: Global, test_case: &TestCase, writer: &mut Watched<W>
     }
 }
 
-/// Reads a script, checks it, and prints the verdicts that its test case can come to, as
-/// [`write_verdicts`] does, or the line of its first fault. At most 4,194,304 states are looked at.
+/// Reads and checks a script, and prints the verdicts that its test case can have, as
+/// [`write_verdicts`] writes them, or the line of its first fault. It looks at no more than
+/// 4,194,304 states.
 ///
-/// The status is 0 for `always`, 2 for several, and 3 for `undecided`; where the script isn't
-/// accepted, that of [`answer_check`](crate::checking::answer_check). It waits for nobody.
+/// The status is 0 for `always`, 2 for several verdicts, and 3 for `undecided`; if the script isn't
+/// accepted, it is that of [`answer_check`](crate::checking::answer_check). It never waits.
 pub fn answer_verdicts<R: Read, W: Write>(
     alloc: Global,
     reader: &mut Watched<R>,

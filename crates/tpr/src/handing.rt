@@ -1,4 +1,4 @@
-//! What a buffer still holds is handed on to its writer when an answer is complete.
+//! The end of an answer: what a buffer still holds goes to its writer.
 ghost use Rattle.std.specs.Prelude.{◌≡◌, MatchResult};
 ghost use Rattle.std.specs.Io.Buffered.{writer_contents};
 ghost use Rattle.std.specs.Io.KnownBytes.{Keeps};
@@ -7,17 +7,17 @@ ghost use Rattle.tpr.specs.Handed.{BeginsWith, IsFailed, IsFinished, got_by};
 use std::io::{BufWriter, Write};
 use tp_text::watched::{Watched, write_bytes};
 
-/// What failed while an answer was written.
+/// The writer that failed while an answer was written.
 #[derive(Drop)]
 pub enum FailedWriter<W: Write + Drop> {
-    /// The buffer, as it answered the mode.
+    /// The buffer, in the state in which the mode left it.
     Buffer(Watched<BufWriter<W>>),
-    /// The writer behind the buffer, as it was handed the last bytes.
+    /// The writer under the buffer, after the last bytes.
     Writer(Watched<W>),
 }
 
-/// Hands on what the buffer holds: the status, and the writer, which has got all of that. If the
-/// writer fails it has got a front of that, and nothing more is written.
+/// Flushes the buffer, and returns the status and the writer, which has got everything. If the
+/// writer fails it has got a front, and nothing more is written.
 fn hand_on<W: Write + Drop>(buffer: BufWriter<W>, status: u8) -> Result<(u8, W), FailedWriter<W>>
     ensures { MatchResult result
         (λ handed. (handed.0 ≡ status)
@@ -34,8 +34,8 @@ fn hand_on<W: Write + Drop>(buffer: BufWriter<W>, status: u8) -> Result<(u8, W),
     Ok((status, writer.into_inner()))
 }
 
-/// Hands on what an answer with this status has left in its buffer. Without a status the buffer
-/// has failed, and nothing more is written.
+/// Flushes what an answer with this status has left in its buffer. Without a status the buffer has
+/// failed, and nothing more is written.
 pub fn finish<W: Write + Drop>(
     writer: Watched<BufWriter<W>>,
     status: Option<u8>,

@@ -1,4 +1,4 @@
-//! Whether a trace is lawful.
+//! Mode `judge`.
 ghost use Rattle.std.specs.Prelude.{◌≡◌, IfErr, IfOk, IfSome};
 ghost use Rattle.tp_text.specs.Watching.{HasFailed, Writes, reader_left};
 ghost use Rattle.tp_referee.specs.Answers.{ruling_status, ruling_text};
@@ -21,9 +21,9 @@ use tp_trace::reading::{TRACE_LIMIT, TraceFault};
 /// Why a text isn't judged.
 #[derive(Clone, Copy)]
 pub enum JudgeFault {
-    /// 2 Read: the reader answered an error.
+    /// 2 Read: the reader returned an error.
     Read,
-    /// The text is no trace, or memory was refused.
+    /// The text isn't a trace, or memory was refused.
     Trace(TraceFault),
 }
 
@@ -42,7 +42,6 @@ impl From<ReadFault> for JudgeFault {
     }
 }
 
-/// Reads a text, and says whether it is a lawful trace.
 fn judge_text<R: Read>(alloc: Global, reader: &mut Watched<R>) -> Result<Ruling, JudgeFault>
     ensures ruling { IfOk result (λ ruling.
         IfSome (reader_left R.remaining reader.old) (λ text. IsRulingOf text ruling)) }
@@ -59,7 +58,6 @@ fn judge_text<R: Read>(alloc: Global, reader: &mut Watched<R>) -> Result<Ruling,
     }
 }
 
-/// Writes the line of a fault.
 fn write_judge_fault<W: Write>(writer: &mut Watched<W>, fault: JudgeFault)
     ensures { Writes W.contents writer.old writer.new (judge_fault_text fault) }
 {
@@ -73,7 +71,6 @@ fn write_judge_fault<W: Write>(writer: &mut Watched<W>, fault: JudgeFault)
     }
 }
 
-/// The status of a fault.
 fn judge_fault_status(fault: JudgeFault) -> u8
     ensures { result ≡ judge_fault_status fault }
 {
@@ -83,7 +80,6 @@ fn judge_fault_status(fault: JudgeFault) -> u8
     }
 }
 
-/// Prints the line of a fault, and answers its status. `None` where the writer failed.
 fn answer_judge_fault<W: Write>(writer: &mut Watched<W>, fault: JudgeFault) -> Option<u8>
     ensures { IsAnswered W.contents (IsJust (judge_fault_text fault) (judge_fault_status fault))
         writer.old writer.new result }
@@ -92,7 +88,6 @@ fn answer_judge_fault<W: Write>(writer: &mut Watched<W>, fault: JudgeFault) -> O
     status_if_written(writer, judge_fault_status(fault))
 }
 
-/// The status where a trace was judged.
 fn ruling_status(ruling: &Ruling) -> u8
     ensures { result ≡ ruling_status ruling.now }
 {
@@ -102,7 +97,7 @@ fn ruling_status(ruling: &Ruling) -> u8
     }
 }
 
-/// Prints what is said of a trace, and answers its status. `None` where the writer failed.
+/// Prints the ruling on a trace, and returns its status. `None` if the writer failed.
 fn answer_ruling<W: Write>(writer: &mut Watched<W>, ruling: &Ruling) -> Option<u8>
     ensures { IsAnswered W.contents (IsJust (ruling_text ruling.now) (ruling_status ruling.now))
         writer.old writer.new result }
@@ -111,12 +106,12 @@ fn answer_ruling<W: Write>(writer: &mut Watched<W>, ruling: &Ruling) -> Option<u
     status_if_written(writer, ruling_status(ruling))
 }
 
-/// Reads a trace, and prints what [`write_ruling`] says of it: a place for each port and each route
-/// that isn't lawful, and where all routes are lawful one of a circle, if there is any; or the line
-/// of its fault.
+/// Reads and judges a trace, and prints the ruling as [`write_ruling`] writes it: a place for each
+/// unlawful port and route, and if all routes are lawful one of a circle, if there is any; or the
+/// line of its fault.
 ///
-/// The status is 0 where it is lawful; 2 where it isn't, or was refused: `refused 2 Read`,
-/// `refused 1 BadLine line L` or `refused 15 Limit line 0`.
+/// The status is 0 if it is lawful, and 2 if it isn't, or was refused: `refused 2 Read`, `refused 1
+/// BadLine line L` or `refused 15 Limit line 0`.
 pub fn answer_judge<R: Read, W: Write>(
     alloc: Global,
     reader: &mut Watched<R>,

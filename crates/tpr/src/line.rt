@@ -8,19 +8,18 @@ ghost use Rattle.tpr.specs.Line.{Asks, mode_text};
 pub enum Mode {
     /// Replays a queue file.
     Queue,
-    /// Says whether a test case is right.
+    /// Checks a script.
     Check,
-    /// Runs a test case.
+    /// Runs a test case, and prints the report.
     Run,
     /// Runs a test case, and prints the trace of its run.
     Trace,
-    /// Says whether a trace is lawful.
+    /// Judges a trace.
     Judge,
-    /// Says to which verdicts a test case can come.
+    /// Finds every verdict that a test case can have.
     Verdicts,
 }
 
-/// The mode of this word, if it names one.
 fn mode_of(word: &str) -> Option<Mode>
     ensures { MatchOption result ((mode : _) → word.now ≡ mode_text mode → ⊥)
         (λ mode. word.now ≡ mode_text mode) }
@@ -42,9 +41,8 @@ fn mode_of(word: &str) -> Option<Mode>
     }
 }
 
-/// The mode and the FILE, if there is one, that these words ask for: those that follow the
-/// program's name. `None` where they are no command line of the program: the usage line is then
-/// due.
+/// The mode and the FILE, if there is one, in the words after the program's name. `None` if they
+/// aren't a command line of the program: the usage line is then due.
 pub fn line_of(words: &[String]) -> Option<(Mode, Option<&str>)>
     ensures { MatchOption result
         ((mode : _) (file : _) → Asks (map string_bytes words.now) mode file → ⊥)

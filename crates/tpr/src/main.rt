@@ -1,9 +1,9 @@
-//! `tpr`: message ports of TTCN-3, replayed, checked, run, traced, judged and decided. It has a
-//! mode for each: what is read, what is printed, and with which status.
+//! `tpr`: message ports of TTCN-3, replayed, checked, run, traced, judged and decided. Each mode
+//! has a function for what is read, what is printed, and the status: [`modes`], [`checking`],
+//! [`running`], [`judging`], [`deciding`]. Start with `answer`, which calls them.
 //!
-//! In each mode 50 `Memory` is answered by the line `fault 50 Memory` and the status 3. A mode
-//! answers `None` where the writer failed: a front of one of its answers is printed then, and the
-//! status is 3.
+//! In each mode 50 `Memory` is the line `fault 50 Memory` and the status 3. A mode returns `None`
+//! if the writer failed: it has then printed a front of one of its answers, and the status is 3.
 #![tactic(auto)]
 
 ghost use Rattle.std.specs.Prelude.{◌≡◌};
@@ -41,7 +41,7 @@ use tp_exec::gate::OpenGate;
 use tp_port::replay::QueueFault;
 use tp_text::watched::Watched;
 
-/// The status where the words are no command line of the program.
+/// The status if the words aren't a command line of the program.
 const USAGE: u8 = 4;
 
 /// Prints the usage line on standard error.
@@ -51,7 +51,7 @@ fn usage<R: Eprint>(rt: &R) -> u8 {
     USAGE
 }
 
-/// Answers in this mode. `None` where the writer failed.
+/// `None` if the writer failed.
 fn answer<T: AllocGlobal + Threads + Wait + Sync, R: Read, W: Write>(
     rt: &T,
     mode: Mode,
@@ -73,9 +73,9 @@ fn answer<T: AllocGlobal + Threads + Wait + Sync, R: Read, W: Write>(
     }
 }
 
-/// Answers in this mode through this buffer: the status, and the writer behind the buffer, which
-/// has got all that was printed. If the buffer or the writer fails, the writer has got a front of
-/// an answer.
+/// Answers in this mode through this buffer. Returns the status, and the writer under the buffer,
+/// which has got everything printed. If the buffer or the writer fails, the writer has got a front
+/// of an answer.
 fn answer_through<T: AllocGlobal + Threads + Wait + Sync, R: Read, W: Write + Drop>(
     rt: &T,
     mode: Mode,
@@ -93,7 +93,7 @@ fn answer_through<T: AllocGlobal + Threads + Wait + Sync, R: Read, W: Write + Dr
     finish(writer, status)
 }
 
-/// Answers that the text could not be read, through this buffer, as [`answer_through`] does.
+/// Reports through this buffer that the text couldn't be read, as [`answer_through`] does.
 fn answer_unread<W: Write + Drop>(buffer: BufWriter<W>) -> Result<(u8, W), FailedWriter<W>>
     ensures { IsHanded W.contents (IsJust unread_text 2) (writer_contents W.contents buffer) result }
 {
@@ -102,8 +102,8 @@ fn answer_unread<W: Write + Drop>(buffer: BufWriter<W>) -> Result<(u8, W), Faile
     finish(writer, status)
 }
 
-/// The status, if the answer was written. What a failed buffer holds is written nowhere: to let
-/// go of the buffer would try it again.
+/// The status, if the answer was written. What a failed buffer holds is written nowhere: dropping
+/// the buffer would try again.
 fn status_of<W: Write + Drop>(answered: Result<(u8, W), FailedWriter<W>>) -> Option<u8> {
     match answered {
         Ok((status, _)) => Some(status),
@@ -115,13 +115,13 @@ fn status_of<W: Write + Drop>(answered: Result<(u8, W), FailedWriter<W>>) -> Opt
     }
 }
 
-/// Answers that memory was refused, without a buffer. `None` where the writer failed.
+/// Reports without a buffer that memory was refused. `None` if the writer failed.
 fn answer_memory<T: Print>(rt: &T) -> Option<u8> {
     answer_fault(&mut Watched::new(io::writer(rt)), QueueFault::Memory)
 }
 
-/// Answers the text of this file, or of standard input where no file is named. `None` where the
-/// writer failed; nothing is written behind that.
+/// Answers the text of this file, or of standard input if no file is named. `None` if the writer
+/// failed; nothing is written after that.
 fn answer_file<T>(rt: &T, mode: Mode, file: Option<&str>) -> Option<u8>
 where
     T: AllocGlobal + Files + Input + Print + Threads + Wait + Sync,
@@ -138,13 +138,12 @@ where
     }
 }
 
-/// The words after the program's name.
 fn words_of<R: Env + AllocGlobal>(rt: &R) -> io::Result<Vec<String>> {
     let words = env::args(rt)?.skip(1).collect(rt.alloc())?;
     Ok(words)
 }
 
-/// The status is 3 where the writer failed.
+/// The status is 3 if the writer failed.
 fn main(rt: HostRuntime) -> ExitCode {
     let status = match words_of(&rt) {
         Ok(words) => match line_of(words.as_slice()) {

@@ -1,4 +1,4 @@
-//! The modes, over any reader and writer.
+//! The results of modes, and mode `queue`, over any reader and writer.
 ghost use Rattle.std.specs.Prelude.{◌≡◌, [], MatchOption, false};
 ghost use Rattle.tp_text.specs.Watching.{HasFailed, Writes};
 ghost use Rattle.tpr.specs.Handed.{IsAnswered, IsJust};
@@ -10,14 +10,13 @@ use tp_port::replay::{QueueFault, replay};
 use tp_refusal::refusal::Refusal;
 use tp_text::watched::{Watched, flush, write_bytes, write_number};
 
-/// The status of a run that answered.
+/// The status of a run with an answer.
 pub const ANSWERED: u8 = 0;
 /// The status of a run whose text was refused.
 pub const REFUSED: u8 = 2;
-/// The status of a run that met a fault: of memory, or of the writer.
+/// The status of a run with a fault: of memory, or of the writer.
 pub const FAULTED: u8 = 3;
 
-/// Writes the number of a refusal, and its name.
 fn write_label<W: Write>(writer: &mut Watched<W>, refusal: Refusal)
     ensures { Writes W.contents writer.old writer.new (label_text refusal) }
 {
@@ -27,7 +26,6 @@ fn write_label<W: Write>(writer: &mut Watched<W>, refusal: Refusal)
     write_bytes(name.as_bytes(), writer);
 }
 
-/// Writes a refusal and its line.
 pub fn write_refused<W: Write>(writer: &mut Watched<W>, refusal: Refusal, line: u64)
     ensures { Writes W.contents writer.old writer.new (refused_text refusal line) }
 {
@@ -38,7 +36,6 @@ pub fn write_refused<W: Write>(writer: &mut Watched<W>, refusal: Refusal, line: 
     write_bytes(b"\n", writer);
 }
 
-/// Writes that the text could not be read.
 pub fn write_unread<W: Write>(writer: &mut Watched<W>)
     ensures { Writes W.contents writer.old writer.new unread_text }
 {
@@ -47,7 +44,6 @@ pub fn write_unread<W: Write>(writer: &mut Watched<W>)
     write_bytes(b"\n", writer);
 }
 
-/// Writes that memory was refused.
 pub fn write_memory<W: Write>(writer: &mut Watched<W>)
     ensures { Writes W.contents writer.old writer.new memory_text }
 {
@@ -69,7 +65,7 @@ fn write_fault<W: Write>(writer: &mut Watched<W>, fault: QueueFault)
     }
 }
 
-/// The status, where the writer has taken all that was written; `None` where it has failed.
+/// The status, if the writer has taken everything written; `None` if it has failed.
 pub fn status_if_written<W: Write>(writer: &mut Watched<W>, status: u8) -> Option<u8>
     ensures written { Writes W.contents writer.old writer.new [] }
     ensures told { MatchOption result (HasFailed writer.new)
@@ -82,7 +78,6 @@ pub fn status_if_written<W: Write>(writer: &mut Watched<W>, status: u8) -> Optio
     Some(status)
 }
 
-/// The status of a fault.
 fn fault_status(fault: QueueFault) -> u8
     ensures { result ≡ fault_status fault }
 {
@@ -92,8 +87,7 @@ fn fault_status(fault: QueueFault) -> u8
     }
 }
 
-/// Prints the line of a fault, if it has one, and answers its status. `None` where the writer
-/// failed.
+/// Prints the line of a fault, if it has one, and returns its status. `None` if the writer failed.
 pub fn answer_fault<W: Write>(writer: &mut Watched<W>, fault: QueueFault) -> Option<u8>
     ensures { IsAnswered W.contents (IsJust (fault_text fault) (fault_status fault))
         writer.old writer.new result }
@@ -103,10 +97,10 @@ pub fn answer_fault<W: Write>(writer: &mut Watched<W>, fault: QueueFault) -> Opt
 }
 
 /// Reads a queue file, and prints the answers to its lines and what is left, or the line of its
-/// fault. Nothing is printed of the answers where there is a fault.
+/// fault. If there is a fault, no answer is printed.
 ///
-/// The status is 0 where the file was answered; 2 where it was refused: `refused 2 Read`, or
-/// `refused 1 BadLine line L` or `refused 15 Limit line 0`.
+/// The status is 0 if the file was answered, and 2 if it was refused: `refused 2 Read`, `refused 1
+/// BadLine line L` or `refused 15 Limit line 0`.
 pub fn answer_queue<R: Read, W: Write>(
     alloc: Global,
     reader: &mut Watched<R>,

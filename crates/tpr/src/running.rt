@@ -1,4 +1,4 @@
-//! What happens in a test case.
+//! Modes `run` and `trace`.
 ghost use Rattle.tp_exec.specs.Faults.{run_fault_text};
 ghost use Rattle.tp_report.specs.Reports.{told_text};
 ghost use Rattle.tpr.specs.Handed.{IsAnswered, IsJust};
@@ -19,7 +19,6 @@ use tp_report::telling::Telling;
 use tp_report::writing::write_report;
 use tp_text::watched::Watched;
 
-/// Prints the line of a fault of a run. The status is 3; `None` where the writer failed.
 fn answer_run_fault<W: Write>(writer: &mut Watched<W>, fault: RunFault) -> Option<u8>
     ensures { IsAnswered W.contents (IsJust (run_fault_text fault) 3) writer.old writer.new result }
 {
@@ -27,7 +26,7 @@ fn answer_run_fault<W: Write>(writer: &mut Watched<W>, fault: RunFault) -> Optio
     status_if_written(writer, FAULTED)
 }
 
-/// Runs a test case, and prints its report or the trace of it, or the line of the fault by which
+/// Runs a test case, and prints its report or trace, or the line of the fault because of which
 /// there is none.
 fn answer_test_case<T: Threads + Wait + Sync, W: Write, G: Gate>(
     rt: &T,
@@ -51,13 +50,12 @@ fn answer_test_case<T: Threads + Wait + Sync, W: Write, G: Gate>(
     }
 }
 
-/// Reads a script, checks it, and runs its test case: prints its report, whatever its verdict; or
-/// the line of its first fault; or that of the fault by which the run has no report, as [`run`]
-/// says.
+/// Reads and checks a script, and runs its test case. Prints its report, whatever its verdict; or
+/// the line of its first fault; or that of the fault because of which [`run`] returns no report.
 ///
-/// The status is 0 where the report was printed; 3 where there is none: `fault 51 NoThread`,
-/// `fault 61 Restless`, `fault 62 NoOrder`. Where the script isn't accepted, it is that of
-/// [`answer_check`](crate::checking::answer_check). It may wait for good.
+/// The status is 0 if the report was printed, and 3 if there is none: `fault 51 NoThread`, `fault
+/// 61 Restless`, `fault 62 NoOrder`. If the script isn't accepted, it is that of
+/// [`answer_check`](crate::checking::answer_check). It may wait forever.
 pub fn answer_run<T: Threads + Wait + Sync, R: Read, W: Write, G: Gate>(
     rt: &T,
     alloc: Global,
@@ -74,12 +72,12 @@ pub fn answer_run<T: Threads + Wait + Sync, R: Read, W: Write, G: Gate>(
     }
 }
 
-/// Reads a script, checks it, and runs its test case, as [`answer_run`] does, but prints the trace
-/// of the run: its report with the arrivals in it, each as a line `came PORT SENDER NUMBER MESSAGE`
-/// at its place in the history of the component that it came to.
+/// Reads and checks a script, and runs its test case, as [`answer_run`] does, but prints the trace
+/// of the run: its report with the arrivals, each as a line `came PORT SENDER NUMBER MESSAGE` at
+/// its place in the history of the component where it arrived.
 ///
-/// The status and the lines of faults are those of [`answer_run`], and so is what is printed where
-/// the writer failed. It may wait for good.
+/// The status, the lines of faults, and what is printed if the writer fails are those of
+/// [`answer_run`]. It may wait forever.
 pub fn answer_trace<T: Threads + Wait + Sync, R: Read, W: Write, G: Gate>(
     rt: &T,
     alloc: Global,
