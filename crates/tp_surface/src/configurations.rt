@@ -11,14 +11,13 @@ use tp_config::type_list::TypeList;
 use tp_value::items::Items;
 use tp_value::types::Ty;
 
-/// A list of the type integer alone.
 fn integers(alloc: Global) -> Option<TypeList> {
     let types = [Ty::Integer];
     let items = Items::from_slice(alloc, types.as_slice()).ok()?;
     TypeList::from_items(alloc, items).ok()
 }
 
-/// Adds a port of this name, which receives and sends integers.
+/// The port receives and sends integers.
 fn add_port(alloc: Global, ports: &mut IndexMap<String, PortType>, name: &str) -> Option<()> {
     let name = String::from_str(alloc, name).ok()?;
     let (ins, outs) = (integers(alloc)?, integers(alloc)?);
@@ -26,7 +25,7 @@ fn add_port(alloc: Global, ports: &mut IndexMap<String, PortType>, name: &str) -
     Some(())
 }
 
-/// A component type with the port p alone, which receives and sends integers.
+/// The port `p` alone, which receives and sends integers.
 fn one_port(alloc: Global) -> Option<CompType>
     ensures { IfSome result (λ t. length t.ports.entries ≤ 64) }
 {
@@ -37,27 +36,24 @@ fn one_port(alloc: Global) -> Option<CompType>
     None
 }
 
-/// No component, and one component type.
 fn empty(alloc: Global) -> Option<Config> {
     let types = Vec::from_array(alloc, [one_port(alloc)?]).ok()?;
     Some(Config::new(alloc, types))
 }
 
-/// Creates a component of the first type.
 fn add<R: AllocGlobal + Abort>(rt: &R, config: &mut Config, name: &str, role: Role) {
     let name = String::from_str(rt.alloc(), name).expect(rt, "memory");
     assert!(rt; config.types().len() == 1);
     assert!(rt; config.create(name, 0, role).is_ok());
 }
 
-/// The port p of the component of this name.
 fn port(config: &Config, name: &str) -> Option<PortRef>
     ensures { IfSome result (λ p. IsPort config.now p) }
 {
     config.port_of(config.comp_of(name)?, "p")
 }
 
-/// Connects the ports p of two components. Whether that was accepted.
+/// Returns whether connecting the ports `p` of two components was accepted.
 fn connects(config: &mut Config, one: &str, other: &str) -> bool {
     match (port(config, one), port(config, other)) {
         (Some(p), Some(q)) => config.connect(p, q).is_ok(),
@@ -65,7 +61,7 @@ fn connects(config: &mut Config, one: &str, other: &str) -> bool {
     }
 }
 
-/// Maps the ports p of two components. Whether that was accepted.
+/// Returns whether mapping the ports `p` of two components was accepted.
 fn maps(config: &mut Config, one: &str, other: &str) -> bool {
     match (port(config, one), port(config, other)) {
         (Some(p), Some(q)) => config.map(p, q).is_ok(),
@@ -85,7 +81,6 @@ pub fn made<R: AllocGlobal + Abort>(rt: &R) -> Config {
     config
 }
 
-/// Routes are asked for.
 #[test]
 fn routes(rt: HostRuntime) {
     let config = made(&rt);

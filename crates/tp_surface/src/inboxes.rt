@@ -27,7 +27,6 @@ fn integer(n: i64, stamp: u64) -> Stamped {
     }
 }
 
-/// What is put into an inbox has arrived there, and is counted.
 #[test]
 fn messages_are_put(rt: HostRuntime) {
     let config = made(&rt);
@@ -44,7 +43,7 @@ fn messages_are_put(rt: HostRuntime) {
     drop((config, floor, owner, senders, closer));
 }
 
-/// The desk of a component, and what is left in its inbox, once that is drained and settled.
+/// The desk of a component, and what is left in its inbox, after a drain and the settling.
 fn settled<R: Wait>(
     rt: &R,
     alloc: Global,
@@ -63,7 +62,6 @@ fn settled<R: Wait>(
     }
 }
 
-/// Nothing was put into an inbox.
 #[test]
 fn nothing_is_left(rt: HostRuntime) {
     let config = made(&rt);
@@ -81,7 +79,6 @@ fn nothing_is_left(rt: HostRuntime) {
     drop((config, floor, desk, rest));
 }
 
-/// The calls of a desk that no message needs, and one that finds none.
 #[test]
 fn one_desk(rt: HostRuntime) {
     let config = made(&rt);

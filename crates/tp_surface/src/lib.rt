@@ -1,7 +1,8 @@
-//! Nearly each public call of the libraries that make up the surface, once, under the name that its own
-//! crate offers: `tp_port`, `tp_value`, `tp_config`, `tp_script`, `tp_inbox` and `tp_exec`. If one
-//! of them loses a name, this crate doesn't compile. Of the crates behind the surface it uses only
-//! the error of `tp_refusal`. `fill_message` is missing, because its condition is hard to show here.
+//! For tests: nearly each public call of the surface's libraries, once, under the name that its own
+//! crate gives it: `tp_port`, `tp_value`, `tp_config`, `tp_script`, `tp_inbox` and `tp_exec`. If
+//! one of them loses a name, this crate doesn't compile. Of the crates below the surface it uses
+//! only the error of `tp_refusal`. `fill_message` is missing, because its condition is hard to show
+//! here.
 #![tactic(auto)]
 
 #[cfg(test)]

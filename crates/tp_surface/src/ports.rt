@@ -5,7 +5,6 @@ use std::process::Abort;
 use tp_port::replay::replay;
 use tp_port::{Env, Event, Payload, PortQueue, Status, TriggerAnswer, Wanted, Watched, read_text};
 
-/// Wants one integer.
 #[derive(Clone, Copy)]
 struct Exactly {
     number: i64,
@@ -19,7 +18,6 @@ impl Wanted<i64> for Exactly {
     }
 }
 
-/// A message of sender 7.
 fn env(number: u64, msg: i64) -> Env<i64> {
     Env {
         sender: 7,
@@ -28,15 +26,12 @@ fn env(number: u64, msg: i64) -> Env<i64> {
     }
 }
 
-/// A payload is copied.
 #[test]
 fn payloads(rt: HostRuntime) {
     let message: i64 = 5;
     assert!(rt; Payload::copy(&message, rt.alloc()).is_ok());
 }
 
-/// A queue with three messages is halted, and what is ahead of the mark is looked at, taken and
-/// dropped.
 #[test]
 fn halted_queue(rt: HostRuntime) {
     let five = Exactly { number: 5 };
@@ -54,7 +49,6 @@ fn halted_queue(rt: HostRuntime) {
     drop(queue);
 }
 
-/// The calls that need no message.
 #[test]
 fn stopped_queue(rt: HostRuntime) {
     let mut queue: PortQueue<i64> = PortQueue::new(rt.alloc());
@@ -66,7 +60,6 @@ fn stopped_queue(rt: HostRuntime) {
     drop(queue);
 }
 
-/// A text is read, and a queue file replayed.
 #[test]
 fn texts(rt: HostRuntime) {
     let mut text = Watched::new(b"halt\n".as_slice());

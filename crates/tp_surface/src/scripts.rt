@@ -21,7 +21,6 @@ setverdict(pass);
 }
 ";
 
-/// Its report.
 const REPORT: &[u8] = b"component mtc
 sent mtc.q 0 integer:5
 took q mtc 0 integer:5
@@ -31,7 +30,6 @@ verdict pass
 result pass
 ";
 
-/// The test case of the script.
 fn test_case<R: AllocGlobal + Abort>(rt: &R) -> TestCase {
     let module: Module = parse(rt.alloc(), SCRIPT).ok().expect(rt, "a module");
     let test_case = check(rt.alloc(), &module).ok().expect(rt, "a test case");
@@ -39,7 +37,6 @@ fn test_case<R: AllocGlobal + Abort>(rt: &R) -> TestCase {
     test_case
 }
 
-/// The script is cut into tokens, and checked: it has one component, which has a body.
 #[test]
 fn accepted_script(rt: HostRuntime) {
     let tokens = lex(rt.alloc(), SCRIPT).ok().expect(&rt, "tokens");
@@ -51,13 +48,11 @@ fn accepted_script(rt: HostRuntime) {
     drop((tokens, test_case));
 }
 
-/// A script that is no module is refused at its line.
 #[test]
 fn refused_script(rt: HostRuntime) {
     assert!(rt; parse(rt.alloc(), b"module").is_err());
 }
 
-/// A template that wants any message is filled.
 #[test]
 fn filled(rt: HostRuntime) {
     let wanted = RecvMsg::Any;
@@ -65,7 +60,7 @@ fn filled(rt: HostRuntime) {
     drop(wanted);
 }
 
-/// The test case is run with this gate, and its report written.
+/// Runs the test case with this gate, and writes its report.
 fn reports<R: AllocGlobal + Abort + Threads + Wait + Sync, G: Gate>(rt: &R, gate: &G) {
     let test_case = test_case(rt);
     let ran: Result<Report, RunFault> = run(rt, rt.alloc(), &test_case, gate);
@@ -79,13 +74,11 @@ fn reports<R: AllocGlobal + Abort + Threads + Wait + Sync, G: Gate>(rt: &R, gate
     drop((test_case, report));
 }
 
-/// Nothing holds the components.
 #[test]
 fn reported(rt: HostRuntime) {
     reports(&rt, &OpenGate);
 }
 
-/// Verdicts get worse, and never better.
 #[test]
 fn verdicts(rt: HostRuntime) {
     assert!(rt; Verdict::Fail.set(Verdict::Pass) == Verdict::Fail);

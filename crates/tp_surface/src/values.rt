@@ -10,7 +10,6 @@ use tp_value::typing::has_type;
 use tp_value::value::Value;
 use tp_value::writing::write_value;
 
-/// Types are added and found.
 #[test]
 fn named_types(rt: HostRuntime) {
     let mut types = Types::new(rt.alloc());
@@ -20,7 +19,6 @@ fn named_types(rt: HostRuntime) {
     drop(types);
 }
 
-/// A value is typed, matched, copied and written.
 #[test]
 fn values(rt: HostRuntime) {
     let types = Types::new(rt.alloc());
@@ -34,7 +32,6 @@ fn values(rt: HostRuntime) {
     drop((types, value, any));
 }
 
-/// A message is copied, and wanted by its type.
 #[test]
 fn messages(rt: HostRuntime) {
     let message = Message {

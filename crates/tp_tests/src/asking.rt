@@ -1,22 +1,18 @@
-//! Questions to a configuration and calls of it, as tables say them: a test is a table, and one
-//! function goes through it, so that little of it has to be proved.
+//! Questions to a configuration and calls of it, in tables. A test is a table, and one function
+//! goes through it, so that little of it has to be proved.
 use crate::making::{add, at, connect, map};
 use crate::showing::{display, says};
 use std::process::Abort;
 use tp_config::config::Config;
 use tp_config::port_type::{CompId, Role, RouteId};
 
-/// A question that a configuration answers with routes, with a refusal or with a number.
+/// A question to a configuration. The answer is routes, a refusal or a number.
 pub enum Question {
     /// The routes from a port, by the numbers of its component and its own.
     From(u32, u32),
-    /// The routes into a component.
     Into(u32),
-    /// How many components there are.
     Count,
-    /// The route from a port, with no component named.
     Route(u32, u32),
-    /// The route from a port to a component.
     RouteTo(u32, u32, u32),
 }
 
@@ -29,7 +25,6 @@ fn shown<R: AllocGlobal + Abort>(rt: &R, routes: &[RouteId]) -> String {
     out
 }
 
-/// The one route as a text, or the number of the refusal.
 fn shown_route<R: AllocGlobal + Abort>(
     rt: &R,
     config: &Config,
@@ -42,7 +37,6 @@ fn shown_route<R: AllocGlobal + Abort>(
     }
 }
 
-/// What a configuration answers to a question.
 fn answer<R: AllocGlobal + Abort>(rt: &R, config: &Config, question: &Question) -> String {
     match *question {
         Question::From(comp, port) => {
@@ -61,25 +55,23 @@ fn answer<R: AllocGlobal + Abort>(rt: &R, config: &Config, question: &Question) 
     }
 }
 
-/// Asserts what a configuration answers to each question of a table.
+/// Asserts the configuration's answer to each question of a table.
 pub fn answers<R: AllocGlobal + Abort>(rt: &R, config: &Config, table: &[(Question, &str)]) {
     for (place, (question, wanted)) in table.iter().enumerate() {
         says(rt, place, answer(rt, config, question), *wanted);
     }
 }
 
-/// A component and a port of it, by their names.
+/// The names of a component and its port.
 pub type NamedPort = (&'static str, &'static str);
 
-/// A call of a configuration.
 pub enum ConfigCall {
     Connect(NamedPort, NamedPort),
     Map(NamedPort, NamedPort),
-    /// A component of this name, this type and this role.
     Create(&'static str, u32, Role),
 }
 
-/// Carries out a call: the number of the refusal, or 0 for none.
+/// The number of the refusal, or 0 if there is none.
 fn carry_out<R: AllocGlobal + Abort>(rt: &R, config: &mut Config, call: &ConfigCall) -> u8 {
     match *call {
         ConfigCall::Connect(p, q) => match connect(config, p, q).expect(rt, "two ports") {
@@ -97,8 +89,8 @@ fn carry_out<R: AllocGlobal + Abort>(rt: &R, config: &mut Config, call: &ConfigC
     }
 }
 
-/// Carries out the calls of a table, each of which is refused with the number beside it (0: it is
-/// not). Behind each the configuration answers what the other table says.
+/// Carries out the calls of a table. Each is refused with the number beside it, or accepted if that
+/// is 0. After each call the configuration gives the answers of the other table.
 pub fn carries_out<R: AllocGlobal + Abort>(
     rt: &R,
     config: &mut Config,

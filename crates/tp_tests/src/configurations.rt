@@ -1,4 +1,4 @@
-//! Configurations of the worked kind, each refusal on the calls themselves, and refused memory.
+//! Small configurations, each refusal by the calls themselves, and refused memory.
 use crate::asking::{ConfigCall, Question, answers, carries_out};
 use crate::making::{add, at, connect, empty, four, four_again, map, port, port_type, route};
 use crate::showing::{display, says};
@@ -13,7 +13,6 @@ use tp_config::routes::RouteFault;
 use tp_refusal::memory::Memory;
 use tp_value::types::Ty;
 
-/// What a star answers.
 const STAR: &[(Question, &str)] = &[
     (Question::From(0, 0), "0>1.0 0>2.0 0>3.0 "),
     (Question::Into(0), "1>0.0 2>0.0 3>0.0 "),
@@ -64,7 +63,7 @@ fn refusals_leave_a_star_as_it_was(rt: HostRuntime) {
     drop(config);
 }
 
-/// Where only mtc:p is connected, to a:p, and nothing is mapped.
+/// Only mtc:p is connected, to a:p, and nothing is mapped.
 const CONNECTED: &[(Question, &str)] = &[
     (Question::From(0, 0), "0>1.0 "),
     (Question::Route(0, 1), "41"),
@@ -73,7 +72,7 @@ const CONNECTED: &[(Question, &str)] = &[
     (Question::Into(3), ""),
 ];
 
-/// Where mtc:q is mapped, too.
+/// In addition mtc:q is mapped.
 const MAPPED: &[(Question, &str)] = &[
     (Question::From(0, 0), "0>1.0 "),
     (Question::Route(0, 1), "0>2.0 "),
@@ -82,8 +81,8 @@ const MAPPED: &[(Question, &str)] = &[
     (Question::Into(3), ""),
 ];
 
-/// The components mtc and a, the test system interface, and b, of which the last two are of type 1,
-/// whose port receives and sends these types; mtc:p is connected to a:p.
+/// The components mtc and a, the test system interface, and b. The last two have type 1, whose port
+/// receives and sends these types. mtc:p is connected to a:p.
 fn mapped<R: AllocGlobal + Abort>(rt: &R, ins: &[Ty], outs: &[Ty]) -> Config {
     const CALLS: &[(ConfigCall, u8)] = &[
         (ConfigCall::Create("mtc", 0, Role::Test), 0),
@@ -202,7 +201,6 @@ fn looks_up_names(rt: HostRuntime) {
     drop(config);
 }
 
-/// Asserts what the component of this number is, and how many ports it has.
 fn is_component<R: Abort>(
     rt: &R,
     config: &Config,
@@ -228,7 +226,6 @@ fn looks_up_components(rt: HostRuntime) {
     drop(config);
 }
 
-/// A configuration with as many components as there can be, c0 and so on.
 fn full<R: AllocGlobal + Abort>(rt: &R) -> Config {
     let both = [Ty::Integer];
     let mut config = empty(rt.alloc(), both.as_slice(), both.as_slice()).expect(rt, "memory");
@@ -257,7 +254,7 @@ fn has_64_components_at_most(rt: HostRuntime) {
     assert_eq!(rt; CreateFault::Duplicate.refusal().label().0, 12);
 }
 
-/// The component mtc, of a type with as many ports as there can be, p0 and so on.
+/// A component mtc with the maximum number of ports, p0 and so on.
 fn many_ports<R: AllocGlobal + Abort>(rt: &R) -> Config {
     let alloc = rt.alloc();
     let mut ports = IndexMap::new(alloc);
@@ -284,8 +281,8 @@ fn has_64_ports_of_a_type(rt: HostRuntime) {
     drop(config);
 }
 
-/// Asserts that nothing but want of memory refuses to connect mtc:p to the port p of this
-/// component, after which the routes are as before; and that the same call then connects them.
+/// Asserts that a refusal to connect mtc:p to the port p of this component is for memory and leaves
+/// the routes as before, and that the same call then connects them.
 fn connects_in_the_end<R: Abort>(rt: &R, config: &mut Config, name: &str, comp: u32) {
     let before = config.route(at(0, 0), None);
     match connect(config, ("mtc", "p"), (name, "p")) {
@@ -299,7 +296,6 @@ fn connects_in_the_end<R: Abort>(rt: &R, config: &mut Config, name: &str, comp: 
     }
 }
 
-/// The routes from mtc:p, asked a second time where memory is refused.
 fn leaves_by_three_routes<R: Abort>(rt: &R, config: &Config) {
     let routes = match config.routes_from(at(0, 0)) {
         Ok(routes) => routes,
@@ -311,7 +307,6 @@ fn leaves_by_three_routes<R: Abort>(rt: &R, config: &Config) {
     );
 }
 
-/// The same of the routes into mtc.
 fn comes_by_three_routes<R: Abort>(rt: &R, config: &Config) {
     let routes = match config.routes_into(CompId(0)) {
         Ok(routes) => routes,
@@ -323,15 +318,14 @@ fn comes_by_three_routes<R: Abort>(rt: &R, config: &Config) {
     );
 }
 
-/// The same of each other component, in this order.
 fn connects_each_in_the_end<R: Abort>(rt: &R, config: &mut Config) {
     for (name, comp) in [("a", 1), ("b", 2), ("c", 3)] {
         connects_in_the_end(rt, config, name, comp);
     }
 }
 
-/// Right also where an allocation was refused, whichever: each create, connect and list of routes
-/// is then as if it had not been called.
+/// After an allocation was refused, whichever it was, each create, connect and list of routes is as
+/// if it hadn't been called.
 #[test]
 fn refused_memory_leaves_connections_as_they_were(rt: HostRuntime) {
     let mut config = four_again(&rt);
@@ -343,7 +337,6 @@ fn refused_memory_leaves_connections_as_they_were(rt: HostRuntime) {
     drop(config);
 }
 
-/// A configuration without components, made a second time where memory is refused.
 fn empty_again<R: AllocGlobal + Abort>(rt: &R) -> Config {
     let both = [Ty::Integer];
     match empty(rt.alloc(), both.as_slice(), both.as_slice()) {
@@ -352,8 +345,8 @@ fn empty_again<R: AllocGlobal + Abort>(rt: &R) -> Config {
     }
 }
 
-/// Asserts that nothing but want of memory refuses to create this component, which is then not
-/// there; and that the same call then creates it, with this number.
+/// Asserts that a refusal to create this component is for memory and leaves it out, and that the
+/// same call then creates it with this number.
 fn creates_in_the_end<R: AllocGlobal + Abort>(
     rt: &R,
     config: &mut Config,
@@ -374,7 +367,6 @@ fn creates_in_the_end<R: AllocGlobal + Abort>(
     assert!(rt; config.comp_of(name) == Some(CompId(number as u32)));
 }
 
-/// The same of create: a component is there or not.
 #[test]
 fn refused_memory_leaves_components_as_they_were(rt: HostRuntime) {
     let mut config = empty_again(&rt);
@@ -384,8 +376,8 @@ fn refused_memory_leaves_components_as_they_were(rt: HostRuntime) {
     drop(config);
 }
 
-/// Maps mtc:q to system:s. Right also where an allocation was refused: nothing is mapped then, and
-/// the same call then maps them.
+/// Maps mtc:q to system:s. If an allocation is refused, nothing is mapped, and the same call then
+/// maps them.
 fn maps_in_the_end<R: Abort>(rt: &R, config: &mut Config) {
     let answer = map(config, ("mtc", "q"), ("system", "s"));
     if answer != Some(Ok(())) {
@@ -398,7 +390,6 @@ fn maps_in_the_end<R: Abort>(rt: &R, config: &mut Config) {
     assert!(rt; config.route(at(1, 0), None) == Ok(route(1, 0, 1)));
 }
 
-/// The same of map.
 #[test]
 fn refused_memory_leaves_mappings_as_they_were(rt: HostRuntime) {
     let mut config = empty_again(&rt);

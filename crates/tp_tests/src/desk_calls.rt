@@ -1,4 +1,4 @@
-//! The calls of a desk on worked values: what they answer, the history, stamps, and refused memory.
+//! The calls of a desk: their results, the history, stamps, and refused memory.
 use crate::ends::{InboxEnds, Mailbox, integer, two};
 use crate::making::{four_again, route};
 use crate::showing::{debug, says};
@@ -17,7 +17,7 @@ use tp_value::template::Template;
 use tp_value::types::Ty;
 use tp_value::verdict::Verdict;
 
-/// A desk of two ports, made a second time where memory is refused.
+/// A desk of two ports. If memory is refused, it is made a second time.
 fn desk<R: AllocGlobal + Abort>(rt: &R) -> Desk {
     let config = four_again(rt);
     assert!(rt; config.len() > 1);
@@ -29,11 +29,10 @@ fn desk<R: AllocGlobal + Abort>(rt: &R) -> Desk {
     desk
 }
 
-/// One call of a desk, at its port 0. What is received is given by its type, if it has to have one,
-/// by its sender and by the branch.
+/// A call at port 0 of a desk. A wanted message has a type, if one is given, a sender and a branch.
 #[derive(Clone, Copy)]
 enum DeskCall {
-    /// A message comes from component 0: its number, which it is itself, and its stamp.
+    /// A message from component 0: its number, which is also its value, and its stamp.
     Arrive(u32, u64),
     Receive(Option<Ty>, Option<u32>, usize),
     Check(Option<Ty>, Option<u32>, usize),
@@ -42,9 +41,7 @@ enum DeskCall {
     Start,
     Stop,
     Halt,
-    /// Whether it may send.
     MaySend,
-    /// The next stamp.
     Stamp,
     /// Notes a sending with the next stamp.
     Sent,
@@ -53,7 +50,6 @@ enum DeskCall {
     Failed,
 }
 
-/// What wants this type, or each message.
 fn wanted(ty: Option<Ty>) -> MsgTemplate {
     match ty {
         Some(ty) => MsgTemplate::Of(ty, Template::Any),
@@ -61,7 +57,6 @@ fn wanted(ty: Option<Ty>) -> MsgTemplate {
     }
 }
 
-/// The message that comes with this number.
 fn env(number: u32) -> Env<Message> {
     Env {
         sender: 0,
@@ -70,7 +65,6 @@ fn env(number: u32) -> Env<Message> {
     }
 }
 
-/// Notes a sending with the next stamp: what that answers.
 fn sent<R: AllocGlobal + Abort>(rt: &R, desk: &mut Desk) -> String {
     let stamp = desk.stamp().expect(rt, "a stamp");
     let message = integer(7);
@@ -80,7 +74,6 @@ fn sent<R: AllocGlobal + Abort>(rt: &R, desk: &mut Desk) -> String {
     )
 }
 
-/// What a call answers, as it is printed.
 fn answer<R: AllocGlobal + Abort>(rt: &R, desk: &mut Desk, call: DeskCall) -> String {
     assert!(rt; desk.port_count() > 0);
     match call {
@@ -107,7 +100,7 @@ fn answer<R: AllocGlobal + Abort>(rt: &R, desk: &mut Desk, call: DeskCall) -> St
     }
 }
 
-/// The same, a second time where memory is refused: the history is as long as before then.
+/// If memory is refused, the history is as long as before, and the call is made again.
 fn answer_again<R: AllocGlobal + Abort>(rt: &R, desk: &mut Desk, call: DeskCall) -> String {
     let had = desk.log().len();
     let first = answer(rt, desk, call);
@@ -119,14 +112,12 @@ fn answer_again<R: AllocGlobal + Abort>(rt: &R, desk: &mut Desk, call: DeskCall)
     first
 }
 
-/// Carries out the calls of a table: beside each stands its answer.
 fn carries_out<R: AllocGlobal + Abort>(rt: &R, desk: &mut Desk, calls: &[(DeskCall, &str)]) {
     for (place, (call, wanted)) in calls.iter().enumerate() {
         says(rt, place, answer_again(rt, desk, *call), *wanted);
     }
 }
 
-/// Asserts what a history is.
 fn is_noted<R: AllocGlobal + Abort>(rt: &R, log: &[Entry], wanted: &[&str]) {
     assert!(rt; log.len() == wanted.len());
     for (place, (entry, wanted)) in log.iter().zip(wanted).enumerate() {
@@ -134,7 +125,6 @@ fn is_noted<R: AllocGlobal + Abort>(rt: &R, log: &[Entry], wanted: &[&str]) {
     }
 }
 
-/// Each call of a desk, with what it answers.
 const CALLS_OF_A_DESK: &[(DeskCall, &str)] = &[
     (DeskCall::Arrive(0, 0), "Ok(())"),
     (DeskCall::Arrive(1, 1), "Ok(())"),
@@ -173,7 +163,6 @@ const CALLS_OF_A_DESK: &[(DeskCall, &str)] = &[
     (DeskCall::Failed, "Ok(())"),
 ];
 
-/// What these calls are noted as.
 const LOG_OF_A_DESK: &[&str] = &[
     "Arrive(0, Env { sender: 0, number: 0, msg: Message { ty: Integer, value: Int(0) } }, 0)",
     "Arrive(0, Env { sender: 0, number: 1, msg: Message { ty: Integer, value: Int(1) } }, 1)",
@@ -194,8 +183,7 @@ const LOG_OF_A_DESK: &[&str] = &[
     "Failed(NotSending)",
 ];
 
-/// The calls of a desk on its happy path, each made again where memory is refused: what they
-/// answer, and the history.
+/// The calls of a desk, each made again if memory is refused: their results, and the history.
 #[test]
 fn refused_memory_leaves_a_desk_as_it_was(rt: HostRuntime) {
     let mut desk = desk(&rt);
@@ -204,7 +192,7 @@ fn refused_memory_leaves_a_desk_as_it_was(rt: HostRuntime) {
     drop(desk);
 }
 
-/// The next stamp is one above the greatest that came, and there is none above the last number.
+/// The next stamp is one above the greatest that arrived, and there is none above the last number.
 #[test]
 fn stamps_are_used_up(rt: HostRuntime) {
     const CALLS: &[(DeskCall, &str)] = &[
@@ -222,7 +210,7 @@ fn stamps_are_used_up(rt: HostRuntime) {
     drop(desk);
 }
 
-/// Sends `integer:n`, a second time where memory is refused: nothing was put or noted then.
+/// Sends `integer:n`. If memory is refused, nothing was put or noted, and it is sent again.
 fn send_again<R: Wait + Abort>(rt: &R, desk: &mut Desk, sender: &mut Sender, n: i64) {
     assert!(rt; sender.ways() == 1);
     let (put, noted) = (sender.count(0), desk.log().len());
@@ -234,15 +222,14 @@ fn send_again<R: Wait + Abort>(rt: &R, desk: &mut Desk, sender: &mut Sender, n: 
     assert!(rt; sender.count(0) == put.wrapping_add(1));
 }
 
-/// The same by each of these senders.
 fn send_by_each<R: Wait + Abort>(rt: &R, desk: &mut Desk, senders: &mut [Sender], n: i64) {
     for sender in senders {
         send_again(rt, desk, sender, n);
     }
 }
 
-/// The messages that were sent have the stamps 1 and 2 and the numbers 0 and 1, and were put, also
-/// where memory was refused at first.
+/// The messages sent have the stamps 1 and 2 and the numbers 0 and 1, and were put, even if memory
+/// was refused at first.
 #[test]
 fn refused_memory_puts_and_notes_nothing(rt: HostRuntime) {
     const LOG: &[&str] = &[

@@ -1,4 +1,4 @@
-//! Makes inboxes with all their ends, and calls them where memory may be refused.
+//! Makes inboxes with all their ends, and calls them with refused memory.
 ghost use Rattle.std.specs.Prelude.{◌≡◌};
 
 use crate::making::{connect, four_again};
@@ -21,7 +21,6 @@ use tp_value::message::Message;
 use tp_value::types::Ty;
 use tp_value::value::Value;
 
-/// The message `integer:n`.
 pub fn integer(n: i64) -> Message {
     Message {
         ty: Ty::Integer,
@@ -37,7 +36,7 @@ pub fn stamped(n: i64) -> Stamped {
     }
 }
 
-/// Whether it is `integer:n` with that stamp.
+/// Returns whether it is `integer:n` with that stamp.
 pub fn is_stamped(stamped: &Stamped, n: i64) -> bool {
     match stamped.message.value {
         Value::Int(value) => {
@@ -47,7 +46,7 @@ pub fn is_stamped(stamped: &Stamped, n: i64) -> bool {
     }
 }
 
-/// An owner and its component's desk, which has all that was drained.
+/// An owner and its component's desk, which has everything that was drained.
 #[derive(Drop)]
 pub struct Mailbox {
     pub owner: Owner,
@@ -73,7 +72,6 @@ impl Model for Mailbox {
 }
 
 impl Mailbox {
-    /// What a drain answers.
     pub fn drain<R: Wait>(&mut self, rt: &R) -> Result<u64, Memory>
         ensures { self.new.0.inbox ≡ self.old.0.inbox }
     {
@@ -104,7 +102,6 @@ impl Model for InboxEnds {
     ghost invariant = { λ s. AreSenders s.mailbox.0.inbox s.senders.items };
 }
 
-/// The ends of a component's inbox, and its desk.
 fn ends_once(
     alloc: Global,
     config: &Config,
@@ -131,7 +128,7 @@ fn ends_once(
     }
 }
 
-/// The same, made a second time of the same configuration where memory is refused.
+/// If memory is refused, they are made a second time from the same configuration.
 pub fn ends_of<R: AllocGlobal + Abort>(
     rt: &R,
     config: &Config,
@@ -144,7 +141,7 @@ pub fn ends_of<R: AllocGlobal + Abort>(
     }
 }
 
-/// A floor with so many behaviours, made a second time where memory is refused.
+/// If memory is refused, it is made a second time.
 pub fn floor_of<R: AllocGlobal + Abort>(rt: &R, living: u32) -> Arc<Floor, Global> {
     match Floor::new(rt.alloc(), living) {
         Ok(floor) => floor,
@@ -152,7 +149,7 @@ pub fn floor_of<R: AllocGlobal + Abort>(rt: &R, living: u32) -> Arc<Floor, Globa
     }
 }
 
-/// Connects the ports of these names of mtc and a, each a second time where memory is refused.
+/// Connects the ports of these names of mtc and a. If memory is refused, it tries a second time.
 fn connect_each<R: Abort>(rt: &R, config: &mut Config, ports: &[&str]) {
     for name in ports {
         let (p, q) = (("mtc", *name), ("a", *name));
@@ -162,8 +159,7 @@ fn connect_each<R: Abort>(rt: &R, config: &mut Config, ports: &[&str]) {
     }
 }
 
-/// The ends of a's inbox, on a floor of two, where mtc and a are connected by their ports of these
-/// names. What is refused memory is made a second time.
+/// The ends of a's inbox, on a floor of two. mtc and a are connected by their ports of these names.
 pub fn two<R: AllocGlobal + Abort>(rt: &R, ports: &[&str]) -> (InboxEnds, Arc<Floor, Global>) {
     let mut config = four_again(rt);
     connect_each(rt, &mut config, ports);
@@ -174,8 +170,8 @@ pub fn two<R: AllocGlobal + Abort>(rt: &R, ports: &[&str]) -> (InboxEnds, Arc<Fl
 }
 
 impl InboxEnds {
-    /// Puts `integer:n` with the sender at this place, on this one of its routes. Nothing where
-    /// there is no such sender or route; what is refused comes back as it was.
+    /// Puts `integer:n` with the sender at this place, on this one of its routes. `None` if there
+    /// is no such sender or route. A refused message comes back as it was.
     pub fn put<R: Wait + Abort>(
         &mut self,
         rt: &R,
@@ -196,12 +192,11 @@ impl InboxEnds {
         }
     }
 
-    /// What a drain answers.
     pub fn drain<R: Wait>(&mut self, rt: &R) -> Result<u64, Memory> {
         self.mailbox.drain(rt)
     }
 
-    /// How many the first sender has put on its first route.
+    /// The number of messages that the first sender has put on its first route.
     pub fn count(&self) -> u64 {
         match self.senders.first() {
             Some(sender) if sender.ways() > 0 => sender.count(0),
@@ -209,7 +204,6 @@ impl InboxEnds {
         }
     }
 
-    /// The first route of the first sender.
     pub fn route(&self) -> Option<RouteId> {
         match self.senders.first() {
             Some(sender) if sender.ways() > 0 => Some(sender.route(0)),
@@ -217,7 +211,7 @@ impl InboxEnds {
         }
     }
 
-    /// What is left, asked a second time where memory is refused; and the desk.
+    /// The messages left, asked a second time if memory is refused; and the desk.
     pub fn settle<R: Wait + Abort>(self, rt: &R) -> (Rest, Desk) {
         let InboxEnds {
             mailbox,

@@ -1,5 +1,4 @@
-//! The calls of one inbox's ends, what a wait answers where nobody else is there, and refused
-//! memory.
+//! The calls of one inbox's ends, waits without another behaviour, and refused memory.
 use crate::ends::{InboxEnds, floor_of, two};
 use crate::making::route;
 use crate::showing::{debug, says};
@@ -10,23 +9,19 @@ use tp_floor::notifier::Woken;
 use tp_inbox::sender::{PutFault, ROUTE_LIMIT};
 use tp_refusal::memory::Memory;
 
-/// A call of an inbox's ends, or of the floor.
 enum InboxCall {
     /// Puts `integer:n` on this one of the sender's routes.
     Put(usize, i64),
-    /// How many the sender has put on its first route.
     Count,
-    /// The sender's first route.
     Route,
     Drain,
-    /// How many were drained of a route, by the numbers of the sender, the receiver and its port.
+    /// The number drained from a route, by the numbers of the sender, the receiver and its port.
     Drained(u32, u32, u32),
     Wait,
     Close,
     Leave,
 }
 
-/// What a call answers, as it is printed.
 fn answer<R: AllocGlobal + Abort + Wait>(
     rt: &R,
     ends: &mut InboxEnds,
@@ -47,7 +42,6 @@ fn answer<R: AllocGlobal + Abort + Wait>(
     }
 }
 
-/// Carries out the calls of a table: beside each stands its answer.
 fn carries_out<R: AllocGlobal + Abort + Wait>(
     rt: &R,
     ends: &mut InboxEnds,
@@ -59,7 +53,7 @@ fn carries_out<R: AllocGlobal + Abort + Wait>(
     }
 }
 
-/// Asserts what the desk notes in the end, and what is left in the inbox: both are what was put.
+/// Asserts the desk's history at the end, and what is left in the inbox: both are what was put.
 fn settles<R: AllocGlobal + Abort + Wait>(rt: &R, ends: InboxEnds, log: &str, rest: &str) {
     let (left, desk) = ends.settle(rt);
     says(rt, 0, debug(rt, desk.log()), log);
@@ -67,7 +61,7 @@ fn settles<R: AllocGlobal + Abort + Wait>(rt: &R, ends: InboxEnds, log: &str, re
     says(rt, 1, debug(rt, left), rest);
 }
 
-/// What a sender puts on two routes comes in its order over both, each numbered by itself.
+/// Messages of a sender on two routes arrive in its order over both, each numbered on its route.
 #[test]
 fn two_routes(rt: HostRuntime) {
     const CALLS: &[(InboxCall, &str)] = &[
@@ -90,8 +84,8 @@ fn two_routes(rt: HostRuntime) {
     settles(&rt, ends, LOG, REST);
 }
 
-/// A sender tells its route, and the owner how many it has drained of a route: none of one into
-/// another component's port of that number, and none of another sender's.
+/// A sender returns its route, and the owner the number drained from a route: 0 for a route into
+/// another component's port of that number, and for a route of another sender.
 #[test]
 fn routes_are_told(rt: HostRuntime) {
     const CALLS: &[(InboxCall, &str)] = &[
@@ -110,7 +104,7 @@ fn routes_are_told(rt: HostRuntime) {
     drop((ends, floor));
 }
 
-/// What `leave` and `wait` answer where nobody else is there, and after a closing.
+/// The results of `leave` and `wait` without another behaviour, and after a closing.
 #[test]
 fn alone_on_the_floor(rt: HostRuntime) {
     const CALLS: &[(InboxCall, &str)] = &[
@@ -138,7 +132,7 @@ fn fills<R: Wait + Abort>(rt: &R, ends: &mut InboxEnds) {
     }
 }
 
-/// A route takes 100,000 messages, numbered from 0, and hands the next one back.
+/// A route takes 100,000 messages, numbered from 0, and returns the next one.
 #[test]
 fn a_route_has_a_limit(rt: HostRuntime) {
     const CALLS: &[(InboxCall, &str)] = &[
@@ -152,7 +146,7 @@ fn a_route_has_a_limit(rt: HostRuntime) {
     drop((ends, floor));
 }
 
-/// Puts `integer:n`, which gets this number; a second time where memory is refused.
+/// Puts `integer:n`, which gets this number. If memory is refused, it is put again.
 fn put_again<R: Wait + Abort>(rt: &R, ends: &mut InboxEnds, n: i64, number: u64) {
     match ends.put(rt, 0, 0, n) {
         Some(Err(PutFault::Memory)) => {
@@ -164,7 +158,7 @@ fn put_again<R: Wait + Abort>(rt: &R, ends: &mut InboxEnds, n: i64, number: u64)
     }
 }
 
-/// Drains so many messages, in two turns where memory is refused.
+/// Drains so many messages, in two turns if memory is refused.
 fn drain_again<R: Wait + Abort>(rt: &R, ends: &mut InboxEnds, count: u64) {
     match ends.drain(rt) {
         Ok(moved) => assert!(rt; moved == count),
@@ -175,8 +169,8 @@ fn drain_again<R: Wait + Abort>(rt: &R, ends: &mut InboxEnds, count: u64) {
     }
 }
 
-/// The worked row: what `put`, `count`, `drain`, `gather` and `settle` answer for one route, where
-/// each call that is refused memory is made again.
+/// The results of `put`, `count`, `drain`, `gather` and `settle` for one route. Each call that is
+/// refused memory is made again.
 #[test]
 fn refused_memory_loses_nothing(rt: HostRuntime) {
     const LOG: &str = "[\

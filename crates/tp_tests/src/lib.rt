@@ -1,6 +1,6 @@
 //! Tests of the public calls of `tp_text`, `tp_token`, `tp_order`, `tp_port`, `tp_value`,
-//! `tp_config`, `tp_history`, `tp_floor` and `tp_inbox`. They stand here, and not in the crates
-//! that they test, so that those are proved once. `writers` is proved without the tests too, since
+//! `tp_config`, `tp_history`, `tp_floor` and `tp_inbox`. They are here, and not in the crates that
+//! they test, so that those are proved once. `writers` is also proved without the tests, because
 //! wrong bodies are tried without them.
 #![tactic(auto)]
 

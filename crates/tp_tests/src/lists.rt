@@ -7,7 +7,6 @@ use tp_value::shared::Shared;
 use tp_value::types::{Ty, TypeDef, Types};
 use tp_value::value::Value;
 
-/// The list of the integers from 0, so many.
 fn long_list<R: AllocGlobal + Abort>(rt: &R, length: u32) -> Value {
     let mut elements = Items::new(rt.alloc());
     for number in 0..length {
@@ -16,7 +15,7 @@ fn long_list<R: AllocGlobal + Abort>(rt: &R, length: u32) -> Value {
     Value::List(Shared::new(rt.alloc(), elements).expect(rt, "memory"))
 }
 
-/// Asserts that a list of this length equals its copy, and that one longer by an element doesn't.
+/// Asserts that a list of this length equals its copy, and that one with one more element doesn't.
 fn equals_its_copy<R: AllocGlobal + Abort>(rt: &R, length: u16) {
     let length = u32::from(length);
     let value = long_list(rt, length);
@@ -34,7 +33,6 @@ fn lists_of_many_elements_are_copied(rt: HostRuntime) {
     }
 }
 
-/// `{0, 1, .., 999}`.
 fn numbers_to_999<R: AllocGlobal + Abort>(rt: &R) -> String {
     let mut wanted = String::from_str(rt.alloc(), "{0").expect(rt, "memory");
     for number in 1..1_000 {

@@ -15,14 +15,13 @@ use tp_refusal::memory::Memory;
 use tp_value::items::Items;
 use tp_value::types::Ty;
 
-/// A port type that receives and sends these types.
 pub fn port_type(alloc: Global, ins: &[Ty], outs: &[Ty]) -> Result<PortType, Memory> {
     let ins = TypeList::from_items(alloc, Items::from_slice(alloc, ins)?)?;
     let outs = TypeList::from_items(alloc, Items::from_slice(alloc, outs)?)?;
     Ok(PortType { ins, outs })
 }
 
-/// Adds ports of these names, each of which receives and sends these types.
+/// Each port receives and sends these types.
 fn add_ports(
     alloc: Global,
     ports: &mut IndexMap<String, PortType>,
@@ -37,7 +36,7 @@ fn add_ports(
     Ok(())
 }
 
-/// A component type with ports of these names, each of which receives and sends these types.
+/// Each port receives and sends these types.
 fn comp_type(alloc: Global, names: &[&str], ins: &[Ty], outs: &[Ty]) -> Result<CompType, Memory>
     ensures { IfOk result (λ t. length t.ports.entries ≤ PORT_LIMIT) }
 {
@@ -50,7 +49,7 @@ fn comp_type(alloc: Global, names: &[&str], ins: &[Ty], outs: &[Ty]) -> Result<C
     Err(Memory)
 }
 
-/// No component. Type 0 has the ports p and q, which take integers both ways. Type 1 has the port
+/// No component. Type 0 has the ports p and q, which receive and send integers. Type 1 has the port
 /// s, which receives and sends these types.
 pub fn empty(alloc: Global, ins: &[Ty], outs: &[Ty]) -> Result<Config, Memory> {
     let both = [Ty::Integer];
@@ -67,7 +66,6 @@ pub fn empty(alloc: Global, ins: &[Ty], outs: &[Ty]) -> Result<Config, Memory> {
     Ok(Config::new(alloc, types))
 }
 
-/// Creates a component of this name, where there is a type of that number.
 pub fn add(
     alloc: Global,
     config: &mut Config,
@@ -84,7 +82,6 @@ pub fn add(
     config.create(name, kind, role)
 }
 
-/// The port of this name of the component of that name.
 pub fn port(config: &Config, comp: &str, port: &str) -> Option<PortRef>
     ensures { IfSome result (λ p. IsPort config.now p) }
 {
@@ -92,7 +89,6 @@ pub fn port(config: &Config, comp: &str, port: &str) -> Option<PortRef>
     config.port_of(comp, port)
 }
 
-/// Connects two ports by the names of their components and their own.
 pub fn connect(
     config: &mut Config,
     p: (&str, &str),
@@ -103,14 +99,12 @@ pub fn connect(
     Some(config.connect(p, q))
 }
 
-/// Maps two ports by the names of their components and their own.
 pub fn map(config: &mut Config, p: (&str, &str), q: (&str, &str)) -> Option<Result<(), MapFault>> {
     let p = port(config, p.0, p.1)?;
     let q = port(config, q.0, q.1)?;
     Some(config.map(p, q))
 }
 
-/// Creates components of type 0 with these names.
 fn add_each(alloc: Global, config: &mut Config, names: &[&str]) -> Result<(), CreateFault> {
     for name in names {
         add(alloc, config, *name, 0, Role::Test)?;
@@ -118,7 +112,7 @@ fn add_each(alloc: Global, config: &mut Config, names: &[&str]) -> Result<(), Cr
     Ok(())
 }
 
-/// The components mtc, a, b and c of type 0, and none of their ports connected.
+/// The components mtc, a, b and c of type 0, without connections.
 pub fn four(alloc: Global) -> Result<Config, CreateFault> {
     let both = [Ty::Integer];
     let Ok(mut config) = empty(alloc, both.as_slice(), both.as_slice()) else {
@@ -133,7 +127,7 @@ pub fn four(alloc: Global) -> Result<Config, CreateFault> {
     }
 }
 
-/// The same, made a second time where memory is refused.
+/// If memory is refused, it is made a second time.
 pub fn four_again<R: AllocGlobal + Abort>(rt: &R) -> Config {
     match four(rt.alloc()) {
         Ok(config) => config,
@@ -141,7 +135,6 @@ pub fn four_again<R: AllocGlobal + Abort>(rt: &R) -> Config {
     }
 }
 
-/// The port of this number of the component of this number.
 pub fn at(comp: u32, port: u32) -> PortRef {
     PortRef {
         comp: CompId(comp),
@@ -149,7 +142,6 @@ pub fn at(comp: u32, port: u32) -> PortRef {
     }
 }
 
-/// The route from a component to a port, all by their numbers.
 pub fn route(source: u32, comp: u32, port: u32) -> RouteId {
     RouteId {
         source: CompId(source),

@@ -4,7 +4,6 @@ use tp_order::answer::Answer;
 use tp_order::demand::{Demand, are_below};
 use tp_order::order::{order_of, order_or_circle};
 
-/// Asserts that this is the order of the numbers below the count.
 fn is_the_order<R: AllocGlobal + Abort>(
     rt: &R,
     count: usize,
@@ -18,8 +17,8 @@ fn is_the_order<R: AllocGlobal + Abort>(
     }
 }
 
-/// Asserts that there is no order of the numbers below the count, and that the circle which is told
-/// is of these two.
+/// Asserts that there is no order of the numbers below the count, and that the circle returned has
+/// these two.
 fn is_a_circle_of_two<R: AllocGlobal + Abort>(
     rt: &R,
     count: usize,
@@ -41,7 +40,6 @@ fn is_a_circle_of_two<R: AllocGlobal + Abort>(
     }
 }
 
-/// A demand that one number comes before another.
 fn demand(before: usize, after: usize) -> Demand {
     Demand { before, after }
 }

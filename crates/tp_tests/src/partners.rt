@@ -1,4 +1,4 @@
-//! A port that is connected with as many others as there can be, and its routes.
+//! A port that is connected with the maximum number of others, and its routes.
 use crate::asking::{ConfigCall, Question, answers, carries_out};
 use crate::making::{add, at, connect, empty, route};
 use std::process::Abort;
@@ -25,7 +25,6 @@ fn large_star<R: AllocGlobal + Abort>(rt: &R) -> Config {
     config
 }
 
-/// Asserts the routes between mtc:p and the port p of this component.
 fn has_partner<R: AllocGlobal + Abort>(rt: &R, config: &Config, comp: u32) {
     assert!(rt; config.route(at(0, 0), Some(CompId(comp))) == Ok(route(0, comp, 0)));
     assert!(rt; config.route(at(comp, 0), None) == Ok(route(comp, 0, 0)));
@@ -61,7 +60,6 @@ fn finds_the_routes_of_63_partners(rt: HostRuntime) {
     drop(config);
 }
 
-/// Asserts how many routes mtc:p has.
 fn has_routes<R: Abort>(rt: &R, config: &Config, count: usize) {
     let routes = config.routes_from(at(0, 0)).expect(rt, "memory");
     assert_eq!(rt; routes.len(), count);

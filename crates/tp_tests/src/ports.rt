@@ -1,5 +1,5 @@
-//! The calls of a port's queue on their happy paths, with the values of the standard's rules, and
-//! readers and writers that fail.
+//! The calls of a port's queue, with values from the standard's rules, and readers and writers that
+//! fail.
 use crate::showing::{debug, says};
 use crate::writers::Short;
 use std::io;
@@ -29,9 +29,8 @@ fn two<R: AllocGlobal + Abort>(rt: &R) -> PortQueue<i64> {
     queue
 }
 
-/// One call of a queue.
 enum QueueCall {
-    /// A message of sender 0, by its number and itself.
+    /// A message of sender 0: its number and its value.
     Arrive(u64, i64),
     Receive(IntegerPattern, Option<u32>),
     Check(IntegerPattern, Option<u32>),
@@ -42,7 +41,6 @@ enum QueueCall {
     Halt,
 }
 
-/// What a call answers, as it is printed.
 fn answer<R: AllocGlobal + Abort>(rt: &R, queue: &mut PortQueue<i64>, call: &QueueCall) -> String {
     match *call {
         QueueCall::Arrive(number, msg) => debug(rt, queue.arrive(env(0, number, msg))),
@@ -56,14 +54,14 @@ fn answer<R: AllocGlobal + Abort>(rt: &R, queue: &mut PortQueue<i64>, call: &Que
     }
 }
 
-/// A port's status, how many of its messages are ahead of the mark, how many there are, and whether
-/// it may send.
+/// The status, the number of messages ahead of the mark, the number of messages, and whether the
+/// port may send.
 fn state<R: AllocGlobal + Abort>(rt: &R, queue: &PortQueue<i64>) -> String {
     let counts = (queue.ahead(), queue.queued_len());
     debug(rt, (queue.status(), counts, queue.may_send()))
 }
 
-/// Carries out the calls of a table: beside each stand its answer, and the state behind it.
+/// Carries out the calls of a table: beside each are its result, and the state after it.
 fn carries_out<R: AllocGlobal + Abort>(
     rt: &R,
     queue: &mut PortQueue<i64>,
@@ -75,7 +73,7 @@ fn carries_out<R: AllocGlobal + Abort>(
     }
 }
 
-/// A queue of `two`, at which the calls of a table were carried out.
+/// The queue `two` after the calls of a table.
 fn answered<R: AllocGlobal + Abort>(rt: &R, calls: &[(QueueCall, &str, &str)]) -> PortQueue<i64> {
     let mut queue = two(rt);
     carries_out(rt, &mut queue, calls);
@@ -116,13 +114,12 @@ fn receives_in_order_and_only_what_matches(rt: HostRuntime) {
     drop(queue);
 }
 
-/// The top, and what is queued at the places 0 to 2.
+/// The top, and the entries at the places 0 to 2.
 fn queued<R: AllocGlobal + Abort>(rt: &R, queue: &PortQueue<i64>) -> String {
     let places = (queue.queued_at(0), queue.queued_at(1), queue.queued_at(2));
     debug(rt, (queue.top(), places))
 }
 
-/// What that is of `two`.
 const QUEUED: &str = "(Some(Env { sender: 0, number: 0, msg: 1 }), \
     (Some(Env { sender: 0, number: 0, msg: 1 }), \
     Some(Env { sender: 1, number: 1, msg: 2 }), None))";
@@ -244,7 +241,7 @@ fn clears_both_sides_and_stays_halted(rt: HostRuntime) {
     drop(queue);
 }
 
-/// Gives one byte a read, and an error of this kind in place of one of the reads.
+/// Returns one byte for each read, and an error of this kind instead of one of the reads.
 #[derive(Drop)]
 struct OneByOne<'t> {
     text: &'t [u8],
@@ -268,7 +265,7 @@ impl Read for OneByOne<'_> {
     }
 }
 
-/// A reader of the line `halt`, with an error of this kind in place of one of the reads.
+/// A reader of the line `halt`, with an error of this kind instead of one of the reads.
 fn halt_line(reads_left: u32, kind: ErrorKind) -> OneByOne<'static> {
     OneByOne {
         text: b"halt\n".as_slice(),
@@ -277,14 +274,12 @@ fn halt_line(reads_left: u32, kind: ErrorKind) -> OneByOne<'static> {
     }
 }
 
-/// What a replay of the line answers, and how much it writes.
 fn replayed_line<R: AllocGlobal>(rt: &R, line: OneByOne<'_>) -> (Result<(), QueueFault>, usize) {
     let mut out = Watched::new(Vec::new(rt.alloc()));
     let answer = replay(rt.alloc(), &mut Watched::new(line), &mut out);
     (answer, out.into_inner().len())
 }
 
-/// Whether what is read is the line.
 fn read_line<R: AllocGlobal>(rt: &R, line: OneByOne<'_>) -> Result<bool, ReadFault> {
     match read_text(rt.alloc(), &mut Watched::new(line)) {
         Ok(text) => Ok(text.as_slice() == b"halt\n".as_slice()),
@@ -308,7 +303,6 @@ fn want_of_memory_of_the_reader_is_a_failed_read(rt: HostRuntime) {
     assert!(rt; read_line(&rt, failing) == Err(ReadFault::Read));
 }
 
-/// What a replay of the line `stop` answers at a writer with this room.
 fn replayed<R: AllocGlobal>(rt: &R, room: usize) -> Result<(), QueueFault> {
     let mut short = Watched::new(Short { room });
     replay_text(rt.alloc(), b"stop\n".as_slice(), &mut short)
@@ -322,12 +316,11 @@ fn failed_writes_are_told(rt: HostRuntime) {
     assert!(rt; replayed(&rt, 15) == Ok(()));
 }
 
-/// So many line ends.
 fn line_ends<R: AllocGlobal + Abort>(rt: &R, count: usize) -> Vec<u8> {
     (vec![in rt.alloc(); b'\n'; count]).expect(rt, "memory")
 }
 
-/// The length of what is read of these bytes, and how many are left of them.
+/// The number of bytes read, and the number left.
 fn read_length<R: AllocGlobal>(rt: &R, text: &[u8]) -> (Result<usize, ReadFault>, usize) {
     let mut rest = Watched::new(text);
     let length = match read_text(rt.alloc(), &mut rest) {
@@ -337,7 +330,7 @@ fn read_length<R: AllocGlobal>(rt: &R, text: &[u8]) -> (Result<usize, ReadFault>
     (length, rest.into_inner().len())
 }
 
-/// What a replay of these bytes answers, and how much it writes.
+/// The result of a replay of these bytes, and the number of bytes that it writes.
 fn replayed_bytes<R: AllocGlobal>(rt: &R, text: &[u8]) -> (Result<(), QueueFault>, usize) {
     let mut out = Watched::new(Vec::new(rt.alloc()));
     let answer = replay_text(rt.alloc(), text, &mut out);

@@ -1,9 +1,9 @@
-//! What a value is printed as, and a comparison of texts. They take what they show, so that whoever
-//! calls them has nothing left to drop: a drop is written out, and proved, at each exit.
+//! The printed form of a value, and a comparison of texts. They take what they show, so that the
+//! caller has nothing left to drop: a drop is written out, and proved, at each exit.
 use std::fmt::{Debug, Display};
 use std::process::Abort;
 
-/// A value as `{:?}` prints it, written a second time where memory is refused.
+/// A value as `{:?}` prints it, written a second time if memory is refused.
 pub fn debug<R: AllocGlobal + Abort, D: Debug + Drop>(rt: &R, value: D) -> String {
     match format!(in rt.alloc(); "{value:?}") {
         Ok(text) => text,
@@ -16,12 +16,12 @@ pub fn display<R: AllocGlobal + Abort, D: Display + Drop>(rt: &R, value: D) -> S
     format!(in rt.alloc(); "{value}").expect(rt, "memory")
 }
 
-/// Asserts that a text is as wanted, in this row of a table.
+/// Asserts that a text is the wanted one, in this row of a table.
 pub fn is_shown<R: Abort>(rt: &R, place: usize, shown: &str, wanted: &str) {
     assert_eq!(rt; shown, wanted, "in row {place}");
 }
 
-/// The same of a text that isn't needed any more.
+/// The same for a text that isn't needed any more.
 pub fn says<R: Abort>(rt: &R, place: usize, shown: String, wanted: &str) {
     is_shown(rt, place, shown.as_str(), wanted);
 }

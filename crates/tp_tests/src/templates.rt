@@ -1,5 +1,5 @@
-//! Whether the definitions of templates say what the standard's rules do: which values they match,
-//! and which types they fit. Their copies.
+//! The definitions of templates, compared with the standard's rules: which values they match, and
+//! which types they fit. Also their copies.
 use crate::showing::{debug, says};
 use crate::values::{LEVELS, deep_value, record_and_list, records, text};
 use std::alloc::Global;
@@ -14,7 +14,6 @@ use tp_value::template::{PatternPart, Template};
 use tp_value::types::{Ty, Types};
 use tp_value::value::Value;
 
-/// A list of integers.
 fn integers<R: AllocGlobal + Abort>(rt: &R, numbers: &[i64]) -> Value {
     let mut elements = Items::new(rt.alloc());
     for number in numbers {
@@ -23,7 +22,6 @@ fn integers<R: AllocGlobal + Abort>(rt: &R, numbers: &[i64]) -> Value {
     Value::List(Shared::new(rt.alloc(), elements).expect(rt, "memory"))
 }
 
-/// Adds templates of integers.
 fn add_exactly(members: &mut Items<Template>, numbers: &[i64]) -> Result<(), Memory> {
     for number in numbers {
         members.push(Template::Exact(Value::Int(*number)))?;
@@ -31,7 +29,6 @@ fn add_exactly(members: &mut Items<Template>, numbers: &[i64]) -> Result<(), Mem
     Ok(())
 }
 
-/// Templates of integers.
 fn exactly(alloc: Global, numbers: &[i64]) -> Result<Items<Template>, Memory> {
     let mut members = Items::new(alloc);
     match add_exactly(&mut members, numbers) {
@@ -56,7 +53,6 @@ fn pattern(alloc: Global, written: &[u8]) -> Result<Template, Memory> {
     Ok(Template::Pattern(parts))
 }
 
-/// Asserts whether the value matches the template.
 fn asks_one<R: Abort>(rt: &R, template: &Template, value: &Value, wanted: bool) {
     assert!(rt;
         matches(template, value) == wanted,
@@ -64,7 +60,7 @@ fn asks_one<R: Abort>(rt: &R, template: &Template, value: &Value, wanted: bool) 
     );
 }
 
-/// The same of the template and of its copy, which is printed as its original.
+/// Asserts the same of the template and of its copy, which is printed like its original.
 fn asks<R: AllocGlobal + Abort>(rt: &R, template: &Template, value: &Value, wanted: bool) {
     let twin = template.copy(rt.alloc()).expect(rt, "memory");
     let printed = debug(rt, template);
@@ -74,7 +70,6 @@ fn asks<R: AllocGlobal + Abort>(rt: &R, template: &Template, value: &Value, want
     drop(twin);
 }
 
-/// Asserts which of these integers match the template.
 fn asks_integers<R: AllocGlobal + Abort>(rt: &R, template: Template, table: &[(i64, bool)]) {
     for (number, wanted) in table {
         asks(rt, &template, &Value::Int(*number), *wanted);
@@ -100,7 +95,6 @@ fn integers_match_lists_complements_and_ranges(rt: HostRuntime) {
     asks_integers(&rt, range, &[(5, true), (6, false), (i64::MIN, true)]);
 }
 
-/// Asserts whether the charstring matches the pattern.
 fn asks_pattern<R: AllocGlobal + Abort>(rt: &R, written: &str, characters: &str, wanted: bool) {
     let template = pattern(rt.alloc(), written.as_bytes()).expect(rt, "memory");
     let value = text(rt.alloc(), characters.as_bytes()).expect(rt, "memory");
@@ -124,14 +118,12 @@ fn charstrings_match_patterns(rt: HostRuntime) {
     }
 }
 
-/// Asserts whether the list of integers matches the template of a list.
 fn asks_list<R: AllocGlobal + Abort>(rt: &R, template: &Template, numbers: &[i64], wanted: bool) {
     let value = integers(rt, numbers);
     asks(rt, template, &value, wanted);
     drop(value);
 }
 
-/// Asserts which lists of integers match the list of these elements' templates.
 fn asks_lists<R: AllocGlobal + Abort>(rt: &R, members: Vec<Template>, table: &[(&[i64], bool)]) {
     let template = Template::List(Items::from_vec(members));
     for (numbers, wanted) in table {
@@ -170,7 +162,6 @@ fn lists_match_from_their_end(rt: HostRuntime) {
     );
 }
 
-/// Asserts whether the template fits the type.
 fn asks_fit<R: Abort>(rt: &R, types: &Types, ty: Ty, template: &Template, wanted: bool) {
     assert!(rt;
         template_fits(types, ty, template) == wanted,
@@ -178,7 +169,6 @@ fn asks_fit<R: Abort>(rt: &R, types: &Types, ty: Ty, template: &Template, wanted
     );
 }
 
-/// Asserts whether the template fits the types of a table.
 fn asks_fits<R: Abort>(rt: &R, types: &Types, template: Template, table: &[(Ty, bool)]) {
     for (ty, wanted) in table {
         asks_fit(rt, types, *ty, &template, *wanted);
@@ -234,7 +224,6 @@ fn templates_in_braces_fit_their_types(rt: HostRuntime) {
     drop(types);
 }
 
-/// The template of a list that holds this one alone.
 fn list_of<R: AllocGlobal + Abort>(rt: &R, template: Template) -> Template {
     let members = Vec::from_array(rt.alloc(), [template]).expect(rt, "memory");
     Template::List(Items::from_vec(members))
@@ -252,7 +241,6 @@ fn deep_templates_fit_the_stack(rt: HostRuntime) {
     drop((value, template, twin));
 }
 
-/// Adds a template of each kind that holds others.
 fn add_kinds(alloc: Global, members: &mut Items<Template>) -> Result<(), Memory> {
     members.push(Template::OneOf(exactly(alloc, &[1, 2])?))?;
     members.push(Template::NoneOf(exactly(alloc, &[3])?))?;
@@ -263,7 +251,6 @@ fn add_kinds(alloc: Global, members: &mut Items<Template>) -> Result<(), Memory>
     members.push(Template::Range(Some(-1), None))
 }
 
-/// A template with one of each kind that holds others.
 fn nested(alloc: Global) -> Result<Template, Memory> {
     let mut members = Items::new(alloc);
     match add_kinds(alloc, &mut members) {
@@ -275,14 +262,13 @@ fn nested(alloc: Global) -> Result<Template, Memory> {
     }
 }
 
-/// Whether both are printed alike.
 fn print_alike(alloc: Global, one: &Template, other: &Template) -> Result<bool, Memory> {
     let one = format!(in alloc; "{one:?}")?;
     let other = format!(in alloc; "{other:?}")?;
     Ok(one == other)
 }
 
-/// A value's copy takes no memory, so none can be refused it.
+/// A value's copy doesn't allocate, so no memory can be refused to it.
 #[test]
 fn refused_memory_leaves_copies_of_values_whole(rt: HostRuntime) {
     let value = match records(rt.alloc()) {
@@ -294,7 +280,7 @@ fn refused_memory_leaves_copies_of_values_whole(rt: HostRuntime) {
     drop((value, twin));
 }
 
-/// Right also where an allocation of it was refused, whichever: the gate refuses each in turn.
+/// A copy is whole even if one of its allocations is refused: the gate refuses each in turn.
 #[test]
 fn refused_memory_leaves_copies_whole(rt: HostRuntime) {
     let template = match nested(rt.alloc()) {

@@ -1,4 +1,4 @@
-//! The tokens of texts, and how faults are printed.
+//! The tokens of texts, and the printed faults.
 use crate::showing::{display, says};
 use std::process::Abort;
 use tp_refusal::memory::Memory;
@@ -13,7 +13,6 @@ const WORDS: &str = "module type record of port message component in out inout f
     check to from alt else for setverdict none pass inconc fail error all done true false integer \
     boolean charstring complement pattern infinity value sender";
 
-/// Their tokens.
 const SHOWN_WORDS: &str = "1 Word(Module); 1 Word(Type); 1 Word(Record); 1 Word(Of); 1 Word(Port); \
     1 Word(Message); 1 Word(Component); 1 Word(In); 1 Word(Out); 1 Word(Inout); \
     1 Word(Function); 1 Word(Testcase); 1 Word(Runs); 1 Word(On); 1 Word(System); \
@@ -28,7 +27,6 @@ const SHOWN_WORDS: &str = "1 Word(Module); 1 Word(Type); 1 Word(Record); 1 Word(
 
 const LETTERS_64: &str = "abcdefghijklmnopqrstuvwxyzABCDEFGHIJKLMNOPQRSTUVWXYZ0123456789_M";
 
-/// The tokens of a text, and the line of each.
 fn shown_tokens<R: AllocGlobal + Abort>(rt: &R, tokens: &[Placed<'_>]) -> String {
     let mut out = String::new(rt.alloc());
     for Placed { token, line } in tokens {
@@ -37,7 +35,6 @@ fn shown_tokens<R: AllocGlobal + Abort>(rt: &R, tokens: &[Placed<'_>]) -> String
     out
 }
 
-/// What `lex` answers: each token and its line, or the fault.
 fn shown<R: AllocGlobal + Abort>(rt: &R, text: &[u8]) -> String {
     match lex(rt.alloc(), text) {
         Ok(tokens) => shown_tokens(rt, tokens.as_slice()),
@@ -45,7 +42,6 @@ fn shown<R: AllocGlobal + Abort>(rt: &R, text: &[u8]) -> String {
     }
 }
 
-/// Each text of the table is answered by what stands beside it.
 fn check<R: AllocGlobal + Abort>(rt: &R, table: &[(&[u8], &str)]) {
     for (place, (text, want)) in table.iter().enumerate() {
         says(rt, place, shown(rt, *text), *want);
@@ -193,13 +189,12 @@ fn names_at_their_limit(rt: HostRuntime) {
     );
 }
 
-/// The texts of this many pieces that are tried: each from 0 to 100.
+/// Texts with so many pieces are tried: each number from 0 to 100.
 const LENGTHS: usize = 101;
 
-/// A text before, a piece that is repeated, and a text behind.
+/// A text, a piece that is repeated, and a text after it.
 type Repeated = (&'static str, &'static str, &'static str);
 
-/// The text with its piece so many times.
 fn repeated<R: AllocGlobal + Abort>(rt: &R, text: &Repeated, times: usize) -> String {
     let (before, piece, behind) = *text;
     let mut out = String::from_str(rt.alloc(), before).expect(rt, "memory");
@@ -210,14 +205,14 @@ fn repeated<R: AllocGlobal + Abort>(rt: &R, text: &Repeated, times: usize) -> St
     out
 }
 
-/// The text with its piece so many times is answered by the other with its piece as often.
+/// For the text with its piece so many times, the result is the other with its piece as often.
 fn answers<R: AllocGlobal + Abort>(rt: &R, text: &Repeated, want: &Repeated, times: usize) {
     let text = repeated(rt, text, times);
     let want = repeated(rt, want, times);
     says(rt, times, shown(rt, text.as_bytes()), want.as_str());
 }
 
-/// So for each number of pieces from the first up to the last, which is left out.
+/// The same for each number of pieces from the first up to the last, which is excluded.
 fn answers_each<R: AllocGlobal + Abort>(
     rt: &R,
     (first, last): (usize, usize),
@@ -286,7 +281,6 @@ fn numbers_of_each_length(rt: HostRuntime) {
     answers_each(&rt, (19, LENGTHS), ("1", "0", ""), LIMIT);
 }
 
-/// How many tokens a text has, or its fault.
 fn count<R: AllocGlobal>(rt: &R, text: &[u8]) -> Result<usize, ScriptFault> {
     match lex(rt.alloc(), text) {
         Ok(tokens) => Ok(tokens.len()),
@@ -304,7 +298,7 @@ fn texts_at_their_limit(rt: HostRuntime) {
     assert!(rt; count(&rt, text.as_slice()) == Err(ScriptFault::limit(0)));
 }
 
-/// With memory refused at any allocation (`rt try --test --fail-alloc 1..`) the answer is 50 or the
+/// With memory refused at any allocation (`rt try --test --fail-alloc 1..`) the result is 50 or the
 /// tokens.
 #[test]
 fn refused_memory(rt: HostRuntime) {

@@ -1,5 +1,5 @@
-//! Whether the definitions of types, values and verdicts say what the standard's rules do, and each
-//! public call on its happy path.
+//! The definitions of types, values and verdicts, compared with the standard's rules, and each
+//! public call.
 use crate::writers::Short;
 use std::alloc::Global;
 use std::process::Abort;
@@ -18,12 +18,10 @@ use tp_value::value::Value;
 use tp_value::verdict::Verdict;
 use tp_value::writing::write_value;
 
-/// A charstring.
 pub fn text(alloc: Global, characters: &[u8]) -> Result<Value, Memory> {
     Ok(Value::Text(Shared::from_slice(alloc, characters)?))
 }
 
-/// The name of a type.
 fn name<R: AllocGlobal + Abort>(rt: &R, characters: &str) -> String {
     String::from_str(rt.alloc(), characters).expect(rt, "memory")
 }
@@ -52,14 +50,12 @@ pub fn record_and_list<R: AllocGlobal + Abort>(rt: &R) -> Types {
     types
 }
 
-/// A value of `R`.
 fn record(alloc: Global, id: i64, tag: &[u8]) -> Result<Value, Memory> {
     let tag = text(alloc, tag)?;
     let fields = Vec::from_array(alloc, [Value::Int(id), tag])?;
     Ok(Value::Record(Shared::new(alloc, Items::from_vec(fields))?))
 }
 
-/// A value of `L`.
 pub fn records(alloc: Global) -> Result<Value, Memory> {
     let first = record(alloc, -5, b"a\"b")?;
     let second = record(alloc, 0, b"")?;
@@ -67,7 +63,6 @@ pub fn records(alloc: Global) -> Result<Value, Memory> {
     Ok(Value::List(Shared::new(alloc, Items::from_vec(elements))?))
 }
 
-/// Its text.
 const WRITTEN: &str = "{{id := -5, tag := \"a\"\"b\"}, {id := 0, tag := \"\"}}";
 
 #[test]
@@ -98,7 +93,7 @@ fn values_equal_their_copies(rt: HostRuntime) {
     drop((types, value, twin, other));
 }
 
-/// Asserts that a value has the type, and its text.
+/// Asserts that a value has the type and this text.
 pub fn writes<R: AllocGlobal + Abort>(rt: &R, types: &Types, ty: Ty, value: &Value, wanted: &str) {
     let mut out = Watched::new(Vec::new(rt.alloc()));
     assert!(rt; has_type(types, ty, value), "{value:?}");
@@ -128,7 +123,6 @@ fn lists_are_written(rt: HostRuntime) {
     drop((types, none, value));
 }
 
-/// Whether the value of `L` is written at a writer with this room.
 fn is_written(types: &Types, value: &Value, room: usize) -> bool {
     let mut short = Watched::new(Short { room });
     write_value(types, Ty::Named(1), value, &mut short);
@@ -161,7 +155,6 @@ fn two_messages<R: AllocGlobal + Abort>(rt: &R) -> PortQueue<Message> {
     queue
 }
 
-/// The number of a message that was received.
 fn number_of(answer: Result<Option<Env<Message>>, Memory>) -> Result<Option<u64>, Memory> {
     match answer {
         Ok(Some(env)) => Ok(Some(env.number)),
@@ -170,7 +163,6 @@ fn number_of(answer: Result<Option<Env<Message>>, Memory>) -> Result<Option<u64>
     }
 }
 
-/// The number of a message that a trigger discarded.
 fn dropped(answer: Result<TriggerAnswer<Message>, Memory>) -> Option<u64> {
     match answer {
         Ok(TriggerAnswer::Dropped(env)) => Some(env.number),
@@ -178,7 +170,6 @@ fn dropped(answer: Result<TriggerAnswer<Message>, Memory>) -> Option<u64> {
     }
 }
 
-/// The number of the message that a check for any finds.
 fn found(queue: &mut PortQueue<Message>) -> Option<u64> {
     match queue.check(&MsgTemplate::Any, None) {
         Ok(Some(env)) => Some(env.number),
@@ -199,7 +190,7 @@ fn a_port_queue_holds_messages_of_two_types(rt: HostRuntime) {
     drop((any, integer, queue));
 }
 
-/// The verdicts, the worse behind the better.
+/// The verdicts, from the best to the worst.
 const VERDICTS: &[Verdict] = &[
     Verdict::None,
     Verdict::Pass,
@@ -208,7 +199,7 @@ const VERDICTS: &[Verdict] = &[
     Verdict::Error,
 ];
 
-/// Asserts that the verdict at this place becomes the worse of the two, by every other.
+/// Asserts that the verdict at this place becomes the worse of the two, for each other verdict.
 fn gets_no_better<R: Abort>(rt: &R, place: usize, verdict: Verdict) {
     for (other_place, other) in VERDICTS.iter().enumerate() {
         let worst = if place < other_place { *other } else { verdict };
@@ -240,7 +231,6 @@ pub fn deep_value(alloc: Global) -> Result<Value, Memory> {
     Ok(value)
 }
 
-/// How many characters a value of type 0 has, written.
 fn written_length<R: AllocGlobal + Abort>(rt: &R, types: &Types, value: &Value) -> usize {
     let mut out = Watched::new(Vec::new(rt.alloc()));
     write_value(types, Ty::Named(0), value, &mut out);
@@ -260,7 +250,6 @@ fn deep_values_fit_the_stack(rt: HostRuntime) {
     drop((types, value, twin));
 }
 
-/// Adds the record type under this name, unless memory is refused.
 fn add_record(alloc: Global, types: &mut Types, text: &str) -> Result<u32, AddFault> {
     let (Ok(name), Ok(definition)) = (String::from_str(alloc, text), record_type(alloc)) else {
         return Err(AddFault::Memory);
@@ -271,8 +260,8 @@ fn add_record(alloc: Global, types: &mut Types, text: &str) -> Result<u32, AddFa
     types.add(name, definition)
 }
 
-/// Asserts that nothing but want of memory refuses to add a type, which is then not there; and that
-/// the same call then adds it, with this number.
+/// Asserts that a refusal to add a type is for memory and leaves it out, and that the same call
+/// then adds it with this number.
 fn adds_in_the_end<R: AllocGlobal + Abort>(rt: &R, types: &mut Types, text: &str, number: u16) {
     match add_record(rt.alloc(), types, text) {
         Ok(added) => assert!(rt; added == u32::from(number)),
@@ -288,7 +277,7 @@ fn adds_in_the_end<R: AllocGlobal + Abort>(rt: &R, types: &mut Types, text: &str
     assert!(rt; types.find("R") == Some(0));
 }
 
-/// A type is added or not, and then the types are as before, also where an allocation was refused.
+/// A type is added, or the types are as before, even if an allocation was refused.
 #[test]
 fn refused_memory_leaves_types_as_they_were(rt: HostRuntime) {
     let mut types = Types::new(rt.alloc());

@@ -1,7 +1,8 @@
-//! Who is woken, by what and how often, and who is told that it is the last one awake.
+//! Tests of which behaviour is woken, by what and how often, and of the one that is reported as the
+//! last one awake.
 //!
-//! Whoever waits does so in a thread of its own. A test looks so many times, and no more, whether
-//! it rests; where nobody is woken the test doesn't end, and fails by its limit of time.
+//! Each behaviour that waits does so in a thread of its own. A test checks a limited number of
+//! times whether it rests. If none is woken, the test doesn't end, and fails by its limit of time.
 use crate::configurations::star;
 use crate::ends::{InboxEnds, Mailbox, ends_of, floor_of, stamped, two};
 use std::alloc::Global;
@@ -19,10 +20,10 @@ use tp_inbox::sender::Sender;
 /// After so many turns a test gives up.
 const TURNS: u32 = 10_000_000;
 
-/// How often an owner is woken.
+/// The number of times that an owner is woken.
 const ROUNDS: u32 = 50;
 
-/// Whether so many come to rest.
+/// Returns whether so many begin to rest.
 fn rest_is<R: Wait>(rt: &R, floor: &Floor, count: u64) -> bool {
     for _ in 0..TURNS {
         if floor.resting(rt) == count {
@@ -33,12 +34,11 @@ fn rest_is<R: Wait>(rt: &R, floor: &Floor, count: u64) -> bool {
     false
 }
 
-/// Puts `integer:1` on the sender's first route. Whether that was accepted.
+/// Returns whether putting `integer:1` on the sender's first route was accepted.
 fn is_put<R: Wait>(rt: &R, sender: &mut Sender) -> bool {
     sender.ways() > 0 && sender.put(rt, 0, stamped(1)).is_ok()
 }
 
-/// Whether a drain finds one message.
 fn drains_one<R: Wait>(rt: &R, mailbox: &mut Mailbox) -> bool {
     match mailbox.drain(rt) {
         Ok(count) => count == 1,
@@ -46,8 +46,8 @@ fn drains_one<R: Wait>(rt: &R, mailbox: &mut Mailbox) -> bool {
     }
 }
 
-/// Waits so many times, each time for one message, and then once more: what that found. Nothing
-/// where one of the others found anything else.
+/// Waits so many times for one message, and then once more: the result of the last wait. `None` if
+/// one of the others found anything else.
 fn waits<R: Wait>(rt: &R, mailbox: &mut Mailbox, rounds: u32) -> Option<Woken> {
     for _ in 0..rounds {
         if mailbox.owner.wait(rt) != Woken::Arrived || !drains_one(rt, mailbox) {
@@ -57,17 +57,17 @@ fn waits<R: Wait>(rt: &R, mailbox: &mut Mailbox, rounds: u32) -> Option<Woken> {
     Some(mailbox.owner.wait(rt))
 }
 
-/// How a behaviour at rest is woken.
+/// How a resting behaviour is woken.
 #[derive(Clone, Copy)]
 enum Waking {
     Put,
     Closing,
-    /// By puts, again and again, and by a closing once the other behaviour has left.
+    /// By puts, again and again, and by a closing after the other behaviour has left.
     Often,
 }
 
-/// Puts to a behaviour at rest, again and again, and leaves once it rests again. Whether nobody is
-/// awake then.
+/// Puts to a resting behaviour, again and again, and leaves once it rests again. Returns whether
+/// none is awake then.
 fn puts_and_leaves<R: Wait>(rt: &R, floor: &Floor, sender: &mut Sender) -> bool {
     for _ in 0..ROUNDS {
         if !rest_is(rt, floor, 1) || !is_put(rt, sender) {
@@ -77,7 +77,7 @@ fn puts_and_leaves<R: Wait>(rt: &R, floor: &Floor, sender: &mut Sender) -> bool 
     rest_is(rt, floor, 1) && floor.leave(rt)
 }
 
-/// Wakes a behaviour at rest so: whether it did rest, and counts as awake at once. Where it didn't
+/// Wakes a resting behaviour. Returns whether it rested and counts as awake at once. If it didn't
 /// rest, its inbox is closed.
 fn wakes<R: Wait>(
     rt: &R,
@@ -97,8 +97,8 @@ fn wakes<R: Wait>(
     rests && floor.resting(rt) == 0
 }
 
-/// Has a behaviour wait in a thread of its own, and wakes it so: what it found in the end, and
-/// whether all went well here.
+/// Lets a behaviour wait in a thread of its own, and wakes it. Returns what it found at the end,
+/// and whether everything went well here.
 fn woken<R: Threads + Wait + Sync>(
     rt: &R,
     floor: &Floor,
@@ -118,7 +118,6 @@ fn woken<R: Threads + Wait + Sync>(
     )
 }
 
-/// Asserts what a behaviour finds that is woken so.
 fn is_woken<R: AllocGlobal + Abort + Threads + Wait + Sync>(rt: &R, waking: Waking, found: Woken) {
     let (ends, floor) = two(rt, ["p"].as_slice());
     let InboxEnds {
@@ -132,27 +131,25 @@ fn is_woken<R: AllocGlobal + Abort + Threads + Wait + Sync>(rt: &R, waking: Waki
     drop((mailbox, senders, closer, floor));
 }
 
-/// An owner at rest is woken by a put, while the other behaviour is awake.
 #[test]
 fn a_put_wakes(rt: HostRuntime) {
     is_woken(&rt, Waking::Put, Woken::Arrived);
 }
 
-/// An owner at rest is woken by a closing, while the other behaviour is awake.
 #[test]
 fn a_closing_wakes(rt: HostRuntime) {
     is_woken(&rt, Waking::Closing, Woken::Closed);
 }
 
-/// An owner waits, is woken, and waits again: each waking is one behaviour less that rests. When it
-/// rests after the last, the other behaviour is told so where it leaves.
+/// An owner waits, is woken, and waits again: each waking is one resting behaviour less. When it
+/// rests after the last, the other behaviour learns of that when it leaves.
 #[test]
 fn woken_again_and_again(rt: HostRuntime) {
     is_woken(&rt, Waking::Often, Woken::Closed);
 }
 
-/// Puts a message for each of so many that come, and waits once more: what that found. Nothing
-/// where a wait before it found anything else.
+/// Puts a message for each of so many that arrive, and waits once more: the result of that. `None`
+/// if a wait before it found anything else.
 fn answers<R: Wait>(
     rt: &R,
     mailbox: &mut Mailbox,
@@ -170,8 +167,8 @@ fn answers<R: Wait>(
     Some(mailbox.owner.wait(rt))
 }
 
-/// A behaviour that answers: its mailbox, by what it answers, and who puts into its inbox and who
-/// closes it.
+/// A behaviour that answers: its mailbox, the sender of its answers, and the sender and the closer
+/// of its inbox.
 #[derive(Drop)]
 struct Answerer {
     mailbox: Mailbox,
@@ -180,7 +177,7 @@ struct Answerer {
     closer: Closer,
 }
 
-/// The component of this number as one that answers by this sender.
+/// The component of this number, which answers by this sender.
 fn answerer_of<R: AllocGlobal + Abort>(
     rt: &R,
     config: &Config,
@@ -203,12 +200,13 @@ fn answerer_of<R: AllocGlobal + Abort>(
     }
 }
 
-/// Puts with this sender, waits for the answer, and drains it. Whether all went well.
+/// Puts with this sender, waits for the answer, and drains it. Returns whether everything went
+/// well.
 fn is_answered<R: Wait>(rt: &R, mailbox: &mut Mailbox, sender: &mut Sender) -> bool {
     is_put(rt, sender) && mailbox.owner.wait(rt) == Woken::Arrived && drains_one(rt, mailbox)
 }
 
-/// Asks both again and again, and waits for each answer. Whether all went well.
+/// Asks both again and again, and waits for each answer. Returns whether everything went well.
 fn asks_often<R: Wait>(
     rt: &R,
     mailbox: &mut Mailbox,
@@ -223,8 +221,8 @@ fn asks_often<R: Wait>(
     true
 }
 
-/// Asks both, waits until they rest, is then told twice that it is the last, and closes their
-/// inboxes. Whether all went well.
+/// Asks both, waits until they rest, finds twice that it is the last, and closes their inboxes.
+/// Returns whether everything went well.
 fn is_last<R: Wait>(
     rt: &R,
     floor: &Floor,
@@ -241,8 +239,8 @@ fn is_last<R: Wait>(
     told && floor.resting(rt) == 0
 }
 
-/// Has a behaviour answer in a thread of its own, beside one that does so already: what it found in
-/// the end, and whether all went well here.
+/// Lets a behaviour answer in a thread of its own, beside one that does so already. Returns what it
+/// found at the end, and whether everything went well here.
 fn beside<R: Threads + Wait + Sync>(
     rt: &R,
     floor: &Floor,
@@ -263,8 +261,8 @@ fn beside<R: Threads + Wait + Sync>(
     )
 }
 
-/// Has two behaviours answer in threads of their own: what they found in the end, and whether all
-/// went well here.
+/// Lets two behaviours answer in threads of their own. Returns what they found at the end, and
+/// whether everything went well here.
 fn three<R: Threads + Wait + Sync>(
     rt: &R,
     floor: &Floor,
@@ -285,8 +283,8 @@ fn three<R: Threads + Wait + Sync>(
     )
 }
 
-/// Two behaviours answer a third, rest in between, and are not told that they are the last while
-/// the third is awake. When both rest, the third is told so, as often as it asks.
+/// Two behaviours answer a third, rest in between, and don't find that they are the last while the
+/// third is awake. When both rest, the third finds that it is the last, as often as it asks.
 #[test]
 fn last_where_all_others_rest(rt: HostRuntime) {
     let config = star(&rt);

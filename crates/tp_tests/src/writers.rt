@@ -2,10 +2,10 @@
 use std::io;
 use std::io::{ErrorKind, Write};
 
-/// Takes this many bytes, and then answers an error.
+/// Takes this many bytes, and then returns an error.
 #[derive(Drop)]
 pub struct Short {
-    /// How many more it takes.
+    /// The number of bytes that it still takes.
     pub room: usize,
 }
 

@@ -1,4 +1,4 @@
-//! Why no order was run.
+//! Reasons why no order was run.
 use std::alloc::{AllocError, AllocFailed};
 use thiserror::Error;
 use tp_refusal::memory::Memory;
@@ -9,13 +9,13 @@ use tp_text::text::ReadFault;
 /// Why one of the two files was refused.
 #[derive(Clone, Copy, Debug, PartialEq, Eq, Error)]
 pub enum FileFault {
-    /// 2 Read: the file could not be read, or is no text.
+    /// 2 Read: the file couldn't be read, or isn't a text.
     #[error("refused {}", Refusal::Read)]
     Read,
     /// 15 Limit: the file is too long.
     #[error("refused {} line 0", Refusal::Limit)]
     Limit,
-    /// 11 Unknown: an order has a name that no component has.
+    /// 11 Unknown: no component has a name in an order.
     #[error("refused {} line {line}", Refusal::Unknown)]
     Unknown {
         /// The line of the order.
@@ -24,7 +24,7 @@ pub enum FileFault {
     /// The script has no test case.
     #[error("{0}")]
     Script(TestCaseFault),
-    /// 50: memory was refused.
+    /// 50: an allocation was refused.
     #[error("fault {}", Refusal::Memory)]
     Memory(Memory),
 }

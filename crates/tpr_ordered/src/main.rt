@@ -1,7 +1,7 @@
-//! `tpr_ordered`: a test case, run once in each of some orders of its steps. It is for tests, and
-//! no part of what `tpr` offers.
+//! `tpr_ordered`: runs a test case once in each of some orders of its steps. It is for tests, and
+//! no part of what `tpr` offers. Start with `answer_files`.
 //!
-//! 50 is answered only where an allocation was refused; the status is 3 then.
+//! 50 is reported only if an allocation was refused; the status is 3 then.
 #![tactic(auto)]
 
 mod fault;
@@ -28,23 +28,21 @@ use tp_script::reading::read_script;
 use tp_text::text::read_text;
 use tp_text::watched::Watched;
 
-/// The status where all orders were run.
+/// The status if all orders were run.
 const ANSWERED: u8 = 0;
-/// The status where a file was refused.
+/// The status if a file was refused.
 const REFUSED: u8 = 2;
-/// The status where memory was refused, or the writer failed.
+/// The status if an allocation was refused, or the writer failed.
 const FAULTED: u8 = 3;
-/// The status where the words are no command line of the program.
+/// The status if the words aren't a command line of the program.
 const USAGE: u8 = 4;
 
-/// Prints the usage line on standard error.
 fn usage<R: Eprint>(rt: &R) -> u8 {
     // Where standard error can't be written either, the status alone says it.
     let _ = eprintln!(rt; "usage: tpr_ordered SCRIPT ORDERS");
     USAGE
 }
 
-/// The status of a fault.
 fn file_fault_status(fault: FileFault) -> u8 {
     match fault {
         FileFault::Read | FileFault::Limit | FileFault::Unknown { .. } => REFUSED,
@@ -53,7 +51,6 @@ fn file_fault_status(fault: FileFault) -> u8 {
     }
 }
 
-/// The bytes of the file.
 fn read_file<T: AllocGlobal + Files>(rt: &T, path: &str) -> Result<Vec<u8>, FileFault> {
     let Ok(reader) = File::open(rt, path) else {
         return Err(FileFault::Read);
@@ -62,14 +59,13 @@ fn read_file<T: AllocGlobal + Files>(rt: &T, path: &str) -> Result<Vec<u8>, File
     Ok(text)
 }
 
-/// The test case of the file.
 fn read_test_case<T: AllocGlobal + Files>(rt: &T, path: &str) -> Result<TestCase, FileFault> {
     let text = read_file(rt, path)?;
     let test_case = read_script(rt.alloc(), text.as_slice())?;
     Ok(test_case)
 }
 
-/// The orders of the file, of the components of the test case.
+/// The orders in the file, with components of the test case.
 fn read_order_file<T: AllocGlobal + Files>(
     rt: &T,
     test_case: &TestCase,
@@ -80,7 +76,7 @@ fn read_order_file<T: AllocGlobal + Files>(
     Ok(orders)
 }
 
-/// Prints the line of a fault of SCRIPT, as `tpr` does, and answers its status.
+/// Prints the line of a fault of SCRIPT, as `tpr` does, and returns its status.
 fn tell_script<R: Print>(rt: &R, fault: FileFault) -> u8 {
     match println!(rt; "{fault}") {
         Ok(()) => file_fault_status(fault),
@@ -88,13 +84,13 @@ fn tell_script<R: Print>(rt: &R, fault: FileFault) -> u8 {
     }
 }
 
-/// Prints the line of a fault of ORDERS on standard error, and answers its status.
+/// Prints the line of a fault of ORDERS on standard error, and returns its status.
 fn tell_orders<R: Eprint>(rt: &R, fault: FileFault) -> u8 {
     let _ = eprintln!(rt; "orders: {fault}");
     file_fault_status(fault)
 }
 
-/// Runs the test case in each of the orders, and prints what came of it.
+/// Runs the test case in each of the orders, and prints the results.
 fn answer_orders<T>(rt: &T, test_case: &TestCase, orders: &[StepOrder]) -> u8
 where
     T: AllocGlobal + Print + Threads + Wait + Sync,
@@ -118,8 +114,8 @@ where
     ANSWERED
 }
 
-/// Reads both files, and runs the test case of the first in each of the orders of the second.
-/// Nothing is run where one of them is refused.
+/// Reads both files, and runs the test case of the first in each of the orders of the second. If
+/// one of them is refused, nothing is run.
 fn answer_files<T>(rt: &T, script: &str, orders: &str) -> u8
 where
     T: AllocGlobal + Files + Print + Eprint + Threads + Wait + Sync,
@@ -133,13 +129,11 @@ where
     }
 }
 
-/// The words after the program's name.
 fn words_of<R: Env + AllocGlobal>(rt: &R) -> io::Result<Vec<String>> {
     let words = env::args(rt)?.skip(1).collect(rt.alloc())?;
     Ok(words)
 }
 
-/// Answers the command line of these words.
 fn answer_words<T>(rt: &T, words: &[String]) -> u8
 where
     T: AllocGlobal + Files + Print + Eprint + Threads + Wait + Sync,
@@ -150,7 +144,7 @@ where
     }
 }
 
-/// The status is 0 where all orders were run.
+/// The status is 0 if all orders were run.
 fn main(rt: HostRuntime) -> ExitCode {
     let status = match words_of(&rt) {
         Ok(words) => answer_words(&rt, words.as_slice()),

@@ -9,70 +9,70 @@ use tp_exec::gate::Gate;
 /// After so many turns that yield, a gate gives up.
 pub const PATIENCE: u32 = 10_000_000;
 
-/// A step of one component, and where it stands in the order.
+/// A step of one component, and its place in the order.
 #[derive(Clone, Copy)]
 struct OrderedStep {
-    /// How many steps stand before it.
+    /// The number of steps before it.
     number: u64,
-    /// Where the component is held.
+    /// The point at which the component is held.
     hold: Hold,
 }
 
-/// What an order has of one component.
+/// The part of one component in an order.
 #[derive(Drop)]
 struct OrderTurn {
-    /// Its steps.
     places: Vec<OrderedStep>,
-    /// To how many of them it has come; behind the last it counts its statements.
+    /// The number of its steps that it has reached. After the last it goes on counting its
+    /// statements.
     met: AtomicU64,
 }
 
 impl OrderTurn {
-    /// The step to which it has come.
+    /// The step that it has reached.
     fn last(&self) -> Option<OrderedStep> {
         let before = self.met.load(Ordering::SeqCst).checked_sub(1)?;
         self.places.get(before as usize).copied()
     }
 
-    /// The step to which it comes next.
+    /// The step that it reaches next.
     fn next(&self) -> Option<OrderedStep> {
         let met = self.met.load(Ordering::SeqCst);
         self.places.get(met as usize).copied()
     }
 
-    /// Whether it is held next inside the statement that it has begun.
+    /// Returns whether it is held next inside the statement that it has begun.
     fn is_next_inside(&self) -> bool {
         matches!(self.next(), Some(place) if place.hold == Hold::Inside)
     }
 }
 
-/// Holds each component before its next step until the order has come to it, and the component that
-/// the order names before it has come to its own next step: a gate hears of no end of a step but by
-/// this. So one step after the other is carried out, and the steps that the order doesn't name come
-/// behind all that it names.
+/// Holds each component before its next step until two things have happened: the order has come to
+/// this step, and the component that the order names before it has reached its own next step,
+/// because that is all that a gate learns of the end of a step. So one step is executed after the
+/// other, and steps that the order doesn't name come after all that it names.
 ///
-/// A component that is held inside its statement has moved to its ports what came before, and not
-/// what comes meanwhile: that it sees in its next look. It is held there as often as the order says
-/// so, and no more.
+/// A component that is held inside its statement has moved to its ports what arrived before, and
+/// not what arrives meanwhile: it sees that in its next look. It is held there as often as the
+/// order says, and no more.
 ///
-/// Where a component is held for too many turns, or is to be held inside a statement that it has
-/// ended, the gate gives up, and all pass from then on.
+/// If a component is held for too many turns, or is to be held inside a statement that it has
+/// ended, the gate gives up, and all components pass from then on.
 #[derive(Drop)]
 pub struct OrderGate {
-    /// What the order has of each component, by its number.
+    /// The part of each component, by its number.
     parts: Vec<OrderTurn>,
-    /// How many steps the order names.
+    /// The number of steps that the order names.
     length: u64,
-    /// For how many turns a component is held.
+    /// The maximum number of turns for which a component is held.
     patience: u32,
-    /// How many steps of the order have come to their end.
+    /// The number of steps of the order that have ended.
     ended: AtomicU64,
-    /// Whether the gate gave up.
+    /// True if the gate gave up.
     gave_up: AtomicBool,
 }
 
-/// What an order of these steps has of each of so many components. One with a greater number has
-/// none.
+/// The parts of so many components in an order of these steps. A component with a greater number
+/// has none.
 fn parts_of(
     alloc: Global,
     components: usize,
@@ -89,7 +89,6 @@ fn parts_of(
     Ok(parts)
 }
 
-/// Adds the place of each step to the part of its component.
 fn note_places(parts: &mut Vec<OrderTurn>, steps: &[Step]) -> Result<(), AllocError> {
     for (number, step) in steps.iter().enumerate() {
         if let Some(part) = parts.get_mut(step.who.0 as usize) {
@@ -104,7 +103,7 @@ fn note_places(parts: &mut Vec<OrderTurn>, steps: &[Step]) -> Result<(), AllocEr
 
 impl OrderGate {
     /// A gate for one run of a test case with so many components, in the order of these steps. It
-    /// gives up where a component is held for more than `patience` turns.
+    /// gives up if a component is held for more than `patience` turns.
     pub fn new(
         alloc: Global,
         components: usize,
@@ -121,13 +120,13 @@ impl OrderGate {
         })
     }
 
-    /// Whether the order was held: the gate didn't give up.
+    /// Returns whether the order was kept: the gate didn't give up.
     pub fn is_held(&self) -> bool {
         !self.gave_up.load(Ordering::SeqCst)
     }
 
-    /// The component comes to its next step, and is held until the order has come to it; where it
-    /// has none, until the order has come to its end.
+    /// The component reaches its next step, and is held until the order has come to it. If it has
+    /// none, it is held until the order has ended.
     fn come_to_next(&self, part: &OrderTurn) {
         if let Some(place) = part.last() {
             self.ended
@@ -138,7 +137,7 @@ impl OrderGate {
         self.hold_until(number);
     }
 
-    /// Returns once so many steps of the order have come to their end, or the gate has given up.
+    /// Returns after so many steps of the order have ended, or the gate has given up.
     fn hold_until(&self, ended: u64) {
         for _ in 0..self.patience {
             if self.ended.load(Ordering::SeqCst) == ended || !self.is_held() {
@@ -149,7 +148,7 @@ impl OrderGate {
         self.give_up();
     }
 
-    /// Lets all pass.
+    /// Lets all components pass.
     fn give_up(&self) {
         self.gave_up.store(true, Ordering::SeqCst);
     }

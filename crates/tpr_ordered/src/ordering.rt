@@ -1,4 +1,4 @@
-//! A test case, run in each of some orders.
+//! A test case that runs in each of some orders.
 ghost use Rattle.std.specs.Prelude.{ℕ, List};
 ghost use Rattle.tp_text.specs.Watching.{Writes};
 ghost use Rattle.tpr_ordered.specs.Ordered.{AreWritten, IsOrderText, IsRunText};
@@ -21,16 +21,14 @@ use tp_text::watched::{Watched, flush, write_bytes};
 pub struct Trial<'t, R> {
     /// The runtime, by which they wait and their threads are started.
     pub rt: &'t R,
-    /// Where memory is taken from.
     pub alloc: Global,
-    /// What is run.
     pub test_case: &'t TestCase,
     /// After so many turns that yield, the gate of a run gives up.
     pub patience: u32,
 }
 
-/// Runs the test case in the order of these steps, and writes its report; or `not held`, where the
-/// gate gave up; or the line of the fault by which the run has no report.
+/// Runs the test case in the order of these steps, and writes its report; or `not held`, if the
+/// gate gave up; or the line of the fault because of which the run has no report.
 fn write_run<R: Threads + Wait + Sync, W: Write>(
     trial: &Trial<'_, R>,
     steps: &[Step],
@@ -53,7 +51,7 @@ fn write_run<R: Threads + Wait + Sync, W: Write>(
     }
 }
 
-/// Writes the line of an order, what came of its run, and an empty line.
+/// Writes the line of an order, the result of its run, and an empty line.
 fn write_order<R: Threads + Wait + Sync, W: Write>(
     trial: &Trial<'_, R>,
     order: &StepOrder,
@@ -71,12 +69,12 @@ fn write_order<R: Threads + Wait + Sync, W: Write>(
 }
 
 /// Runs the test case once in each of these orders, one run after the other, and writes for each
-/// the line `order NAMES`, the report as mode `run` of `tpr` prints it, and an empty line. In place
-/// of the report stands `not held`, where the gate gave up after the trial's `patience` turns that
-/// yield, or the line of the fault by which there is none.
+/// the line `order NAMES`, the report as mode `run` of `tpr` prints it, and an empty line. The
+/// report is replaced by `not held` if the gate gave up after the trial's `patience` turns that
+/// yield, or by the line of the fault because of which there is none.
 ///
-/// Where the writer fails, no further order is run, and a front of what was to be written of those
-/// that were is written. It may wait for good.
+/// If the writer fails, no further order is run, and a front of the text of those that were run is
+/// written. It may wait forever.
 pub fn write_orders<R: Threads + Wait + Sync, W: Write>(
     trial: &Trial<'_, R>,
     orders: &[StepOrder],

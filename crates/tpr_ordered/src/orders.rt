@@ -1,10 +1,10 @@
-//! The orders of steps, one a line.
+//! Orders of steps, one on each line.
 use crate::fault::FileFault;
 use std::alloc::Global;
 use tp_config::config::Config;
 use tp_config::port_type::CompId;
 
-/// Where an order holds a component.
+/// The point at which an order holds a component.
 #[derive(Clone, Copy)]
 pub enum Hold {
     /// Before its next statement.
@@ -17,23 +17,20 @@ pub enum Hold {
 /// A step of an order: a component is held until its turn has come, and goes on.
 #[derive(Clone, Copy)]
 pub struct Step {
-    /// The component.
     pub who: CompId,
-    /// Where it is held.
     pub hold: Hold,
 }
 
 /// An order of steps.
 #[derive(Drop)]
 pub struct StepOrder {
-    /// The line that says it, without its end.
+    /// Its line without the end.
     pub line: String,
-    /// Its steps.
     pub steps: Vec<Step>,
 }
 
-/// The step that a word says: the name of a component, with a `+` behind it where it is held inside
-/// a statement. `None` where no component has that name.
+/// The step in a word: the name of a component, followed by `+` if it is held inside a statement.
+/// `None` if no component has that name.
 fn step_of(config: &Config, word: &str) -> Option<Step> {
     let (name, hold) = match word.strip_suffix('+') {
         Some(name) => (name, Hold::Inside),
@@ -43,9 +40,8 @@ fn step_of(config: &Config, word: &str) -> Option<Step> {
     Some(Step { who, hold })
 }
 
-/// The steps that a line says, one space between two words. An empty line says none.
-///
-/// 11 `Unknown` where no component has a name, at the line of this number.
+/// The steps in a line, with one space between two words. An empty line has none. 11 `Unknown` if
+/// no component has a name, at the line of this number.
 fn steps_of(
     alloc: Global,
     config: &Config,
@@ -65,9 +61,7 @@ fn steps_of(
     Ok(steps)
 }
 
-/// The order that the line of this number says.
-///
-/// 11 `Unknown` as `steps_of`.
+/// The order in the line of this number. 11 `Unknown` as in `steps_of`.
 fn order_of(
     alloc: Global,
     config: &Config,
@@ -79,13 +73,12 @@ fn order_of(
     Ok(StepOrder { line, steps })
 }
 
-/// The orders that a text says, one a line: the names of components of the configuration, one for
-/// each step, with a `+` behind one that is held inside its statement; one space between two of
-/// them. Each line ends with a byte 10; the last may lack it. An empty line is the order of no
-/// step.
+/// The orders in a text, one on each line: the names of components of the configuration, one for
+/// each step, followed by `+` if it is held inside its statement; one space between two of them.
+/// Each line ends with a byte 10, which the last may lack. An empty line is an order without steps.
 ///
-/// 2 `Read` where the text isn't UTF-8; else 11 `Unknown`, at the first line in which a name is
-/// that of no component.
+/// 2 `Read` if the text isn't UTF-8; else 11 `Unknown`, at the first line with a name that no
+/// component has.
 pub fn read_orders(
     alloc: Global,
     config: &Config,
