@@ -10,9 +10,7 @@ use tp_value::types::Ty;
 #[derive(Clone, Copy)]
 pub struct Context<'a, 'v, 'm> {
     pub scope: &'a Scope<'a>,
-    /// The variables of the body, or those before the one that is declared.
     pub variables: &'a Variables<'v>,
-    /// The loop variables around it, outermost first.
     pub turns: &'a [Name<'m>],
     /// The line for refusals: that of the statement, the branch or the variable.
     pub line: u32,

@@ -1,8 +1,7 @@
 //! The checks of the bodies of a module, which turn their statements into those of `tp_play`.
-//! `tp_script` calls [`statements::resolve_body`] for each body; start there.
-//!
-//! 50 `Memory` means that an allocation was refused, and says nothing about the script. A call that
-//! can't return it doesn't allocate.
+//! `tp_script` calls [`statements::resolve_body`] for each body; start there. 50 `Memory` means
+//! that an allocation was refused, and says nothing about the script; only calls that can return it
+//! allocate.
 #![tactic(auto)]
 
 mod context;

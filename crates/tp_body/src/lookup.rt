@@ -90,7 +90,6 @@ pub fn find_variable(variables: &Variables, name: &str) -> Option<(usize, Variab
     Some((place, *held))
 }
 
-/// The place of a name among the references, from the third on.
 fn find_component(scope: &Scope, name: &str) -> Option<usize>
     ensures there { IfSome result
         (IsPlace (scope.now.parameters.now ++ scope.now.component_variables.now) name.now) }

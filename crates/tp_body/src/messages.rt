@@ -18,12 +18,11 @@ use tp_tree::message::{Value, ValueField};
 use tp_value::items::Items;
 use tp_value::types::{Field, Ty, TypeDef};
 
-/// Resolves a value of this type.
-///
-/// It returns the first fault from left to right, at the line of the context; the number and the
-/// names of a record's fields come before their contents. 13 `WrongType` for a value of another
-/// type, a field that the record doesn't have, or that is missing or given twice, and a variable;
-/// 11 `Unknown` for any other name that isn't a loop variable.
+/// Resolves a value of this type. It returns the first fault from left to right, at the line of the
+/// context; the number and the names of a record's fields come before their contents. 13
+/// `WrongType` for a value of another type, a field that the record doesn't have, or that is
+/// missing or given twice, and a variable; 11 `Unknown` for any other name that isn't a loop
+/// variable.
 #[cycle(value)]
 #[tactic(auto, using(crate::proofs::ValueRules::cases))]
 pub fn resolve_value(
@@ -100,7 +99,6 @@ fn resolve_elements(
     Ok(made)
 }
 
-/// The fields are given by their places.
 #[cycle(value)]
 #[tactic(auto, using(crate::proofs::ValueRules::cases))]
 fn resolve_fields(
@@ -127,7 +125,6 @@ fn resolve_fields(
     Ok(made)
 }
 
-/// The fields are given by their names. The result has them in declared order.
 #[cycle(value)]
 #[tactic(auto, using(crate::proofs::ValueRules::cases))]
 fn resolve_named(

@@ -26,8 +26,6 @@ use tp_tree::tree::{ComponentName, Receivers, VerdictName};
 use tp_value::types::Ty;
 use tp_value::verdict::Verdict;
 
-/// Resolves a message that is written out. 11 `Unknown` for its type, 14 `Direction` if it isn't
-/// among those that can be sent, then the refusals of the value.
 fn resolve_written(
     alloc: Global,
     context: &Context,
@@ -52,7 +50,6 @@ fn resolve_written(
     Ok(SendMsg { ty, value })
 }
 
-/// A loop variable is sent as an integer. 14 `Direction` if no integer can be sent.
 fn resolve_counter(
     context: &Context,
     sendable: &TypeList,
@@ -74,8 +71,6 @@ fn resolve_counter(
     })
 }
 
-/// 13 `WrongType` for a loop variable, a parameter or a component variable, 11 `Unknown` for any
-/// other name that isn't a variable.
 fn variable_named(context: &Context, name: &str) -> Result<(usize, VariableType), ModuleFault>
     ensures no_turn { IfOk result (λ _. IsAbsent (texts context.now.turns.now) name.now) }
     ensures held { IfOk result (λ found.
@@ -94,8 +89,6 @@ fn variable_named(context: &Context, name: &str) -> Result<(usize, VariableType)
     }
 }
 
-/// 11 `Unknown` for an unknown name, 13 `WrongType` for a name of anything but a variable of
-/// messages.
 fn message_variable(context: &Context, name: &str) -> Result<(usize, Ty), ModuleFault>
     ensures no_turn { IfOk result (λ _. IsAbsent (texts context.now.turns.now) name.now) }
     ensures held { IfOk result (λ found.
@@ -112,8 +105,6 @@ fn message_variable(context: &Context, name: &str) -> Result<(usize, Ty), Module
     }
 }
 
-/// 11 `Unknown` for an unknown name, 13 `WrongType` for a name of anything but a variable of
-/// components.
 fn component_variable(context: &Context, name: &str) -> Result<usize, ModuleFault>
     ensures no_turn { IfOk result (λ _. IsAbsent (texts context.now.turns.now) name.now) }
     ensures held { IfOk result (λ place.
@@ -175,8 +166,6 @@ fn is_variable(context: &Context, name: &str) -> bool
     context.variables.names.has(name)
 }
 
-/// The component after `to`: a variable's, or a reference. 13 `WrongType` for a variable of
-/// messages, 11 `Unknown` for any other name that isn't a component.
 #[tactic(auto, using(crate::proofs::OperationRules::cases))]
 fn resolve_component(context: &Context, component: &ComponentName) -> Result<Receiver, ModuleFault>
     ensures stands { IfOk result (IsReceiver
@@ -216,11 +205,10 @@ fn resolve_receiver(context: &Context, to: &Option<Receivers>) -> Result<Receive
     }
 }
 
-/// Resolves a send (ES 201 873-1, 22.2.1).
-///
-/// Its refusals, at the line of the context, in this order: 11 `Unknown` for the port; for a
-/// message its type (11), the port's direction (14 `Direction`) and the value; for a variable its
-/// name (11, 13 `WrongType`) and the direction (14); then the receiver (11, 13).
+/// Resolves a send (ES 201 873-1, 22.2.1). Its refusals, at the line of the context, in this order:
+/// 11 `Unknown` for the port; for a message its type (11), the port's direction (14 `Direction`)
+/// and the value; for a variable its name (11, 13 `WrongType`) and the direction (14); then the
+/// receiver (11, 13).
 pub fn resolve_send(
     alloc: Global,
     context: &Context,
@@ -246,8 +234,6 @@ pub fn resolve_send(
     })
 }
 
-/// 11 `Unknown` for the type, 14 `Direction` if it isn't among those that can be received, then the
-/// refusals of the template.
 #[tactic(auto, using(crate::proofs::OperationRules::cases))]
 fn resolve_wanted(
     alloc: Global,
@@ -275,8 +261,6 @@ fn resolve_wanted(
     Ok(RecvMsg::Of(ty, made))
 }
 
-/// The component after `from`. 13 `WrongType` for a variable, 11 `Unknown` for any other name that
-/// isn't a component.
 #[tactic(auto, using(crate::proofs::OperationRules::cases))]
 fn resolve_sender(
     context: &Context,
@@ -297,8 +281,6 @@ fn resolve_sender(
     Ok(Some(place))
 }
 
-/// The variable after `value`. 11 `Unknown` for an unknown name, 13 `WrongType` for anything but a
-/// variable of the template's type, and without a template.
 #[tactic(auto, using(crate::proofs::OperationRules::cases))]
 fn resolve_value_target(
     context: &Context,
@@ -325,8 +307,6 @@ fn resolve_value_target(
     }
 }
 
-/// The variable after `sender`. 11 `Unknown` for an unknown name, 13 `WrongType` for anything but a
-/// variable of components.
 #[tactic(auto, using(crate::proofs::OperationRules::cases))]
 fn resolve_sender_target(
     context: &Context,
@@ -346,12 +326,10 @@ fn resolve_sender_target(
     Ok(Some(place))
 }
 
-/// Resolves a receiving operation (ES 201 873-1, 22.2.2 to 22.2.4).
-///
-/// Its refusals, at the line of the context, in this order: 11 `Unknown` for the port; the
-/// template's type (11), the port's direction (14 `Direction`) and the template; the component
-/// after `from` (11, 13 `WrongType`); the variable after `value`, then the one after `sender` (11,
-/// 13).
+/// Resolves a receiving operation (ES 201 873-1, 22.2.2 to 22.2.4). Its refusals, at the line of
+/// the context, in this order: 11 `Unknown` for the port; the template's type (11), the port's
+/// direction (14 `Direction`) and the template; the component after `from` (11, 13 `WrongType`);
+/// the variable after `value`, then the one after `sender` (11, 13).
 pub fn resolve_receive(
     alloc: Global,
     context: &Context,

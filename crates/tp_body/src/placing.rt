@@ -61,13 +61,13 @@ impl Drop for FieldTable<'_> {
     }
 }
 
-/// Lists the names in declared order. A name that occurs twice is listed once.
 fn list_names<'f>(table: &mut FieldTable<'f>, fields: &'f [Field]) -> Result<(), ModuleFault>
     requires { table.old.names.keys ≡ [] }
     ensures ok { AreDistinct (field_names fields.now)
         → OnOk result (map (λ n. n.now) table.new.names.keys ≡ field_names fields.now) }
     ensures err { IfErr result (λ fault. fault ≡ ModuleFault.Memory (record {})) }
 {
+    // A name that occurs twice is listed once.
     for field in fields {
         let Ok(_) = table.names.insert(field.name.as_slice()) else {
             return Err(ModuleFault::Memory(Memory));
@@ -76,8 +76,6 @@ fn list_names<'f>(table: &mut FieldTable<'f>, fields: &'f [Field]) -> Result<(),
     Ok(())
 }
 
-/// Looks first at the place `likely`, which is right for entries in declared order, and then in the
-/// table.
 fn find_field<'f>(
     fields: &'f [Field],
     table: &mut FieldTable<'f>,
@@ -94,6 +92,7 @@ fn find_field<'f>(
         → OnOk result (IsTable fields.now (map (λ n. n.now) table.new.names.keys)) }
     ensures err { IfErr result (λ fault. fault ≡ ModuleFault.Memory (record {})) }
 {
+    // Entries in declared order are found at `likely`, without the table.
     if is_field(fields, likely, name) {
         return Ok(Some(likely));
     }
@@ -109,7 +108,6 @@ fn find_field<'f>(
     Ok(Some(place))
 }
 
-/// Takes the place, and returns whether it was free.
 fn occupy(taken: &mut Vec<bool>, place: usize) -> bool
     ensures free { IsTrue result → taken.new.items ≡ slice_set taken.old.items place true }
     ensures taken { OnFalse result (place < length taken.old.items

@@ -5,7 +5,6 @@ use tp_play::body::VariableType;
 use tp_value::items::Items;
 use tp_value::types::Types;
 
-/// The kind of behaviour that a body belongs to.
 #[derive(Clone, Copy)]
 pub enum BehaviourKind {
     /// `mtc`. No name in the body of the test case may be that of a component variable.
@@ -28,7 +27,6 @@ pub struct Scope<'m> {
     pub component_variables: &'m NameSet<'m>,
 }
 
-/// The variables of a body, in the order of the text.
 #[derive(Drop)]
 pub struct Variables<'m> {
     pub names: NameSet<'m>,

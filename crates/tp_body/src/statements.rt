@@ -42,7 +42,6 @@ fn counted_for(turns: &Turns, block: Items<ResolvedStatement>) -> ResolvedStatem
     ResolvedStatement::For(turns.first, turns.bound, block)
 }
 
-/// 16 `NotInSut` in the system under test, then 11 `Unknown` for the port.
 #[tactic(auto, using(crate::proofs::StatementRules::cases))]
 fn resolve_control(context: &Context, control: &Control) -> Result<ResolvedStatement, ModuleFault>
     ensures stands { IfOk result (IsStatement
@@ -60,7 +59,6 @@ fn resolve_control(context: &Context, control: &Control) -> Result<ResolvedState
     Ok(ResolvedStatement::Control(place, control.operation))
 }
 
-/// 16 `NotInSut` in the system under test.
 #[tactic(auto, using(crate::proofs::StatementRules::cases))]
 fn resolve_all_ports(
     context: &Context,
@@ -77,7 +75,6 @@ fn resolve_all_ports(
     Ok(ResolvedStatement::AllPorts(operation))
 }
 
-/// 16 `NotInSut` in the system under test, then 13 `WrongType` for `error`.
 #[tactic(auto, using(crate::proofs::StatementRules::cases))]
 fn resolve_set_verdict(
     context: &Context,
@@ -136,8 +133,6 @@ fn resolve_statement<'m>(
     }
 }
 
-/// 12 `Duplicate` for a loop variable whose name isn't new, then the faults of the block, in which
-/// that variable is known.
 #[cycle(statement)]
 #[tactic(auto, using(crate::proofs::StatementRules::cases))]
 fn resolve_for<'m>(
@@ -258,12 +253,11 @@ fn resolve_branches<'m>(
     Ok(made)
 }
 
-/// Resolves a body: its variables and its statements.
-///
-/// It returns the first fault in the order of the text: 12 `Duplicate`, at `line`, which is that of
-/// the function, for a parameter with the name of a port; then those of [`resolve_variables`]; then
-/// those of the statements. The contract says that the body breaks this rule only if the scope is
-/// sound: at most 64 ports, and no two fields of a record type with one name.
+/// Resolves a body: its variables and its statements. It returns the first fault in the order of
+/// the text: 12 `Duplicate`, at `line`, which is that of the function, for a parameter with the
+/// name of a port; then those of [`resolve_variables`]; then those of the statements. The contract
+/// says that the body breaks this rule only if the scope is sound: at most 64 ports, and no two
+/// fields of a record type with one name.
 pub fn resolve_body(
     alloc: Global,
     scope: &Scope,

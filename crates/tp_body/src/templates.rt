@@ -43,7 +43,6 @@ fn parts(alloc: Global, text: &[u8]) -> Result<Items<PatternPart>, ModuleFault>
     Ok(parts)
 }
 
-/// 13 `WrongType` for another type than `integer`, and for a lower bound above the upper.
 #[tactic(auto, using(crate::proofs::TemplateRules::cases))]
 fn resolve_range(
     context: &Context,
@@ -63,13 +62,12 @@ fn resolve_range(
     Ok(RecvTemplate::Range(lower, upper))
 }
 
-/// Resolves a template of this type.
-///
-/// It returns the first fault from left to right, at the line of the context; the number and the
-/// names of a record's fields come before their contents. 13 `WrongType` for a template that
-/// doesn't fit the type, a lower bound above the upper, a `*` that isn't among the elements of a
-/// record of, a field that the record doesn't have, or that is missing or given twice, and a
-/// variable; 11 `Unknown` for any other name that isn't a loop variable.
+/// Resolves a template of this type. It returns the first fault from left to right, at the line of
+/// the context; the number and the names of a record's fields come before their contents. 13
+/// `WrongType` for a template that doesn't fit the type, a lower bound above the upper, a `*` that
+/// isn't among the elements of a record of, a field that the record doesn't have, or that is
+/// missing or given twice, and a variable; 11 `Unknown` for any other name that isn't a loop
+/// variable.
 #[cycle(template)]
 #[tactic(auto, using(crate::proofs::TemplateRules::cases))]
 pub fn resolve_template(
@@ -124,8 +122,6 @@ pub fn resolve_template(
     }
 }
 
-/// Templates in braces: of the elements of a record of, or of the fields of a record, by their
-/// places. 13 `WrongType` for any other type.
 #[cycle(template)]
 #[tactic(auto, using(crate::proofs::TemplateRules::cases))]
 fn resolve_list(
@@ -153,7 +149,6 @@ fn resolve_list(
     }
 }
 
-/// Templates in braces with the names of fields. 13 `WrongType` for any type but that of a record.
 #[cycle(template)]
 #[tactic(auto, using(crate::proofs::TemplateRules::cases))]
 fn resolve_record(
@@ -243,7 +238,6 @@ fn resolve_element_templates(
     Ok(made)
 }
 
-/// The fields are given by their places.
 #[cycle(template)]
 #[tactic(auto, using(crate::proofs::TemplateRules::cases))]
 fn resolve_field_templates(
@@ -271,7 +265,6 @@ fn resolve_field_templates(
     Ok(made)
 }
 
-/// The fields are given by their names. The result has them in declared order.
 #[cycle(template)]
 #[tactic(auto, using(crate::proofs::TemplateRules::cases))]
 fn resolve_named_templates(

@@ -49,7 +49,6 @@ pub fn is_new(context: &Context, name: &str) -> bool
     true
 }
 
-/// `None` if the name is neither a type of messages nor a component type.
 #[tactic(auto, using(crate::proofs::HeldVariableRules::cases))]
 fn find_held(scope: &Scope, name: &TypeName) -> Option<VariableType>
     ensures there { IfSome result (IsVariableType scope.now name.now) }
@@ -68,8 +67,6 @@ fn find_held(scope: &Scope, name: &TypeName) -> Option<VariableType>
     }
 }
 
-/// 12 `Duplicate` at the line for a name that is taken, 15 `Limit` for more than 4,294,967,295
-/// variables.
 fn add_variable<'m>(
     variables: &mut Variables<'m>,
     name: &'m str,
@@ -90,10 +87,9 @@ fn add_variable<'m>(
     Ok(())
 }
 
-/// Resolves the variables of a body (ES 201 873-1, 11.1).
-///
-/// For each of them in the order of the text, at its line: 11 `Unknown` for its type, then 12
-/// `Duplicate` for a name that isn't new, and 15 `Limit` for more than 4,294,967,295 variables.
+/// Resolves the variables of a body (ES 201 873-1, 11.1). For each of them in the order of the
+/// text, at its line: 11 `Unknown` for its type, then 12 `Duplicate` for a name that isn't new, and
+/// 15 `Limit` for more than 4,294,967,295 variables.
 pub fn resolve_variables<'m>(
     alloc: Global,
     scope: &Scope,
@@ -126,7 +122,6 @@ pub fn resolve_variables<'m>(
     Ok(variables)
 }
 
-/// Returns whether no parameter has the name of a port.
 pub fn are_no_ports(scope: &Scope) -> bool
     ensures apart { IsTrue result ↔ ((k : ℕ) (name : List ℕ)
         → slice_get (declared_port_names scope.now.component_type.now) k ≡ Some name

@@ -59,7 +59,6 @@ impl ModuleRule {
     }
 }
 
-/// The number and the name of its refusal.
 impl fmt::Display for ModuleRule {
     fn fmt<W: fmt::Write>(&self, f: &mut fmt::Formatter<W>) -> fmt::Result {
         let refusal = self.refusal();
@@ -70,7 +69,6 @@ impl fmt::Display for ModuleRule {
 /// Why a module is not accepted.
 #[derive(Clone, Copy, Debug, PartialEq, Eq, Error)]
 pub enum ModuleFault {
-    /// The module breaks a rule.
     #[error("refused {rule} line {line}")]
     Refused {
         rule: ModuleRule,

@@ -87,10 +87,9 @@ impl<'m> NameSet<'m> {
         self.names.len()
     }
 
-    /// Adds a name, whose number is the number of names before.
-    ///
-    /// 12 `Duplicate` if and only if the name is taken; else 15 `Limit` if there are 4,294,967,295
-    /// names. The names are then as before.
+    /// Adds a name, whose number is the number of names before. 12 `Duplicate` if and only if the
+    /// name is taken; else 15 `Limit` if there are 4,294,967,295 names. The names are then as
+    /// before.
     pub fn add(&mut self, name: &'m str) -> Result<(), NameFault>
         ensures ok { OnOk result (self.new ≡ self.old ++ name.now ∷ []) }
         ensures duplicate { IsErrOf result NameFault.Duplicate ↔ Contains self.old name.now }

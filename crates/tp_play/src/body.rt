@@ -17,11 +17,9 @@ pub enum SendValue {
     Turn(usize),
     /// A record, as the values of its fields in declared order.
     Record(Items<SendValue>),
-    /// A record of, as its elements.
     List(Items<SendValue>),
 }
 
-/// A message to send, in which loop variables may stand for integers.
 #[derive(Drop)]
 pub struct SendMsg {
     /// The type under which it is sent.
@@ -32,7 +30,6 @@ pub struct SendMsg {
 /// A template in which a loop variable may stand for an integer (ES 201 873-1, 15 and Annex B).
 #[derive(Drop)]
 pub enum RecvTemplate {
-    /// A specific value.
     Exact(SendValue),
     /// `?`
     Any,
@@ -61,25 +58,20 @@ pub enum RecvMsg {
     Of(Ty, RecvTemplate),
 }
 
-/// The message of a send.
 #[derive(Drop)]
 pub enum Sent {
-    /// A message that is written out.
     Written(SendMsg),
     /// The message held by the variable at this place of the body's variables.
     Variable(usize),
 }
 
-/// The receiver of a send.
 #[derive(Clone, Copy)]
 pub enum Receiver {
-    /// No receiver is named.
     Nobody,
     /// The component at this place of the references.
     Reference(usize),
     /// The component held by the variable at this place of the body's variables.
     Variable(usize),
-    /// `all component`
     All,
 }
 
@@ -95,7 +87,6 @@ pub struct SendOperation {
 /// A receiving operation (ES 201 873-1, 22.2.2 to 22.2.4).
 #[derive(Drop)]
 pub struct Receiving {
-    /// The port, by its place in the component type.
     pub port: u32,
     pub kind: ReceiveKind,
     pub wanted: RecvMsg,
@@ -112,15 +103,11 @@ pub struct Receiving {
 #[cycle(body)]
 pub enum ResolvedStatement {
     Send(SendOperation),
-    /// A receiving operation that stands alone.
     Receive(Receiving),
-    /// An operation on the port at this place.
     Control(u32, PortOperation),
     /// An operation on each port, in declared order.
     AllPorts(PortOperation),
-    /// `setverdict`
     SetVerdict(Verdict),
-    /// `alt`: its branches, and the block of `[else]`.
     Alt(Items<ResolvedBranch>, Option<Items<ResolvedStatement>>),
     /// A counted `for`: the first value of its variable, the bound that the variable stays below,
     /// and its block.
@@ -132,14 +119,12 @@ pub enum ResolvedStatement {
 #[cycle(body)]
 pub struct ResolvedBranch {
     pub receiving: Receiving,
-    /// The statements after the operation.
     pub block: Items<ResolvedStatement>,
 }
 
 /// The type of a variable of a body (ES 201 873-1, 11.1).
 #[derive(Clone, Copy)]
 pub enum VariableType {
-    /// A value of this type.
     Message(Ty),
     /// A component of any type.
     Component,
@@ -147,7 +132,6 @@ pub enum VariableType {
 
 /// A body: its variables, in the order of the text, and its statements.
 pub struct Body {
-    /// The variables have no value at first.
     pub variables: Items<VariableType>,
     pub statements: Items<ResolvedStatement>,
 }

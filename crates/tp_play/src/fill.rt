@@ -49,10 +49,10 @@ fn fill_values(alloc: Global, values: &[SendValue], turns: &[i64]) -> Result<Ite
     Ok(Items::from_vec(made))
 }
 
-/// It changes nothing: after it each integer is known to have 64 bits.
 fn read_integers(integers: &[i64])
     ensures { All (FitsSigned w64) integers.now }
 {
+    // After its read each integer is known to have 64 bits.
     for place in 0..integers.len() {
         let _integer = integers[place];
     }
@@ -130,10 +130,9 @@ fn fill_all(
     Ok(Items::from_vec(made))
 }
 
-/// Makes the wanted part of a receiving operation. `turns` has the values of the loop variables
-/// around it, the outermost first: one for each loop variable in the template (ES 201 873-1, 15 and
-/// Annex B). For all types under which the template fits its type whatever the loop variables hold,
-/// the result fits it.
+/// Makes the wanted part of a receiving operation, as [`fill_message`] makes a message (ES 201
+/// 873-1, 15 and Annex B). For all types under which the template fits its type whatever the loop
+/// variables hold, the result fits it.
 pub fn fill_template(alloc: Global, wanted: &RecvMsg, turns: &[i64]) -> Result<MsgTemplate, Memory>
     requires given { needed_by_wanted wanted.now ≤ length turns.now }
     ensures value { IfOk result (λ made. made ≡ filled_wanted turns.now wanted.now) }

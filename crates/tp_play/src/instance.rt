@@ -3,7 +3,6 @@ use tp_config::port_type::CompId;
 
 #[derive(Clone, Copy)]
 pub enum WhichBody {
-    /// The test case's own body.
     TestCase,
     /// The body of the function at this place among the functions of the module.
     Function(u32),

@@ -18,15 +18,12 @@ use tp_config::port_type::CompId;
 use tp_value::types::Types;
 
 /// A test case whose module obeys the rules: its components and what each of them does. Contracts
-/// see the configuration, the types and each component's behaviour.
-///
-/// It can always be executed: each port, reference, variable and loop variable in the body of a
-/// component exists.
+/// see the configuration, the types and each component's behaviour. It can always be executed: each
+/// port, reference, variable and loop variable in the body of a component exists.
 pub struct TestCase {
     config: Config,
     types: Types,
     bodies: Bodies,
-    /// The body of each component, by its number.
     instances: Vec<Option<Instance>>,
 }
 
@@ -43,7 +40,6 @@ impl Drop for TestCase {
     }
 }
 
-/// What a component does.
 #[derive(Clone, Copy)]
 pub struct Behaviour<'t> {
     /// Components that start the same function have the same body.
@@ -160,7 +156,6 @@ impl TestCase {
         CompId(number as u32)
     }
 
-    /// The component `mtc`, which has number 0.
     pub fn mtc(&self) -> CompId
         ensures number { result.0 ≡ 0 }
         ensures there { IsComponent self.now.config result }
@@ -184,14 +179,12 @@ impl TestCase {
         }
     }
 
-    /// The configuration that the setup statements make.
     pub fn config(&self) -> &Config
         ensures { result.now ≡ self.now.config }
     {
         &self.config
     }
 
-    /// The record and record-of types, under their own names.
     pub fn types(&self) -> &Types
         ensures { result.now ≡ self.now.types }
     {

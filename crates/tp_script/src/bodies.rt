@@ -22,7 +22,6 @@ use tp_setup::prepared::Prepared;
 use tp_setup::sorted::as_function;
 use tp_tree::tree::{Definition, Function, Module};
 
-/// A function named `sut` plays the system under test.
 fn plays(function: &Function) -> BehaviourKind
     ensures { result ≡ plays_of function.now }
 {

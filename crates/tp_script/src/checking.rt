@@ -23,8 +23,6 @@ use tp_setup::prepared::Prepared;
 use tp_setup::preparing::prepare;
 use tp_tree::tree::Module;
 
-/// The fourth and the fifth pass: the bodies, and what each component does with them. It returns
-/// the first fault.
 fn resolve_behaviours<'m>(
     alloc: Global,
     parsed: &'m Module,

@@ -12,9 +12,7 @@ use tp_token::fault::{ScriptFault, TextRule};
 /// A rule that a script breaks. There is no other.
 #[derive(Clone, Copy, Debug, PartialEq, Eq)]
 pub enum ScriptRule {
-    /// A rule that the text breaks as it is read.
     Text(TextRule),
-    /// A rule that the module breaks.
     Module(ModuleRule),
 }
 
@@ -30,7 +28,6 @@ impl ScriptRule {
     }
 }
 
-/// The number and the name of its refusal.
 impl fmt::Display for ScriptRule {
     fn fmt<W: fmt::Write>(&self, f: &mut fmt::Formatter<W>) -> fmt::Result {
         let refusal = self.refusal();
@@ -41,7 +38,6 @@ impl fmt::Display for ScriptRule {
 /// Why a text has no test case.
 #[derive(Clone, Copy, Debug, PartialEq, Eq, Error)]
 pub enum TestCaseFault {
-    /// It breaks a rule.
     #[error("refused {rule} line {line}")]
     Refused {
         rule: ScriptRule,

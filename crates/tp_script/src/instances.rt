@@ -23,7 +23,6 @@ fn add_variables(references: &mut Vec<CompId>, count: u32) -> Result<(), ModuleF
     Ok(())
 }
 
-/// The components that the references of a body name.
 fn references(
     alloc: Global,
     itself: CompId,
@@ -42,7 +41,6 @@ fn references(
     Ok(made)
 }
 
-/// 15 `Limit` if there are more than 4,294,967,295 component variables.
 fn variable_count(prepared: &Prepared) -> Result<u32, ModuleFault>
     ensures count { IfOk result (λ count. count ≡ length prepared.now.variables) }
     ensures refused { IfErr result (λ _. 4294967295 < length prepared.now.variables) }
@@ -54,7 +52,6 @@ fn variable_count(prepared: &Prepared) -> Result<u32, ModuleFault>
     Ok(count as u32)
 }
 
-/// The component after `mtc` and this many others. `None` if its number is too large.
 fn component_behind(others: usize) -> Option<CompId>
     ensures number { IfSome result (λ comp. comp.0 ≡ others + 1) }
     ensures many { IfNone result (4294967295 ≤ others) }
@@ -117,8 +114,6 @@ fn started_instance(
     })
 }
 
-/// The test system interface comes after all other components. It does nothing if no function is
-/// named `sut`.
 fn system_instance(
     alloc: Global,
     prepared: &Prepared,

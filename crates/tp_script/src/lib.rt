@@ -1,9 +1,7 @@
 //! The reader of scripts: the tree of a text, all checks of its module in their order, and the test
 //! case that they make of it. The programs `tpr` and `tpr_ordered` call [`reading::read_script`];
-//! start there.
-//!
-//! 50 `Memory` means that an allocation was refused, and says nothing about the script. A call that
-//! can't return it doesn't allocate.
+//! start there. 50 `Memory` means that an allocation was refused, and says nothing about the
+//! script; only calls that can return it allocate.
 #![tactic(auto)]
 
 mod bodies;

@@ -47,7 +47,6 @@ fn instance_size(main: u64, functions: &[u64], instance: &Option<Instance>) -> u
     }
 }
 
-/// The sum of the sizes of what the components do, up to [`SIZE_CEILING`].
 fn count_instances(main: u64, functions: &[u64], instances: &[Option<Instance>]) -> u64
     ensures { result ≡ capped (sum (map (size_of_instance main functions.now) instances.now)) }
 {

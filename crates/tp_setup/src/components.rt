@@ -18,7 +18,6 @@ use tp_name::fault::{ModuleFault, ModuleRule, refused};
 use tp_name::name_set::NameSet;
 use tp_tree::tree::{ComponentType, Creation, SetupAction, SetupStatement, TestCase};
 
-/// A component as the text declares it, with the line for its refusals.
 #[derive(Clone, Copy)]
 pub(crate) struct DeclaredComponent<'a> {
     pub name: &'a str,
@@ -70,19 +69,13 @@ pub(crate) fn add_component(
     }
 }
 
-/// The rules for the component variables of a test case.
 #[derive(Clone, Copy)]
 pub(crate) struct VariableRules<'a, 'm> {
     pub type_names: &'a NameSet<'m>,
-    /// The names of the main component's ports.
     pub port_names: &'a NameSet<'m>,
-    /// The maximum number of component variables.
     pub most: usize,
 }
 
-/// Adds the name of a component variable. 12 `Duplicate` if another variable or a port of the main
-/// component has it, 11 `Unknown` if its type is unknown, 13 `WrongType` if the two types differ,
-/// 15 `Limit` if there are too many components.
 fn check_variable<'m>(
     variables: &mut NameSet<'m>,
     rules: &VariableRules,
@@ -126,7 +119,6 @@ fn check_variable<'m>(
 /// The statement that creates no component, because it is refused.
 #[derive(Drop)]
 pub struct StoppedCreation<'m> {
-    /// The setup statements before it.
     pub before: &'m [SetupStatement],
     pub fault: ModuleFault,
 }
@@ -155,15 +147,12 @@ pub(crate) fn variable_component(variables: &NameSet, name: &str) -> Option<Comp
     Some(CompId(place + 1))
 }
 
-/// A `var` of the setup statements, with its line.
 #[derive(Clone, Copy)]
 struct CreationAt<'m> {
     line: u32,
-    /// The component variable and the component.
     creation: &'m Creation,
 }
 
-/// Creates the component of a `var`, after [`check_variable`].
 fn create<'m>(
     alloc: Global,
     config: &mut Config,
@@ -205,10 +194,9 @@ fn create<'m>(
     Ok(())
 }
 
-/// Creates the components of the setup statements, in the order of the text.
-///
-/// It stops at the first that breaks a rule: 12 `Duplicate`, 11 `Unknown`, 13 `WrongType` or 15
-/// `Limit`, at its line, or 50 `Memory`. The components created before it stay.
+/// Creates the components of the setup statements, in the order of the text. It stops at the first
+/// that breaks a rule: 12 `Duplicate`, 11 `Unknown`, 13 `WrongType` or 15 `Limit`, at its line, or
+/// 50 `Memory`. The components created before it stay.
 pub(crate) fn create_components<'m>(
     alloc: Global,
     config: &mut Config,

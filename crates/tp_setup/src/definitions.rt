@@ -25,14 +25,12 @@ use tp_tree::tree::{
 };
 use tp_value::types::Types;
 
-/// The contents of a module's definitions.
 #[derive(Drop)]
 pub struct Definitions<'m> {
     pub case: CaseAt<'m>,
     pub sorted: Sorted<'m>,
     /// The record and record-of types, under their own names.
     pub types: Types,
-    /// The component types, in the order of the text.
     pub component_types: Vec<CompType>,
 }
 
@@ -83,7 +81,6 @@ fn are_ports_few(ports: &[PortDeclaration]) -> bool
     true
 }
 
-/// 11 `Unknown` at the line if not everything is known.
 fn known(is_known: bool, line: u32) -> Result<(), ModuleFault>
     ensures known { OnOk result (IsTrue is_known) }
     ensures refused { IfErr result (λ _. ¬ IsTrue is_known) }
@@ -96,8 +93,6 @@ fn known(is_known: bool, line: u32) -> Result<(), ModuleFault>
     }
 }
 
-/// 11 `Unknown` at the line if and only if the type of a port is unknown; else 15 `Limit` at the
-/// line if and only if there are more than 64 ports.
 fn check_component(
     port_types: &NameSet,
     component: &ComponentType,
@@ -116,7 +111,6 @@ fn check_component(
     Ok(())
 }
 
-/// Returns whether a function can play the system under test, whose type a `system` clause names.
 fn plays_system(system: &Option<String>, function: &Function) -> bool
     ensures { IsTrue result ↔ CanPlaySystem (option_map string_bytes system.now) function.now }
 {
@@ -150,7 +144,6 @@ fn check_function(
     Ok(())
 }
 
-/// Returns whether this is the name of the function that plays the system under test.
 pub fn is_sut(name: &str) -> bool
     ensures { IsTrue result ↔ (name.now ≡ sut) }
 {
@@ -205,7 +198,6 @@ fn check_definition(
     }
 }
 
-/// Goes through the definitions in order, without allocating.
 fn check_definitions(
     sorted: &Sorted,
     system: &Option<String>,
@@ -244,13 +236,10 @@ fn sort_sound<'m>(
 
 #[derive(Drop)]
 struct MadeTypes {
-    /// The record and record-of types, under their own names.
     types: Types,
-    /// The component types, in the order of the text.
     component_types: Vec<CompType>,
 }
 
-/// The component types, in the order of the text. Port types are found by their own names.
 fn make_component_types(alloc: Global, sorted: &Sorted) -> Result<Vec<CompType>, ModuleFault>
     requires { ArePortsNamed sorted.now }
     ensures components { IfOk result (λ r. AreComponentTypesIn sorted.now r.items) }
@@ -279,12 +268,10 @@ fn make(alloc: Global, sorted: &Sorted) -> Result<MadeTypes, ModuleFault>
     })
 }
 
-/// The second pass: resolves a module's definitions.
-///
-/// It returns the first fault in the order of the text, at the line of the first token of its
-/// definition, and within a definition in this order: 11 `Unknown` for a type that isn't there; 15
-/// `Limit` for more than 64 ports; 16 `NotInSut` if the function `sut` has parameters, or doesn't
-/// run on the type that a `system` clause names.
+/// The second pass: resolves a module's definitions. It returns the first fault in the order of the
+/// text, at the line of the first token of its definition, and within a definition in this order:
+/// 11 `Unknown` for a type that isn't there; 15 `Limit` for more than 64 ports; 16 `NotInSut` if
+/// the function `sut` has parameters, or doesn't run on the type that a `system` clause names.
 pub fn define<'m>(
     alloc: Global,
     parsed: &'m Module,

@@ -1,8 +1,7 @@
 //! The checks of a module up to its bodies: names, definitions, setup and starts. `tp_script` calls
-//! [`preparing::prepare`] before the checks of `tp_body`; start there.
-//!
-//! 50 `Memory` means that an allocation was refused, and says nothing about the script. A call that
-//! can't return it doesn't allocate.
+//! [`preparing::prepare`] before the checks of `tp_body`; start there. 50 `Memory` means that an
+//! allocation was refused, and says nothing about the script; only calls that can return it
+//! allocate.
 #![tactic(auto)]
 
 mod components;

@@ -42,7 +42,6 @@ fn goes_out(way: Way) -> bool
     }
 }
 
-/// 11 `Unknown` at line 0 if a name isn't that of a type.
 fn add_types(types: &NameSet, names: &[TypeName], made: &mut Items<Ty>) -> Result<(), ModuleFault>
     ensures added { OnOk result (Appends types.now names.now made.old made.new) }
     ensures refused { IfErr result (IsRefusedBy (All (NamesType types.now) names.now)) }
@@ -96,7 +95,6 @@ fn sent_types(
     Ok(made)
 }
 
-/// The types that a port type receives and sends.
 fn make_port_type(
     alloc: Global,
     types: &NameSet,
@@ -133,18 +131,17 @@ pub fn make_port_types(
     Ok(made)
 }
 
-/// The same lists for one more port: however many ports share them, they are in memory once.
 fn share(port_type: &PortType) -> Result<PortType, ModuleFault>
     ensures shared { IfOk result (λ shared.
         (shared.ins ≡ port_type.now.ins) × (shared.outs ≡ port_type.now.outs)) }
     ensures refused { IfErr result (λ fault. fault ≡ ModuleFault.Memory (record {})) }
 {
+    // However many ports share the lists, they are in memory once.
     let ins = port_type.ins.share()?;
     let outs = port_type.outs.share()?;
     Ok(PortType { ins, outs })
 }
 
-/// 12 `Duplicate` at the line of its name if the name is taken.
 fn add_port(
     alloc: Global,
     component: &mut CompType,
@@ -203,7 +200,6 @@ fn find_made<'p>(sorted: &Sorted, made: &'p [PortType], name: &str) -> Option<&'
     Some(found)
 }
 
-/// A component type has at most 64 ports.
 pub fn has_room(count: usize, more: usize) -> bool
     requires { count ≤ 64 }
     ensures { IsTrue result ↔ (count + more ≤ 64) }
@@ -211,8 +207,6 @@ pub fn has_room(count: usize, more: usize) -> bool
     more <= PORT_LIMIT - count
 }
 
-/// A component type has its ports in declared order. 11 `Unknown` at line 0 if the type of one is
-/// unknown, 12 `Duplicate` at the line of a name that is given twice.
 fn make_component(
     alloc: Global,
     sorted: &Sorted,
@@ -241,12 +235,10 @@ fn make_component(
     Ok(ports)
 }
 
-/// The component types, in their order; `made` has the port types.
-///
-/// The first component type that breaks a rule is refused: 11 `Unknown` at line 0 if the type of a
-/// port is unknown, 12 `Duplicate` at the line of a port's name that is given twice, 15 `Limit` at
-/// line 0 if there are more than 64 ports. 50 `Memory` also means that a list of types can have no
-/// more handles.
+/// The component types, in their order; `made` has the port types. The first component type that
+/// breaks a rule is refused: 11 `Unknown` at line 0 if the type of a port is unknown, 12
+/// `Duplicate` at the line of a port's name that is given twice, 15 `Limit` at line 0 if there are
+/// more than 64 ports. 50 `Memory` also means that a list of types can have no more handles.
 pub fn make_components(
     alloc: Global,
     sorted: &Sorted,

@@ -6,12 +6,10 @@ use tp_config::config::Config;
 use tp_name::name_set::NameSet;
 use tp_value::types::Types;
 
-/// The definitions, the configuration and the starts of a module.
 #[derive(Drop)]
 pub struct Prepared<'m> {
     pub case: CaseAt<'m>,
     pub sorted: Sorted<'m>,
-    /// The record and record-of types, under their own names.
     pub types: Types,
     /// `mtc`, the components that are created, and the test system interface, in this order, with
     /// the connections and mappings of the setup statements.

@@ -41,14 +41,12 @@ fn find_definitions(alloc: Global, parsed: &Module) -> Result<Definitions<'_>, M
     define(alloc, parsed, case)
 }
 
-/// The results of the third pass.
 #[derive(Drop)]
 struct Configured<'m> {
     made: SetupResult<'m>,
     starts: Starts,
 }
 
-/// The third pass: setup and starts. Each component type has at most 64 ports.
 fn set_up_and_start<'m>(
     alloc: Global,
     sorted: &Sorted<'m>,
@@ -82,10 +80,9 @@ fn set_up_and_start<'m>(
     Ok(Configured { made, starts })
 }
 
-/// The first three passes: names, definitions, setup and starts.
-///
-/// It returns the first fault of the first pass that finds one, with its line: see [`check_names`],
-/// [`define`], [`set_up`] and [`check_starts`].
+/// The first three passes: names, definitions, setup and starts. It returns the first fault of the
+/// first pass that finds one, with its line: see [`check_names`], [`define`], [`set_up`] and
+/// [`check_starts`].
 pub fn prepare(alloc: Global, parsed: &Module) -> Result<Prepared<'_>, ModuleFault>
     ensures rules { OnOk result (IsWellDeclared parsed.now) }
     ensures made { IfOk result (IsPreparedOf parsed.now) }

@@ -44,7 +44,6 @@ pub fn are_types(types: &NameSet, names: &[TypeName]) -> bool
     names.iter().all(|name| is_known_type(types, name))
 }
 
-/// 11 `Unknown` at the line if the field's type is unknown.
 fn make_field(
     alloc: Global,
     types: &NameSet,
@@ -104,11 +103,10 @@ fn make_type(
     }
 }
 
-/// The types that are defined, under their own names, in the order of the text.
-///
-/// The first definition that breaks a rule is refused at line 0: 11 `Unknown` if the type of a
-/// field or of the elements is unknown, or if it is no record or record-of type; 15 `Limit` if
-/// there are 4,294,967,295 types before it; 12 `Duplicate` if one of them has its name.
+/// The types that are defined, under their own names, in the order of the text. The first
+/// definition that breaks a rule is refused at line 0: 11 `Unknown` if the type of a field or of
+/// the elements is unknown, or if it is no record or record-of type; 15 `Limit` if there are
+/// 4,294,967,295 types before it; 12 `Duplicate` if one of them has its name.
 pub fn make_types(
     alloc: Global,
     names: &NameSet,

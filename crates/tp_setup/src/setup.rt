@@ -45,7 +45,6 @@ fn find_end_component(
     }
 }
 
-/// 11 `Unknown` at the line if the component or the port is unknown.
 fn find_end(
     config: &Config,
     known: &NameSet,
@@ -67,7 +66,6 @@ fn find_end(
     Ok(port)
 }
 
-/// 11 `Unknown` at the line if a component or a port is unknown.
 fn find_ends(
     config: &Config,
     known: &NameSet,
@@ -91,7 +89,6 @@ fn find_ends(
     Ok((p, q))
 }
 
-/// 11 `Unknown` at the line if a port is unknown, then the refusals of [`Config::connect`].
 fn connect_ends(
     config: &mut Config,
     known: &NameSet,
@@ -114,7 +111,6 @@ fn connect_ends(
     }
 }
 
-/// 11 `Unknown` at the line if a port is unknown, then the refusals of [`Config::map`].
 fn map_ends(
     config: &mut Config,
     known: &NameSet,
@@ -137,9 +133,6 @@ fn map_ends(
     }
 }
 
-/// Carries out one setup statement in a configuration that has all components: adds a component
-/// variable, or connects or maps two ports. 11 `Unknown` if one is unknown, then the refusals of
-/// [`Config::connect`] or [`Config::map`], at its line.
 fn add_setup<'m>(
     config: &mut Config,
     known: &mut NameSet<'m>,
@@ -177,12 +170,11 @@ fn add_setup<'m>(
 }
 
 /// Makes the connections and mappings of the setup statements, in order, in a configuration that
-/// has all components, and returns the component variables.
-///
-/// It stops at the first statement that breaks a rule, at its line: a `var` with 12 `Duplicate`, or
-/// 15 `Limit` for more than 4,294,967,295 of them; a `connect` or a `map` with 11 `Unknown`, then
-/// the refusals of [`Config::connect`] or [`Config::map`] in their order. The connections and
-/// mappings made before it stay.
+/// has all components, and returns the component variables. It stops at the first statement that
+/// breaks a rule, at its line: a `var` with 12 `Duplicate`, or 15 `Limit` for more than
+/// 4,294,967,295 of them; a `connect` or a `map` with 11 `Unknown`, then the refusals of
+/// [`Config::connect`] or [`Config::map`] in their order. The connections and mappings made before
+/// it stay.
 pub fn connect_all<'m>(
     alloc: Global,
     config: &mut Config,
@@ -207,10 +199,7 @@ pub fn connect_all<'m>(
 
 #[derive(Drop)]
 pub struct SetupResult<'m> {
-    /// `mtc`, the components that are created, and the test system interface, in this order.
     pub config: Config,
-    /// The component variables, in the order of the text. The number of a variable's component is
-    /// one more than that of its name.
     pub variables: NameSet<'m>,
 }
 
@@ -375,12 +364,11 @@ fn configure<'m>(
     connect_all(alloc, config, system, &case.case.setups)
 }
 
-/// The setup statements of the third pass. Each component type has at most 64 ports.
-///
-/// 11 `Unknown` at the line of the test case for the types after `runs on` and `system`. Then the
-/// first statement in the order of the text that breaks a rule is refused at its line: a `var` with
-/// 12 `Duplicate`, 11, 13 `WrongType` if its two types differ, or 15 `Limit` for the 65th
-/// component, with `mtc` and `system` counted; a `connect` or a `map` as in [`connect_all`].
+/// The setup statements of the third pass. Each component type has at most 64 ports. 11 `Unknown`
+/// at the line of the test case for the types after `runs on` and `system`. Then the first
+/// statement in the order of the text that breaks a rule is refused at its line: a `var` with 12
+/// `Duplicate`, 11, 13 `WrongType` if its two types differ, or 15 `Limit` for the 65th component,
+/// with `mtc` and `system` counted; a `connect` or a `map` as in [`connect_all`].
 pub fn set_up<'m>(
     alloc: Global,
     sorted: &Sorted<'m>,

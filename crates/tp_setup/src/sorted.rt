@@ -19,7 +19,6 @@ use tp_tree::tree::{ComponentType, Defined, Definition, Function, Module, PortTy
 #[derive(Drop)]
 pub struct Sorted<'m> {
     pub type_names: NameSet<'m>,
-    /// The record and record-of types.
     pub types: Vec<&'m Defined>,
     pub port_names: NameSet<'m>,
     pub port_types: Vec<&'m PortType>,

@@ -54,7 +54,6 @@ fn is_of_type(types: &[&str], comp: CompId, name: &str) -> bool
     }
 }
 
-/// 11 `Unknown` if the argument is unknown, 13 `WrongType` if its type isn't the parameter's.
 fn check_argument(
     variables: &NameSet,
     types: &[&str],
@@ -79,7 +78,6 @@ fn check_argument(
     Ok(comp)
 }
 
-/// 13 `WrongType` if there are more or fewer arguments than parameters.
 fn check_arguments(
     alloc: Global,
     variables: &NameSet,
@@ -110,7 +108,6 @@ fn check_arguments(
     Ok(made)
 }
 
-/// [`add_started`] checks that the component is started once.
 fn check_start(
     alloc: Global,
     sorted: &Sorted,
@@ -152,7 +149,6 @@ fn check_start(
     })
 }
 
-/// The type names of `mtc` and of the components that are created.
 fn component_types(alloc: Global, case: &TestCase) -> Result<Vec<&str>, ModuleFault>
     ensures types { IfOk result (λ made. map (λ t. t.now) made.items ≡ type_names_of case.now) }
     ensures refused { IfErr result (λ fault. fault ≡ ModuleFault.Memory (record {})) }
@@ -168,7 +164,6 @@ fn component_types(alloc: Global, case: &TestCase) -> Result<Vec<&str>, ModuleFa
     Ok(types)
 }
 
-/// 11 `Unknown` if there is no such component variable, 18 `NotStarted` if it was started before.
 fn add_started<'m>(
     variables: &NameSet,
     started: &mut NameSet<'m>,
@@ -195,8 +190,6 @@ fn add_started<'m>(
     }
 }
 
-/// For each component variable the place of its start. 18 `NotStarted` at the line of the first
-/// variable whose component isn't started.
 fn find_starts(
     alloc: Global,
     started: &NameSet,
@@ -222,8 +215,6 @@ fn find_starts(
     Ok(places)
 }
 
-/// 17 `NoDone` at the line if the test case starts components and doesn't end with `all
-/// component.done`.
 fn check_done(case: &TestCase, places: &[u32], line: u32) -> Result<(), ModuleFault>
     ensures done { OnOk result (0 < length places.now → IsSome case.now.all_done) }
     ensures refused { IfErr result (
@@ -291,7 +282,6 @@ fn start_all<'m>(
     check_each(alloc, sorted, names, &types, &case.starts)
 }
 
-/// The places of the starts, after the check that the test case ends as it must.
 fn place_starts(alloc: Global, started: &NameSet, case: CaseAt<'_>) -> Result<Vec<u32>, ModuleFault>
     ensures places { IfOk result (λ places. AllZip (IsStartPlace started.now)
         (variables case.entry.case.now.setups.items) places.items) }
@@ -309,13 +299,11 @@ fn place_starts(alloc: Global, started: &NameSet, case: CaseAt<'_>) -> Result<Ve
     Ok(places)
 }
 
-/// The starts of the third pass.
-///
-/// The first start in the order of the text that breaks a rule is refused at its line, in this
-/// order: its component, 11 `Unknown`, or 18 `NotStarted` if it was started before; its function,
-/// 11, 16 `NotInSut` or 13 `WrongType`; its arguments, each 11 or 13. Then 18 at the line of the
-/// first `var` whose component isn't started, and 17 `NoDone` at the line of a test case that lacks
-/// `all component.done` at its end.
+/// The starts of the third pass. The first start in the order of the text that breaks a rule is
+/// refused at its line, in this order: its component, 11 `Unknown`, or 18 `NotStarted` if it was
+/// started before; its function, 11, 16 `NotInSut` or 13 `WrongType`; its arguments, each 11 or 13.
+/// Then 18 at the line of the first `var` whose component isn't started, and 17 `NoDone` at the
+/// line of a test case that lacks `all component.done` at its end.
 pub fn check_starts(
     alloc: Global,
     sorted: &Sorted,

@@ -3,7 +3,6 @@ use tp_config::port_type::CompId;
 
 #[derive(Drop)]
 pub struct StartedComponent {
-    /// The place of the function among the functions of the module.
     pub function: u32,
     pub arguments: Vec<CompId>,
 }

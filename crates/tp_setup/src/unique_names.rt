@@ -17,14 +17,12 @@ use tp_tree::tree::{
     DeclaredName, Defined, Definition, FieldType, Module, Parameter, PortDeclaration, TestCase,
 };
 
-/// A test case with the line of its first token.
 #[derive(Clone, Copy)]
 pub struct CaseAt<'m> {
     pub line: u32,
     pub case: &'m TestCase,
 }
 
-/// 12 `Duplicate` at the name's line.
 fn add_name<'m>(names: &mut NameSet<'m>, name: &'m DeclaredName) -> Result<(), ModuleFault>
     ensures names { OnOk result (names.new ≡ names.old ++ declared name.now ∷ []) }
     ensures numbered { IsNumbered names.new }
@@ -51,8 +49,6 @@ fn declare_all<'m>(names: &mut NameSet<'m>, list: &'m [DeclaredName]) -> Result<
     Ok(())
 }
 
-/// 12 `Duplicate` at the line of a name that is there already, 15 `Limit` at the line of a name
-/// after 4,294,967,295 others. The names before it stay added.
 pub(crate) fn declare_ports<'m>(
     names: &mut NameSet<'m>,
     ports: &'m [PortDeclaration],
@@ -108,8 +104,6 @@ pub fn declare_parameters<'m>(
     Ok(())
 }
 
-/// Adds the names of the fields, ports or parameters of a definition. 12 `Duplicate` at the line of
-/// the second of two that are equal.
 fn declare_inner<'m>(names: &mut NameSet<'m>, defined: &'m Defined) -> Result<(), ModuleFault>
     requires empty { names.old ≡ [] }
     requires numbered { IsNumbered names.old }
@@ -148,7 +142,6 @@ pub(crate) fn defined_name(defined: &Defined) -> &str
     }
 }
 
-/// 12 `Duplicate` at the line of a second test case.
 fn next_case<'m>(
     before: Option<CaseAt<'m>>,
     definition: &'m Definition,
@@ -188,8 +181,6 @@ fn has_case(definitions: &[Definition]) -> bool
     definitions.iter().any(is_case)
 }
 
-/// Adds the name of a definition, and checks the names in it. 12 `Duplicate` at its line if the
-/// name is taken.
 fn check_name<'m>(
     alloc: Global,
     names: &mut NameSet<'m>,
@@ -233,12 +224,11 @@ fn find_case<'m>(
     Ok(case)
 }
 
-/// The first pass: finds the test case of the module.
-///
-/// 11 `Unknown` at the line of the module if there is none. Then, in the order of the text: 12
-/// `Duplicate` at the line of the second of two definitions with one name, of a second test case,
-/// and of the second of two equal names of fields, ports or parameters in one definition; 15
-/// `Limit` at the line of a name after 4,294,967,295 others.
+/// The first pass: finds the test case of the module. 11 `Unknown` at the line of the module if
+/// there is none. Then, in the order of the text: 12 `Duplicate` at the line of the second of two
+/// definitions with one name, of a second test case, and of the second of two equal names of
+/// fields, ports or parameters in one definition; 15 `Limit` at the line of a name after
+/// 4,294,967,295 others.
 pub fn check_names(alloc: Global, parsed: &Module) -> Result<CaseAt<'_>, ModuleFault>
     ensures case { IfOk result (λ found. test_cases parsed.now ≡ found.case.now ∷ []) }
     ensures names { OnOk result (HasUniqueNames parsed.now) }

@@ -16,7 +16,6 @@ use std::alloc::Global;
 use tp_token::token::{Placed, Symbol, Token};
 use tp_token::word::Word;
 
-/// The tokens that are left, and the line of the end of the text.
 #[derive(Drop)]
 pub(crate) struct Parser<'a, 't> {
     pub rest: &'a [Placed<'t>],

@@ -12,7 +12,6 @@ const BRACKETS: u32 = 32;
 /// The greatest number without a `-` before it.
 pub(crate) const GREATEST: u64 = 9_223_372_036_854_775_807;
 
-/// What a token does to the number of open brackets.
 #[derive(Clone, Copy)]
 pub(crate) enum Bracket {
     Opens,
@@ -38,7 +37,6 @@ fn symbol_bracket(symbol: Symbol) -> Bracket
     }
 }
 
-/// The greatest number that may follow a `-` (`is_signed`), or stand elsewhere.
 fn greatest_number(is_signed: bool) -> u64
     ensures { result ≡ greatest_number is_signed }
 {

@@ -19,7 +19,6 @@ use tp_token::word::Word;
 use tp_tree::message::MessageTemplate;
 use tp_tree::tree::{ComponentName, Control, Receive, Receivers, Redirect, Send, SentExpression};
 
-/// What follows the word of a receiving operation.
 #[derive(Drop)]
 struct Received {
     template: Option<MessageTemplate>,

@@ -23,7 +23,6 @@ use tp_token::token::Symbol;
 use tp_token::word::Word;
 use tp_tree::tree::{Action, Branch, BranchBody, Counted, ElseBranch, Statement};
 
-/// The kind of the next statement, as far as its first tokens show.
 enum Beginning {
     Send,
     Receive,

@@ -7,7 +7,6 @@ ghost use Rattle.tp_token.specs.Byte.{byte_kind, is_word_byte, is_digit, is_prin
 pub enum Kind {
     /// `a` to `z` and `A` to `Z`: it begins a name or a reserved word.
     Letter,
-    /// `0` to `9`.
     Digit,
     /// `_`, which begins no token.
     Underscore,
@@ -33,7 +32,6 @@ pub fn byte_kind(byte: u8) -> Kind
     }
 }
 
-/// Returns whether a name or a reserved word may contain the byte.
 pub fn is_word_byte(byte: u8) -> bool
     ensures { result ≡ is_word_byte byte }
 {

@@ -30,7 +30,6 @@ impl TextRule {
     }
 }
 
-/// The number and the name of its refusal.
 impl fmt::Display for TextRule {
     fn fmt<W: fmt::Write>(&self, f: &mut fmt::Formatter<W>) -> fmt::Result {
         let refusal = self.refusal();
@@ -38,10 +37,8 @@ impl fmt::Display for TextRule {
     }
 }
 
-/// Why a text can't be read.
 #[derive(Clone, Copy, Debug, PartialEq, Eq, Error)]
 pub enum ScriptFault {
-    /// The text breaks a rule of the notation.
     #[error("refused {rule} line {line}")]
     Refused {
         rule: TextRule,

@@ -77,14 +77,13 @@ fn add<'t>(
     Ok(())
 }
 
-/// The number of lines that end in a piece. A token contains no line end, so that its bytes aren't
-/// looked at.
 fn lines_in(is_token: bool, piece: &[u8]) -> u32
     requires short { length piece.now ≤ 1048576 }
     requires token { IsTrue is_token → newlines piece.now ≡ 0 }
     ensures value { result ≡ newlines piece.now }
     ensures bound { result ≤ length piece.now }
 {
+    // A token contains no line end, so that its bytes aren't looked at.
     if is_token {
         return 0;
     }

@@ -1,8 +1,6 @@
 //! The tokens of a script: names, reserved words, numbers, texts and symbols, each with its line.
-//! The parser, `tp_syntax`, calls [`lexer::lex`]; start there.
-//!
-//! 50 `Memory` means that an allocation was refused, and says nothing about the script. A call that
-//! can't return it doesn't allocate.
+//! The parser, `tp_syntax`, calls [`lexer::lex`]; start there. 50 `Memory` means that an allocation
+//! was refused, and says nothing about the script; only calls that can return it allocate.
 #![tactic(auto)]
 
 mod byte;

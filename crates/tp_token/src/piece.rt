@@ -21,10 +21,8 @@ const LONGEST_NAME: usize = 64;
 const GREATEST_IN_TOKEN: u64 = 9_223_372_036_854_775_808;
 
 /// The piece at the front: its token, if it is one, and its number of bytes. `line` is the line of
-/// its first byte.
-///
-/// The faults are those of [`lex`](crate::lexer::lex), except for the length of the text, at this
-/// line.
+/// its first byte. The faults are those of [`lex`](crate::lexer::lex), except for the length of the
+/// text, at this line.
 #[tactic(auto, using(crate::proofs::PieceAtFront::piece_of_token, crate::proofs::PieceAtFront::blank_at))]
 pub fn piece<'t>(
     alloc: Global,
@@ -120,7 +118,6 @@ fn digits_len(bytes: &[u8]) -> usize
     n
 }
 
-/// 15 `Limit` if the number is too great.
 fn spelled_number(digits: &[u8], line: u32) -> Result<u64, ScriptFault>
     requires { Run is_digit digits.now }
     ensures value { IfOk result (λ n. n ≡ value_on 0 digits.now) }
@@ -141,7 +138,6 @@ fn spelled_number(digits: &[u8], line: u32) -> Result<u64, ScriptFault>
     Ok(value)
 }
 
-/// The value of a digit: `0` is 48.
 fn digit_value(digit: u8) -> u8
     ensures low { result ≤ 207 }
     ensures value { result ≡ digit - 48 }
@@ -161,8 +157,6 @@ fn text(alloc: Global, bytes: &[u8], line: u32) -> Result<(Vec<u8>, usize), Scri
     Ok((characters, size + 1))
 }
 
-/// The characters up to the closing quote, each doubled quote as one, and the number of bytes up to
-/// and with the closing quote.
 fn quoted(alloc: Global, bytes: &[u8], line: u32) -> Result<(Vec<u8>, usize), ScriptFault>
     ensures spelled { IfOk result (λ r. take r.1 bytes.now ≡ doubled r.0.items ++ 34 ∷ []) }
     ensures within { IfOk result (λ r. r.1 ≤ length bytes.now) }
@@ -252,7 +246,6 @@ fn line_comment(bytes: &[u8]) -> usize
     n
 }
 
-/// The number of bytes before the first `*/`.
 fn block_comment(bytes: &[u8]) -> Option<usize>
     ensures within { IfSome result (λ n. n + 2 ≤ length bytes.now) }
     ensures mark { IfSome result (λ n. take (n + 2) bytes.now ≡ take n bytes.now ++ codes "*/") }

@@ -3,44 +3,25 @@ ghost use Rattle.std.specs.Prelude.{◌≡◌, ◌↔◌, IsTrue};
 
 use crate::word::Word;
 
-/// A symbol of one or two characters.
 #[derive(Clone, Copy, Debug)]
 pub enum Symbol {
-    /// `{`
     LeftBrace,
-    /// `}`
     RightBrace,
-    /// `(`
     LeftParen,
-    /// `)`
     RightParen,
-    /// `[`
     LeftBracket,
-    /// `]`
     RightBracket,
-    /// `,`
     Comma,
-    /// `;`
     Semicolon,
-    /// `:`
     Colon,
-    /// `.`
     Dot,
-    /// `?`
     Question,
-    /// `*`
     Star,
-    /// `-`
     Minus,
-    /// `<`
     Less,
-    /// `+`
     Plus,
-    /// `..`
     DotDot,
-    /// `:=`
     Assign,
-    /// `->`
     Arrow,
 }
 

@@ -131,7 +131,6 @@ pub fn word_of(text: &str) -> Option<Word>
     first_spelled(text, words_of_length(text.len()))
 }
 
-/// The part of the table with the words of this length.
 fn words_of_length(size: usize) -> &'static [(&'static str, Word)]
     ensures { (bs : List ℕ) → length bs ≡ size →
         first_spelled bs (map (λ entry. (entry.0.now, entry.1)) result.now) ≡ word_of bs }

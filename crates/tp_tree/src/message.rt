@@ -16,7 +16,6 @@ pub enum TypeName {
 pub enum Value {
     Int(i64),
     Bool(bool),
-    /// The characters of a text.
     Text(Vec<u8>),
     Name(String),
     /// Values in braces, by their places.
@@ -38,7 +37,6 @@ pub struct ValueField {
 pub enum Template {
     Int(i64),
     Bool(bool),
-    /// The characters of a text.
     Text(Vec<u8>),
     Name(String),
     /// `?`
@@ -72,7 +70,6 @@ pub struct Message {
     pub value: Value,
 }
 
-/// A type and a template.
 #[derive(Drop)]
 pub struct MessageTemplate {
     pub type_name: TypeName,

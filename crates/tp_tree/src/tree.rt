@@ -1,8 +1,7 @@
-//! The tree of a module, in the order of the text.
-//!
-//! It keeps whether each `;` that may be missing was there, and which of the two record notations
-//! was used, so that the tokens of the text are those of the tree. A `line` is that of the first
-//! token of its statement, branch or definition. `has_semicolon` says whether a `;` follows.
+//! The tree of a module, in the order of the text. It keeps whether each `;` that may be missing
+//! was there, and which of the two record notations was used, so that the tokens of the text are
+//! those of the tree. A `line` is that of the first token of its statement, branch or definition.
+//! `has_semicolon` says whether a `;` follows.
 use crate::message::{Message, MessageTemplate, TypeName, Value};
 use tp_event::operation::{PortOperation, ReceiveKind};
 
@@ -28,7 +27,6 @@ pub enum SentExpression {
     Variable(String),
 }
 
-/// The receivers of a send.
 #[derive(Drop)]
 pub enum Receivers {
     Component(ComponentName),
@@ -40,16 +38,13 @@ pub enum Receivers {
 pub struct Send {
     pub port: String,
     pub sent: SentExpression,
-    /// The part after `to`.
     pub to: Option<Receivers>,
 }
 
 /// The variables that store what was received: after `->`, which is there if one of the two is.
 #[derive(Drop)]
 pub struct Redirect {
-    /// The variable after `value`.
     pub value: Option<String>,
-    /// The variable after `sender`.
     pub sender: Option<String>,
 }
 
@@ -59,7 +54,6 @@ pub struct Receive {
     pub port: String,
     pub kind: ReceiveKind,
     pub template: Option<MessageTemplate>,
-    /// The component after `from`.
     pub sender: Option<ComponentName>,
     pub redirect: Redirect,
 }
@@ -156,7 +150,6 @@ pub struct Variable {
     pub has_semicolon: bool,
 }
 
-/// A field of a record type.
 #[derive(Drop)]
 pub struct FieldType {
     pub type_name: TypeName,
@@ -202,7 +195,6 @@ pub struct PortType {
     pub directions: Vec<Direction>,
 }
 
-/// Ports of one type in a component type.
 #[derive(Drop)]
 pub struct PortDeclaration {
     pub type_name: String,
@@ -218,7 +210,6 @@ pub struct ComponentType {
     pub ports: Vec<PortDeclaration>,
 }
 
-/// A parameter of a function.
 #[derive(Drop)]
 pub struct Parameter {
     pub type_name: String,
@@ -230,14 +221,12 @@ pub struct Parameter {
 pub struct Function {
     pub name: String,
     pub parameters: Vec<Parameter>,
-    /// The component type after `runs on`.
     pub runs_on: String,
     /// The variables come before the statements.
     pub variables: Vec<Variable>,
     pub statements: Vec<Statement>,
 }
 
-/// A component in a `connect` or a `map`.
 #[derive(Drop)]
 pub enum EndComponent {
     Named(String),
@@ -246,7 +235,6 @@ pub enum EndComponent {
     System,
 }
 
-/// A port of a component.
 #[derive(Drop)]
 pub struct PairEnd {
     pub component: EndComponent,
@@ -256,23 +244,19 @@ pub struct PairEnd {
 /// The action of a setup statement (ES 201 873-1, 21.1 and 21.3.1).
 #[derive(Drop)]
 pub enum SetupAction {
-    /// A `var` that creates a component.
     Create(Creation),
     Connect(PairEnd, PairEnd),
     Map(PairEnd, PairEnd),
 }
 
-/// A component that is created.
 #[derive(Drop)]
 pub struct Creation {
-    /// The type of the variable.
     pub type_name: String,
     pub name: String,
     /// The type of the component.
     pub created: String,
 }
 
-/// A setup statement of a test case.
 #[derive(Drop)]
 pub struct SetupStatement {
     pub line: u32,
@@ -300,13 +284,10 @@ pub struct AllDone {
 #[derive(Drop)]
 pub struct TestCase {
     pub name: String,
-    /// The component type after `runs on`.
     pub runs_on: String,
-    /// The component type after `system`.
     pub system: Option<String>,
     pub setups: Vec<SetupStatement>,
     pub starts: Vec<ComponentStart>,
-    /// The variables come before the statements.
     pub variables: Vec<Variable>,
     pub statements: Vec<Statement>,
     pub all_done: Option<AllDone>,
@@ -322,7 +303,6 @@ pub enum Defined {
     TestCase(TestCase),
 }
 
-/// A definition.
 #[derive(Drop)]
 pub struct Definition {
     pub line: u32,
@@ -334,7 +314,6 @@ pub struct Definition {
 pub struct Module {
     pub line: u32,
     pub name: String,
-    /// In the order of the text.
     pub definitions: Vec<Definition>,
     pub has_semicolon: bool,
 }
