@@ -55,7 +55,6 @@ fn operate(desk: &mut Desk, port: u32, operation: PortOperation) -> Result<(), M
     Ok(())
 }
 
-/// First waits until everything that the component has sent to itself has arrived.
 fn operate_at<G: Gate>(
     gate: &G,
     task: &Task<'_>,
@@ -74,6 +73,7 @@ fn operate_at<G: Gate>(
     ensures trace { OnOk result (
         AddsEntry worker.old.desk (operated operation port) worker.new.desk) }
 {
+    // Everything that the component has sent to itself arrives first.
     gate.inside(task.comp, port);
     operate(&mut worker.desk, port, operation)?;
     Ok(())

@@ -23,7 +23,6 @@ pub struct Guard {
     pub sender: Option<u32>,
 }
 
-/// The template of an operation while it is looked at.
 #[derive(Drop)]
 pub enum TemplateView<'t> {
     /// A template without a loop variable: it was filled once for the whole behaviour.
@@ -45,23 +44,18 @@ impl Wanted<Message> for TemplateView<'_> {
     }
 }
 
-/// A [`Guard`] while it is looked at.
 #[derive(Drop)]
 pub struct GuardView<'t> {
-    /// The port, by its place in the component type.
     pub port: u32,
     pub kind: ReceiveKind,
     pub wanted: TemplateView<'t>,
-    /// The number of the component after `from`.
     pub sender: Option<u32>,
 }
 
 /// The result of trying branches.
 #[derive(Drop)]
 pub enum LookResult {
-    /// The branch at this place took or found this envelope.
     Taken(usize, Env<Message>),
-    /// A `trigger` discarded the top message.
     Discarded,
     Nothing,
 }

@@ -20,11 +20,8 @@ use tp_value::message::Message;
 
 #[derive(Drop)]
 pub enum Choice {
-    /// The branch at this place took or found this envelope.
     Branch(usize, Env<Message>),
-    /// `[else]` was chosen.
     Else,
-    /// No branch can be chosen any more.
     Waits,
 }
 

@@ -25,7 +25,6 @@ use tp_value::message::Message;
 pub enum Decision {
     Branch(usize),
     Else,
-    /// None: no branch can be chosen any more.
     Waits(Vec<Guard>),
 }
 

@@ -3,7 +3,6 @@ use crate::task::Task;
 
 #[derive(Drop)]
 pub(crate) struct Execution<'a, R, G> {
-    /// The handle that lets it wait.
     pub rt: &'a R,
     /// A test may hold it there.
     pub gate: &'a G,

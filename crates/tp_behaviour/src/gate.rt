@@ -12,7 +12,6 @@ pub trait Gate: Sync {
     fn inside(&self, who: CompId, port: u32);
 }
 
-/// A gate that holds no behaviour.
 #[derive(Clone, Copy)]
 pub struct OpenGate;
 

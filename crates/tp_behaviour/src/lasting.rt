@@ -15,7 +15,6 @@ use tp_value::message::MsgTemplate;
 pub struct Lasting {
     /// The template of its receiving operation, if it has no loop variable.
     pub wanted: Option<MsgTemplate>,
-    /// For an `alt`: those of its branches.
     pub branches: Items<Lasting>,
     /// For a `for`, a branch, or an `alt` with `[else]`: those of the statements of its block.
     pub block: Items<Lasting>,

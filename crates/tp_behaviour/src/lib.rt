@@ -1,9 +1,8 @@
 //! One component's behaviour: executes its body with its desk, its inbox and its senders. `tp_exec`
-//! calls [`behaving::behave`] in a thread for each component; start there.
-//!
-//! 50 `Memory` means that an allocation was refused; the behaviour has then ended. A send also
-//! returns it if its route is full or no stamp is left, which no test case of at most 100,000
-//! statements reaches. A call that can't return it doesn't allocate.
+//! calls [`behaving::behave`] in a thread for each component; start there. 50 `Memory` means that
+//! an allocation was refused; the behaviour has then ended. A send also returns it if its route is
+//! full or no stamp is left, which no test case of at most 100,000 statements reaches; only calls
+//! that can return it allocate.
 #![tactic(auto)]
 
 mod acting;

@@ -17,7 +17,6 @@ use std::sync::Wait;
 use tp_history::entry::Entry;
 use tp_refusal::memory::Memory;
 
-/// Moves what has arrived in the inbox to the ports.
 fn drain<R: Wait>(rt: &R, task: &Task<'_>, worker: &mut Worker) -> Result<(), Memory>
     requires { IsConsistent (role_of task.now) worker.old }
     ensures consistent { OnOk result (IsConsistent (role_of task.now) worker.new) }

@@ -18,11 +18,9 @@ use tp_inbox::sender::{PutFault, Sender};
 use tp_refusal::memory::Memory;
 use tp_value::message::Message;
 
-/// The beginning of a route: one of the component's senders, and one of the sender's routes.
 #[derive(Clone, Copy, Drop)]
 pub(crate) struct RoutePlace {
     sender: usize,
-    /// The place of the route among those of the sender.
     route_index: usize,
 }
 
@@ -30,7 +28,6 @@ pub(crate) struct RoutePlace {
 #[derive(Drop)]
 pub struct Outbox {
     senders: Vec<Sender>,
-    /// The place of each route.
     places: IndexMap<RouteId, RoutePlace>,
     /// The places of the senders from the component to itself: at most one.
     loops: Vec<usize>,
@@ -52,8 +49,6 @@ impl Model for Outbox {
     ghost invariant = { λ o. AreSendersFiled o.senders.items o.places o.loops.items };
 }
 
-/// Returns whether this owner has drained as much of each of the sender's routes as the sender has
-/// put there. The routes lead to the owner's component.
 fn has_come(owner: &Owner, sender: &Sender) -> bool
     requires { sender.now.inbox.comp ≡ owner.now.inbox.comp }
     ensures { IsTrue result ↔ IsLevel owner.now.drained sender.now }
@@ -66,7 +61,6 @@ fn has_come(owner: &Owner, sender: &Sender) -> bool
     true
 }
 
-/// Lists the place of a sender, if it leads back to its component.
 fn list(loops: &mut Vec<usize>, sender: &Sender, place: usize)
     requires { vec_len loops.old < vec_capacity loops.old }
     ensures { IsListed sender.now place loops.old.items loops.new.items }
@@ -76,7 +70,6 @@ fn list(loops: &mut Vec<usize>, sender: &Sender, place: usize)
     }
 }
 
-/// After 50 `Memory` some of the routes may be filed.
 fn file(
     places: &mut IndexMap<RouteId, RoutePlace>,
     sender: &Sender,
@@ -98,7 +91,6 @@ fn file(
 }
 
 impl Outbox {
-    /// Later calls allocate from `alloc`.
     pub fn new(alloc: Global) -> Outbox
         ensures { result ≡ [] }
     {

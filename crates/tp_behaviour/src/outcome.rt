@@ -5,9 +5,7 @@ use tp_history::send_fault::SendFault;
 /// Why the execution of statements ended.
 #[derive(Drop)]
 pub enum Outcome {
-    /// All were executed.
     Done,
-    /// A send failed with this fault, and the behaviour has ended.
     Error(SendFault),
     /// It waits at a receiving operation or an `alt` with these branches, none of which can be
     /// chosen any more.

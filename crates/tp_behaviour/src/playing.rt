@@ -18,7 +18,6 @@ use tp_play::body::SendOperation;
 use tp_refusal::memory::Memory;
 use tp_value::verdict::Verdict;
 
-/// Executes a send (ES 201 873-1, 22.2.1). If it fails, the behaviour ends.
 pub(crate) fn play_send<R: Wait, G: Gate>(
     execution: &Execution<'_, R, G>,
     worker: &mut Worker,
@@ -41,7 +40,6 @@ pub(crate) fn play_send<R: Wait, G: Gate>(
     }
 }
 
-/// Executes an operation on one port (22.5).
 pub(crate) fn play_control<R: Wait, G: Gate>(
     execution: &Execution<'_, R, G>,
     worker: &mut Worker,
@@ -64,7 +62,6 @@ pub(crate) fn play_control<R: Wait, G: Gate>(
     Ok(Outcome::Done)
 }
 
-/// Executes an operation on all ports, in their order (22.5).
 pub(crate) fn play_all_ports<R: Wait, G: Gate>(
     execution: &Execution<'_, R, G>,
     worker: &mut Worker,
@@ -85,7 +82,6 @@ pub(crate) fn play_all_ports<R: Wait, G: Gate>(
     Ok(Outcome::Done)
 }
 
-/// Executes `setverdict` (24.2).
 pub(crate) fn play_set_verdict(
     task: &Task<'_>,
     worker: &mut Worker,

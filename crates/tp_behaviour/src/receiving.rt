@@ -40,8 +40,6 @@ fn expected_sender(task: &Task<'_>, place: Option<usize>) -> Option<u32>
     }
 }
 
-/// The template of an operation for these values of the loop variables. It is filled only if it
-/// isn't a lasting one.
 fn view_template<'t>(
     alloc: Global,
     wanted: &RecvMsg,
@@ -52,6 +50,7 @@ fn view_template<'t>(
     requires lasting { IsWantedAlways wanted.now lasting.now }
     ensures { IfOk result (λ view. template_in view ≡ filled_wanted turns.now wanted.now) }
 {
+    // It is filled only if it isn't a lasting one.
     match lasting {
         Some(template) => Ok(TemplateView::Lasting(template)),
         None => {
@@ -61,7 +60,6 @@ fn view_template<'t>(
     }
 }
 
-/// A receiving operation to look at, with the values of loop variables and references.
 fn view_guard<'t>(
     task: &Task<'_>,
     frame: &Frame,
@@ -102,7 +100,6 @@ pub(crate) fn view_guards<'t>(
     Ok(guards)
 }
 
-/// A receiving operation that is waited for, with the values of loop variables and references.
 fn fill_guard(task: &Task<'_>, frame: &Frame, receiving: &Receiving) -> Result<Guard, Memory>
     requires { CanReceive (stage_at task.now) (depth_of frame.now) receiving.now }
     ensures { IfOk result (λ guard.

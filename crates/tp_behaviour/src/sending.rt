@@ -28,7 +28,6 @@ use tp_play::body::{Receiver, SendOperation};
 use tp_refusal::memory::Memory;
 use tp_value::message::Message;
 
-/// Ends the behaviour at a send, and returns this fault.
 fn fail(
     task: &Task<'_>,
     worker: &mut Worker,
@@ -48,8 +47,6 @@ fn fail(
     Ok(Some(fault))
 }
 
-/// Sends a message on a route. Its number is the next on the route, its stamp the next in the
-/// history.
 fn send_on<R: Wait, G: Gate>(
     execution: &Execution<'_, R, G>,
     worker: &mut Worker,
@@ -72,8 +69,6 @@ fn send_on<R: Wait, G: Gate>(
     Ok(())
 }
 
-/// Sends on the only route of the port, or on the one to the component named. If there is none, the
-/// behaviour ends with the fault returned.
 fn send_to<R: Wait, G: Gate>(
     execution: &Execution<'_, R, G>,
     worker: &mut Worker,
@@ -111,7 +106,6 @@ fn send_to<R: Wait, G: Gate>(
     }
 }
 
-/// Sends a message on each of these routes, in order.
 fn send_on_each<R: Wait, G: Gate>(
     execution: &Execution<'_, R, G>,
     worker: &mut Worker,
@@ -190,7 +184,6 @@ fn send_to_one<R: Wait, G: Gate>(
     }
 }
 
-/// Sends at a port that is started.
 fn send_started<R: Wait, G: Gate>(
     execution: &Execution<'_, R, G>,
     worker: &mut Worker,

@@ -6,7 +6,6 @@ use tp_inbox::owner::Closer;
 use tp_play::test_case::Behaviour;
 use tp_value::types::Types;
 
-/// A behaviour to execute: everything that stays the same while it runs.
 #[derive(Clone, Copy)]
 pub struct Task<'t> {
     pub alloc: Global,

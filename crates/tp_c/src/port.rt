@@ -30,7 +30,6 @@ impl Wanted<u64> for Fits {
 pub struct Answer {
     /// One of the three below.
     pub outcome: u32,
-    /// The sender of the message.
     pub sender: u32,
     /// The message's number on its way.
     pub number: u64,
@@ -137,7 +136,6 @@ pub(crate) fn clear(queue: &mut Queue<u64>) -> u64
     queue.clear()
 }
 
-/// Returns the number of queued messages.
 pub(crate) fn stop(queue: &mut Queue<u64>) -> u64
     ensures { Stopped queue.old result queue.new }
 {
@@ -145,7 +143,6 @@ pub(crate) fn stop(queue: &mut Queue<u64>) -> u64
     queue.queued_len()
 }
 
-/// Returns whether the port was started, so that the `halt` had an effect.
 pub(crate) fn halt(queue: &mut Queue<u64>) -> bool
     ensures { Halted queue.old result queue.new }
 {

@@ -15,12 +15,9 @@ use tp_value::items::Items;
 
 #[derive(Drop)]
 pub(crate) struct Component {
-    /// No other component has this name.
     pub(crate) name: String,
-    /// The place of its type among the types of the configuration.
     pub(crate) kind: u32,
     pub(crate) role: Role,
-    /// The partners of each of its ports.
     pub(crate) links: Links,
 }
 
@@ -122,7 +119,6 @@ pub(crate) fn port_count(types: &[CompType], components: &[Component], comp: Com
     }
 }
 
-/// The ports that the port is connected or mapped with.
 pub(crate) fn beside(components: &[Component], p: PortRef) -> &[PortRef]
     ensures { result.now ≡ links_at (map links_of components.now) p }
 {

@@ -31,7 +31,6 @@ pub struct Config {
     /// The connected pairs, in the order of their statements, for contracts. No call searches them:
     /// it finds the partners of a port in the port's component.
     connected: Vec<(PortRef, PortRef)>,
-    /// The mapped pairs, likewise.
     mapped: Vec<(PortRef, PortRef)>,
     alloc: Global,
 }

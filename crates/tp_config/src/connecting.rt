@@ -55,7 +55,7 @@ impl ConnectFault {
     }
 }
 
-/// The first cause that holds, apart from memory. It looks only at the partners of the two ports.
+/// The first cause that holds, apart from memory.
 pub(crate) fn connect_fault(
     types: &[CompType],
     components: &[Component],

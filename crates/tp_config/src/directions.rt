@@ -8,7 +8,6 @@ ghost use Rattle.tp_config.specs.Types.{HaveSame, listed_types, same_type};
 use crate::type_list::TypeList;
 use tp_value::types::Ty;
 
-/// The types of the list, each once. None if there is no list.
 fn types_of(list: Option<&TypeList>) -> &[Ty]
     ensures { HaveSame result.now (listed_types (option_copied list.entry)) }
 {

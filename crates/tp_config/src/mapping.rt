@@ -48,8 +48,6 @@ impl MapFault {
     }
 }
 
-/// `q` is a port of the test system interface: it sends everything that `p` sends, and `p` receives
-/// everything that `q` receives.
 fn map_directed(types: &[CompType], components: &[Component], p: PortRef, q: PortRef) -> bool
     ensures { result ≡ map_directed (map ports_of types.now) (map member_of components.now) p q }
 {
@@ -58,7 +56,7 @@ fn map_directed(types: &[CompType], components: &[Component], p: PortRef, q: Por
     sent && received
 }
 
-/// The first cause that holds, apart from memory. It looks only at the partners of the two ports.
+/// The first cause that holds, apart from memory.
 pub(crate) fn map_fault(
     types: &[CompType],
     components: &[Component],

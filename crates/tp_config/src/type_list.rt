@@ -11,8 +11,6 @@ use tp_refusal::memory::Memory;
 use tp_value::items::Items;
 use tp_value::types::Ty;
 
-/// Message types in their order, with the set of them: a type is found without comparing it with
-/// each, and a loop over the set meets each once.
 #[derive(Drop)]
 struct Listed {
     items: Items<Ty>,

@@ -7,7 +7,5 @@ use tp_history::desk::Desk;
 pub(crate) struct EndedComponent {
     pub(crate) desk: Desk,
     pub(crate) outcome: Outcome,
-    /// For each route into the component, in order, the number of messages that its sender has put
-    /// on it.
     pub(crate) counts: Vec<(RouteId, u64)>,
 }

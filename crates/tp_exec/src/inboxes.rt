@@ -19,12 +19,9 @@ use tp_inbox::owner::Closer;
 use tp_inbox::sender::Sender;
 use tp_refusal::memory::Memory;
 
-/// The inboxes opened so far, before their senders are handed out.
 #[derive(Drop)]
 struct Opened {
-    /// A worker for each of these components, without senders.
     workers: Vec<Worker>,
-    /// The senders into these inboxes, inbox after inbox.
     senders: Vec<Sender>,
     closers: Vec<Closer>,
 }

@@ -6,16 +6,12 @@ pub(crate) enum EntryKind {
     Came(u32),
     /// A message was sent to the component of this number.
     Sent(u32),
-    /// The component looked at ports.
     Looked,
-    /// Anything else.
     Quiet,
 }
 
-/// An arrival, and when its message was sent.
 #[derive(Clone, Copy)]
 pub(crate) struct AwaitedArrival {
-    /// The number of its sender.
     pub(crate) source: u32,
     /// A place in the receiver's history: after the last look before the arrival, or 0 if there is
     /// none. The message was sent after everything before this place.

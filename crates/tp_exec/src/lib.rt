@@ -1,9 +1,7 @@
 //! The executor, modes `run` and `trace`: each component's behaviour in a thread of its own, one
 //! order of everything that they did, and the report. `tpr` calls [`run::run`] with the test case
-//! that `tp_script` makes; start there.
-//!
-//! 50 `Memory` means that an allocation was refused in some thread, so that the run has no report.
-//! A call that can't return it doesn't allocate.
+//! that `tp_script` makes; start there. 50 `Memory` means that an allocation was refused in some
+//! thread, so that the run has no report; only calls that can return it allocate.
 #![tactic(auto)]
 
 mod counting;

@@ -59,7 +59,6 @@ fn awaited_of_each(
     Ok(all)
 }
 
-/// Returns whether the next message to component `to` comes from component `c`, and may be sent.
 fn may_send(
     all_awaited: &[Vec<AwaitedArrival>],
     progress: &OrderProgress,
@@ -113,7 +112,6 @@ fn is_possible(
     }
 }
 
-/// Passes the component's next entry, of this kind, and returns the component that it affects.
 fn go_by(progress: &mut OrderProgress, c: usize, kind: EntryKind) -> usize
     requires places { c < length progress.old.places.items }
     requires came { c < length progress.old.came.items }
@@ -141,8 +139,6 @@ fn go_by(progress: &mut OrderProgress, c: usize, kind: EntryKind) -> usize
     }
 }
 
-/// Passes the component's next entry, if that is possible, and returns the component that it
-/// affects.
 fn step(
     components: &[CompReport],
     all_awaited: &[Vec<AwaitedArrival>],
@@ -174,7 +170,6 @@ fn step(
     Some(go_by(progress, c, kind))
 }
 
-/// Adds the number, unless it is the last in the list.
 fn put_in(number: usize, ready: &mut Vec<usize>) -> Result<(), Memory>
     ensures below { (size : ℕ) → number < size → All (λ x. x < size) ready.old.items
         → OnOk result (All (λ x. x < size) ready.new.items) }
@@ -264,7 +259,6 @@ fn go_on(
     Ok(())
 }
 
-/// Passes entries until no component can go on.
 fn go_all(
     alloc: Global,
     components: &[CompReport],

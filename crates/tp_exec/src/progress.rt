@@ -3,7 +3,6 @@
 /// The progress on the way to one order: three numbers for each component.
 #[derive(Drop)]
 pub(crate) struct OrderProgress {
-    /// The place of the next entry.
     pub(crate) places: Vec<usize>,
     /// The number of messages that arrived before that place.
     pub(crate) came: Vec<usize>,

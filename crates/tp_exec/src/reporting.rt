@@ -73,7 +73,6 @@ fn report_components(
     Ok(reports)
 }
 
-/// `None` if no one order of everything that these components did gives their histories.
 fn report_in_order(
     alloc: Global,
     config: &Config,
@@ -101,9 +100,6 @@ fn conclude(components: Vec<CompReport>) -> Report
     Report { components, result }
 }
 
-/// Makes the report of a run. 61 `Restless` if a behaviour waits although one of its branches is
-/// open in its final queues; else 50 `Memory`; else 62 `NoOrder` if no one order of everything that
-/// the components did gives their histories.
 pub(crate) fn make_report(
     alloc: Global,
     test_case: &TestCase,

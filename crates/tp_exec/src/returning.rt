@@ -43,7 +43,6 @@ pub(crate) fn part_played(
     Ok((idles, hands))
 }
 
-/// The components that these routes lead from, each once, in the order of its first route.
 pub(crate) fn distinct_sources(alloc: Global, routes: &[RouteId]) -> Result<Vec<CompId>, Memory>
     ensures { IfOk result (λ sources. sources.items ≡ sources_of routes.now) }
 {
@@ -55,7 +54,6 @@ pub(crate) fn distinct_sources(alloc: Global, routes: &[RouteId]) -> Result<Vec<
     Ok(sources)
 }
 
-/// Takes this component's sender into an inbox. It must be the component's next one.
 fn take_one(source: CompId, hands: &mut Vec<IntoIter<Sender>>) -> Option<Sender>
     requires { (i : Inbox) × CanTake hands.old.items (link_by i source ∷ []) }
     ensures held { (i : Inbox) → Leaves hands.old.items (link_by i source ∷ []) hands.new.items }

@@ -19,7 +19,6 @@ use tp_floor::floor::Floor;
 use tp_play::test_case::TestCase;
 use tp_report::report::Report;
 
-/// Returns how many components have something to do.
 fn count_living(test_case: &TestCase) -> u32
     ensures { result ≡ living_below test_case.now (length test_case.now.config.components) }
 {

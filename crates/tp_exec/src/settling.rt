@@ -41,7 +41,6 @@ fn append(desk: &mut Desk, rest: Rest) -> Result<(), Memory>
     Ok(())
 }
 
-/// The messages left in this inbox after its senders have ended.
 fn settle<R: Wait>(rt: &R, owner: Owner, desk: &Desk, senders: Vec<Sender>) -> Result<Rest, Memory>
     requires desk { IsDeskOf owner.inbox desk.now }
     requires arrived { arrivals desk.now.log ≡ owner.drained }
@@ -62,8 +61,6 @@ fn settle<R: Wait>(rt: &R, owner: Owner, desk: &Desk, senders: Vec<Sender>) -> R
     }
 }
 
-/// The senders into this component's inbox, taken from the components that have them, and the
-/// number of messages that they put on each route into it.
 fn take_senders(
     alloc: Global,
     config: &Config,

@@ -36,7 +36,6 @@ pub(crate) struct RunContext {
     pub(crate) closers: Vec<Closer>,
 }
 
-/// What a component was when its thread began, for contracts.
 #[derive(Drop)]
 struct Was {
     test_case: Snapshot<TestCase>,
@@ -50,10 +49,8 @@ impl Promise<Result<Played, Memory>> for Was {
     ghost kept_by = { λ p r. IfOk r (IsBack p.test_case.value p.worker.value) };
 }
 
-/// A component that has begun, as the thread sees it that started it.
 #[derive(Drop)]
 enum Child {
-    /// Its thread, which isn't joined yet.
     Running(PromisedHandle<Result<Played, Memory>, Was>),
     /// It has nothing to do, and so no thread.
     Done(Played),
@@ -203,8 +200,6 @@ fn join_all<R: Threads>(
     Ok(back)
 }
 
-/// Starts all components, so that they run at the same time, and then joins them. 51 `NoThread` if
-/// a thread was refused; else 50 `Memory`.
 fn play_each<R: Threads + Wait + Sync, G: Gate>(
     rt: &R,
     gate: &G,
@@ -254,11 +249,8 @@ fn play_each<R: Threads + Wait + Sync, G: Gate>(
     )
 }
 
-/// Executes each component's behaviour in a thread of its own, all at the same time, and joins
-/// them. A test system interface without `sut` has no thread.
-///
-/// 51 `NoThread` if a thread was refused: its behaviour counts as ended, and the others go on to
-/// their ends. Else 50 `Memory`.
+/// A test system interface without `sut` has no thread. If a thread is refused, its behaviour
+/// counts as ended, and the others go on to their ends.
 pub(crate) fn play_all<R: Threads + Wait + Sync, G: Gate>(
     rt: &R,
     gate: &G,

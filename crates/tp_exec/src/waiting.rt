@@ -16,7 +16,6 @@ fn discards(guard: &Guard) -> bool
     guard.kind == ReceiveKind::Trigger
 }
 
-/// Returns whether the branch can be chosen, or would discard the top message.
 fn is_open(desk: &Desk, guard: &Guard) -> bool
     requires { guard.now.port < desk.now.ports }
     ensures { IsTrue result ↔ IsOpen desk.now.log guard.now }
@@ -39,7 +38,6 @@ fn none_open(desk: &Desk, guards: &[Guard]) -> bool
     true
 }
 
-/// Returns whether none of the branches at which the component waits is open in its final queues.
 fn is_at_rest(component: &EndedComponent) -> bool
     requires { WaitsWithin component.now.desk.ports component.now.outcome }
     ensures { IsTrue result ↔ IsAtRest component.now }

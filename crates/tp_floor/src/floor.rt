@@ -52,7 +52,6 @@ impl Counts {
         self.living > 0 && self.resting == self.living
     }
 
-    /// One behaviour rests from now on. Returns false if no other is awake: then it doesn't rest.
     fn begin_rest(&mut self) -> bool
         ensures living { self.new.living ≡ self.old.living }
         ensures rests { result ≡ true ↔ self.old.resting + 1 < self.old.living }
@@ -97,11 +96,9 @@ impl Outcome<Counts, u64> for Together {
     ghost then = { ChangeTogether };
 }
 
-/// The counts of a floor.
 type Cell = RuledSeqCell<Counts, u64, Standing, 2>;
 
 /// The counts of the behaviours that live and rest, so that a run in which all wait can be noticed.
-///
 /// A behaviour lives until it has left. It rests from the moment that it finds nothing at its
 /// notifier until a push is announced there or the inbox is closed. The number that rests is the
 /// number of notifiers whose owner rests. No lock on the counts lasts longer than one call here, so
@@ -119,7 +116,6 @@ impl Floor {
         Ok(Arc::new(alloc, Floor { counts })?)
     }
 
-    /// The counts. The place of this pass is among those counted.
     fn look<R: Wait>(&self, rt: &R, pass: &mut Pass<Counts, u64>) -> Counts
         requires { pass.old.table_id ≡ self.now.counts.table.shared.table_id }
         ensures same { IsSamePass pass.old pass.new }
@@ -183,11 +179,9 @@ impl Floor {
     }
 }
 
-/// The place of one behaviour on a floor.
-///
-/// Its pass knows 1 if the behaviour rests, and else 0. By the floor's rule the number that rests
-/// is the sum of this over all places. So each behaviour that begins or ends its rest is counted,
-/// and none is counted twice.
+/// The place of one behaviour on a floor. Its pass knows 1 if the behaviour rests, and else 0. By
+/// the floor's rule the number that rests is the sum of this over all places. So each behaviour
+/// that begins or ends its rest is counted, and none is counted twice.
 #[derive(Drop)]
 pub(crate) struct FloorPlace {
     floor: Arc<Floor, Global>,
@@ -196,7 +190,6 @@ pub(crate) struct FloorPlace {
 }
 
 impl FloorPlace {
-    /// The place of a behaviour that is awake.
     pub(crate) fn on(floor: Arc<Floor, Global>) -> FloorPlace
         ensures { cell_view result.pass ≡ 0 }
     {

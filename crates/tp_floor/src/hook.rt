@@ -7,7 +7,6 @@ pub trait RaceHook {
     fn between(&mut self);
 }
 
-/// A hook that does nothing, for every run.
 #[derive(Clone, Copy)]
 pub struct NoHook;
 

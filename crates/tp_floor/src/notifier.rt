@@ -1,7 +1,6 @@
-//! The notifier of an inbox: how many pushes were announced, and whether the owner rests.
-//!
-//! An owner rests while no branch of its `alt` can be chosen yet (ES 201 873-1, 20.2). The inbox
-//! lets it sleep and wakes it; the notifier says when, and why.
+//! The notifier of an inbox: how many pushes were announced, and whether the owner rests. An owner
+//! rests while no branch of its `alt` can be chosen yet (ES 201 873-1, 20.2). The inbox lets it
+//! sleep and wakes it; the notifier says when, and why.
 ghost use Rattle.std.specs.Prelude.{◌≡◌, ◌<◌, ◌≤◌, ◌↔◌, ◌+◌, ◌%◌, ◌^◌, ℕ, true, false, None, Some};
 ghost use Rattle.std.specs.Prelude.{is_some, IfSome, IsSomeAnd, if◌then◌else◌};
 ghost use Rattle.crossbeam_utils.specs.Seq.{cell_view};
@@ -15,7 +14,6 @@ use std::sync::{Arc, Wait};
 /// The result of a wait.
 #[derive(Clone, Copy, Debug, PartialEq, Eq)]
 pub enum Woken {
-    /// The inbox holds a message.
     Arrived,
     /// It holds none, and was closed.
     Closed,
@@ -25,15 +23,11 @@ pub enum Woken {
 
 /// The notifier of an inbox, kept under the inbox's lock. Contracts see it as how many pushes were
 /// announced, whether the inbox was closed, and for how many pushes its owner rests. It has nothing
-/// of the messages.
-///
-/// A call that announces a push or closes the inbox ends the rest of an owner for which that is
-/// something, and returns that it is to be woken. So no owner rests for which there is something.
-/// An owner that rests has a place on the floor that counts; one that is awake has a place that
-/// doesn't.
-///
-/// A call that changes the floor's counts calls the given hook between its load of them and its
-/// exchange.
+/// of the messages. A call that announces a push or closes the inbox ends the rest of an owner for
+/// which that is something, and returns that it is to be woken. So no owner rests for which there
+/// is something. An owner that rests has a place on the floor that counts; one that is awake has a
+/// place that doesn't. A call that changes the floor's counts calls the given hook between its load
+/// of them and its exchange.
 #[derive(Drop)]
 pub struct Notifier {
     announced: u64,
@@ -111,7 +105,6 @@ impl Notifier {
         wakes
     }
 
-    /// What an owner that has taken so many out finds at once. `None` if it may rest.
     pub fn look(&self, taken: u64) -> Option<Woken>
         ensures arrived { result ≡ Some Woken.Arrived ↔ taken < self.now.announced }
         ensures closed { result ≡ Some Woken.Closed
@@ -157,7 +150,6 @@ impl Notifier {
         self.awaits.is_some()
     }
 
-    /// What an owner that has taken so many out finds after it was woken.
     pub fn woken(&self, taken: u64) -> Woken
         ensures arrived { result ≡ Woken.Arrived ↔ taken < self.now.announced }
         ensures closed { result ≡ Woken.Closed ↔ self.now.announced ≤ taken }

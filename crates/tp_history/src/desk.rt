@@ -26,15 +26,12 @@ use tp_refusal::memory::Memory;
 use tp_value::message::Message;
 
 /// The ports of one component and its history. Contracts see the component, the number of its ports
-/// and the history.
-///
-/// A port is a place in declared order, from 0, and its queue stands for what the component's
-/// history says of it. That is the only history: no port keeps its own. A call works on the port's
-/// queue, and searches no history.
+/// and the history. A port is a place in declared order, from 0, and its queue stands for what the
+/// component's history says of it. That is the only history: no port keeps its own. A call works on
+/// the port's queue, and searches no history.
 #[derive(Drop)]
 pub struct Desk {
     comp: CompId,
-    /// The ports in declared order.
     ports: Vec<Queue<Message>>,
     log: Vec<Entry>,
     /// The greatest stamp in the history.
@@ -191,7 +188,6 @@ impl Desk {
         Ok(Some(env))
     }
 
-    /// [`Queue::clear`] at this port, and a `Cleared` in the history.
     pub fn clear(&mut self, port: u32) -> Result<u64, Memory>
         requires { port < self.old.ports }
         ensures count { IfOk result (λ discarded.
@@ -205,7 +201,6 @@ impl Desk {
         Ok(discarded)
     }
 
-    /// [`Queue::start`] at this port, and a `Started` in the history.
     pub fn start(&mut self, port: u32) -> Result<u64, Memory>
         requires { port < self.old.ports }
         ensures count { IfOk result (λ discarded.
@@ -219,7 +214,6 @@ impl Desk {
         Ok(discarded)
     }
 
-    /// [`Queue::stop`] at this port, and a `Stopped` in the history.
     pub fn stop(&mut self, port: u32) -> Result<(), Memory>
         requires { port < self.old.ports }
         ensures ok { OnOk result (self.new ≡ adding self.old (entry.Stopped port)) }
@@ -307,7 +301,6 @@ impl Desk {
         self.clock.checked_add(1)
     }
 
-    /// The component whose desk it is.
     pub fn comp(&self) -> CompId
         ensures { result ≡ self.now.comp }
     {
@@ -336,7 +329,6 @@ impl Desk {
         self.log.len() as u64
     }
 
-    /// The queue of this port.
     pub fn queue(&self, port: u32) -> &Queue<Message>
         requires { port < self.now.ports }
         ensures { StandsFor result.now (at_port self.now port) }

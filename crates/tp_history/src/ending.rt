@@ -4,7 +4,6 @@ use crate::send_fault::SendFault;
 /// How a behaviour ends (ES 201 873-1, 21.3, 24.1).
 #[derive(Clone, Copy)]
 pub enum End {
-    /// At the end of its statements.
     Done,
     /// At a send that failed with this fault.
     Error(SendFault),

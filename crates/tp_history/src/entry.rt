@@ -10,10 +10,8 @@ use tp_value::message::Message;
 use tp_value::verdict::Verdict;
 
 /// One event at a component. The history of a component is the list of its entries, the oldest
-/// first.
-///
-/// A port is a place among the component's ports, in declared order, from 0. A branch is a place in
-/// its `alt`, from 0, and 0 for a stand-alone operation.
+/// first. A port is a place among the component's ports, in declared order, from 0. A branch is a
+/// place in its `alt`, from 0, and 0 for a stand-alone operation.
 #[derive(Debug, Drop)]
 pub enum Entry {
     /// At this port a message arrived, with the stamp of its sending.
@@ -36,7 +34,6 @@ pub enum Entry {
     Halted(u32),
     /// On this route the message of this number, from 0, was sent, with this stamp (22.2.1).
     Sent(RouteId, u64, Stamped),
-    /// The branch `[else]` was chosen (20.2).
     Else,
     /// `setverdict` with this verdict (24.2).
     Verdict(Verdict),

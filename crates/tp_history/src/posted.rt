@@ -2,7 +2,6 @@
 use crate::stamped::Stamped;
 use tp_config::port_type::RouteId;
 
-/// A message that was put into an inbox. It exists in contracts alone.
 #[derive(Drop)]
 pub struct Posted {
     pub route: RouteId,

@@ -25,11 +25,8 @@ use tp_value::message::Message;
 /// floor under that lock before it wakes, so that a behaviour on its way back counts as awake. No
 /// notifier is taken while the floor is changed.
 pub(crate) struct Channel {
-    /// The queue has a rule, and no lock.
     pub(crate) queue: InboxQueue,
-    /// The component whose inbox it is.
     pub(crate) comp: CompId,
-    /// The number of ports of that component.
     pub(crate) ports: usize,
     /// The routes into the component. An envelope names its route by its place in this list.
     pub(crate) routes: Vec<RouteId>,
@@ -39,7 +36,6 @@ pub(crate) struct Channel {
 }
 
 impl Channel {
-    /// An open inbox without announcements.
     pub(crate) fn over(
         queue: InboxQueue,
         comp: CompId,
@@ -102,7 +98,6 @@ impl Channel {
         notifier.woken(taken)
     }
 
-    /// The port of an envelope, the arrival there, and its stamp.
     pub(crate) fn addressed(&self, envelope: InboxEnvelope) -> (u32, Env<Message>, u64)
         requires { envelope.place < length self.now.routes.items }
         ensures port { result.0 ≡ (route_at self.now.routes.items envelope.place).to.port }

@@ -32,9 +32,7 @@ pub type Rest = Vec<(u32, Env<Message>, u64)>;
 pub struct Gathered {
     channel: Arc<Channel, Global>,
     pass: InboxPass,
-    /// The components whose senders came back, in their order. The pass knows what each has put.
     sources: Vec<CompId>,
-    /// What was taken out and not drained, with the ports of arrival and the stamps.
     rest: Rest,
 }
 
@@ -62,7 +60,6 @@ impl Model for Gathered {
     ghost invariant = { IsGathered };
 }
 
-/// The envelope in hand, if there is one, as the first of the rest.
 fn with_hand(channel: &Channel, mut rest: Rest, hand: Option<InboxEnvelope>) -> Rest
     requires empty { rest.items ≡ [] }
     requires room { 1 ≤ vec_capacity rest }

@@ -1,9 +1,8 @@
 //! The inbox of a component: several threads put messages into it, and the component's own thread
 //! moves them to its ports. `tp_exec` makes one by [`making::inbox`], which returns its owner, its
 //! senders and a closer; start there. `tp_behaviour` puts and moves messages, and `tp_exec` settles
-//! what is left once all have ended.
-//!
-//! 50 `Memory` means that an allocation was refused. A call that can't return it doesn't allocate.
+//! what is left once all have ended. 50 `Memory` means that an allocation was refused; only calls
+//! that can return it allocate.
 #![tactic(auto)]
 
 mod channel;

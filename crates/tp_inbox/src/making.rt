@@ -47,7 +47,6 @@ fn places_of(alloc: Global, routes: &[RouteId]) -> Result<IndexMap<RouteId, usiz
     Ok(places)
 }
 
-/// The place of this component's sender, if there is one.
 fn sender_of(senders: &[Sender], source: CompId) -> Option<usize>
     ensures some { IfSome result (λ k. (k < length senders.now)
         × HoldsAt (λ s. s.source ≡ source) senders.now k) }

@@ -33,9 +33,7 @@ pub struct Owner {
     pub(crate) pass: InboxPass,
     /// An envelope that was taken out of the queue and couldn't be moved.
     pub(crate) hand: Option<InboxEnvelope>,
-    /// The number of envelopes taken out of the queue.
     pub(crate) taken: u64,
-    /// The number of envelopes drained from each route.
     pub(crate) counts: Vec<u64>,
     pub(crate) places: IndexMap<RouteId, usize>,
     /// Room for the components whose senders come back.
@@ -61,7 +59,6 @@ impl Model for Owner {
     ghost invariant = { IsOwner };
 }
 
-/// The next envelope of the queue, or `None` if the queue was found empty.
 pub(crate) fn take_out<R: Wait>(
     rt: &R,
     queue: &InboxQueue,

@@ -11,17 +11,12 @@ use std::collections::LinkedList;
 
 /// The knowledge of a pass. It exists in contracts alone.
 pub(crate) struct View {
-    /// True for a sender's pass.
     pub sends: bool,
-    /// The places of the sender's routes.
     pub places: LinkedList<usize>,
     /// What the sender has put, in its order over all its routes.
     pub put: LinkedList<InboxEnvelope>,
-    /// True for the owner's pass.
     pub owns: bool,
-    /// The number of routes that the owner has split off.
     pub split_off: usize,
-    /// What the owner has taken out, in order.
     pub taken: LinkedList<InboxEnvelope>,
     /// For each sender that has joined, the places of its routes and what it had put.
     pub known: LinkedList<(LinkedList<usize>, LinkedList<InboxEnvelope>)>,

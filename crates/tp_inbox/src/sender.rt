@@ -49,9 +49,7 @@ pub struct Sender {
     pub(crate) pass: InboxPass,
     /// The component that sends with it.
     pub(crate) source: CompId,
-    /// The places of its routes among the routes into the inbox's component, in order.
     pub(crate) places: Vec<usize>,
-    /// The number of messages that it has put on each of its routes.
     pub(crate) counts: Vec<u64>,
 }
 

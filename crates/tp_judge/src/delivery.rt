@@ -43,7 +43,6 @@ fn place_on(trace: &IndexedTrace, rows: &RouteRows<'_>, route: usize) -> Option<
     route_place(&rows.sent[route], &rows.came[route])
 }
 
-/// One place for each unlawful route: the first in the order of sending.
 pub(crate) fn route_places(
     alloc: Global,
     trace: &IndexedTrace,

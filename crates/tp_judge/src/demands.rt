@@ -41,7 +41,6 @@ fn add_section(demands: &mut Vec<Demand>, row: &[&IndexedLine]) -> Result<(), Me
     }
 }
 
-/// Each sending comes before its arrival, if both ends of the route have a section.
 fn add_route(
     demands: &mut Vec<Demand>,
     trace: &IndexedTrace,

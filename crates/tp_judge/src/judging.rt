@@ -13,7 +13,6 @@ use crate::trace::IndexedTrace;
 use std::alloc::Global;
 use tp_refusal::memory::Memory;
 
-/// The places of routes, and if there are none, that of a circle.
 fn order_places(alloc: Global, trace: &IndexedTrace) -> Result<Vec<UnlawfulPlace>, Memory>
     requires { AreWithin trace.now }
     ensures lawful { IfOk result (λ places. (places.items ≡ []) ↔ IsOrderly trace.now) }
@@ -35,11 +34,11 @@ fn order_places(alloc: Global, trace: &IndexedTrace) -> Result<Vec<UnlawfulPlace
     }
 }
 
-/// Sorts places by their lines, and keeps the order of those of one line.
 fn put_in_order(places: &mut Vec<UnlawfulPlace>) -> Result<(), Memory>
     ensures sorted { OnOk result (AreInOrder places.new.items) }
     ensures same { OnOk result (IsPermutation places.old.items places.new.items) }
 {
+    // A stable sort: places of one line keep their order.
     places.sort_by_key(|place| place.line)?;
     Ok(())
 }

@@ -1,8 +1,7 @@
 //! Decides whether a trace is lawful, that is, obeys the rules of ports and of delivery, and has no
 //! line that happens before itself; and whether it is one run. Names are numbers here, which
-//! `tp_referee` assigns. Start with [`judging::judge`] and [`one_run::one_run`].
-//!
-//! 50 `Memory` means that an allocation was refused. A call that can't return it doesn't allocate.
+//! `tp_referee` assigns. Start with [`judging::judge`] and [`one_run::one_run`]. 50 `Memory` means
+//! that an allocation was refused; only calls that can return it allocate.
 #![tactic(auto)]
 
 mod circles;

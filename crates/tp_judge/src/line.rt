@@ -7,7 +7,6 @@ ghost use Rattle.tp_judge.specs.Lines.{came_route, event_port, key_of, left_port
 #[derive(Clone, Copy, PartialEq, Eq)]
 pub struct MessageId(pub u32);
 
-/// A message with its number on its route.
 #[derive(Clone, Copy, PartialEq, Eq)]
 pub struct Parcel {
     /// The number on the route, from 0.
@@ -28,13 +27,9 @@ pub struct Mention {
 #[derive(Clone, Copy)]
 pub enum Act {
     Sent(Mention),
-    /// It arrived in the queue of its port.
     Came(Mention),
-    /// It was received.
     Took(Mention),
-    /// A `check` found it.
     Found(Mention),
-    /// A `trigger` discarded it.
     Dropped(Mention),
     /// It was still queued when the component ended.
     Left(Mention),
@@ -51,7 +46,6 @@ pub enum Act {
 
 #[derive(Clone, Copy)]
 pub struct IndexedLine {
-    /// Its number in the text.
     pub number: u32,
     /// The component of its section. A component has at most one section.
     pub component: u32,

@@ -16,7 +16,6 @@ use tp_refusal::memory::Memory;
 /// in its queue as soon as it is sent.
 #[derive(Clone, Copy)]
 pub enum OneRun {
-    /// There is such an order.
     OneRun,
     /// There is none, because some message took its time. The number is that of a line on a circle
     /// of the demands on an order: the first of the circle in the order of the text.

@@ -1,6 +1,5 @@
 //! Places at which a trace breaks a rule.
 
-/// A rule that a line breaks.
 #[derive(Clone, Copy)]
 pub enum Rule {
     /// A message was taken, found or discarded at a stopped port.
@@ -29,7 +28,6 @@ pub enum Rule {
 
 #[derive(Clone, Copy)]
 pub struct UnlawfulPlace {
-    /// The line's number in the text.
     pub line: u32,
     pub rule: Rule,
 }

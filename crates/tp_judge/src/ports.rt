@@ -41,7 +41,6 @@ fn closer_number(closing: &[&IndexedLine]) -> u32
     closing[closing.len() - 1].number
 }
 
-/// `None` if the section is open.
 fn closer_of(closing: &[&IndexedLine]) -> Option<u32>
     ensures { IsCloserOf (lines_at closing.now) result }
 {
@@ -51,10 +50,10 @@ fn closer_of(closing: &[&IndexedLine]) -> Option<u32>
     Some(closer_number(closing))
 }
 
-/// Worked out once for each component, and not for each of its ports.
 fn closers_of(alloc: Global, closing: &[Vec<&IndexedLine>]) -> Result<Vec<Option<u32>>, Memory>
     ensures { IfOk result (λ closers. AreClosers closing.now closers.items) }
 {
+    // Once for each component, and not again for each of its ports.
     let mut closers = Vec::with_capacity(alloc, closing.len())?;
     for row in closing {
         closers.push(closer_of(row))?;
@@ -62,8 +61,6 @@ fn closers_of(alloc: Global, closing: &[Vec<&IndexedLine>]) -> Result<Vec<Option
     Ok(closers)
 }
 
-/// The first line at which the messages reported as left aren't those in the queue. The line
-/// `closer` closes the section; without one it is open.
 fn left_place(
     queue: &Queue<MessageId>,
     left: &[&IndexedLine],
@@ -168,7 +165,6 @@ fn place_at(
     )
 }
 
-/// One place for each unlawful port: the first.
 pub(crate) fn port_places(alloc: Global, trace: &IndexedTrace) -> Result<Vec<UnlawfulPlace>, Memory>
     requires { AreWithin trace.now }
     ensures lawful { IfOk result (λ places. (places.items ≡ []) ↔ LawfulPorts trace.now) }

@@ -17,12 +17,9 @@ use tp_event::event::{Env, Status};
 use tp_queue::queue::Queue;
 use tp_refusal::memory::Memory;
 
-/// The result of a replay.
 #[derive(Drop)]
 pub(crate) enum Replayed {
-    /// All lines are lawful, and this is the queue after them.
     Lawful(Queue<MessageId>),
-    /// The first line that isn't lawful.
     Unlawful(UnlawfulPlace),
 }
 
@@ -69,7 +66,6 @@ fn is_behind(queue: &Queue<MessageId>, mention: Mention) -> bool
     false
 }
 
-/// Why a message that isn't the top can't be taken, found or discarded.
 fn reason(queue: &Queue<MessageId>, mention: Mention) -> Rule
     ensures { AtHistory queue.now (λ h. IsReason result h (envelope_of mention)) }
 {
@@ -90,11 +86,11 @@ fn arrive(queue: &mut Queue<MessageId>, mention: Mention) -> Result<(), Memory>
     }
 }
 
-/// Takes or discards the message, if it is the top: both remove it.
 fn take_out(queue: &mut Queue<MessageId>, mention: Mention) -> Option<Rule>
     ensures took { AtHistory queue.old (λ h. Replays h (acts.Took mention) queue.new result) }
     ensures dropped { AtHistory queue.old (λ h. Replays h (acts.Dropped mention) queue.new result) }
 {
+    // Taken or discarded, it is out of the queue.
     if !is_top(queue, mention) {
         return Some(reason(queue, mention));
     }
@@ -132,7 +128,6 @@ fn operate(queue: &mut Queue<MessageId>, act: Act)
     }
 }
 
-/// Replays a line, or returns the rule that it breaks.
 fn step(queue: &mut Queue<MessageId>, act: Act) -> Result<Option<Rule>, Memory>
     ensures { IfOk result (λ broken. AtHistory queue.old (λ h. Replays h act queue.new broken)) }
 {

@@ -92,7 +92,6 @@ fn find_from(came: &[&IndexedLine], from: usize, number: u64) -> Option<usize>
     None
 }
 
-/// The rule that is broken if a message arrived that was sent later.
 fn overtaken_at(sent: &[&IndexedLine], came: &[&IndexedLine], place: usize) -> UnlawfulPlace
     requires sent { All NamesParcel (lines_at sent.now) }
     requires came { All NamesParcel (lines_at came.now) }
@@ -114,7 +113,6 @@ fn overtaken_at(sent: &[&IndexedLine], came: &[&IndexedLine], place: usize) -> U
     }
 }
 
-/// The rule that is broken if another message arrived than was sent.
 fn fault_at(sent: &[&IndexedLine], came: &[&IndexedLine], place: usize) -> UnlawfulPlace
     requires sent { All NamesParcel (lines_at sent.now) }
     requires came { All NamesParcel (lines_at came.now) }

@@ -13,7 +13,6 @@ use std::alloc::Global;
 use tp_order::demand::Demand;
 use tp_refusal::memory::Memory;
 
-/// The demands to make.
 #[derive(Clone, Copy)]
 pub(crate) enum Which {
     All,
@@ -35,7 +34,6 @@ struct Latest {
     unseen: Option<usize>,
 }
 
-/// The demands of the lines so far, and the latest lines of each component.
 #[derive(Drop)]
 struct Making {
     which: Which,

@@ -9,7 +9,6 @@ pub struct IndexedTrace {
     pub owners: Vec<u32>,
     /// For each route, whether both ends have a section.
     pub joined: Vec<bool>,
-    /// The number of components.
     pub components: usize,
     /// Greater than the number of any line.
     pub numbers: usize,

@@ -3,7 +3,6 @@
 /// An order that meets all demands, or a circle of demands.
 #[derive(Drop)]
 pub enum Answer {
-    /// All numbers, in an order that meets each demand.
     Ordered(Vec<usize>),
     /// Numbers without an order: by one demand each must come before the next, and the last before
     /// the first.

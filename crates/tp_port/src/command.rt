@@ -30,9 +30,7 @@ pub enum CommandVerb {
 /// The matching criteria of a receiving operation (ES 201 873-1, 22.2.2).
 #[derive(Clone, Copy)]
 pub struct Criteria<'t> {
-    /// The wanted value.
     pub value: IntegerPattern,
-    /// The name after `from`.
     pub from: Option<&'t str>,
 }
 
@@ -78,7 +76,6 @@ fn is_alphanumeric(bytes: &[u8]) -> bool
     bytes.iter().all(|byte| byte.is_ascii_alphanumeric())
 }
 
-/// A name is a letter, then letters and digits, 1 to 20 in all.
 fn is_name(word: &[u8]) -> bool
     ensures { IsTrue result ↔ IsName word.now }
 {
@@ -98,7 +95,6 @@ fn name_of(word: &[u8]) -> Option<&str>
     if is_name(word) { utf8_text(word) } else { None }
 }
 
-/// A digit from 1 to 9, before which a `-` may stand; or the whole word `0`.
 fn begins_as_integer(word: &[u8]) -> bool
     ensures { IsTrue result ↔ BeginsAsInteger word.now }
 {
@@ -108,7 +104,6 @@ fn begins_as_integer(word: &[u8]) -> bool
     }
 }
 
-/// The integer that a word can be read as, in any form.
 fn parse_integer(word: &[u8]) -> Option<i64>
     ensures every { (n : ℤ) → FitsSigned w64 n → word.now ≡ signed_decimal n → result ≡ Some n }
     ensures decimal { IfSome result (λ n. BeginsAsInteger word.now → word.now ≡ signed_decimal n) }
@@ -117,7 +112,6 @@ fn parse_integer(word: &[u8]) -> Option<i64>
     text.parse::<i64>().ok()
 }
 
-/// In decimal, with 64 signed bits, without a leading zero or a `+`.
 fn integer_of(word: &[u8]) -> Option<i64>
     ensures { MatchOption result
         ((n : ℤ) → FitsSigned w64 n → word.now ≡ signed_decimal n → ⊥)
@@ -154,7 +148,6 @@ fn only_word(words: Option<&[u8]>) -> Option<&[u8]>
     }
 }
 
-/// The name after `from`.
 fn sender_named(words: &[u8]) -> Option<&str>
     ensures { MatchOption result
         ((name : _) → IsName name → words_of words.now ≡ codes "from" ∷ name ∷ [] → ⊥)
@@ -200,11 +193,11 @@ fn arrival_of(words: Option<&[u8]>) -> Option<(&str, i64)>
     Some((sender, value))
 }
 
-/// The command, if no word follows: it has no operands.
 fn alone<'t>(command: Command<'t>, words: Option<&[u8]>) -> Option<Command<'t>>
     requires { operands (queue_line command) ≡ [] }
     ensures { IsRead (verb_of (queue_line command.entry)) (words_left words.entry) result }
 {
+    // The command has no operands.
     match words {
         None => Some(command),
         Some(_) => None,

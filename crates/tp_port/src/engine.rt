@@ -23,7 +23,6 @@ use tp_refusal::memory::Memory;
 /// speak of any history that the queue stands for.
 #[derive(Drop)]
 pub struct Engine<'t> {
-    /// The senders seen so far.
     senders: Senders<'t>,
     queue: Queue<i64>,
     arrivals: u64,

@@ -1,9 +1,8 @@
-//! Mode `queue`: a queue file replays what happens at one message port. Also a queue that keeps its
+//! Mode `queue`: a queue file replays what happens at one message port. Also a queue with its
 //! history, for programs. Start with [`replay::replay`] or [`port_queue::PortQueue`]; `tpr` calls
-//! the first, and runs use neither.
-//!
-//! 50 `Memory` means that an allocation was refused. A `PortQueue` is then as before, and the
-//! message that was to arrive is returned. A call that can't return it doesn't allocate.
+//! the first, and runs use neither. 50 `Memory` means that an allocation was refused. A `PortQueue`
+//! is then as before, and the message that was to arrive is returned; only calls that can return it
+//! allocate.
 #![tactic(auto)]
 
 mod answers;

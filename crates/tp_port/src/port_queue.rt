@@ -24,7 +24,6 @@ use tp_refusal::memory::Memory;
 #[derive(Drop)]
 pub struct PortQueue<M: Payload> {
     events: Vec<Event<M>>,
-    /// The queue that decides.
     queue: Queue<M>,
     alloc: Global,
 }

@@ -67,10 +67,10 @@ fn first_bad(text: &[u8]) -> Option<u64>
     None
 }
 
-/// The first bad line. Out of memory if there is none.
 fn refusal_of(text: &[u8]) -> QueueFault
     ensures { IsRefusedFor text.now result }
 {
+    // A text without a bad line was refused because memory ran out.
     match first_bad(text) {
         Some(number) => QueueFault::BadLine(number),
         None => QueueFault::Memory,

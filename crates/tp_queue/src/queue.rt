@@ -231,7 +231,6 @@ impl<M: Drop> Queue<M> {
         }
     }
 
-    /// Returns whether there is a top, and a receiving operation succeeds with it.
     fn offers<W: Wanted<M>>(&self, wanted: &W, from: Option<u32>) -> bool
         ensures { AtHistory self.now (λ h. Offers (W.admits wanted.now) from h result) }
     {

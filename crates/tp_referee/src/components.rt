@@ -14,7 +14,6 @@ use tp_trace::tree::Trace;
 /// them is kept or looked up twice.
 pub struct Components<'t> {
     trace: &'t Trace<'t>,
-    /// The names of those without a section.
     others: NumberedWords<'t>,
 }
 
@@ -56,7 +55,6 @@ impl<'t> Components<'t> {
         self.trace.section_count() + self.others.len()
     }
 
-    /// The number of the component with this name, which it has from now on.
     pub fn number(&mut self, name: &'t [u8]) -> Result<u32, Memory>
         requires { length self.old < 4294967296 }
         ensures there { IfOk result (λ number. slice_get self.new number ≡ Some name.now) }

@@ -29,7 +29,6 @@ pub fn sections_of(
     Ok(sections)
 }
 
-/// For each port the component that it belongs to.
 pub fn owners_of(alloc: Global, ports: &[PortKey]) -> Result<Vec<u32>, Memory>
     ensures { IfOk result (λ owners. owners.items ≡ map (λ port. port.component) ports.now) }
 {

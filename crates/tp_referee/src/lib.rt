@@ -1,7 +1,6 @@
 //! Mode `judge`: numbers the names of a trace, lets `tp_judge` judge it, and writes the ruling.
-//! `tpr` calls [`ruling::referee`]; start there.
-//!
-//! 50 `Memory` means that an allocation was refused. A call that can't return it doesn't allocate.
+//! `tpr` calls [`ruling::referee`]; start there. 50 `Memory` means that an allocation was refused;
+//! only calls that can return it allocate.
 #![tactic(auto)]
 
 mod components;

@@ -58,7 +58,6 @@ fn step<'t>(
     }
 }
 
-/// The lines of the sections in numbers. The tables get the names of these.
 fn number_lines<'t>(
     alloc: Global,
     trace: &Trace<'t>,
@@ -88,9 +87,8 @@ fn number_lines<'t>(
 }
 
 /// A trace in numbers. Each port, name of a port, route and message has the number of its first
-/// occurrence; the components with a section come first, in the order of their sections.
-///
-/// It takes 40 bytes for each line, and the contents of the tables while it works.
+/// occurrence; the components with a section come first, in the order of their sections. It takes
+/// 40 bytes for each line, and the contents of the tables while it works.
 pub fn number_trace(alloc: Global, trace: &Trace<'_>) -> Result<IndexedTrace, Memory>
     requires { length trace.now ≤ 268435456 }
     ensures numbering { IfOk result (IsNumberingOf trace.now) }

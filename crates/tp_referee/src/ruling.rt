@@ -13,10 +13,8 @@ use tp_judge::trace::IndexedTrace;
 use tp_refusal::memory::Memory;
 use tp_trace::reading::{TraceFault, read_trace};
 
-/// The ruling on a trace.
 #[derive(Drop)]
 pub enum Ruling {
-    /// It is lawful, and one run or not.
     Lawful(OneRun),
     /// It isn't lawful at these places, one or more, in the order of their lines.
     Unlawful(Vec<UnlawfulPlace>),
@@ -35,7 +33,6 @@ fn ruling_on(alloc: Global, trace: &IndexedTrace) -> Result<Ruling, Memory>
     Ok(Ruling::Unlawful(places))
 }
 
-/// Reads a text as a trace, and numbers it. The lines as they were read are freed then.
 fn number_text(alloc: Global, text: &[u8]) -> Result<IndexedTrace, TraceFault>
     ensures numbered { IfOk result (IsNumberedText text.now) }
     ensures within { IfOk result AreWithin }
@@ -47,10 +44,9 @@ fn number_text(alloc: Global, text: &[u8]) -> Result<IndexedTrace, TraceFault>
     Ok(numbered)
 }
 
-/// Returns whether a text is a lawful trace, and where it isn't.
-///
-/// It refuses what [`read_trace`] refuses. The time is linear in the text, except for sorting the
-/// places, and unless its names were chosen to collide in a table: the seed of the hashes is fixed.
+/// Returns whether a text is a lawful trace, and where it isn't. It refuses what [`read_trace`]
+/// refuses. The time is linear in the text, except for sorting the places, and unless its names
+/// were chosen to collide in a table: the seed of the hashes is fixed.
 pub fn referee(alloc: Global, text: &[u8]) -> Result<Ruling, TraceFault>
     ensures ruling { IfOk result (IsRulingOf text.now) }
     ensures fault { IfErr result (IsFaultOf text.now) }

@@ -32,11 +32,9 @@ pub struct RouteKey {
 /// Each number is a place in its table.
 pub struct Tables<'t> {
     pub components: Components<'t>,
-    /// The names of ports.
     pub names: NumberedWords<'t>,
     pub ports: IndexSet<PortKey>,
     pub routes: IndexSet<RouteKey>,
-    /// The messages, by their bytes.
     pub messages: NumberedWords<'t>,
 }
 
@@ -71,7 +69,6 @@ fn act_of(fate: MessageVerb, mention: Mention) -> Act
     }
 }
 
-/// The sender and the receiver of a message that is reported here, from or to the other component.
 fn ends(fate: MessageVerb, here: u32, other: u32) -> (u32, u32)
     ensures sender { result.0 ≡ sender_of fate here other }
     ensures receiver { result.1 ≡ receiver_of fate here other }
@@ -138,7 +135,6 @@ impl<'t> Tables<'t> {
         self.components.number(name)
     }
 
-    /// The number of a port whose name has a number.
     fn port_key(&mut self, component: u32, name: u32) -> Result<u32, Memory>
         requires room { HasRoom 1 self.old }
         requires whole { IsWhole self.old }
@@ -194,7 +190,6 @@ impl<'t> Tables<'t> {
         self.messages.number(text)
     }
 
-    /// A message between these two components.
     fn mention(
         &mut self,
         sender: u32,
@@ -222,7 +217,6 @@ impl<'t> Tables<'t> {
         })
     }
 
-    /// A line on a message in the section of component `here`.
     fn passed(
         &mut self,
         here: u32,
@@ -242,7 +236,6 @@ impl<'t> Tables<'t> {
         Ok(act_of(fate, mention))
     }
 
-    /// An operation on a port of component `here`.
     fn operated(
         &mut self,
         here: u32,

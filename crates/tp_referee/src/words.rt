@@ -45,7 +45,6 @@ impl<'t> NumberedWords<'t> {
         self.words.len()
     }
 
-    /// The number of a word, which it has from now on.
     pub fn number(&mut self, word: &'t [u8]) -> Result<u32, Memory>
         requires { length self.old < 4294967296 }
         ensures there { IfOk result (λ number. slice_get self.new number ≡ Some word.now) }

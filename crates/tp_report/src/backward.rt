@@ -4,7 +4,6 @@ ghost use Rattle.std.specs.Fmt.{signed_decimal};
 
 use itoa::write_digits;
 
-/// Puts these bytes before `end`, and returns their start.
 pub fn put_bytes(bytes: &[u8], text: &mut [u8], end: usize) -> usize
     requires room { length bytes.now ≤ end }
     requires within { end ≤ length text.old }
@@ -16,7 +15,6 @@ pub fn put_bytes(bytes: &[u8], text: &mut [u8], end: usize) -> usize
     start
 }
 
-/// Puts an integer before `end`, and returns its start.
 pub fn put_integer(number: i64, text: &mut [u8], end: usize) -> usize
     requires room { length (signed_decimal number) ≤ end }
     requires within { end ≤ length text.old }

@@ -24,7 +24,6 @@ fn at(comp: CompId, port: u32) -> PortRef
     PortRef { comp, port }
 }
 
-/// An arrival has no line in a report, and one in a trace.
 fn write_arrival<W: Write>(
     test_case: &TestCase,
     telling: Telling,

@@ -16,7 +16,6 @@ use tp_queue::queue::Queue;
 use tp_text::watched::Watched;
 use tp_value::message::Message;
 
-/// Writes the messages left at a port, the oldest first.
 fn write_queued<W: Write>(
     test_case: &TestCase,
     port: PortRef,
@@ -37,7 +36,6 @@ fn write_queued<W: Write>(
     }
 }
 
-/// In the declared order of the ports.
 pub fn write_left<W: Write>(test_case: &TestCase, desk: &Desk, out: &mut Watched<W>)
     requires own { IsDeskIn test_case.now.config desk.now.comp desk.now }
     ensures { Writes W.contents out.old out.new (left_below test_case.now desk.now desk.now.ports) }

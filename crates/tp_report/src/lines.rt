@@ -22,7 +22,6 @@ use tp_text::watched::{Watched, write_bytes, write_number};
 use tp_value::message::Message;
 use tp_value::verdict::Verdict;
 
-/// The name of a component is the first of its lines.
 pub fn write_heading<W: Write>(test_case: &TestCase, comp: CompId, out: &mut Watched<W>)
     requires { IsComponent test_case.now.config comp }
     ensures { Writes W.contents out.old out.new (heading test_case.now comp) }
@@ -41,7 +40,6 @@ pub fn write_verdict<W: Write>(word: &[u8], verdict: Verdict, out: &mut Watched<
     write_bytes(b"\n", out)
 }
 
-/// `word` ends with a space; the number is that of the refusal.
 pub fn write_failure<W: Write>(word: &[u8], fault: SendFault, out: &mut Watched<W>)
     ensures { Writes W.contents out.old out.new
         (word.now ++ line (decimal (label (send_refusal fault)).0 ∷ [])) }
@@ -61,7 +59,6 @@ pub fn write_end<W: Write>(ending: End, out: &mut Watched<W>)
     }
 }
 
-/// `word` ends with a space.
 pub fn write_port<W: Write>(test_case: &TestCase, word: &[u8], port: PortRef, out: &mut Watched<W>)
     requires { IsPort test_case.now.config port }
     ensures { Writes W.contents out.old out.new

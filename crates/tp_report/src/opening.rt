@@ -15,24 +15,18 @@ use tp_text::watched::{Watched, write_bytes};
 /// Room for the text of an opening. A longer one is written piece by piece.
 const ROOM: usize = 128;
 
-/// What happened to a message at a port of the component itself.
 #[derive(Clone, Copy, PartialEq, Eq)]
 pub enum Fate {
-    /// It arrived in the queue of the port.
     Came,
     Took,
-    /// A `check` found it.
     Found,
-    /// A `trigger` discarded it.
     Dropped,
-    /// It was still queued at the end.
     Left,
 }
 
 /// The opening of a line on a message.
 #[derive(Clone, Copy)]
 pub enum Opening {
-    /// The port that the message was sent to.
     Sent(PortRef),
     /// The message's fate, the port, and the sender.
     At(Fate, PortRef, CompId),
@@ -48,7 +42,6 @@ struct OpeningPieces<'a> {
 }
 
 impl Fate {
-    /// The word ends with a space.
     fn word(self) -> &'static [u8]
         ensures { result.now ≡ fate_word self }
     {
@@ -107,7 +100,6 @@ impl Opening {
     }
 }
 
-/// Puts these bytes before `end` and returns their start, if there is room.
 fn try_put(bytes: &[u8], text: &mut [u8], end: usize) -> Option<usize>
     requires { end ≤ length text.old }
     ensures { IfSome result (λ start. (start ≤ end)
@@ -119,7 +111,6 @@ fn try_put(bytes: &[u8], text: &mut [u8], end: usize) -> Option<usize>
     Some(put_bytes(bytes, text, end))
 }
 
-/// Puts the pieces before the end of `text` and returns their start, if there is room.
 fn put_pieces(pieces: OpeningPieces<'_>, text: &mut [u8; ROOM]) -> Option<usize>
     ensures { IfSome result (λ start. (start ≤ 128) × (drop start text.new
         ≡ pieces_text pieces.entry)) }
@@ -146,7 +137,6 @@ pub struct KeptOpening {
     of: Option<Opening>,
     /// The text ends with the array.
     text: [u8; ROOM],
-    /// The start of the text.
     start: usize,
 }
 
@@ -172,7 +162,6 @@ impl KeptOpening {
         }
     }
 
-    /// Keeps the text of this opening. Returns false if there is no room for it.
     fn keep(&mut self, config: &Config, opening: Opening) -> bool
         requires { NamesKnown config.now opening }
         ensures kept { HasItsText config.now self.new }
@@ -208,9 +197,7 @@ impl KeptOpening {
 /// on received messages often alternate.
 #[derive(Drop)]
 pub struct KeptOpenings {
-    /// That of the last line on a message sent.
     pub sent: KeptOpening,
-    /// That of the last line on a message at a port of the component itself.
     pub received: KeptOpening,
 }
 

@@ -4,13 +4,11 @@ use tp_history::desk::Desk;
 use tp_history::ending::End;
 use tp_value::verdict::Verdict;
 
-/// The report of one component.
 #[derive(Drop)]
 pub struct CompReport {
     pub name: String,
     /// Its ports and its history. Messages left in its inbox are arrivals in it.
     pub desk: Desk,
-    /// How its behaviour ended.
     pub ending: End,
     pub verdict: Verdict,
     /// For each route into the component, in order, the number of messages that its sender has put

@@ -14,7 +14,6 @@ use tp_value::message::Message;
 use tp_value::types::{Ty, Types};
 use tp_value::value::Value;
 
-/// `None` if the message's type isn't `integer`.
 fn message_integer(message: &Message) -> Option<i64>
     ensures { IfSome result (IsInteger message.now) }
 {
@@ -27,7 +26,6 @@ fn message_integer(message: &Message) -> Option<i64>
     }
 }
 
-/// Writes the rest of a line on an integer, in one piece.
 fn write_integer<W: Write>(number: u64, integer: i64, out: &mut Watched<W>)
     ensures { Writes W.contents out.old out.new
         (rest_of_line (decimal number ∷ (codes "integer:" ++ signed_decimal integer) ∷ [])) }

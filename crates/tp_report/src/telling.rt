@@ -1,6 +1,5 @@
 //! The two forms of a report.
 
-/// The form in which a report is written.
 #[derive(Clone, Copy)]
 pub enum Telling {
     /// A report, without lines for arrivals.

@@ -33,7 +33,6 @@ pub fn local_verdict(log: &[Entry]) -> Verdict
     verdict
 }
 
-/// The overall verdict after one more component.
 fn overall_after(verdict: Verdict, component: &CompReport) -> Verdict
     ensures { (before : List CompReport)
         → verdict ≡ overall_verdict (endings before) (locals before)

@@ -18,7 +18,6 @@ use tp_value::typing::has_type;
 use tp_value::verdict::Verdict;
 use tp_value::writing::write_value;
 
-/// Writes a number between two spaces, in one piece.
 pub fn write_spaced<W: Write>(number: u64, out: &mut Watched<W>)
     ensures { Writes W.contents out.old out.new (codes " " ++ (decimal number ++ codes " ")) }
 {
@@ -63,7 +62,6 @@ pub fn write_port_name<W: Write>(config: &Config, port: PortRef, out: &mut Watch
     write_bytes(port_name(config, port), out)
 }
 
-/// Empty if no type has this number.
 fn named_type(types: &Types, number: u32) -> &[u8]
     ensures { result.now ≡ type_name types.now (ty.Named number) }
 {

@@ -48,9 +48,8 @@ fn write_components<W: Write>(
 
 /// Writes a report of this test case, or its trace, which also has a line for each arrival. A
 /// message is its type and its value, or `-` if the value doesn't have the type. The components,
-/// ports and senders of the report are those of the configuration.
-///
-/// If the writer fails, it has written a front of the text.
+/// ports and senders of the report are those of the configuration. If the writer fails, it has
+/// written a front of the text.
 pub fn write_report<W: Write>(
     test_case: &TestCase,
     telling: Telling,

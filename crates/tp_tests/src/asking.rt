@@ -6,7 +6,6 @@ use std::process::Abort;
 use tp_config::config::Config;
 use tp_config::port_type::{CompId, Role, RouteId};
 
-/// A question to a configuration. The answer is routes, a refusal or a number.
 pub enum Question {
     /// The routes from a port, by the numbers of its component and its own.
     From(u32, u32),
@@ -16,7 +15,6 @@ pub enum Question {
     RouteTo(u32, u32, u32),
 }
 
-/// The routes as a text, each by its sender and its port.
 fn shown<R: AllocGlobal + Abort>(rt: &R, routes: &[RouteId]) -> String {
     let mut out = String::new(rt.alloc());
     for RouteId { source, to } in routes {
@@ -55,14 +53,12 @@ fn answer<R: AllocGlobal + Abort>(rt: &R, config: &Config, question: &Question) 
     }
 }
 
-/// Asserts the configuration's answer to each question of a table.
 pub fn answers<R: AllocGlobal + Abort>(rt: &R, config: &Config, table: &[(Question, &str)]) {
     for (place, (question, wanted)) in table.iter().enumerate() {
         says(rt, place, answer(rt, config, question), *wanted);
     }
 }
 
-/// The names of a component and its port.
 pub type NamedPort = (&'static str, &'static str);
 
 pub enum ConfigCall {
@@ -71,7 +67,6 @@ pub enum ConfigCall {
     Create(&'static str, u32, Role),
 }
 
-/// The number of the refusal, or 0 if there is none.
 fn carry_out<R: AllocGlobal + Abort>(rt: &R, config: &mut Config, call: &ConfigCall) -> u8 {
     match *call {
         ConfigCall::Connect(p, q) => match connect(config, p, q).expect(rt, "two ports") {
@@ -89,8 +84,6 @@ fn carry_out<R: AllocGlobal + Abort>(rt: &R, config: &mut Config, call: &ConfigC
     }
 }
 
-/// Carries out the calls of a table. Each is refused with the number beside it, or accepted if that
-/// is 0. After each call the configuration gives the answers of the other table.
 pub fn carries_out<R: AllocGlobal + Abort>(
     rt: &R,
     config: &mut Config,

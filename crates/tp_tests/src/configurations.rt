@@ -63,7 +63,6 @@ fn refusals_leave_a_star_as_it_was(rt: HostRuntime) {
     drop(config);
 }
 
-/// Only mtc:p is connected, to a:p, and nothing is mapped.
 const CONNECTED: &[(Question, &str)] = &[
     (Question::From(0, 0), "0>1.0 "),
     (Question::Route(0, 1), "41"),
@@ -72,7 +71,6 @@ const CONNECTED: &[(Question, &str)] = &[
     (Question::Into(3), ""),
 ];
 
-/// In addition mtc:q is mapped.
 const MAPPED: &[(Question, &str)] = &[
     (Question::From(0, 0), "0>1.0 "),
     (Question::Route(0, 1), "0>2.0 "),
@@ -254,7 +252,6 @@ fn has_64_components_at_most(rt: HostRuntime) {
     assert_eq!(rt; CreateFault::Duplicate.refusal().label().0, 12);
 }
 
-/// A component mtc with the maximum number of ports, p0 and so on.
 fn many_ports<R: AllocGlobal + Abort>(rt: &R) -> Config {
     let alloc = rt.alloc();
     let mut ports = IndexMap::new(alloc);
@@ -324,8 +321,6 @@ fn connects_each_in_the_end<R: Abort>(rt: &R, config: &mut Config) {
     }
 }
 
-/// After an allocation was refused, whichever it was, each create, connect and list of routes is as
-/// if it hadn't been called.
 #[test]
 fn refused_memory_leaves_connections_as_they_were(rt: HostRuntime) {
     let mut config = four_again(&rt);

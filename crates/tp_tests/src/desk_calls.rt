@@ -17,7 +17,6 @@ use tp_value::template::Template;
 use tp_value::types::Ty;
 use tp_value::verdict::Verdict;
 
-/// A desk of two ports. If memory is refused, it is made a second time.
 fn desk<R: AllocGlobal + Abort>(rt: &R) -> Desk {
     let config = four_again(rt);
     assert!(rt; config.len() > 1);
@@ -32,7 +31,6 @@ fn desk<R: AllocGlobal + Abort>(rt: &R) -> Desk {
 /// A call at port 0 of a desk. A wanted message has a type, if one is given, a sender and a branch.
 #[derive(Clone, Copy)]
 enum DeskCall {
-    /// A message from component 0: its number, which is also its value, and its stamp.
     Arrive(u32, u64),
     Receive(Option<Ty>, Option<u32>, usize),
     Check(Option<Ty>, Option<u32>, usize),
@@ -43,7 +41,6 @@ enum DeskCall {
     Halt,
     MaySend,
     Stamp,
-    /// Notes a sending with the next stamp.
     Sent,
     Else,
     Verdict,
@@ -100,7 +97,6 @@ fn answer<R: AllocGlobal + Abort>(rt: &R, desk: &mut Desk, call: DeskCall) -> St
     }
 }
 
-/// If memory is refused, the history is as long as before, and the call is made again.
 fn answer_again<R: AllocGlobal + Abort>(rt: &R, desk: &mut Desk, call: DeskCall) -> String {
     let had = desk.log().len();
     let first = answer(rt, desk, call);
@@ -183,7 +179,6 @@ const LOG_OF_A_DESK: &[&str] = &[
     "Failed(NotSending)",
 ];
 
-/// The calls of a desk, each made again if memory is refused: their results, and the history.
 #[test]
 fn refused_memory_leaves_a_desk_as_it_was(rt: HostRuntime) {
     let mut desk = desk(&rt);
@@ -192,7 +187,6 @@ fn refused_memory_leaves_a_desk_as_it_was(rt: HostRuntime) {
     drop(desk);
 }
 
-/// The next stamp is one above the greatest that arrived, and there is none above the last number.
 #[test]
 fn stamps_are_used_up(rt: HostRuntime) {
     const CALLS: &[(DeskCall, &str)] = &[
@@ -210,7 +204,6 @@ fn stamps_are_used_up(rt: HostRuntime) {
     drop(desk);
 }
 
-/// Sends `integer:n`. If memory is refused, nothing was put or noted, and it is sent again.
 fn send_again<R: Wait + Abort>(rt: &R, desk: &mut Desk, sender: &mut Sender, n: i64) {
     assert!(rt; sender.ways() == 1);
     let (put, noted) = (sender.count(0), desk.log().len());
@@ -228,8 +221,6 @@ fn send_by_each<R: Wait + Abort>(rt: &R, desk: &mut Desk, senders: &mut [Sender]
     }
 }
 
-/// The messages sent have the stamps 1 and 2 and the numbers 0 and 1, and were put, even if memory
-/// was refused at first.
 #[test]
 fn refused_memory_puts_and_notes_nothing(rt: HostRuntime) {
     const LOG: &[&str] = &[

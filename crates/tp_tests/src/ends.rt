@@ -36,7 +36,6 @@ pub fn stamped(n: i64) -> Stamped {
     }
 }
 
-/// Returns whether it is `integer:n` with that stamp.
 pub fn is_stamped(stamped: &Stamped, n: i64) -> bool {
     match stamped.message.value {
         Value::Int(value) => {
@@ -46,7 +45,6 @@ pub fn is_stamped(stamped: &Stamped, n: i64) -> bool {
     }
 }
 
-/// An owner and its component's desk, which has everything that was drained.
 #[derive(Drop)]
 pub struct Mailbox {
     pub owner: Owner,
@@ -79,7 +77,6 @@ impl Mailbox {
     }
 }
 
-/// All ends of one inbox.
 #[derive(Drop)]
 pub struct InboxEnds {
     pub mailbox: Mailbox,
@@ -128,7 +125,6 @@ fn ends_once(
     }
 }
 
-/// If memory is refused, they are made a second time from the same configuration.
 pub fn ends_of<R: AllocGlobal + Abort>(
     rt: &R,
     config: &Config,
@@ -141,7 +137,6 @@ pub fn ends_of<R: AllocGlobal + Abort>(
     }
 }
 
-/// If memory is refused, it is made a second time.
 pub fn floor_of<R: AllocGlobal + Abort>(rt: &R, living: u32) -> Arc<Floor, Global> {
     match Floor::new(rt.alloc(), living) {
         Ok(floor) => floor,
@@ -149,7 +144,6 @@ pub fn floor_of<R: AllocGlobal + Abort>(rt: &R, living: u32) -> Arc<Floor, Globa
     }
 }
 
-/// Connects the ports of these names of mtc and a. If memory is refused, it tries a second time.
 fn connect_each<R: Abort>(rt: &R, config: &mut Config, ports: &[&str]) {
     for name in ports {
         let (p, q) = (("mtc", *name), ("a", *name));
@@ -170,8 +164,6 @@ pub fn two<R: AllocGlobal + Abort>(rt: &R, ports: &[&str]) -> (InboxEnds, Arc<Fl
 }
 
 impl InboxEnds {
-    /// Puts `integer:n` with the sender at this place, on this one of its routes. `None` if there
-    /// is no such sender or route. A refused message comes back as it was.
     pub fn put<R: Wait + Abort>(
         &mut self,
         rt: &R,
@@ -196,7 +188,6 @@ impl InboxEnds {
         self.mailbox.drain(rt)
     }
 
-    /// The number of messages that the first sender has put on its first route.
     pub fn count(&self) -> u64 {
         match self.senders.first() {
             Some(sender) if sender.ways() > 0 => sender.count(0),
@@ -211,7 +202,6 @@ impl InboxEnds {
         }
     }
 
-    /// The messages left, asked a second time if memory is refused; and the desk.
     pub fn settle<R: Wait + Abort>(self, rt: &R) -> (Rest, Desk) {
         let InboxEnds {
             mailbox,

@@ -10,12 +10,10 @@ use tp_inbox::sender::{PutFault, ROUTE_LIMIT};
 use tp_refusal::memory::Memory;
 
 enum InboxCall {
-    /// Puts `integer:n` on this one of the sender's routes.
     Put(usize, i64),
     Count,
     Route,
     Drain,
-    /// The number drained from a route, by the numbers of the sender, the receiver and its port.
     Drained(u32, u32, u32),
     Wait,
     Close,
@@ -53,7 +51,6 @@ fn carries_out<R: AllocGlobal + Abort + Wait>(
     }
 }
 
-/// Asserts the desk's history at the end, and what is left in the inbox: both are what was put.
 fn settles<R: AllocGlobal + Abort + Wait>(rt: &R, ends: InboxEnds, log: &str, rest: &str) {
     let (left, desk) = ends.settle(rt);
     says(rt, 0, debug(rt, desk.log()), log);
@@ -61,7 +58,6 @@ fn settles<R: AllocGlobal + Abort + Wait>(rt: &R, ends: InboxEnds, log: &str, re
     says(rt, 1, debug(rt, left), rest);
 }
 
-/// Messages of a sender on two routes arrive in its order over both, each numbered on its route.
 #[test]
 fn two_routes(rt: HostRuntime) {
     const CALLS: &[(InboxCall, &str)] = &[
@@ -84,8 +80,6 @@ fn two_routes(rt: HostRuntime) {
     settles(&rt, ends, LOG, REST);
 }
 
-/// A sender returns its route, and the owner the number drained from a route: 0 for a route into
-/// another component's port of that number, and for a route of another sender.
 #[test]
 fn routes_are_told(rt: HostRuntime) {
     const CALLS: &[(InboxCall, &str)] = &[
@@ -104,7 +98,6 @@ fn routes_are_told(rt: HostRuntime) {
     drop((ends, floor));
 }
 
-/// The results of `leave` and `wait` without another behaviour, and after a closing.
 #[test]
 fn alone_on_the_floor(rt: HostRuntime) {
     const CALLS: &[(InboxCall, &str)] = &[
@@ -124,7 +117,6 @@ fn alone_on_the_floor(rt: HostRuntime) {
     drop((ends, floor, nobody));
 }
 
-/// Puts the integers from 0 on, as many as a route takes: each has its number.
 fn fills<R: Wait + Abort>(rt: &R, ends: &mut InboxEnds) {
     for n in 0..ROUTE_LIMIT {
         let put = ends.put(rt, 0, 0, n as i64);
@@ -132,7 +124,6 @@ fn fills<R: Wait + Abort>(rt: &R, ends: &mut InboxEnds) {
     }
 }
 
-/// A route takes 100,000 messages, numbered from 0, and returns the next one.
 #[test]
 fn a_route_has_a_limit(rt: HostRuntime) {
     const CALLS: &[(InboxCall, &str)] = &[
@@ -146,7 +137,6 @@ fn a_route_has_a_limit(rt: HostRuntime) {
     drop((ends, floor));
 }
 
-/// Puts `integer:n`, which gets this number. If memory is refused, it is put again.
 fn put_again<R: Wait + Abort>(rt: &R, ends: &mut InboxEnds, n: i64, number: u64) {
     match ends.put(rt, 0, 0, n) {
         Some(Err(PutFault::Memory)) => {
@@ -158,7 +148,6 @@ fn put_again<R: Wait + Abort>(rt: &R, ends: &mut InboxEnds, n: i64, number: u64)
     }
 }
 
-/// Drains so many messages, in two turns if memory is refused.
 fn drain_again<R: Wait + Abort>(rt: &R, ends: &mut InboxEnds, count: u64) {
     match ends.drain(rt) {
         Ok(moved) => assert!(rt; moved == count),
@@ -169,8 +158,6 @@ fn drain_again<R: Wait + Abort>(rt: &R, ends: &mut InboxEnds, count: u64) {
     }
 }
 
-/// The results of `put`, `count`, `drain`, `gather` and `settle` for one route. Each call that is
-/// refused memory is made again.
 #[test]
 fn refused_memory_loses_nothing(rt: HostRuntime) {
     const LOG: &str = "[\

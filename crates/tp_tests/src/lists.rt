@@ -15,7 +15,6 @@ fn long_list<R: AllocGlobal + Abort>(rt: &R, length: u32) -> Value {
     Value::List(Shared::new(rt.alloc(), elements).expect(rt, "memory"))
 }
 
-/// Asserts that a list of this length equals its copy, and that one with one more element doesn't.
 fn equals_its_copy<R: AllocGlobal + Abort>(rt: &R, length: u16) {
     let length = u32::from(length);
     let value = long_list(rt, length);

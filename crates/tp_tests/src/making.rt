@@ -21,7 +21,6 @@ pub fn port_type(alloc: Global, ins: &[Ty], outs: &[Ty]) -> Result<PortType, Mem
     Ok(PortType { ins, outs })
 }
 
-/// Each port receives and sends these types.
 fn add_ports(
     alloc: Global,
     ports: &mut IndexMap<String, PortType>,
@@ -36,7 +35,6 @@ fn add_ports(
     Ok(())
 }
 
-/// Each port receives and sends these types.
 fn comp_type(alloc: Global, names: &[&str], ins: &[Ty], outs: &[Ty]) -> Result<CompType, Memory>
     ensures { IfOk result (λ t. length t.ports.entries ≤ PORT_LIMIT) }
 {
@@ -127,7 +125,6 @@ pub fn four(alloc: Global) -> Result<Config, CreateFault> {
     }
 }
 
-/// If memory is refused, it is made a second time.
 pub fn four_again<R: AllocGlobal + Abort>(rt: &R) -> Config {
     match four(rt.alloc()) {
         Ok(config) => config,

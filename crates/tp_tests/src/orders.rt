@@ -17,8 +17,6 @@ fn is_the_order<R: AllocGlobal + Abort>(
     }
 }
 
-/// Asserts that there is no order of the numbers below the count, and that the circle returned has
-/// these two.
 fn is_a_circle_of_two<R: AllocGlobal + Abort>(
     rt: &R,
     count: usize,

@@ -6,7 +6,6 @@ use tp_config::config::Config;
 use tp_config::port_type::{COMPONENT_LIMIT, CompId, Role, RouteId};
 use tp_value::types::Ty;
 
-/// Creates a component of type 0, and connects its port p to mtc:p.
 fn add_partner<R: AllocGlobal + Abort>(rt: &R, config: &mut Config, number: usize) {
     let name = format!(in rt.alloc(); "c{number}").expect(rt, "memory");
     assert!(rt; add(rt.alloc(), config, name.as_str(), 0, Role::Test).is_ok());
@@ -32,8 +31,6 @@ fn has_partner<R: AllocGlobal + Abort>(rt: &R, config: &Config, comp: u32) {
     assert_eq!(rt; into.as_slice(), [route(0, comp, 0)].as_slice());
 }
 
-/// Asserts that a list has a route for each component from 1 to 63, in this order: to its port p,
-/// or from there.
 fn are_routes_of_each<R: Abort>(rt: &R, routes: &[RouteId], to_mtc: bool) {
     assert_eq!(rt; routes.len(), 63);
     for (found, comp) in routes.iter().zip(1..64u32) {

@@ -30,7 +30,6 @@ fn two<R: AllocGlobal + Abort>(rt: &R) -> PortQueue<i64> {
 }
 
 enum QueueCall {
-    /// A message of sender 0: its number and its value.
     Arrive(u64, i64),
     Receive(IntegerPattern, Option<u32>),
     Check(IntegerPattern, Option<u32>),
@@ -54,14 +53,11 @@ fn answer<R: AllocGlobal + Abort>(rt: &R, queue: &mut PortQueue<i64>, call: &Que
     }
 }
 
-/// The status, the number of messages ahead of the mark, the number of messages, and whether the
-/// port may send.
 fn state<R: AllocGlobal + Abort>(rt: &R, queue: &PortQueue<i64>) -> String {
     let counts = (queue.ahead(), queue.queued_len());
     debug(rt, (queue.status(), counts, queue.may_send()))
 }
 
-/// Carries out the calls of a table: beside each are its result, and the state after it.
 fn carries_out<R: AllocGlobal + Abort>(
     rt: &R,
     queue: &mut PortQueue<i64>,
@@ -73,7 +69,6 @@ fn carries_out<R: AllocGlobal + Abort>(
     }
 }
 
-/// The queue `two` after the calls of a table.
 fn answered<R: AllocGlobal + Abort>(rt: &R, calls: &[(QueueCall, &str, &str)]) -> PortQueue<i64> {
     let mut queue = two(rt);
     carries_out(rt, &mut queue, calls);
@@ -114,7 +109,6 @@ fn receives_in_order_and_only_what_matches(rt: HostRuntime) {
     drop(queue);
 }
 
-/// The top, and the entries at the places 0 to 2.
 fn queued<R: AllocGlobal + Abort>(rt: &R, queue: &PortQueue<i64>) -> String {
     let places = (queue.queued_at(0), queue.queued_at(1), queue.queued_at(2));
     debug(rt, (queue.top(), places))
@@ -265,7 +259,6 @@ impl Read for OneByOne<'_> {
     }
 }
 
-/// A reader of the line `halt`, with an error of this kind instead of one of the reads.
 fn halt_line(reads_left: u32, kind: ErrorKind) -> OneByOne<'static> {
     OneByOne {
         text: b"halt\n".as_slice(),
@@ -320,7 +313,6 @@ fn line_ends<R: AllocGlobal + Abort>(rt: &R, count: usize) -> Vec<u8> {
     (vec![in rt.alloc(); b'\n'; count]).expect(rt, "memory")
 }
 
-/// The number of bytes read, and the number left.
 fn read_length<R: AllocGlobal>(rt: &R, text: &[u8]) -> (Result<usize, ReadFault>, usize) {
     let mut rest = Watched::new(text);
     let length = match read_text(rt.alloc(), &mut rest) {
@@ -330,7 +322,6 @@ fn read_length<R: AllocGlobal>(rt: &R, text: &[u8]) -> (Result<usize, ReadFault>
     (length, rest.into_inner().len())
 }
 
-/// The result of a replay of these bytes, and the number of bytes that it writes.
 fn replayed_bytes<R: AllocGlobal>(rt: &R, text: &[u8]) -> (Result<(), QueueFault>, usize) {
     let mut out = Watched::new(Vec::new(rt.alloc()));
     let answer = replay_text(rt.alloc(), text, &mut out);

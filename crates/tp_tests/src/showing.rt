@@ -11,17 +11,14 @@ pub fn debug<R: AllocGlobal + Abort, D: Debug + Drop>(rt: &R, value: D) -> Strin
     }
 }
 
-/// A value as `{}` prints it.
 pub fn display<R: AllocGlobal + Abort, D: Display + Drop>(rt: &R, value: D) -> String {
     format!(in rt.alloc(); "{value}").expect(rt, "memory")
 }
 
-/// Asserts that a text is the wanted one, in this row of a table.
 pub fn is_shown<R: Abort>(rt: &R, place: usize, shown: &str, wanted: &str) {
     assert_eq!(rt; shown, wanted, "in row {place}");
 }
 
-/// The same for a text that isn't needed any more.
 pub fn says<R: Abort>(rt: &R, place: usize, shown: String, wanted: &str) {
     is_shown(rt, place, shown.as_str(), wanted);
 }

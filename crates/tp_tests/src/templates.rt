@@ -40,7 +40,6 @@ fn exactly(alloc: Global, numbers: &[i64]) -> Result<Items<Template>, Memory> {
     }
 }
 
-/// A pattern, as it is written.
 fn pattern(alloc: Global, written: &[u8]) -> Result<Template, Memory> {
     let mut parts = Items::new(alloc);
     for character in written {
@@ -60,7 +59,6 @@ fn asks_one<R: Abort>(rt: &R, template: &Template, value: &Value, wanted: bool) 
     );
 }
 
-/// Asserts the same of the template and of its copy, which is printed like its original.
 fn asks<R: AllocGlobal + Abort>(rt: &R, template: &Template, value: &Value, wanted: bool) {
     let twin = template.copy(rt.alloc()).expect(rt, "memory");
     let printed = debug(rt, template);
@@ -268,7 +266,6 @@ fn print_alike(alloc: Global, one: &Template, other: &Template) -> Result<bool, 
     Ok(one == other)
 }
 
-/// A value's copy doesn't allocate, so no memory can be refused to it.
 #[test]
 fn refused_memory_leaves_copies_of_values_whole(rt: HostRuntime) {
     let value = match records(rt.alloc()) {
@@ -280,7 +277,6 @@ fn refused_memory_leaves_copies_of_values_whole(rt: HostRuntime) {
     drop((value, twin));
 }
 
-/// A copy is whole even if one of its allocations is refused: the gate refuses each in turn.
 #[test]
 fn refused_memory_leaves_copies_whole(rt: HostRuntime) {
     let template = match nested(rt.alloc()) {

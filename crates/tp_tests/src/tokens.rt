@@ -7,7 +7,6 @@ use tp_token::lexer::lex;
 use tp_token::token::{Placed, Symbol};
 use tp_token::word::{Word, word_of};
 
-/// The reserved words, as the notation lists them.
 const WORDS: &str = "module type record of port message component in out inout function testcase \
     runs on system var create connect map mtc self start stop halt clear send receive trigger \
     check to from alt else for setverdict none pass inconc fail error all done true false integer \
@@ -189,10 +188,8 @@ fn names_at_their_limit(rt: HostRuntime) {
     );
 }
 
-/// Texts with so many pieces are tried: each number from 0 to 100.
 const LENGTHS: usize = 101;
 
-/// A text, a piece that is repeated, and a text after it.
 type Repeated = (&'static str, &'static str, &'static str);
 
 fn repeated<R: AllocGlobal + Abort>(rt: &R, text: &Repeated, times: usize) -> String {
@@ -205,14 +202,12 @@ fn repeated<R: AllocGlobal + Abort>(rt: &R, text: &Repeated, times: usize) -> St
     out
 }
 
-/// For the text with its piece so many times, the result is the other with its piece as often.
 fn answers<R: AllocGlobal + Abort>(rt: &R, text: &Repeated, want: &Repeated, times: usize) {
     let text = repeated(rt, text, times);
     let want = repeated(rt, want, times);
     says(rt, times, shown(rt, text.as_bytes()), want.as_str());
 }
 
-/// The same for each number of pieces from the first up to the last, which is excluded.
 fn answers_each<R: AllocGlobal + Abort>(
     rt: &R,
     (first, last): (usize, usize),
@@ -298,8 +293,6 @@ fn texts_at_their_limit(rt: HostRuntime) {
     assert!(rt; count(&rt, text.as_slice()) == Err(ScriptFault::limit(0)));
 }
 
-/// With memory refused at any allocation (`rt try --test --fail-alloc 1..`) the result is 50 or the
-/// tokens.
 #[test]
 fn refused_memory(rt: HostRuntime) {
     let text = b"p.send(charstring:\"a\"\"b\") to q; x := \"0123456789\" // end";

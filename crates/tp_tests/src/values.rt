@@ -31,7 +31,6 @@ fn field(alloc: Global, name: &[u8], ty: Ty) -> Result<Field, Memory> {
     Ok(Field { name, ty })
 }
 
-/// `record { integer id, charstring tag }`.
 fn record_type(alloc: Global) -> Result<TypeDef, Memory> {
     let id = field(alloc, b"id", Ty::Integer)?;
     let tag = field(alloc, b"tag", Ty::Charstring)?;
@@ -93,7 +92,6 @@ fn values_equal_their_copies(rt: HostRuntime) {
     drop((types, value, twin, other));
 }
 
-/// Asserts that a value has the type and this text.
 pub fn writes<R: AllocGlobal + Abort>(rt: &R, types: &Types, ty: Ty, value: &Value, wanted: &str) {
     let mut out = Watched::new(Vec::new(rt.alloc()));
     assert!(rt; has_type(types, ty, value), "{value:?}");
@@ -140,7 +138,6 @@ fn a_failed_write_is_told(rt: HostRuntime) {
     drop((types, value));
 }
 
-/// A queue with the messages 0, an integer, and 1, a charstring, of sender 0.
 fn two_messages<R: AllocGlobal + Abort>(rt: &R) -> PortQueue<Message> {
     let mut queue = PortQueue::new(rt.alloc());
     let value = text(rt.alloc(), b"ab").expect(rt, "memory");
@@ -190,7 +187,6 @@ fn a_port_queue_holds_messages_of_two_types(rt: HostRuntime) {
     drop((any, integer, queue));
 }
 
-/// The verdicts, from the best to the worst.
 const VERDICTS: &[Verdict] = &[
     Verdict::None,
     Verdict::Pass,
@@ -199,7 +195,6 @@ const VERDICTS: &[Verdict] = &[
     Verdict::Error,
 ];
 
-/// Asserts that the verdict at this place becomes the worse of the two, for each other verdict.
 fn gets_no_better<R: Abort>(rt: &R, place: usize, verdict: Verdict) {
     for (other_place, other) in VERDICTS.iter().enumerate() {
         let worst = if place < other_place { *other } else { verdict };
@@ -277,7 +272,6 @@ fn adds_in_the_end<R: AllocGlobal + Abort>(rt: &R, types: &mut Types, text: &str
     assert!(rt; types.find("R") == Some(0));
 }
 
-/// A type is added, or the types are as before, even if an allocation was refused.
 #[test]
 fn refused_memory_leaves_types_as_they_were(rt: HostRuntime) {
     let mut types = Types::new(rt.alloc());

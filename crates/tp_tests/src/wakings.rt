@@ -1,8 +1,7 @@
 //! Tests of which behaviour is woken, by what and how often, and of the one that is reported as the
-//! last one awake.
-//!
-//! Each behaviour that waits does so in a thread of its own. A test checks a limited number of
-//! times whether it rests. If none is woken, the test doesn't end, and fails by its limit of time.
+//! last one awake. Each behaviour that waits does so in a thread of its own. A test checks a
+//! limited number of times whether it rests. If none is woken, the test doesn't end, and fails by
+//! its limit of time.
 use crate::configurations::star;
 use crate::ends::{InboxEnds, Mailbox, ends_of, floor_of, stamped, two};
 use std::alloc::Global;
@@ -17,13 +16,10 @@ use tp_floor::notifier::Woken;
 use tp_inbox::owner::Closer;
 use tp_inbox::sender::Sender;
 
-/// After so many turns a test gives up.
 const TURNS: u32 = 10_000_000;
 
-/// The number of times that an owner is woken.
 const ROUNDS: u32 = 50;
 
-/// Returns whether so many begin to rest.
 fn rest_is<R: Wait>(rt: &R, floor: &Floor, count: u64) -> bool {
     for _ in 0..TURNS {
         if floor.resting(rt) == count {
@@ -34,7 +30,6 @@ fn rest_is<R: Wait>(rt: &R, floor: &Floor, count: u64) -> bool {
     false
 }
 
-/// Returns whether putting `integer:1` on the sender's first route was accepted.
 fn is_put<R: Wait>(rt: &R, sender: &mut Sender) -> bool {
     sender.ways() > 0 && sender.put(rt, 0, stamped(1)).is_ok()
 }
@@ -57,12 +52,10 @@ fn waits<R: Wait>(rt: &R, mailbox: &mut Mailbox, rounds: u32) -> Option<Woken> {
     Some(mailbox.owner.wait(rt))
 }
 
-/// How a resting behaviour is woken.
 #[derive(Clone, Copy)]
 enum Waking {
     Put,
     Closing,
-    /// By puts, again and again, and by a closing after the other behaviour has left.
     Often,
 }
 
@@ -167,8 +160,6 @@ fn answers<R: Wait>(
     Some(mailbox.owner.wait(rt))
 }
 
-/// A behaviour that answers: its mailbox, the sender of its answers, and the sender and the closer
-/// of its inbox.
 #[derive(Drop)]
 struct Answerer {
     mailbox: Mailbox,
@@ -177,7 +168,6 @@ struct Answerer {
     closer: Closer,
 }
 
-/// The component of this number, which answers by this sender.
 fn answerer_of<R: AllocGlobal + Abort>(
     rt: &R,
     config: &Config,
@@ -200,13 +190,10 @@ fn answerer_of<R: AllocGlobal + Abort>(
     }
 }
 
-/// Puts with this sender, waits for the answer, and drains it. Returns whether everything went
-/// well.
 fn is_answered<R: Wait>(rt: &R, mailbox: &mut Mailbox, sender: &mut Sender) -> bool {
     is_put(rt, sender) && mailbox.owner.wait(rt) == Woken::Arrived && drains_one(rt, mailbox)
 }
 
-/// Asks both again and again, and waits for each answer. Returns whether everything went well.
 fn asks_often<R: Wait>(
     rt: &R,
     mailbox: &mut Mailbox,
@@ -261,8 +248,6 @@ fn beside<R: Threads + Wait + Sync>(
     )
 }
 
-/// Lets two behaviours answer in threads of their own. Returns what they found at the end, and
-/// whether everything went well here.
 fn three<R: Threads + Wait + Sync>(
     rt: &R,
     floor: &Floor,

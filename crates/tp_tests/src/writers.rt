@@ -5,7 +5,6 @@ use std::io::{ErrorKind, Write};
 /// Takes this many bytes, and then returns an error.
 #[derive(Drop)]
 pub struct Short {
-    /// The number of bytes that it still takes.
     pub room: usize,
 }
 

@@ -6,7 +6,6 @@ ghost use Rattle.tp_text.specs.Cutting.{IsFrontOf, IsLeftOf, after_space, lacks,
 
 use std::str;
 
-/// The first place of this byte.
 fn find_byte(separator: u8, text: &[u8]) -> Option<usize>
     ensures { result ≡ position (λ byte. byte == separator) text.now }
 {

@@ -12,7 +12,6 @@ use std::io::{ErrorKind, Read};
 use thiserror::Error;
 use tp_refusal::limit::TEXT_LIMIT;
 
-/// The number of bytes of the first read.
 const FIRST_READ: usize = 8_192;
 
 /// Why a text was not read.
@@ -29,11 +28,10 @@ pub enum ReadFault {
     Memory,
 }
 
-/// Reads everything that the reader has, and at most one byte more than [`TEXT_LIMIT`].
-///
-/// 2 `Read` if and only if the reader returns an error; an interrupted read is tried again. 15
-/// `Limit` if there are more bytes, as soon as one more is read. The fault that comes first is
-/// returned; bytes that were read aren't put back.
+/// Reads everything that the reader has, and at most one byte more than [`TEXT_LIMIT`]. 2 `Read` if
+/// and only if the reader returns an error; an interrupted read is tried again. 15 `Limit` if there
+/// are more bytes, as soon as one more is read. The fault that comes first is returned; bytes that
+/// were read aren't put back.
 pub fn read_text<R: Read>(alloc: Global, reader: &mut Watched<R>) -> Result<Vec<u8>, ReadFault>
     ensures whole { IfOk result (λ text.
         IfSome (reader_left R.remaining reader.old) (λ all. text.items ≡ all)) }
@@ -99,8 +97,6 @@ fn read_up_to<R: Read>(
     Err(ReadFault::Limit)
 }
 
-/// One read, after the first `size` bytes of a text. It returns the number of bytes read, and 0
-/// only at the end.
 fn read_more<R: Read>(
     reader: &mut Watched<R>,
     text: &mut Vec<u8>,
@@ -133,7 +129,6 @@ fn read_more<R: Read>(
     read_behind(reader, text.as_mut_slice(), size)
 }
 
-/// One read into the bytes after the first `size`, tried again if it is interrupted.
 fn read_behind<R: Read>(
     reader: &mut Watched<R>,
     text: &mut [u8],
@@ -155,7 +150,6 @@ fn read_behind<R: Read>(
     read_again(reader, &mut text[size..])
 }
 
-/// One read, tried again if it is interrupted.
 fn read_again<R: Read>(reader: &mut Watched<R>, part: &mut [u8]) -> Result<usize, ReadFault>
     requires { 0 < length part.old }
     ensures within { IfOk result (λ count. count ≤ length part.new) }
@@ -168,6 +162,7 @@ fn read_again<R: Read>(reader: &mut Watched<R>, part: &mut [u8]) -> Result<usize
     ensures fault { IfErr result (λ fault. fault ≡ ReadFault.Read) }
     ensures failed { OnErr result (HasFailed reader.new) }
 {
+    // An interrupted read is tried again.
     for _ in 0..u64::MAX {
         match reader.read(part) {
             Ok(count) => return Ok(count),
@@ -180,8 +175,6 @@ fn read_again<R: Read>(reader: &mut Watched<R>, part: &mut [u8]) -> Result<usize
     Err(ReadFault::Read)
 }
 
-/// Makes room for a byte after the first `size`: if there is none, twice as much as there was, and
-/// at most one byte beyond the limit.
 fn make_room(text: &mut Vec<u8>, size: usize, limit: usize) -> Result<(), AllocError>
     requires limit { limit < 2 ^ 62 }
     requires size { size ≤ limit }
@@ -195,13 +188,13 @@ fn make_room(text: &mut Vec<u8>, size: usize, limit: usize) -> Result<(), AllocE
     ensures most { vec_len text.new ≤ limit + 1 }
     ensures doubled { IsRoom limit (vec_len text.new) }
 {
+    // Twice as much as there was, and at most one byte beyond the limit.
     if size < text.len() {
         return Ok(());
     }
     text.resize(next_room(size, limit), 0)
 }
 
-/// The room after a full room: twice as much, and at most one byte beyond the limit.
 fn next_room(size: usize, limit: usize) -> usize
     requires limit { limit < 2 ^ 62 }
     requires size { size ≤ limit }

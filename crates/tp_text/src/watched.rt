@@ -18,7 +18,6 @@ pub struct Watched<T> {
     failed: bool,
 }
 
-/// Returns whether a call with this error was only interrupted.
 fn is_interrupted(error: &io::Error) -> bool
     ensures { IsTrue result → error_kind error.now ≡ ErrorKind.Interrupted }
 {
@@ -50,7 +49,6 @@ impl<T> Watched<T> {
         self.failed = true;
     }
 
-    /// The reader or the writer.
     pub fn into_inner(self) -> T
         ensures { result ≡ self.inner }
     {
@@ -125,8 +123,6 @@ impl<W: Write> Write for Watched<W> {
     }
 }
 
-/// One write of these bytes. Returns how many the writer took: 0 if there are none, or if it has
-/// failed before.
 #[inline(always)]
 fn write_some<W: Write>(bytes: &[u8], out: &mut Watched<W>) -> usize
     ensures few { result ≤ length bytes.now }
@@ -141,13 +137,12 @@ fn write_some<W: Write>(bytes: &[u8], out: &mut Watched<W>) -> usize
     }
 }
 
-/// Writes these bytes, write by write. It is a function of its own, so that the usual case is
-/// inlined.
 #[cold]
 #[inline(never)]
 fn write_rest<W: Write>(bytes: &[u8], out: &mut Watched<W>)
     ensures { Writes W.contents out.old out.new bytes.now }
 {
+    // A function of its own, so that the usual case of a write is inlined.
     let mut at = 0;
     for _ in 0..u64::MAX {
         if out.failed || at >= bytes.len() {

@@ -4,15 +4,12 @@ ghost use Rattle.tp_trace.specs.Tree.{may_stand, place_after, told_of};
 
 use crate::line::{Line, MessageVerb};
 
-/// The place of a line, which depends on the line before it.
 #[derive(Clone, Copy)]
 pub enum TracePosition {
-    /// No line is before it.
     Front,
     Section,
     /// After a line `left` of a section.
     Left,
-    /// After the line `result`.
     Behind,
 }
 

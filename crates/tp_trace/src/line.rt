@@ -22,11 +22,8 @@ pub enum MessageVerb {
 /// The first word of a line of a report that no rule of ports concerns.
 #[derive(Clone, Copy)]
 pub enum Remark {
-    /// `set VERDICT`
     Set,
-    /// `failed CODE`
     Failed,
-    /// `verdict VERDICT`
     Verdict,
 }
 
@@ -62,21 +59,13 @@ pub enum Line<'t> {
     Result(&'t [u8]),
 }
 
-/// The first word of a line.
 #[derive(Clone, Copy)]
 pub enum Verb {
-    /// `component`
     Component,
-    /// `sent`, `came`, `took`, `found`, `dropped`, `left`
     Message(MessageVerb),
-    /// `cleared`, `started`, `stopped`, `halted`
     Operation(PortOperation),
-    /// `else`
     Else,
-    /// `set`, `failed`, `verdict`
     Remark(Remark),
-    /// `end`
     End,
-    /// `result`
     Result,
 }

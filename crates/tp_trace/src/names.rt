@@ -55,7 +55,6 @@ impl<'t> Names<'t> {
         }
     }
 
-    /// Adds a name and returns true, unless it is there.
     pub fn add(&mut self, name: &'t [u8]) -> Result<bool, Memory>
         ensures added { IfOk result (λ added. MatchBool added
             (¬ Contains self.old name.now × (self.new ≡ self.old ++ name.now ∷ []))

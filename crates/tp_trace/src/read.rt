@@ -15,7 +15,6 @@ use itoa::Buffer;
 use tp_event::operation::PortOperation;
 use tp_text::cut::{first_word, utf8_text};
 
-/// The greatest number of a message.
 const GREATEST_NUMBER: u64 = 9_223_372_036_854_775_807;
 
 fn fate_of(word: &[u8]) -> Option<MessageVerb>
@@ -119,7 +118,6 @@ fn is_verdict(word: &[u8]) -> bool
     }
 }
 
-/// The number that a word can be read as, in any form.
 fn parse_number(word: &[u8]) -> Option<u64>
     ensures { (n : ℕ) → n < 2 ^ 63 → word.now ≡ decimal n → result ≡ Some n }
 {
@@ -127,7 +125,6 @@ fn parse_number(word: &[u8]) -> Option<u64>
     text.parse::<u64>().ok()
 }
 
-/// In decimal, below 2^63, without a leading zero or a `+`.
 fn number_of(word: &[u8]) -> Option<u64>
     ensures { MatchOption result
         ((n : ℕ) → n < 2 ^ 63 → word.now ≡ decimal n → ⊥)
@@ -154,7 +151,6 @@ fn is_remark(remark: Remark, word: &[u8]) -> bool
     }
 }
 
-/// The number and the content of a message.
 fn contents_of(rest: Option<&[u8]>) -> Option<(u64, &[u8])>
     ensures { MatchOption result
         ((n : ℕ) (text : _) → IsContents n text
@@ -171,7 +167,6 @@ fn contents_of(rest: Option<&[u8]>) -> Option<(u64, &[u8])>
     Some((number, text))
 }
 
-/// The text before the last `.`, and the text after it.
 fn around_last_dot(word: &[u8]) -> Option<(&[u8], &[u8])>
     ensures { MatchOption result
         (lacks 46 word.now ≡ true)
@@ -240,14 +235,12 @@ fn message_of(fate: MessageVerb, rest: &[u8]) -> Option<MessageWords<'_>>
     }
 }
 
-/// The line, if the condition on what follows its verb holds.
 fn line_where(holds: bool, line: Line<'_>) -> Option<Line<'_>>
     ensures { MatchOption result (holds ≡ false) (λ l. (holds ≡ true) × (l ≡ line.entry)) }
 {
     if holds { Some(line) } else { None }
 }
 
-/// The line of this verb, followed by `rest`.
 fn line_behind(verb: Verb, rest: &[u8]) -> Option<Line<'_>>
     ensures { IsRead verb (Some rest.now) result }
 {

@@ -66,7 +66,6 @@ impl<T: Drop> From<AllocFailed<T>> for TraceFault {
     }
 }
 
-/// The number of lines for which to make room: one more than there are bytes 10.
 fn room_for(text: &[u8]) -> usize
     requires { length text.now ≤ 268435456 }
     ensures { result ≡ count_by (λ byte. byte == 10) text.now + 1 }
@@ -74,7 +73,6 @@ fn room_for(text: &[u8]) -> usize
     text.iter().filter(|byte| **byte == b'\n').count() + 1
 }
 
-/// The place of a line in a text. The rest of the text begins with it.
 fn span_of(text: &[u8], rest: &[u8], line: &[u8]) -> Span
     requires size { length text.now ≤ 268435456 }
     requires left { IsLeftOf text.now rest.now }
@@ -89,7 +87,6 @@ fn span_of(text: &[u8], rest: &[u8], line: &[u8]) -> Span
     }
 }
 
-/// If the line begins a section, notes the name of its component, and returns whether it is new.
 fn is_new<'t>(names: &mut Names<'t>, line: &Line<'t>) -> Result<bool, Memory>
     ensures { IfOk result (λ new. Notes names.old names.new (told_of line.now) new) }
 {
@@ -99,8 +96,6 @@ fn is_new<'t>(names: &mut Names<'t>, line: &Line<'t>) -> Result<bool, Memory>
     }
 }
 
-/// The place after a line, if the line is valid at this place, after sections with these names. If
-/// it begins a section, its name is noted.
 fn step<'t>(
     names: &mut Names<'t>,
     place: TracePosition,
@@ -122,10 +117,8 @@ fn step<'t>(
     Ok(Some(place_after(&line)))
 }
 
-/// Reads a text as a trace.
-///
-/// 15 `Limit` for a text of more than [`TRACE_LIMIT`] bytes, else 1 `BadLine` for its first line
-/// that isn't valid, or that may not follow those before it.
+/// Reads a text as a trace. 15 `Limit` for a text of more than [`TRACE_LIMIT`] bytes, else 1
+/// `BadLine` for its first line that isn't valid, or that may not follow those before it.
 pub fn read_trace<'t>(alloc: Global, text: &'t [u8]) -> Result<Trace<'t>, TraceFault>
     ensures trace { IfOk result (IsTraceOf text.now) }
     ensures fault { IfErr result (IsFaultOf text.now) }

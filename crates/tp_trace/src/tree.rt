@@ -8,7 +8,6 @@ use crate::names::Names;
 use crate::read::trace_line;
 use std::marker::Model;
 
-/// The place of a line in a text.
 #[derive(Clone, Copy)]
 pub struct Span {
     pub start: u32,
@@ -23,7 +22,6 @@ pub struct Trace<'t> {
     text: &'t [u8],
     /// The places of the lines in the text, in half the memory of slices.
     spans: Vec<Span>,
-    /// The components of the sections, in order.
     names: Names<'t>,
 }
 

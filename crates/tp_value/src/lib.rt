@@ -1,9 +1,8 @@
 //! The data of messages: types, values, templates, and whether a value matches a template; and
 //! verdicts. The checks, a run and the search for verdicts use it. Start with [`value::Value`],
-//! [`types::Types`] and [`template::Template`].
-//!
-//! 50 `Memory` means that an allocation was refused: what the call borrows is as before, and what
-//! it was given is dropped. A call that can't return it doesn't allocate.
+//! [`types::Types`] and [`template::Template`]. 50 `Memory` means that an allocation was refused:
+//! what the call borrows is as before, and what it was given is dropped; only calls that can return
+//! it allocate.
 #![tactic(auto)]
 
 pub mod equal;

@@ -135,7 +135,6 @@ fn fields_match(members: &[Template], fields: &[Value]) -> bool
     true
 }
 
-/// The next step at these places: past a `*`, past one template with one element, or back.
 #[cycle(matches)]
 fn list_step(members: &[Template], part: usize, elements: &[Value], at: usize) -> ScanMove
     requires { at < length elements.now }
@@ -166,13 +165,13 @@ fn only_many(members: &[Template], from: usize) -> bool
     true
 }
 
-/// Searches for a cut of the elements: it goes from template to template, and if it is stuck goes
-/// back to the last `*`, which then takes one element more.
 #[cycle(matches)]
 fn list_matches(members: &[Template], elements: &[Value]) -> bool
     ensures { IsTrue result
         ↔ HasCut (λ t. PieceOf (is_many_template t) (Matches t)) members.now elements.now }
 {
+    // It goes from template to template, and if it is stuck goes back to the last `*`, which then
+    // takes one element more.
     let mut part = 0;
     let mut at = 0;
     let mut back: Option<(usize, usize)> = None;

@@ -13,7 +13,6 @@ use tp_refusal::memory::Memory;
 pub struct Message {
     /// The type under which it is sent.
     pub ty: Ty,
-    /// The value.
     pub value: Value,
 }
 

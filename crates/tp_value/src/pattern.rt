@@ -26,7 +26,6 @@ fn admits(part: PatternPart, char: u8) -> bool
     }
 }
 
-/// The next step at these places: past a `*`, past one part with one character, or back.
 fn next_step(parts: &[PatternPart], part: usize, text: &[u8], at: usize) -> ScanMove
     requires { at < length text.now }
     ensures { StepIs is_many_part AdmitsChar (drop part parts.now) (drop at text.now) result }

@@ -9,7 +9,6 @@ use tp_refusal::memory::Memory;
 /// A part of a pattern (ES 201 873-1, B.1.5).
 #[derive(Clone, Copy, Debug)]
 pub enum PatternPart {
-    /// This one character.
     Literal(u8),
     /// `?`: any one character.
     One,

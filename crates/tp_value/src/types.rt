@@ -26,7 +26,6 @@ pub enum Ty {
 pub struct Field {
     /// Its name, as the bytes that are written.
     pub name: Items<u8>,
-    /// The type of its values.
     pub ty: Ty,
 }
 

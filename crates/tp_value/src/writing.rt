@@ -34,7 +34,6 @@ fn quote_place(text: &[u8]) -> Option<usize>
     text.iter().position(|byte| *byte == b'"')
 }
 
-/// The text up to the first quote, which is its end, and the text after it.
 fn cut_at_quote(text: &[u8]) -> Option<(&[u8], &[u8])>
     ensures cut { MatchOption result
         (escaped text.now ≡ text.now)

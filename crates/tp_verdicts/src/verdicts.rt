@@ -14,7 +14,6 @@ pub struct FoundVerdict {
 pub struct Verdicts {
     /// Each once, in the order none, pass, inconc, fail, error.
     pub found: Vec<FoundVerdict>,
-    /// The number of states looked at.
     pub states: u32,
     /// True if none was missed. False if there are more states than the limit, or if the program of
     /// the test case would be too large.

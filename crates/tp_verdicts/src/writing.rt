@@ -22,7 +22,6 @@ fn write_words<W: Write>(before: &[u8], found: &[FoundVerdict], out: &mut Watche
     }
 }
 
-/// Writes that the test case has this verdict and no other.
 fn write_always<W: Write>(verdict: Verdict, out: &mut Watched<W>)
     ensures { Writes W.contents out.old out.new (always_line verdict) }
 {
@@ -31,7 +30,6 @@ fn write_always<W: Write>(verdict: Verdict, out: &mut Watched<W>)
     write_bytes(b"\n", out)
 }
 
-/// Writes that the test case has several verdicts and no other.
 fn write_several<W: Write>(first: &FoundVerdict, others: &[FoundVerdict], out: &mut Watched<W>)
     ensures { Writes W.contents out.old out.new (several_line first.now others.now) }
 {
@@ -40,7 +38,6 @@ fn write_several<W: Write>(first: &FoundVerdict, others: &[FoundVerdict], out: &
     write_bytes(b"\n", out)
 }
 
-/// Writes that the test case has these verdicts and no other.
 fn write_decided<W: Write>(first: &FoundVerdict, others: &[FoundVerdict], out: &mut Watched<W>)
     ensures { Writes W.contents out.old out.new (said_of true (first.now ∷ others.now)) }
 {
@@ -50,7 +47,6 @@ fn write_decided<W: Write>(first: &FoundVerdict, others: &[FoundVerdict], out: &
     write_several(first, others, out)
 }
 
-/// Writes that nothing is promised, and the verdicts found.
 fn write_undecided<W: Write>(found: &[FoundVerdict], out: &mut Watched<W>)
     ensures { Writes W.contents out.old out.new (undecided_lines found.now) }
 {
@@ -111,7 +107,6 @@ fn write_orders<W: Write>(config: &Config, found: &[FoundVerdict], out: &mut Wat
     }
 }
 
-/// If there is one verdict and no other, nothing is written.
 fn write_needed_orders<W: Write>(
     config: &Config,
     is_complete: bool,
@@ -129,10 +124,9 @@ fn write_needed_orders<W: Write>(
 /// Writes the verdicts that a test case with this configuration can have: `always VERDICT` for one
 /// and no other; `VERDICT or VERDICT ..` for these and no other; `undecided` if some may be missed,
 /// and then `seen VERDICT ..` if some were found. After that `states N`; and unless it is one and
-/// no other, for each a line `VERDICT: COMPONENT COMPONENT ..`, the components of its order.
-///
-/// If the writer fails, it has written a front of the text. It writes in small pieces: use a writer
-/// with a buffer.
+/// no other, for each a line `VERDICT: COMPONENT COMPONENT ..`, the components of its order. If the
+/// writer fails, it has written a front of the text. It writes in small pieces: use a writer with a
+/// buffer.
 pub fn write_verdicts<W: Write>(config: &Config, verdicts: &Verdicts, out: &mut Watched<W>)
     requires { All (HasNames config.now) verdicts.now.found.items }
     ensures { Writes W.contents out.old out.new (verdicts_text config.now verdicts.now) }

@@ -35,7 +35,6 @@ fn verdicts_status(verdicts: &Verdicts) -> u8
     }
 }
 
-/// Prints these verdicts, and returns their status. `None` if the writer failed.
 fn answer_found<W: Write>(
     test_case: &TestCase,
     verdicts: &Verdicts,
@@ -55,7 +54,6 @@ fn answer_want_of_memory<W: Write>(writer: &mut Watched<W>) -> Option<u8>
     status_if_written(writer, FAULTED)
 }
 
-/// Prints the verdicts that this test case can have, or that memory was refused.
 fn decide<W: Write>(alloc: Global, test_case: &TestCase, writer: &mut Watched<W>) -> Option<u8>
     ensures { IsAnswered W.contents (IsDecidedOf test_case.now) writer.old writer.new result }
 {

@@ -97,7 +97,6 @@ fn ruling_status(ruling: &Ruling) -> u8
     }
 }
 
-/// Prints the ruling on a trace, and returns its status. `None` if the writer failed.
 fn answer_ruling<W: Write>(writer: &mut Watched<W>, ruling: &Ruling) -> Option<u8>
     ensures { IsAnswered W.contents (IsJust (ruling_text ruling.now) (ruling_status ruling.now))
         writer.old writer.new result }

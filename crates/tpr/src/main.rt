@@ -44,7 +44,6 @@ use tp_text::watched::Watched;
 /// The status if the words aren't a command line of the program.
 const USAGE: u8 = 4;
 
-/// Prints the usage line on standard error.
 fn usage<R: Eprint>(rt: &R) -> u8 {
     // Where standard error can't be written either, the status alone says it.
     let _ = eprintln!(rt; "usage: tpr MODE [FILE]");
@@ -93,7 +92,6 @@ fn answer_through<T: AllocGlobal + Threads + Wait + Sync, R: Read, W: Write + Dr
     finish(writer, status)
 }
 
-/// Reports through this buffer that the text couldn't be read, as [`answer_through`] does.
 fn answer_unread<W: Write + Drop>(buffer: BufWriter<W>) -> Result<(u8, W), FailedWriter<W>>
     ensures { IsHanded W.contents (IsJust unread_text 2) (writer_contents W.contents buffer) result }
 {
@@ -115,7 +113,6 @@ fn status_of<W: Write + Drop>(answered: Result<(u8, W), FailedWriter<W>>) -> Opt
     }
 }
 
-/// Reports without a buffer that memory was refused. `None` if the writer failed.
 fn answer_memory<T: Print>(rt: &T) -> Option<u8> {
     answer_fault(&mut Watched::new(io::writer(rt)), QueueFault::Memory)
 }

@@ -52,7 +52,6 @@ pub fn write_memory<W: Write>(writer: &mut Watched<W>)
     write_bytes(b"\n", writer);
 }
 
-/// Writes the line of a fault, if it has one.
 fn write_fault<W: Write>(writer: &mut Watched<W>, fault: QueueFault)
     ensures { Writes W.contents writer.old writer.new (fault_text fault) }
 {

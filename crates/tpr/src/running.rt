@@ -26,8 +26,6 @@ fn answer_run_fault<W: Write>(writer: &mut Watched<W>, fault: RunFault) -> Optio
     status_if_written(writer, FAULTED)
 }
 
-/// Runs a test case, and prints its report or trace, or the line of the fault because of which
-/// there is none.
 fn answer_test_case<T: Threads + Wait + Sync, W: Write, G: Gate>(
     rt: &T,
     alloc: Global,

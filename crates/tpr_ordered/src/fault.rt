@@ -6,7 +6,6 @@ use tp_refusal::refusal::Refusal;
 use tp_script::fault::TestCaseFault;
 use tp_text::text::ReadFault;
 
-/// Why one of the two files was refused.
 #[derive(Clone, Copy, Debug, PartialEq, Eq, Error)]
 pub enum FileFault {
     /// 2 Read: the file couldn't be read, or isn't a text.
@@ -21,7 +20,6 @@ pub enum FileFault {
         /// The line of the order.
         line: u32,
     },
-    /// The script has no test case.
     #[error("{0}")]
     Script(TestCaseFault),
     /// 50: an allocation was refused.

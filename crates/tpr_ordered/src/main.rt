@@ -1,7 +1,6 @@
 //! `tpr_ordered`: runs a test case once in each of some orders of its steps. It is for tests, and
-//! no part of what `tpr` offers. Start with `answer_files`.
-//!
-//! 50 is reported only if an allocation was refused; the status is 3 then.
+//! no part of what `tpr` offers. Start with `answer_files`. 50 is reported only if an allocation
+//! was refused; the status is 3 then.
 #![tactic(auto)]
 
 mod fault;
@@ -65,7 +64,6 @@ fn read_test_case<T: AllocGlobal + Files>(rt: &T, path: &str) -> Result<TestCase
     Ok(test_case)
 }
 
-/// The orders in the file, with components of the test case.
 fn read_order_file<T: AllocGlobal + Files>(
     rt: &T,
     test_case: &TestCase,
@@ -76,7 +74,6 @@ fn read_order_file<T: AllocGlobal + Files>(
     Ok(orders)
 }
 
-/// Prints the line of a fault of SCRIPT, as `tpr` does, and returns its status.
 fn tell_script<R: Print>(rt: &R, fault: FileFault) -> u8 {
     match println!(rt; "{fault}") {
         Ok(()) => file_fault_status(fault),
@@ -84,13 +81,11 @@ fn tell_script<R: Print>(rt: &R, fault: FileFault) -> u8 {
     }
 }
 
-/// Prints the line of a fault of ORDERS on standard error, and returns its status.
 fn tell_orders<R: Eprint>(rt: &R, fault: FileFault) -> u8 {
     let _ = eprintln!(rt; "orders: {fault}");
     file_fault_status(fault)
 }
 
-/// Runs the test case in each of the orders, and prints the results.
 fn answer_orders<T>(rt: &T, test_case: &TestCase, orders: &[StepOrder]) -> u8
 where
     T: AllocGlobal + Print + Threads + Wait + Sync,
@@ -144,7 +139,6 @@ where
     }
 }
 
-/// The status is 0 if all orders were run.
 fn main(rt: HostRuntime) -> ExitCode {
     let status = match words_of(&rt) {
         Ok(words) => answer_words(&rt, words.as_slice()),

@@ -9,16 +9,13 @@ use tp_exec::gate::Gate;
 /// After so many turns that yield, a gate gives up.
 pub const PATIENCE: u32 = 10_000_000;
 
-/// A step of one component, and its place in the order.
 #[derive(Clone, Copy)]
 struct OrderedStep {
     /// The number of steps before it.
     number: u64,
-    /// The point at which the component is held.
     hold: Hold,
 }
 
-/// The part of one component in an order.
 #[derive(Drop)]
 struct OrderTurn {
     places: Vec<OrderedStep>,
@@ -28,19 +25,16 @@ struct OrderTurn {
 }
 
 impl OrderTurn {
-    /// The step that it has reached.
     fn last(&self) -> Option<OrderedStep> {
         let before = self.met.load(Ordering::SeqCst).checked_sub(1)?;
         self.places.get(before as usize).copied()
     }
 
-    /// The step that it reaches next.
     fn next(&self) -> Option<OrderedStep> {
         let met = self.met.load(Ordering::SeqCst);
         self.places.get(met as usize).copied()
     }
 
-    /// Returns whether it is held next inside the statement that it has begun.
     fn is_next_inside(&self) -> bool {
         matches!(self.next(), Some(place) if place.hold == Hold::Inside)
     }
@@ -49,30 +43,21 @@ impl OrderTurn {
 /// Holds each component before its next step until two things have happened: the order has come to
 /// this step, and the component that the order names before it has reached its own next step,
 /// because that is all that a gate learns of the end of a step. So one step is executed after the
-/// other, and steps that the order doesn't name come after all that it names.
-///
-/// A component that is held inside its statement has moved to its ports what arrived before, and
-/// not what arrives meanwhile: it sees that in its next look. It is held there as often as the
-/// order says, and no more.
-///
-/// If a component is held for too many turns, or is to be held inside a statement that it has
+/// other, and steps that the order doesn't name come after all that it names. A component that is
+/// held inside its statement has moved to its ports what arrived before, and not what arrives
+/// meanwhile: it sees that in its next look. It is held there as often as the order says, and no
+/// more. If a component is held for too many turns, or is to be held inside a statement that it has
 /// ended, the gate gives up, and all components pass from then on.
 #[derive(Drop)]
 pub struct OrderGate {
-    /// The part of each component, by its number.
     parts: Vec<OrderTurn>,
-    /// The number of steps that the order names.
     length: u64,
     /// The maximum number of turns for which a component is held.
     patience: u32,
-    /// The number of steps of the order that have ended.
     ended: AtomicU64,
-    /// True if the gate gave up.
     gave_up: AtomicBool,
 }
 
-/// The parts of so many components in an order of these steps. A component with a greater number
-/// has none.
 fn parts_of(
     alloc: Global,
     components: usize,
@@ -137,7 +122,6 @@ impl OrderGate {
         self.hold_until(number);
     }
 
-    /// Returns after so many steps of the order have ended, or the gate has given up.
     fn hold_until(&self, ended: u64) {
         for _ in 0..self.patience {
             if self.ended.load(Ordering::SeqCst) == ended || !self.is_held() {
@@ -148,7 +132,6 @@ impl OrderGate {
         self.give_up();
     }
 
-    /// Lets all components pass.
     fn give_up(&self) {
         self.gave_up.store(true, Ordering::SeqCst);
     }

@@ -16,19 +16,14 @@ use tp_report::telling::Telling;
 use tp_report::writing::write_report;
 use tp_text::watched::{Watched, flush, write_bytes};
 
-/// What the runs in all orders have in common.
 #[derive(Drop)]
 pub struct Trial<'t, R> {
-    /// The runtime, by which they wait and their threads are started.
     pub rt: &'t R,
     pub alloc: Global,
     pub test_case: &'t TestCase,
-    /// After so many turns that yield, the gate of a run gives up.
     pub patience: u32,
 }
 
-/// Runs the test case in the order of these steps, and writes its report; or `not held`, if the
-/// gate gave up; or the line of the fault because of which the run has no report.
 fn write_run<R: Threads + Wait + Sync, W: Write>(
     trial: &Trial<'_, R>,
     steps: &[Step],
@@ -51,7 +46,6 @@ fn write_run<R: Threads + Wait + Sync, W: Write>(
     }
 }
 
-/// Writes the line of an order, the result of its run, and an empty line.
 fn write_order<R: Threads + Wait + Sync, W: Write>(
     trial: &Trial<'_, R>,
     order: &StepOrder,
@@ -71,10 +65,9 @@ fn write_order<R: Threads + Wait + Sync, W: Write>(
 /// Runs the test case once in each of these orders, one run after the other, and writes for each
 /// the line `order NAMES`, the report as mode `run` of `tpr` prints it, and an empty line. The
 /// report is replaced by `not held` if the gate gave up after the trial's `patience` turns that
-/// yield, or by the line of the fault because of which there is none.
-///
-/// If the writer fails, no further order is run, and a front of the text of those that were run is
-/// written. It may wait forever.
+/// yield, or by the line of the fault because of which there is none. If the writer fails, no
+/// further order is run, and a front of the text of those that were run is written. It may wait
+/// forever.
 pub fn write_orders<R: Threads + Wait + Sync, W: Write>(
     trial: &Trial<'_, R>,
     orders: &[StepOrder],

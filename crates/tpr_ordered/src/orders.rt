@@ -4,10 +4,8 @@ use std::alloc::Global;
 use tp_config::config::Config;
 use tp_config::port_type::CompId;
 
-/// The point at which an order holds a component.
 #[derive(Clone, Copy)]
 pub enum Hold {
-    /// Before its next statement.
     Before,
     /// Inside the statement that it has begun: before it tries its next branch, or, in an operation
     /// on ports, before its next port.
@@ -21,10 +19,8 @@ pub struct Step {
     pub hold: Hold,
 }
 
-/// An order of steps.
 #[derive(Drop)]
 pub struct StepOrder {
-    /// Its line without the end.
     pub line: String,
     pub steps: Vec<Step>,
 }
@@ -61,7 +57,6 @@ fn steps_of(
     Ok(steps)
 }
 
-/// The order in the line of this number. 11 `Unknown` as in `steps_of`.
 fn order_of(
     alloc: Global,
     config: &Config,
@@ -76,7 +71,6 @@ fn order_of(
 /// The orders in a text, one on each line: the names of components of the configuration, one for
 /// each step, followed by `+` if it is held inside its statement; one space between two of them.
 /// Each line ends with a byte 10, which the last may lack. An empty line is an order without steps.
-///
 /// 2 `Read` if the text isn't UTF-8; else 11 `Unknown`, at the first line with a name that no
 /// component has.
 pub fn read_orders(
