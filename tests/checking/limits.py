@@ -96,16 +96,16 @@ def limit_of_numbers() -> Iterator[Case]:
 
 def limit_of_components() -> Iterator[Case]:
     def components(count: int, clause: str) -> bytes:
-        """So many component variables, all started, in a test case whose head ends in the clause."""
+        """So many component variables, all started, in a test case whose head has the clause."""
         made = [f"var C c{it} := C.create;" for it in range(count)]
         begun = [f"c{it}.start(f());" for it in range(count)]
-        head = ("function f() runs on C { }", f"testcase t() runs on C {clause} {{")
+        head = ("function f() runs on C { }", f"testcase t() runs on C {clause}{{")
         return in_module(*head, *made, *begun, "all component.done;", "}", "}")
 
     yield Script("64 components", components(63, ""), "accepted")
     yield Script("65 components", components(64, ""), "15 Limit 69")
-    yield Script("64 components, system among them", components(62, "system C"), "accepted")
-    yield Script("65 components, system among them", components(63, "system C"), "15 Limit 68")
+    yield Script("64 components, system among them", components(62, "system C "), "accepted")
+    yield Script("65 components, system among them", components(63, "system C "), "15 Limit 68")
 
 
 def limit_of_ports() -> Iterator[Case]:
