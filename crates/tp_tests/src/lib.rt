@@ -29,6 +29,8 @@ mod showing;
 #[cfg(test)]
 mod templates;
 #[cfg(test)]
+mod threads;
+#[cfg(test)]
 mod tokens;
 #[cfg(test)]
 mod values;
