@@ -264,18 +264,28 @@ def by_schema(room: Room) -> None:
     if importlib.util.find_spec("jsonschema") is None:
         print("left out the schema of SARIF: python3 has no jsonschema")
         return
+    judged_by(room, "what we read of the schema", SCHEMA)
+    whole = os.environ.get("SARIF_SCHEMA")
+    if whole is None:
+        print("left out the whole schema of SARIF: SARIF_SCHEMA doesn't name it (tests/tools/sarif_schema.py)")
+        return
+    judged_by(room, "the whole schema", json.loads(Path(whole).read_text(encoding="utf-8")))
+
+
+def judged_by(room: Room, told: str, schema: Any) -> None:
     jsonschema: Any = importlib.import_module("jsonschema")
-    judge = jsonschema.Draft7Validator(SCHEMA, format_checker=jsonschema.FormatChecker())
-    jsonschema.Draft7Validator.check_schema(SCHEMA)
+    validator = jsonschema.validators.validator_for(schema, jsonschema.Draft7Validator)
+    judge = validator(schema, format_checker=jsonschema.FormatChecker())
+    validator.check_schema(schema)
     right, vain = room.write("right.ttcn", KITCHEN), room.write("vain.ttcn", IN_VAIN)
     for name, ended in (
         ("several files", room.all("sarif")),
         ("a valid file", room.explain("--format", "sarif", right)),
         ("a warning", room.explain("--format", "sarif", vain)),
     ):
-        with case(f"the schema of SARIF accepts the log of {name}"):
+        with case(f"SARIF: {told} accepts the log of {name}"):
             must_be([it.message for it in judge.iter_errors(json.loads(ended.text))], [])
-    with case("the schema of SARIF refuses other logs"):
+    with case(f"SARIF: {told} refuses other logs"):
         log = room.all("sarif").text
         for old, new in (
             ('"version": "2.1.0"', '"version": "2.2.0"'),

@@ -1,8 +1,11 @@
 """The part of the JSON schema of SARIF 2.1.0 (OASIS) that a log of tools/explain can break.
 
-The whole schema has no package that the tests could name. This part is written after it, by hand: required properties,
-types, values of enumerations, and no property that isn't here. `python3-sarif-python-om`, which is generated from the
-schema, has the same names and required properties.
+This part is written after the schema, by hand: required properties, types, values of enumerations, and no property that
+isn't here. No package installs the whole schema, but the source of a Debian package has it:
+
+    apt-get source --download-only python3-sarif-python-om
+    tar xf python-sarif-python-om_*.orig.tar.gz
+    SARIF_SCHEMA=$PWD/sarif-python-om-1.0.4/sarif-2.1.0-rtm.4.json ./test part explaining
 """
 from __future__ import annotations
 
