@@ -309,7 +309,7 @@ def programs_that_take_long() -> None:
             client.open(KITCHEN)
             with case("a lens that isn't waited for longer"):
                 (lens,) = client.ask("textDocument/codeLens", DOCUMENT)
-                must_be(lens["command"]["title"], "the verdicts are being computed")
+                must_be(lens["command"]["title"], "computing the verdicts")
             with case("a cancelled request"):
                 number = client.begin("textDocument/codeLens", DOCUMENT)
                 client.tell("$/cancelRequest", {"id": number})
@@ -368,7 +368,7 @@ def programs_that_fail() -> None:
             with Client(str(program)) as client, case(f"a program that is {name}: the server's own reading decides"):
                 client.open(WRONG)
                 must_be(client.diagnostics()[0]["code"], "14 Direction")
-                must("own reading" in client.notice("window/logMessage")["params"]["message"], "it isn't logged")
+                must("checks the script by itself" in client.notice("window/logMessage")["params"]["message"], "it isn't logged")
 
 
 def must_soon(holds: Any, what: str) -> None:

@@ -56,7 +56,7 @@ WITH_NO_FAULT = "module M {\n  type component C { }\n  testcase t() runs on C { 
 DONE = "where there is one, `all component.done` ends the test case"
 NO_FILE = "the file isn't there, is a folder, or can't be read"
 ONE_SIDE = "exactly one is a port of `system`"
-UNSURE = "a rule is broken, but explain can't tell where"
+UNSURE = "a rule is broken, but explain doesn't find the place"
 LISTED = (
     "it is in the port's list of sent types for a send, of received types for a receiving operation; in `sut` the"
     " two lists are exchanged"
@@ -93,7 +93,7 @@ class Explaining:
         head = "rule" if len(rules) == 1 else "one of these rules"
         lines = (
             f"FILE:{place} refused {number} {word}: {sentence}",
-            f"  no place is shown, because explain itself reads: {reading}",
+            f"  no place is shown, because explain finds something else: {reading}",
             *(f"  {head}: {it}" for it in rules),
         )
         return self.by_another(name, 2, answer, "".join(f"{it}\n" for it in lines))
@@ -277,7 +277,7 @@ def at_length(asked: Explaining) -> Iterator[Case]:
     made = run(["bash", "-c", ". bench/explaining/script.sh && script_of_a_mebibyte"])
     must(len(made.printed) > MEBIBYTE - 1000, "the script is long")
     line = made.printed.count("\n") - 2
-    told = f"FILE:{line}:28: refused 13 WrongType: `2` is an integer, and `charstring` is expected\n"
+    told = f"FILE:{line}:28: refused 13 WrongType: `2` is an integer, but `charstring` is expected\n"
     yield judged("1 MiB", asked.of_text(made.printed.encode(), "--short"), 2, prints(told))
 
 

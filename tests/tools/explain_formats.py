@@ -71,11 +71,11 @@ def wanted_at(file: str, text: str, piece: str, inside: str, code: str, sentence
 
 
 WANTED = (
-    wanted_at(NAMED, BROKEN, "chef:bel)", "bel", "11 Unknown", "`chef` has no port `bel` (is `bell` meant?)"),
+    wanted_at(NAMED, BROKEN, "chef:bel)", "bel", "11 Unknown", "`chef` has no port `bel` (did you mean `bell`?)"),
     wanted_at(NAMED, BROKEN, "counter.send(charstring", "charstring", "14 Direction", "`counter` sends no `charstring`"),
     wanted_at(NAMED, BROKEN, "bell.send(Order", "Order", "14 Direction", "`bell` sends no `Order`"),
     wanted_at("full.ttcn", FULL, "log(", "(", "10 Syntax", "`log` isn't supported"),
-    wanted_at("full.ttcn", FULL, "var float", "var", "ES 201 873-1, 19.14", "a declaration behind statements isn't"),
+    wanted_at("full.ttcn", FULL, "var float", "var", "ES 201 873-1, 19.14", "a declaration after statements isn't"),
     wanted_at("full.ttcn", FULL, "float", "float", "ES 201 873-1, 6.1.0", "a float isn't supported"),
     wanted_at("full.ttcn", FULL, "v := 1", "v", "ES 201 873-1, 11.1", "a variable that has a value at once isn't"),
     wanted_at("full.ttcn", FULL, "1.0", "1.0", "ES 201 873-1, 6.1.0", "a float isn't supported"),
@@ -319,6 +319,16 @@ TOGETHER = (
         [(11, 4), (11, 5), (11, 6)],
     ),
     (
+        "a type that isn't there, and the directions; not what depends on that type",
+        "  type record R { A a }\n  type port Q message { in A; out R; }\n  type port S message { in integer; }\n"
+        "  type component D { port Q q; port S s; }\n  function f() runs on D {\n    var A v;\n    var R w;\n"
+        "    q.send(integer:1);\n    q.receive(A:{1}) -> value v;\n    q.receive(R:{1});\n    q.send(R:{1});\n"
+        "    q.receive(A:?) -> value w;\n    s.send(R:{1});\n    q.send(R:{1, 2});\n    p.send(boolean:true);\n  }\n"
+        "  testcase t() runs on C {\n    var D a := D.create;\n    connect(self:p, a:q);\n    a.start(f());\n"
+        "    all component.done;\n  }\n}\n",
+        [(11, 4), (11, 5), (14, 11), (14, 16), (13, 17), (11, 18), (20, 22)],
+    ),
+    (
         "the setup, the starts, and the bodies",
         "  function f() runs on C {\n    q.clear;\n    setverdict(error);\n  }\n"
         "  testcase t() runs on C {\n    var C a := C.create;\n    connect(self:q, a:p);\n    connect(self:p, a:r);\n"
@@ -451,7 +461,7 @@ def calls(room: Room) -> None:
 
 GROUPS = (
     (texts, 2), (objects, 2), (of_a_compiler, 1), (of_github, 1), (of_gitlab, 2), (of_sarif, 2), (by_schema, 0),
-    (together, 9), (valid_scripts, 12), (other_answers, 15), (files_of_all_kinds, 5), (calls, 5),
+    (together, 10), (valid_scripts, 12), (other_answers, 15), (files_of_all_kinds, 5), (calls, 5),
 )  # fmt: skip
 
 

@@ -86,7 +86,7 @@ FILE:2:7: refused 10 Syntax: a set isn't supported (ES 201 873-1, 6.2.2): unexpe
    2 | \ttype set S { }
      | \t     ^^^
   expected here: `record`, `port`, `component`
-  write instead: `type record`: its fields then stand in their order, or by their names
+  write instead: `type record`: the order of its fields then counts, unless they are named
   more: docs/FROM_TTCN3.md, 6.2.2
 """,
     ),
@@ -115,7 +115,7 @@ FILE:4:11: refused 10 Syntax: a timer isn't supported (ES 201 873-1, 12, 23): un
    4 |     timer t;
      |     ~~~~~~^
   expected here: `.`, because `timer` is a name here
-  no replacement: there is no time in a run. Leave the timer and its branches out: a wait that nobody answers ends \
+  no replacement: there is no time in a run. Leave the timer and its branches out: a wait without an answer ends \
 as `end waiting`, with the result `error`
   more: docs/FROM_TTCN3.md, 12, 23
 """,
@@ -151,7 +151,7 @@ module M {
 }
 """,
         """\
-FILE:5:5: refused 13 WrongType: `true` is a boolean, and `integer` is expected
+FILE:5:5: refused 13 WrongType: `true` is a boolean, but `integer` is expected
    6 |       integer:true);
      |               ^^^^
   rule: the value or template fits the type
@@ -251,7 +251,7 @@ module M {
 }
 """,
         """\
-FILE:4:28: refused 11 Unknown: `C` has no port `conter` (is `counter` meant?): it has `counter`
+FILE:4:28: refused 11 Unknown: `C` has no port `conter` (did you mean `counter`?): it has `counter`
    4 |   testcase t() runs on C { conter.clear; }
      |                            ^^^^^^
    3 |   type component C { port P counter }

@@ -60,23 +60,23 @@ SENTENCES = (
     Explained(
         "one value",
         body("p.send(R:{ 1 });"),
-        "13 WrongType: `R` has 2 fields, and here is 1 value: `b` is missing\n",
+        "13 WrongType: `R` has 2 fields, but there is 1 value here: `b` is missing\n",
     ),
     Explained(
         "no value",
         body("p.send(R:{ });"),
-        "13 WrongType: `R` has 2 fields, and here are 0 values: `a`, `b` are missing\n",
+        "13 WrongType: `R` has 2 fields, but there are 0 values here: `a`, `b` are missing\n",
     ),
     Explained(
         "an `integer`",
         body("var integer v; p.receive(charstring:?) -> value v;"),
-        "13 WrongType: `v` is an `integer`, and a `charstring` is received\n"
+        "13 WrongType: `v` is an `integer`, but a `charstring` is received\n"
         "  rule: `v` is known and has the template's type; there is a template\n",
     ),
     Explained(
         "one parameter",
         "  function f(C x) runs on C { }\n" + body("var C c := C.create; c.start(f(c, c));"),
-        "13 WrongType: `f` has 1 parameter, and here are 2 arguments\n",
+        "13 WrongType: `f` has 1 parameter, but there are 2 arguments here\n",
     ),
     Explained(
         "no number stands in a rule",
@@ -87,7 +87,7 @@ SENTENCES = (
     Explained(
         "another name in a value",
         body("p.send(integer:x);"),
-        "11 Unknown: `x` isn't a loop variable, and a value can have no other name in it\n",
+        "11 Unknown: `x` isn't a loop variable, and no other name can be part of a value\n",
     ),
     Explained(
         "a sign of no token",
@@ -114,7 +114,7 @@ module M {
 }
 """,
         """\
-FILE:4:28: warning: the port `p` of `a` is never connected or mapped, so no message ever comes there
+FILE:4:28: warning: the port `p` of `a` is never connected or mapped, so no message ever arrives there
    4 |   function f() runs on C { p.receive; p.send(integer:1); }
      |                            ^
 FILE:9:5: warning: the port `q` of `mtc` is never connected or mapped, so a send through it fails
@@ -178,7 +178,7 @@ FILE:14:12: warning: `a` never takes this message at its port `p`: no template t
   14 |     p.send(integer:4);
      |            ^^^^^^^
    6 |     for (var integer i := 0; i < 2; i := i + 1) { p.receive(R:{ i, ? }); }
-     |                                                   ^ it looks here
+     |                                                   ^ it receives here
 """,
     ),
     Explained(
@@ -204,7 +204,7 @@ FILE:10:12: warning: `a` never takes this message at its port `p`: no template t
   10 |     p.send(integer:2);
      |            ^^^^^^^
    4 |   function f(C other) runs on C { p.receive from other; q.receive; }
-     |                                   ^ it looks here
+     |                                   ^ it receives here
 """,
     ),
     Explained(

@@ -292,7 +292,7 @@ def page_of_rewritten_scripts(it: Suites) -> None:
     with case("and the lines of this file that no script reached"):
         (source,) = page.each("details", "source")
         told = source.each("summary")[0].text()
-        must(told == "source.ttcn, from which 2 scripts come: 1 line that no script reached", f"it says {told}")
+        must(told == "source.ttcn, the source of 2 scripts: 1 line that no script reached", f"it says {told}")
         wanted = [["11", "[] p.receive(integer:0) { setverdict(inconc); }", ""]]
         must(unreached_in(source) == wanted, f"they are {unreached_in(source)}")
 

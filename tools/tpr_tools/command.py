@@ -24,7 +24,7 @@ _CALLS = 60_000
 
 _MEANINGS = {
     DONE: "all went well",
-    NOT_BUILT: "the tool broke off",
+    NOT_BUILT: "the tool failed",
     REFUSED: "what was read isn't a report, or can't be read; standard error has the line",
     NOT_WRITTEN: "the answer can't be written",
     WRONG_USAGE: "the command line is wrong",

@@ -121,7 +121,7 @@ def _by_rules(explanation: Explanation) -> None:
     """The rules of the number, and nothing of the script."""
     rules = list(RULES_OF[Refusal(explanation.number or 0)])
     is_one = len(rules) == 1
-    explanation.sentence = _sentence(rules[0]) if is_one else "a rule is broken, but explain can't tell where"
+    explanation.sentence = _sentence(rules[0]) if is_one else "a rule is broken, but explain doesn't find the place"
     explanation.rules = rules
 
 

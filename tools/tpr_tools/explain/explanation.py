@@ -119,7 +119,7 @@ class Explanation:
         if self.construct:
             lines.append(f"  more: docs/FROM_TTCN3.md, {self.clause}")
         if self.own_reading:
-            lines.append(f"  no place is shown, because explain itself reads: {self.own_reading}")
+            lines.append(f"  no place is shown, because explain finds something else: {self.own_reading}")
         word = "rule" if len(self.rules) == 1 else "one of these rules"
         lines += [f"  {word}: {rule.told()}" for rule in self.rules]
         for warned in self.warnings:

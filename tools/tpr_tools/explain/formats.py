@@ -19,8 +19,8 @@ _SCHEMA = "https://docs.oasis-open.org/sarif/sarif/v2.1.0/errata01/os/schemas/sa
 _NO_ANSWER, _UNREADABLE, _WARNING = "no answer", "unreadable", "warning"
 _MEANINGS = {
     _NO_ANSWER: "the program prints whether a script is accepted or refused",
-    _UNREADABLE: "a text of TTCN-3 can be read",
-    _WARNING: "no run of an accepted script does it otherwise",
+    _UNREADABLE: "the text is TTCN-3",
+    _WARNING: "this holds for every run of the accepted script",
 }
 
 
@@ -43,7 +43,7 @@ def _told(explanations: list[Explanation]) -> Iterator[Told]:
             lines = [it.sentence, *comes, *it.advice()]
             yield Told(it.file, "error", it.code() or _UNREADABLE, lines, it.places, line)
         elif it.answer is not Answer.ACCEPTED:
-            yield Told(it.file, "error", _NO_ANSWER, [f"tpr check prints no answer: {it.said}"], [], None)
+            yield Told(it.file, "error", _NO_ANSWER, [f"tpr check failed: {it.said}"], [], None)
         for warned in it.warnings:
             line = warned.places[0].position.line
             yield Told(it.file, "warning", _WARNING, [warned.sentence], warned.places, line)

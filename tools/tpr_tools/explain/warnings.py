@@ -83,7 +83,7 @@ class _Player:
         return self.case.partners.get((self.player.name, port), [])
 
     def not_connected(self, operation: Operation, port: str) -> Finding:
-        comes = "a send through it fails" if isinstance(operation, Send) else "no message ever comes there"
+        comes = "a send through it fails" if isinstance(operation, Send) else "no message ever arrives there"
         sentence = f"the port `{port}` of `{self.player.name}` is never connected or mapped, so {comes}"
         return Finding(operation.port, sentence)
 
@@ -119,7 +119,7 @@ class _Player:
         told, name = self.case.forms.text_of(message, {}), self.player.name
         why = f"no template there matches `{told}`" if tried else "it has no receiving operation there"
         sentence = f"`{name}` never takes this message at its port `{port}`: {why}"
-        yield Finding(message.type, sentence, tuple((it.port, "it looks here") for it in tried[:1]))
+        yield Finding(message.type, sentence, tuple((it.port, "it receives here") for it in tried[:1]))
 
     @functools.lru_cache(maxsize=None)
     def empties(self, port: str) -> bool:

@@ -87,7 +87,7 @@ class Document:
         if case is None or not self.is_accepted:
             return []
         name = self.outline.offsets[case.name]
-        shows: Json = {"title": self.verdict or "the verdicts are being computed", "command": ""}
+        shows: Json = {"title": self.verdict or "computing the verdicts", "command": ""}
         if " or " in self.verdict or self.verdict.startswith("undecided"):
             shows.update(command=SHOW_RUNS, arguments=[self.uri])
         return [{"range": self.lines.region(name, self.outline.end(case.name)), "command": shows}]

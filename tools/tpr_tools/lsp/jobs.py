@@ -47,6 +47,6 @@ class Job:
             process = subprocess.Popen(self.command, stdin=pipe, stdout=pipe, stderr=nothing, start_new_session=True)
             self._process = process
         printed, _ = process.communicate(data, seconds)
-        self.why = f"its status is {process.returncode}"
+        self.why = f"it ended with status {process.returncode}"
         if process.returncode >= 0:
             self.printed = printed.decode("utf-8", "replace")

@@ -258,7 +258,7 @@ class Server:
             self._publish(document, said)
             return
         self.program_fails = True
-        self._log(f"tpr check gives no answer, so the server's own reading decides: {said[:200] or job.why}")
+        self._log(f"tpr check failed, so the server checks the script by itself: {said[:200] or job.why}")
         self._publish(document, None)
 
     def _publish(self, document: Document, said: Optional[str]) -> None:
@@ -275,7 +275,7 @@ class Server:
             if document.is_saved:
                 self._start_ways(document)
         else:
-            document.verdict = "no verdicts: tpr can't be asked"
+            document.verdict = "no verdicts: tpr can't be run"
         self._answer_ready(document)
         _ = document.outline  # A hover then finds it made.
 

@@ -6,7 +6,7 @@ from typing import Optional
 from .constructs import Construct
 from .faults import RuleFault, a, listed, nearest
 from .messages import MessageRules
-from .names import SUT, Names
+from .names import BASE_TYPES, SUT, Names
 from .refusal_rules import Rule
 from .setup import Setup
 from .tree import (
@@ -38,7 +38,7 @@ def check_bodies(names: Names, setup: Setup) -> None:
     if total > MOST_STATEMENTS:
         start = names.case.start
         sentence = (
-            f"the components' bodies have {total:,} statements in all, and at most {MOST_STATEMENTS:,} are"
+            f"the components' bodies have {total:,} statements in all, but at most {MOST_STATEMENTS:,} are"
             " allowed"
         )
         raise RuleFault(15, start, start, sentence, Rule.FEW_STATEMENTS)
@@ -91,7 +91,7 @@ class BodyRules:
         self.variable_places[name] = variable.name
 
     def _is_message_type(self, name: str) -> bool:
-        return name in self.names.types or name in ("integer", "boolean", "charstring")
+        return name in self.names.types or name in BASE_TYPES or self.names.is_unknown(name)
 
     def _check_new(self, told: int, place: int) -> None:
         """The name isn't given in this scope yet."""
@@ -207,14 +207,14 @@ class BodyRules:
         way = "out" if is_sent != self.is_sut else "in"
         port_type = self.names.word(port.type)
         allowed = self.names.listed_names(port_type, way)
-        if type_name in allowed:
+        if type_name in allowed or self.names.is_unknown(type_name, *allowed):
             return
         name, verb = self.names.word(port.name), "sends" if is_sent else "receives"
         sentence = (
             f"`{name}` {verb} no `{type_name}`: its port type `{port_type}` lists"
             f" {listed(allowed, 'nothing')}"
         )
-        sentence += f" as `{way}`" + (", which is exchanged in `sut`" if self.is_sut else "")
+        sentence += f" as `{way}`" + (": `sut` exchanges `in` and `out`" if self.is_sut else "")
         fault = RuleFault(14, told, place, sentence, Rule.LISTED)
         raise fault.beside(self.names.ports[port_type].name, "the port type")
 
@@ -295,7 +295,7 @@ class BodyRules:
         if self._is_reference(name):
             return
         if name in self.variables:
-            sentence = f"`{name}` is a variable, and `from` needs a component that is known before the run"
+            sentence = f"`{name}` is a variable, but `from` needs a component that is known before the run"
             fault = RuleFault(13, told, place, sentence, Rule.PEER)
             raise fault.beside(self.variable_places[name], "the variable")
         raise self._no_peer(11, told, place)
@@ -332,12 +332,12 @@ class BodyRules:
         if how == "check":
             operation = "check(receive({}:?) -> value {})"
         if wanted is None:
-            sentence = f"`-> value {name}` needs a template before it, which says the type of the message"
+            sentence = f"`-> value {name}` needs a template before it, with the type of the message"
             fault = RuleFault(13, told, place, sentence, Rule.VALUE_TO)
             fault.write(f"`{self.names.word(receive.port)}.{operation.format(held, name)}`")
             raise fault.beside(self.variables[name].type, f"`{name}` is {a(held)}")
-        if wanted != held:
-            sentence = f"`{name}` is {a(held)}, and {a(wanted)} is received"
+        if wanted != held and not self.names.is_unknown(wanted, held):
+            sentence = f"`{name}` is {a(held)}, but {a(wanted)} is received"
             fault = RuleFault(13, told, place, sentence, Rule.VALUE_TO)
             raise fault.beside(self.variables[name].type, "the variable")
 
@@ -349,6 +349,6 @@ class BodyRules:
             raise fault.beside(self.loop_places[name], "the loop")
         held = self._type_of_variable(told, place, Rule.SENDER_TO)
         if held not in self.names.components:
-            sentence = f"`{name}` is {a(held)}, and the sender is a component"
+            sentence = f"`{name}` is {a(held)}, but the sender is a component"
             fault = RuleFault(13, told, place, sentence, Rule.SENDER_TO)
             raise fault.beside(self.variables[name].type, "the variable")

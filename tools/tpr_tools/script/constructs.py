@@ -43,12 +43,12 @@ class Construct(Enum):
     ALIAS = (
         "a type that is another one under a new name",
         "6.1.2",
-        "the type itself, wherever the new name stands",
+        "the type itself, in place of the new name",
     )
     OPTIONAL = (
         "an optional field",
         "6.2.1.2",
-        "the field without `optional`, and a value that stands for its absence; or two record"
+        "the field without `optional`, and a value that means absence; or two record"
         " types, one without the field, both in the port's list",
     )
     NESTED_TYPE = (
@@ -59,7 +59,7 @@ class Construct(Enum):
     SET = (
         "a set",
         "6.2.2",
-        "`type record`: its fields then stand in their order, or by their names",
+        "`type record`: the order of its fields then counts, unless they are named",
     )
     SET_OF = ("a set of", "6.2.3", "`type record of`: the order of its elements then counts")
     ENUMERATED = (
@@ -124,19 +124,19 @@ class Construct(Enum):
     GLOBAL_NAME = (
         "a name with its module before it",
         "8.2.3.1",
-        "the name alone: a module stands by itself",
+        "the name alone: a module uses no other module",
     )
     MODULEPAR = (
         "a module parameter",
         "8.2.1",
-        "the value itself, wherever the name stands; a script for each value",
+        "the value itself, in place of the name; a script for each value",
     )
     GROUP = ("a group", "8.2.2", "its definitions, without the group around them")
     IMPORT = ("an import", "8.2.3", "the definitions themselves, copied into this module")
     VISIBILITY = (
         "a visibility or a friend",
         "8.2.4, 8.2.5",
-        "the definition without it: a module stands by itself",
+        "the definition without it: a module uses no other module",
     )
     CONTROL = (
         "a control part",
@@ -146,7 +146,7 @@ class Construct(Enum):
     )
     EXECUTE = ("`execute`", "26.1", "nothing: `tpr run` runs the one test case of the module")
     # 10 to 16: declarations, templates, functions
-    CONST = ("a constant", "10", "the value itself, wherever the name stands")
+    CONST = ("a constant", "10", "the value itself, in place of the name")
     INITIAL_VALUE = (
         "a variable that has a value at once",
         "11.1",
@@ -157,8 +157,8 @@ class Construct(Enum):
     TIMER = (
         "a timer",
         "12, 23",
-        "nothing: there is no time in a run. Leave the timer and its branches out: a wait that"
-        " nobody answers ends as `end waiting`, with the result `error`",
+        "nothing: there is no time in a run. Leave the timer and its branches out: a wait"
+        " without an answer ends as `end waiting`, with the result `error`",
     )
     SIGNATURE = (
         "a signature",
@@ -185,13 +185,13 @@ class Construct(Enum):
     OMIT = (
         "`omit`",
         "6.2.1.2, B.1.2.8",
-        "a value that stands for the absence; or a record type without the field, in the port's"
+        "a value that means absence; or a record type without the field, in the port's"
         " list too",
     )
     IFPRESENT = (
         "`ifpresent`",
         "B.1.4.2",
-        "nothing: every field is there, so that the template without it says it all",
+        "nothing: every field has a value, so the template without it means the same",
     )
     LENGTH = (
         "a length",
@@ -234,7 +234,7 @@ class Construct(Enum):
     RETURN = (
         "`return`",
         "16.1, 19.10",
-        "nothing: a function ends behind its last statement. What comes of it is sent",
+        "nothing: a function ends after its last statement. Send its result",
     )
     CALL_FUNCTION = (
         "the call of a function",
@@ -244,7 +244,7 @@ class Construct(Enum):
     PREDEFINED = (
         "predefined functions, as `lengthof`, `int2str`",
         "16.1.2",
-        "the value itself; what can't be known before is matched by a template",
+        "the value itself; a template matches what is known only in a run",
     )
     EXTERNAL = (
         "an external function",
@@ -291,11 +291,11 @@ class Construct(Enum):
     BREAK = (
         "`break` or `continue`",
         "19.12, 19.13",
-        "nothing: a loop runs all its turns, and an `alt` ends behind its branch",
+        "nothing: a loop runs all its turns, and an `alt` ends after its branch",
     )
     BLOCK = ("a block of its own", "19.14", "its statements, without the braces")
     LATE_VARIABLE = (
-        "a declaration behind statements",
+        "a declaration after statements",
         "19.14",
         "setup, starts, variables, statements, in this order",
     )
@@ -327,7 +327,7 @@ class Construct(Enum):
     )
     # 21: components
     LATE_SETUP = (
-        "a `connect`, `map` or `start` behind statements",
+        "a `connect`, `map` or `start` after statements",
         "21.1, 21.3.2",
         "all of them at the head of the test case: `var C a := C.create;`, `connect`, `map`,"
         " then the starts",

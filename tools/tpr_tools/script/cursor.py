@@ -97,7 +97,7 @@ class Cursor:
 
     def below(self, place: int, left: int) -> int:
         if left == 0:
-            self.limit(place, f"{MOST_BRACKETS} brackets are open here already, and no more are allowed")
+            self.limit(place, f"{MOST_BRACKETS} brackets are open here already, but no more are allowed")
         return left - 1
 
     def end(self, is_closed: bool) -> None:

@@ -5,6 +5,7 @@ import difflib
 from types import TracebackType
 from typing import Iterable, Optional
 
+from ..words import counted
 from .constructs import Construct
 from .refusal_rules import Rule
 
@@ -78,7 +79,7 @@ def a(word: str) -> str:
 def nearest(name: str, known: Iterable[str]) -> str:
     """A question about the name that may be meant, or nothing."""
     found = difflib.get_close_matches(name, list(known)[:500], 1, 0.7)
-    return f" (is `{found[0]}` meant?)" if found else ""
+    return f" (did you mean `{found[0]}`?)" if found else ""
 
 
 def listed(names: Iterable[str], none: str = "none") -> str:
@@ -88,3 +89,8 @@ def listed(names: Iterable[str], none: str = "none") -> str:
         return none
     more = f" and {len(shown) - 6} more" if len(shown) > 6 else ""
     return ", ".join(f"`{name}`" for name in shown[:6]) + more
+
+
+def there_are(count: int, what: str) -> str:
+    """`there is 1 value`, `there are 2 values`."""
+    return f"there {'is' if count == 1 else 'are'} {counted(count, what)}"

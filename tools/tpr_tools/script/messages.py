@@ -4,7 +4,7 @@ from __future__ import annotations
 from typing import Optional
 
 from ..words import counted
-from .faults import RuleFault, a, listed, nearest
+from .faults import RuleFault, a, listed, nearest, there_are
 from .names import BASE_TYPES, Names
 from .refusal_rules import Rule
 from .tree import ListType, Record, Value, ValueKind
@@ -34,14 +34,16 @@ class MessageRules:
     def check(self, type_name: str, value: Value, owner: Optional[int] = None) -> None:
         """`owner` is the place of what the value is given to: a field."""
         kind = value.kind
+        if self.names.is_unknown(type_name):
+            return
         if kind in _FIXED:
             self._check_fixed(type_name, value, owner)
         elif kind is ValueKind.NAME:
             self._check_name(type_name, value)
         elif kind is ValueKind.ANY_OR_NONE:
             sentence = (
-                "`*` is only for elements of a record of: a field or an element that has a value is"
-                " matched by `?`"
+                "`*` is only for elements of a record of: write `?` for any value of a"
+                " field or an element"
             )
             raise self.fault(13, value.start, sentence).write("`?`")
         elif kind in (ValueKind.ONE_OF, ValueKind.COMPLEMENT):
@@ -57,7 +59,7 @@ class MessageRules:
             shown = f"`{self._shown(value)}`"
             if value.kind in (ValueKind.RANGE, ValueKind.PATTERN):
                 shown = f"{value.kind.value}"
-            fault = self.fault(13, value.start, f"{shown} is {what}, and `{type_name}` is expected")
+            fault = self.fault(13, value.start, f"{shown} is {what}, but `{type_name}` is expected")
             raise self._of(fault, type_name, owner)
         if value.kind is ValueKind.RANGE:
             lower, upper = (self._number(bound) for bound in value.bounds)
@@ -83,16 +85,16 @@ class MessageRules:
         name = self.names.word(value.start)
         if name in self.loops:
             if type_name != "integer":
-                sentence = f"the loop variable `{name}` is an integer, and `{type_name}` is expected"
+                sentence = f"the loop variable `{name}` is an integer, but `{type_name}` is expected"
                 raise self.fault(13, value.start, sentence)
             return
         if name in self.variables:
-            sentence = f"`{name}` is a variable, which a value or a template can't have in it"
+            sentence = f"`{name}` is a variable, which can't be part of a value or a template"
             fault = self.fault(13, value.start, sentence).beside(self.variables[name], "the variable")
             holds = f"`send({name})` to send the value of `{name}`"
             raise fault.write(f"{holds}; in a template, the value itself")
         meant = nearest(name, self.loops)
-        sentence = f"`{name}` isn't a loop variable, and a value can have no other name in it{meant}"
+        sentence = f"`{name}` isn't a loop variable, and no other name can be part of a value{meant}"
         raise self.fault(11, value.start, sentence)
 
     def _check_braces(self, type_name: str, value: Value, owner: Optional[int]) -> None:
@@ -117,7 +119,7 @@ class MessageRules:
         fields = record.fields
         if len(fields) != len(value.members):
             missing = [self.names.word(field.name) for field in fields[len(value.members) :]]
-            sentence = f"`{type_name}` has {counted(len(fields), 'field')}, and {_are(len(value.members), 'value')}"
+            sentence = f"`{type_name}` has {counted(len(fields), 'field')}, but {there_are(len(value.members), 'value')} here"
             if missing:
                 sentence += f": {listed(missing)} {'is' if len(missing) == 1 else 'are'} missing"
             place = value.start if missing else value.members[len(fields)].start
@@ -148,8 +150,3 @@ class MessageRules:
         for place, member in zip(value.names, value.members):
             field = fields[self.names.word(place)]
             self.check(self.names.word(field.type), member, field.type)
-
-
-def _are(count: int, what: str) -> str:
-    """`here is 1 value`, `here are 2 values`."""
-    return f"here {'is' if count == 1 else 'are'} {counted(count, what)}"

@@ -34,6 +34,7 @@ class Names:
         self.ports: dict[str, PortType] = {}
         self.components: dict[str, ComponentType] = {}
         self.functions: dict[str, Function] = {}
+        self.unknown: set[str] = set()  # what is told to be no type of a message: nothing follows from its uses
         self.case = self._only_case()
 
     def _only_case(self) -> TestCase:
@@ -64,7 +65,8 @@ class Names:
         for definition in self.module.definitions:
             with self.faults:
                 self._check_definition(definition)
-        self.faults.stop()
+        if any(fault.rule is not Rule.MESSAGE_TYPE for fault in self.faults.kept):
+            self.faults.stop()
 
     def _sort(self, definition: Definition) -> None:
         name = self.word(definition.name)
@@ -135,6 +137,7 @@ class Names:
         name = self.word(place)
         if name in BASE_TYPES or name in self.types:
             return
+        self.unknown.add(name)
         what = self.kind_of(name)
         sentence = f"`{name}` is {what}, not a type of a message or a field"
         if what is None:
@@ -151,7 +154,7 @@ class Names:
                 raise RuleFault(11, definition.start, port.type, sentence, Rule.COMPONENT_TYPE)
         if len(definition.ports) > MOST_PORTS:
             count = (
-                f"`{self.word(definition.name)}` has {len(definition.ports)} ports, and at most"
+                f"`{self.word(definition.name)}` has {len(definition.ports)} ports, but at most"
                 f" {MOST_PORTS} are allowed"
             )
             place = definition.ports[MOST_PORTS].name
@@ -176,7 +179,7 @@ class Names:
     def _check_sut(self, function: Function) -> None:
         """Whether it can play the system."""
         if self.case.system is None:
-            sentence = "`sut` plays the system, and the test case has no `system` clause"
+            sentence = "`sut` plays the system, but the test case has no `system` clause"
             fault = RuleFault(16, function.start, function.name, sentence, Rule.SUT)
             raise fault.beside(self.case.name, "`system TYPE` is missing after its `runs on`")
         system = self.word(self.case.system)
@@ -216,6 +219,10 @@ class Names:
         directions = self.ports[port_type].directions
         listing = [it for it in directions if self.word(it.way) in (way, "inout")]
         return [place for it in listing for place in it.types]
+
+    def is_unknown(self, *types: str) -> bool:
+        """Whether one of the types is told to be none."""
+        return not self.unknown.isdisjoint(types)
 
     def listed_names(self, port_type: str, way: str) -> list[str]:
         return [self.word(place) for place in self.lists(port_type, way)]

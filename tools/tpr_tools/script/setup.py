@@ -2,7 +2,7 @@
 from __future__ import annotations
 
 from ..words import counted
-from .faults import RuleFault, a, listed, nearest
+from .faults import RuleFault, a, listed, nearest, there_are
 from .names import SUT, Names
 from .refusal_rules import Rule
 from .tree import ComponentStart, Creation, End, Function, Pair
@@ -32,6 +32,7 @@ class Setup:
         if self.case.system is not None:
             self.types[SYSTEM] = self.names.word(self.case.system)
         faults = self.names.faults
+        before = len(faults.kept)
         for statement in self.case.setups:
             if isinstance(statement, Creation):
                 self._create(statement)  # Without it hardly anything can be said of what follows.
@@ -44,7 +45,7 @@ class Setup:
         for start in self.case.starts:
             with faults:
                 self._start(start)
-        if not faults.kept:
+        if len(faults.kept) == before:
             self._check_all_started()
 
     # Components
@@ -71,13 +72,13 @@ class Setup:
             raise RuleFault(11, start, creation.type, sentence, Rule.CREATED_TYPE)
         created = self.names.word(creation.created)
         if created != type_name:
-            sentence = f"`{name}` is {a(type_name)}, and {a(created)} is created"
+            sentence = f"`{name}` is {a(type_name)}, but {a(created)} is created"
             fault = RuleFault(13, start, creation.created, sentence, Rule.CREATED_SAME)
             raise fault.beside(creation.type, "the type of the variable")
         if len(self.types) >= MOST_COMPONENTS:
             sentence = (
-                f"`{name}` is one component too many: at most {MOST_COMPONENTS} are allowed,"
-                f" {self._counted()} among them"
+                f"`{name}` is one component too many: at most {MOST_COMPONENTS} are allowed, including"
+                f" {self._counted()}"
             )
             raise RuleFault(15, start, creation.name, sentence, Rule.FEW_COMPONENTS)
         self.created[name] = creation
@@ -173,7 +174,7 @@ class Setup:
         sender_type, sent = self._listed(sender, "out")
         receiver_type, received = self._listed(receiver, "in")
         missing = [name for name in sent if name not in received]
-        if missing:
+        if missing and not self.names.is_unknown(*sent, *received):
             sentence = (
                 f"`{told(sender)}` sends {listed(missing)}, which `{told(receiver)}` doesn't receive:"
                 f" `{receiver_type}` has {listed(received)} as `in`"
@@ -211,7 +212,7 @@ class Setup:
         other_type, of_other = self._listed(other, way)
         wider, narrower = (of_other, of_system) if way == "out" else (of_system, of_other)
         missing = [name for name in wider if name not in narrower]
-        if not missing:
+        if not missing or self.names.is_unknown(*wider, *narrower):
             return
         has, lacks = (other, system) if way == "out" else (system, other)
         sentence = (
@@ -255,7 +256,7 @@ class Setup:
         runs_on, type_name = self.names.word(function.runs_on), self.types[component]
         if runs_on != type_name:
             name = self.names.word(start.function)
-            sentence = f"`{name}` runs on `{runs_on}`, and `{component}` is {a(type_name)}"
+            sentence = f"`{name}` runs on `{runs_on}`, but `{component}` is {a(type_name)}"
             fault = RuleFault(13, start.start, start.function, sentence, Rule.STARTED_TYPE)
             fault.beside(function.runs_on, f"`{name}`")
             raise fault.beside(self.created[component].type, f"`{component}`")
@@ -264,8 +265,8 @@ class Setup:
         name, parameters = self.names.word(start.function), function.parameters
         if len(parameters) != len(start.arguments):
             sentence = (
-                f"`{name}` has {counted(len(parameters), 'parameter')}, and here"
-                f" {'is' if len(start.arguments) == 1 else 'are'} {counted(len(start.arguments), 'argument')}"
+                f"`{name}` has {counted(len(parameters), 'parameter')},"
+                f" but {there_are(len(start.arguments), 'argument')} here"
             )
             fault = RuleFault(13, start.start, start.function, sentence, Rule.ARGUMENT_COUNT)
             raise fault.beside(function.name, f"`{name}`")
@@ -279,7 +280,7 @@ class Setup:
             if self.types[component] != wanted:
                 sentence = (
                     f"the parameter `{self.names.word(parameter.name)}` is {a(wanted)},"
-                    f" and `{word}` is {a(self.types[component])}"
+                    f" but `{word}` is {a(self.types[component])}"
                 )
                 fault = RuleFault(13, start.start, argument, sentence, Rule.ARGUMENTS)
                 raise fault.beside(parameter.type, "the parameter")

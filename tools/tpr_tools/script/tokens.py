@@ -78,7 +78,7 @@ class Text:
             sentence = f"the number has more than 64 bits: {GREATEST_NUMBER} is the greatest"
             return TokenFault(15, offset, len(token), sentence)
         if token[0].isalpha() and len(token) > LONGEST_NAME:
-            sentence = f"the name has {len(token)} characters, and at most {LONGEST_NAME} are allowed"
+            sentence = f"the name has {len(token)} characters, but at most {LONGEST_NAME} are allowed"
             return TokenFault(15, offset, len(token), sentence)
         return None
 
@@ -166,4 +166,4 @@ def _fault_of_text(rest: str) -> str:
         return "the text isn't closed: a `\"` is missing"
     if behind[0] in "\r\n":
         return "the text isn't closed on its line: a `\"` is missing"
-    return f"a text holds only the characters 32 to 126, and here is the byte {ord(behind[0])}"
+    return f"a text can have only the characters 32 to 126, but here is the byte {ord(behind[0])}"

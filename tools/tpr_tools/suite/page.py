@@ -75,7 +75,7 @@ class Page:
         """What was run, when, and how long it took."""
         runs, judging = sum(case.seconds() for case in cases), sum(case.judging() for case in cases)
         places = ", ".join(f"<code>{_text(shown(it))}</code>" for it in self.places)
-        return f"{places}, begun {began:%Y-%m-%d %H:%M:%S}. The runs took {runs:.3f} s, judging them {judging:.3f} s."
+        return f"{places}, started {began:%Y-%m-%d %H:%M:%S}. The runs took {runs:.3f} s, judging them {judging:.3f} s."
 
     # A script
 
@@ -223,7 +223,7 @@ def _sources(cases: list[Case]) -> Iterable[str]:
     known = ((case.pictures()[0].files, lines) for case in cases if (lines := _lines_of(case)) is not None)
     for file, (number, lines) in in_no_script(known).items():
         never = sum(bool(it.never) for it in lines.values())
-        about = f"{_text(shown(file))}, from which {number} scripts come: "
+        about = f"{_text(shown(file))}, the source of {number} scripts: "
         if number > 1 and never:
             yield f'<details class="source"><summary>{about}{counted(never, "line")} that no script reached</summary>'
             yield from [*_unreached(lines), "</details>"]

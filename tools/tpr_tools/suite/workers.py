@@ -98,7 +98,7 @@ class Workers:
         try:
             answer: Union[Run, Stop] = connection.recv()
         except EOFError:
-            raise Stop(NOT_BUILT, f"the process that ran {task.path} ended by itself") from None
+            raise Stop(NOT_BUILT, f"the process that ran {task.path} ended unexpectedly") from None
         if isinstance(answer, Stop):
             raise answer
         self.idle.append(connection)
