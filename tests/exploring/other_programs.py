@@ -3,6 +3,7 @@ from __future__ import annotations
 
 import json
 import os
+import pty
 import shlex
 import signal
 import subprocess
@@ -212,6 +213,39 @@ def left_at_work(number: Path) -> Optional[str]:
     return f"process {process} is still there" if Path(f"/proc/{process}").exists() else None
 
 
+# A terminal
+
+
+def waits_are_shown(asked: Exploring) -> Iterator[Case]:
+    """A terminal shows from the first second on how long `tpr verdicts` has been searching, and nothing at the end."""
+    slow = program_of(asked.room / "slow", f'sleep 2.5; exec {shlex.quote(asked.tpr)} "$@"')
+    wiped, seconds = "\r\x1b[K", "explore: `tpr verdicts` has been searching for {} s".format
+    shown = "".join(wiped + text for text in (seconds(1), seconds(2), ""))
+    yield "a search of two seconds at a terminal", must_show(said_at_a_terminal(asked, slow), shown)
+    yield "a short search at a terminal", must_show(said_at_a_terminal(asked, asked.tpr), wiped)
+    case = asked.asking(slow, asked.nowhere).case
+    yield case("a search of two seconds without a terminal", [PING_PONG], 0, begins_with("always pass"))
+
+
+def said_at_a_terminal(asked: Exploring, tpr: str) -> str:
+    """What is written on standard error, if that is a terminal."""
+    ours, theirs = pty.openpty()
+    words, variables = [str(ROOT / "tools" / "explore"), PING_PONG], asked.asking(tpr, asked.nowhere).variables
+    none = subprocess.DEVNULL
+    with subprocess.Popen(
+        words, cwd=ROOT, env={**os.environ, **variables}, stdin=none, stdout=none, stderr=theirs
+    ) as process:
+        os.close(theirs)
+        process.wait(MOST_SECONDS)
+    with open(ours, "rb", buffering=0) as terminal:
+        return text_of(terminal.read(1 << 16) or b"")
+
+
+def must_show(said: str, shown: str) -> Optional[str]:
+    """A busy machine may take longer, and show more seconds."""
+    return None if said.startswith(shown[: shown.rindex("\r")]) and said.endswith("\r\x1b[K") else f"it says {said!r}"
+
+
 # Each group, with how many cases it has at least.
 GROUPS = (
     (undecided_answers, 4),
@@ -221,4 +255,5 @@ GROUPS = (
     (other_reports, 4),
     (programs_that_break_off, 4),
     (interrupted, 10),
+    (waits_are_shown, 3),
 )

@@ -6,9 +6,10 @@ import os
 import re
 import signal
 import subprocess
-from typing import IO, Iterator, Optional, Sequence, Union
+import sys
+from typing import IO, Callable, Iterator, Optional, Sequence, Union
 
-from ..command import NOT_BUILT, NOT_WRITTEN, REFUSED, Stop
+from ..command import NOT_BUILT, NOT_WRITTEN, REFUSED, Stop, called, say
 from ..program import end
 from .answers import Answer, read_answer
 
@@ -35,15 +36,17 @@ def printed_by(
     says: Optional[int] = None,
     handed: Sequence[int] = (),
     most_seconds: Optional[float] = None,
+    shows: Optional[Callable[[int], None]] = None,
 ) -> tuple[Optional[int], str]:
-    """The status, None where it came to no end of its own, and what was printed."""
+    """The status, None where it came to no end of its own, and what was printed. Each second `shows` gets how
+    many it has been waited for; it goes without `most_seconds`."""
     process: Optional[subprocess.Popen[bytes]] = None
     try:
         with _interrupts_held():
             process = subprocess.Popen(
                 command, stdin=reads, stdout=subprocess.PIPE, stderr=says, start_new_session=True, pass_fds=handed
             )
-        return _end_of(process, most_seconds)
+        return _end_of(process, most_seconds, shows)
     except OSError as error:
         raise Stop(NOT_BUILT, f"{command[0]} can't be run: {error.strerror}") from None
     finally:
@@ -51,17 +54,32 @@ def printed_by(
             end(process)
 
 
-def _end_of(process: subprocess.Popen[bytes], most_seconds: Optional[float]) -> tuple[Optional[int], str]:
+def _end_of(
+    process: subprocess.Popen[bytes], most_seconds: Optional[float], shows: Optional[Callable[[int], None]]
+) -> tuple[Optional[int], str]:
     """The same of a program that has begun."""
     is_late = False
     try:
-        printed, _ = process.communicate(timeout=most_seconds)
+        printed = _output_of(process, most_seconds, shows)
     except subprocess.TimeoutExpired:
         is_late = True
         _kill(process)
         printed, _ = process.communicate()
     status = process.wait()
     return None if is_late or status < 0 else status, printed.decode("latin-1")
+
+
+def _output_of(
+    process: subprocess.Popen[bytes], most_seconds: Optional[float], shows: Optional[Callable[[int], None]]
+) -> bytes:
+    if shows is None:
+        return process.communicate(timeout=most_seconds)[0]
+    seconds = 0
+    while True:
+        with contextlib.suppress(subprocess.TimeoutExpired):
+            return process.communicate(timeout=1)[0]
+        seconds += 1
+        shows(seconds)
 
 
 def broken(program: str, status: Optional[int], printed: str) -> Stop:
@@ -75,8 +93,8 @@ def verdicts_by(program: str, data: bytes) -> Union[Answer, tuple[int, str]]:
     tells that memory was refused."""
     handed = HandedFile("script.ttcn")
     handed.write(data)
-    with open(handed.path, "rb") as script:
-        status, printed = printed_by([program, "verdicts"], script)
+    with open(handed.path, "rb") as script, _line_on_a_terminal() as shows:
+        status, printed = printed_by([program, "verdicts"], script, shows=shows)
     answer = read_answer(printed)
     if answer is not None and answer.fault() is None and answer.status() == status:
         return answer
@@ -85,6 +103,18 @@ def verdicts_by(program: str, data: bytes) -> Union[Answer, tuple[int, str]]:
     if status == NOT_BUILT:
         raise Stop(NOT_BUILT, f"{program} can't be built")
     raise broken(f"{program} verdicts", status, printed)
+
+
+@contextlib.contextmanager
+def _line_on_a_terminal() -> Iterator[Optional[Callable[[int], None]]]:
+    """Shows on a terminal how long the search has taken, in a line that is wiped out at its end."""
+    if sys.stderr is None or not sys.stderr.isatty():
+        yield None
+        return
+    try:
+        yield lambda seconds: say(f"\r\x1b[K{called('explore')}: `tpr verdicts` has been searching for {seconds} s")
+    finally:
+        say("\r\x1b[K")
 
 
 @contextlib.contextmanager
