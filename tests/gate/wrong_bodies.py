@@ -7,8 +7,8 @@
 
 The first form tries all, the N that were last refused the longest ago, or those named, after a check of their crates,
 and writes tests/wrong_bodies/seen. `of_a_run` tries those of a run of the gate after `rt ci`, which has proved the
-crates: the blocks with one star, 40 others by turns (wrong_body_seen.py), and one right body, so that a trial that
-refuses everything fails. `stale_libraries` comes before `rt ci`, which gives back the libraries that it found: it
+crates: the blocks with one star or a `!`, 40 others by turns (wrong_body_seen.py), and one right body, so that a trial
+that refuses everything fails. `stale_libraries` comes before `rt ci`, which gives back the libraries that it found: it
 removes those of older sources.
 
 A trial checks the edited function in a copy of the crate, over the libraries of the crates below. It tries up to 16
@@ -39,7 +39,7 @@ from typing import NamedTuple
 
 sys.dont_write_bytecode = True
 
-from wrong_body_edits import OF_EACH_RUN, ROOT, Edit, Unfit, all_edits, below, crates, read, write
+from wrong_body_edits import OF_EACH_RUN, ROOT, UNCOMPILED, Edit, Unfit, all_edits, below, crates, read, write
 from wrong_body_seen import note, of_this_gate, oldest, take_over
 
 PARTS = ("src", "specs", "proofs")
@@ -47,6 +47,7 @@ AT_ONCE = 16
 SHAPE = re.compile(r"has no field |has no `[^`]*` that can be named")
 REFUSED, LEFT, SHAPED = "is refused", "isn't refused", "is refused only because of its shape"
 NO_ANSWER, UNTRIED = "came to no answer", "can't be tried"
+NOT_COMPILED = "doesn't compile"
 RIGHT = "right_body"
 
 
@@ -58,6 +59,8 @@ class Tried(NamedTuple):
     why: str = ""
 
     def is_well(self) -> bool:
+        if self.edit.stars == UNCOMPILED:
+            return self.outcome == NOT_COMPILED
         return self.outcome == (LEFT if self.edit.name == RIGHT else REFUSED)
 
     def line(self) -> str:
@@ -143,6 +146,8 @@ def try_together(edits: Sequence[Edit], room: str) -> list[Tried]:
 
 def outcome(edit: Edit, said: str) -> Tried:
     """What a check says of the function of an edit."""
+    if edit.stars == UNCOMPILED and names_what_is_gone(edit, said):
+        return Tried(edit, NOT_COMPILED)
     answers = dict(re.findall(rf"^fn {edit.crate}::(\S+): (.*)$", said, re.M))
     answer = answers.get(edit.function, "could not tell")
     if answer.startswith("could not tell"):
@@ -155,12 +160,18 @@ def outcome(edit: Edit, said: str) -> Tried:
     return Tried(edit, SHAPED if any(SHAPE.search(line) for line in told) else REFUSED)
 
 
+def names_what_is_gone(edit: Edit, said: str) -> bool:
+    """Whether the compiler doesn't find a word that the edit adds."""
+    words = re.findall(r"^[^:\n]+:\d+:\d+: error\[unknown-[\w-]+\]: [^`\n]*`(\w+)`", said, re.M)
+    return bool(edit.added() & {*words})
+
+
 def batches(edits: Iterable[Edit]) -> list[list[Edit]]:
     """Groups the edits of a crate, so that no two of a group are in one function or in one cycle of calls. An edit
-    outside the function that it names is alone."""
+    outside the function that it names is alone, and one that must not compile."""
     made: list[dict[str, Edit]] = []
     for edit in edits:
-        key = edit.key()
+        key = "" if edit.stars == UNCOMPILED else edit.key()
         fits = [it for it in made if key and "" not in it and key not in it and len(it) < AT_ONCE]
         if not fits:
             made.append({})
@@ -184,7 +195,7 @@ def tell(found: Sequence[Tried]) -> None:
     """Prints the outcomes, and notes which edits were refused."""
     with printing:
         if found and not is_over.is_set():
-            note(it.edit for it in found if it.outcome == REFUSED and it.edit.name != RIGHT)
+            note(it.edit for it in found if it.is_well() and it.edit.name != RIGHT)
             print(*(it.line() for it in found), sep="\n", flush=True)
 
 
@@ -235,9 +246,12 @@ def try_crate(crate: str, edits: Sequence[Edit], is_proved: bool) -> list[Tried]
 
 def of_a_run() -> list[Edit]:
     """The edits of a run of the gate. The last is no wrong body: it changes nothing."""
-    starred = [it for it in all_edits() if it.stars == OF_EACH_RUN]
+    edits = all_edits()
+    starred = [it for it in edits if it.stars == OF_EACH_RUN]
+    removed = [it for it in edits if it.stars == UNCOMPILED]
     right = starred[0]._replace(name=RIGHT, pairs=tuple((old, old) for old, _ in starred[0].pairs))
-    return [*starred, *of_this_gate([it for it in all_edits() if it.stars != OF_EACH_RUN]), right]
+    others = [it for it in edits if it.stars not in (OF_EACH_RUN, UNCOMPILED)]
+    return [*starred, *removed, *of_this_gate(others), right]
 
 
 def try_all(jobs: int, edits: Sequence[Edit], is_proved: bool) -> list[Tried]:
@@ -281,7 +295,7 @@ def main() -> int:
     except Unfit as why:
         sys.exit(f"wrong_bodies: {why}")
     failed = sum(not it.is_well() for it in found)
-    print(f"wrong bodies: {sum(it.outcome == REFUSED for it in found)} refused, {failed} failed")
+    print(f"wrong bodies: {sum(it.outcome in (REFUSED, NOT_COMPILED) for it in found)} refused, {failed} failed")
     return 1 if failed else 0
 
 

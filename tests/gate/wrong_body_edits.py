@@ -3,7 +3,8 @@
 tests/wrong_bodies/CRATE.edits has a block for each. Its first line has the name of the edit and the function, as a
 check prints it; its second line is the file. A line `- OLD` is a text that the file has exactly once, and the line
 `+ NEW` after it replaces that. With a star before its name each run of the gate tries the edit, and with two `rt ci`
-does, from crates/CRATE/must-fail/.
+does, from crates/CRATE/must-fail/. An edit with a `!` there names what has been removed: each run of the gate tries it
+too, and it must not compile.
 """
 from __future__ import annotations
 
@@ -14,9 +15,9 @@ from typing import NamedTuple
 
 ROOT = os.path.dirname(os.path.dirname(os.path.dirname(os.path.realpath(__file__))))
 SHELF = f"{ROOT}/tests/wrong_bodies"
-OF_RT, OF_EACH_RUN = "**", "*"
+OF_RT, OF_EACH_RUN, UNCOMPILED = "**", "*", "!"
 
-HEAD = re.compile(r"(?:(\*\*?) )?([\w.-]+): (\w+(?:::\w+)*)")
+HEAD = re.compile(r"(?:(\*\*?|!) )?([\w.-]+): (\w+(?:::\w+)*)")
 FUNCTION = re.compile(r"^ *(?:pub(?:\(\w+\))? )?(?:const )?(?:unsafe )?(?:extern \"C\" )?fn (\w+)", re.M)
 # A comment, a raw string, a string, a character: what names nothing.
 NO_NAMES = re.compile(
@@ -71,11 +72,16 @@ class Edit(NamedTuple):
         cycle = re.search(r"#\[cycle\((\w+)\)\]", text[text.rfind("\n\n", 0, start) + 1 : start])
         return f"+{cycle[1]}" if cycle else self.function
 
+    def added(self) -> set[str]:
+        """The words that its new texts have, and not its old ones."""
+        olds, news = (" ".join(texts) for texts in zip(*self.pairs))
+        return words_of(news) - words_of(olds)
+
     def unknown(self, known: set[str]) -> list[str]:
         """The words that its new texts have, and neither its old ones nor the known sources: it won't compile."""
-        olds, news = (" ".join(texts) for texts in zip(*self.pairs))
+        news = " ".join(new for _, new in self.pairs)
         declared = words_of(" ".join(re.findall(r"\blet ([^=]*)=", news)))
-        return sorted(words_of(news) - words_of(olds) - known - declared - OF_THE_KIT)
+        return sorted(self.added() - known - declared - OF_THE_KIT)
 
     def of_rt(self) -> str:
         """The edit as `rt ci` reads it."""

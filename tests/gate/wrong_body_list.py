@@ -4,7 +4,8 @@
     ./test list                              writes the blocks of `rt ci` into crates/CRATE/must-fail/, and adds what a
                                              gate has seen refused to tests/wrong_bodies/seen
     tests/gate/wrong_body_list.py compare    prints a line `passed CRATE/NAME` for each block that can be applied, and
-                                             that names a function and no word that isn't there
+                                             that names a function and no word that isn't there,
+                                             or with a `!` one such word
 
 `compare` prints a line `FAILED: ..` for each other block; if each run of the gate tries none of a crate, not all of
 NAMED_OF_EACH_RUN, or too few of all; and if must-fail/ or tests/wrong_bodies/seen isn't as it is written. Its last line
@@ -23,7 +24,8 @@ from collections.abc import Iterator
 sys.dont_write_bytecode = True
 
 from wrong_body_edits import (
-    OF_RT, ROOT, SHELF, Edit, Unfit, all_edits, below, crates, read, sources_of, words_of, write,
+    OF_EACH_RUN, OF_RT, ROOT, SHELF, UNCOMPILED, Edit, Unfit, all_edits, below, crates, read, sources_of, words_of,
+    write,
 )
 from wrong_body_seen import OF_A_GATE, REFUSED, SEEN, lines_of, take_over
 
@@ -50,8 +52,12 @@ def faults_of(edit: Edit, functions: set[str], known: set[str]) -> Iterator[str]
         edit.applied(read(f"{ROOT}/crates/{edit.crate}/{edit.file}"))
     except (OSError, Unfit) as why:
         yield f"{edit.title()} can't be applied: {why}"
-    for it in edit.unknown(known):
-        yield f"{edit.title()}: no source of {edit.crate} or below has the word {it}, nor has OF_THE_KIT"
+    unknown = edit.unknown(known)
+    if edit.stars == UNCOMPILED and not unknown:
+        yield f"{edit.title()} would compile: a source of {edit.crate} or below has each of its words"
+    elif edit.stars != UNCOMPILED:
+        for it in unknown:
+            yield f"{edit.title()}: no source of {edit.crate} or below has the word {it}, nor has OF_THE_KIT"
 
 
 def wanted_of_rt(edits: list[Edit]) -> dict[str, str]:
@@ -79,7 +85,7 @@ def faults_of_all(edits: list[Edit]) -> Iterator[str]:
     others = {*os.listdir(SHELF)} - {"seen", *(f"{it}.edits" for it in crates())}
     yield from (f"{it} is the name of {number} blocks" for it, number in titles.items() if number > 1)
     yield from (f"tests/wrong_bodies/{it} belongs to no crate" for it in sorted(others))
-    starred = [it for it in edits if it.stars]
+    starred = [it for it in edits if it.stars in (OF_RT, OF_EACH_RUN)]
     for crate in sorted({it.crate for it in edits} - {it.crate for it in starred}):
         yield f"no run of the gate would try a wrong body of {crate}: none has a star"
     for title in sorted(NAMED_OF_EACH_RUN - {it.title() for it in starred}):

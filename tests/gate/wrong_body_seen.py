@@ -1,5 +1,5 @@
-"""tests/wrong_bodies/seen: when the prover last refused each wrong body. A line has CRATE/NAME, the day, the commit,
-with a + if the sources had changed since, and the function.
+"""tests/wrong_bodies/seen: when the prover, or of a block with `!` the compiler, last refused each. A line has
+CRATE/NAME, the day, the commit, with a + if the sources had changed since, and the function.
 
 A trial notes its lines in out/refused, because a gate doesn't change the commit that it tries. `./test list` adds them
 to `seen`, and so does `./test wrong_bodies` at its end.
