@@ -7,8 +7,8 @@
 
 The first form tries all, the N that were last refused the longest ago, or those named, after a check of their crates,
 and writes tests/wrong_bodies/seen. `of_a_run` tries those of a run of the gate after `rt ci`, which has proved the
-crates: the blocks with one star or a `!`, 40 others by turns (wrong_body_seen.py), and one right body, so that a trial
-that refuses everything fails. `stale_libraries` comes before `rt ci`, which gives back the libraries that it found: it
+crates: the blocks with one star or a `!`, others by turns (wrong_body_seen.py), and one right body, so that a trial that
+refuses everything fails. `stale_libraries` comes before `rt ci`, which gives back the libraries that it found: it
 removes those of older sources.
 
 A trial checks the edited function in a copy of the crate, over the libraries of the crates below. It tries up to 16
@@ -250,8 +250,7 @@ def of_a_run() -> list[Edit]:
     starred = [it for it in edits if it.stars == OF_EACH_RUN]
     removed = [it for it in edits if it.stars == UNCOMPILED]
     right = starred[0]._replace(name=RIGHT, pairs=tuple((old, old) for old, _ in starred[0].pairs))
-    others = [it for it in edits if it.stars not in (OF_EACH_RUN, UNCOMPILED)]
-    return [*starred, *removed, *of_this_gate(others), right]
+    return [*starred, *removed, *of_this_gate(edits), right]
 
 
 def try_all(jobs: int, edits: Sequence[Edit], is_proved: bool) -> list[Tried]:

@@ -27,7 +27,7 @@ from wrong_body_edits import (
     OF_EACH_RUN, OF_RT, ROOT, SHELF, UNCOMPILED, Edit, Unfit, all_edits, below, crates, read, sources_of, words_of,
     write,
 )
-from wrong_body_seen import OF_A_GATE, REFUSED, SEEN, lines_of, take_over
+from wrong_body_seen import REFUSED, SEEN, lines_of, of_this_gate, take_over
 
 LEAST_OF_EACH_RUN = 80  # so that none is lost from those that each run tries unseen
 # Each of these breaks a rule of ports, of values or of connections, or the promise of a report: each run tries them.
@@ -106,7 +106,7 @@ def count(edits: list[Edit]) -> str:
     """The line on how many there are, and when they were seen."""
     seen = lines_of(SEEN) | lines_of(REFUSED)
     days = sorted(seen[it.title()][1] for it in edits if it.title() in seen)
-    tried = f"each run tries {sum(bool(it.stars) for it in edits)}, and {OF_A_GATE} by turns"
+    tried = f"each run tries {sum(bool(it.stars) for it in edits)}, and {len(of_this_gate(edits))} by turns"
     since = f"seen refused since {days[0] if days else 'no day'}, but for {len(edits) - len(days)}"
     more = f"; `./test list` takes over {len(lines_of(REFUSED))} of them, to be committed" * os.path.exists(REFUSED)
     return f"wrong bodies: {len(edits)}; {tried}; {since}{more}"

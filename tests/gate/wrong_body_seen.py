@@ -9,12 +9,12 @@ from __future__ import annotations
 import os
 import subprocess
 import time
-from collections.abc import Iterable, Sequence
+from collections.abc import Iterable
 
-from wrong_body_edits import ROOT, SHELF, Edit, crates, read, write
+from wrong_body_edits import OF_EACH_RUN, ROOT, SHELF, UNCOMPILED, Edit, crates, read, write
 
 SEEN, REFUSED = f"{SHELF}/seen", f"{ROOT}/out/refused"
-OF_A_GATE, OLD = 40, 5  # so many does a gate try by turns, of the fifth that was refused the longest ago
+GATES = 25  # so many gates try all that they try by turns
 
 
 def output_of(*words: str) -> str:
@@ -59,15 +59,16 @@ def oldest(edits: Iterable[Edit], count: int) -> list[Edit]:
 def spread(edits: Iterable[Edit]) -> list[Edit]:
     """The edits by their crates, and those of one function far from each other, since they can't be tried at once."""
     groups: dict[tuple[str, str], list[Edit]] = {}
+    edits = [*edits]
     for it in edits:
         groups.setdefault((it.crate, it.key()), []).append(it)
     places = {it.title(): n / len(group) for group in groups.values() for n, it in enumerate(group)}
     return sorted(edits, key=lambda it: ([*crates()].index(it.crate), places[it.title()]))
 
 
-def of_this_gate(edits: Sequence[Edit]) -> list[Edit]:
-    """The edits whose turn it is: of the fifth that was refused the longest ago those after the place that the commit's
-    hash says. So a gate tries edits of few crates, and about 28 gates try all."""
-    candidates, order = {*oldest(edits, max(OF_A_GATE, len(edits) // OLD))}, spread(edits)
-    start = int(output_of("git", "rev-parse", "HEAD") or "0", 16) % max(1, len(edits))
-    return [it for it in (*order[start:], *order[:start]) if it in candidates][:OF_A_GATE]
+def of_this_gate(edits: Iterable[Edit]) -> list[Edit]:
+    """The edits whose turn it is: those that were refused the longest ago. Of one day the commit's hash says where they
+    begin, so that a gate tries edits of few crates."""
+    by_turns = spread(it for it in edits if it.stars not in (OF_EACH_RUN, UNCOMPILED))
+    start = int(output_of("git", "rev-parse", "HEAD") or "0", 16) % max(1, len(by_turns))
+    return oldest((*by_turns[start:], *by_turns[:start]), -(-len(by_turns) // GATES))
