@@ -9,19 +9,7 @@ from .messages import MessageRules
 from .names import BASE_TYPES, SUT, Names
 from .refusal_rules import Rule
 from .setup import Setup
-from .tree import (
-    Alt,
-    Body,
-    Control,
-    Declared,
-    Loop,
-    Message,
-    Receive,
-    Send,
-    SetVerdict,
-    Statement,
-    TestCase,
-)
+from .tree import Alt, Body, Control, Declared, Loop, Message, Receive, Send, SetVerdict, Statement, TestCase
 
 MOST_STATEMENTS = 100_000
 
@@ -200,9 +188,7 @@ class BodyRules:
     def _rules(self, told: int) -> MessageRules:
         return MessageRules(self.names, told, self.loops, self.variable_places)
 
-    def _check_listed(
-        self, told: int, place: int, port: Declared, type_name: str, is_sent: bool
-    ) -> None:
+    def _check_listed(self, told: int, place: int, port: Declared, type_name: str, is_sent: bool) -> None:
         """Whether the port's type lists the type of the message."""
         way = "out" if is_sent != self.is_sut else "in"
         port_type = self.names.word(port.type)
@@ -303,10 +289,7 @@ class BodyRules:
     def _no_peer(self, number: int, told: int, place: int) -> RuleFault:
         name = self.names.word(place)
         known = [*self.parameters, *self.components]
-        sentence = (
-            f"there is no component `{name}` here{nearest(name, known)}:"
-            f" {listed(known + ['mtc', 'self'])}"
-        )
+        sentence = (f"there is no component `{name}` here{nearest(name, known)}:" f" {listed(known + ['mtc', 'self'])}")
         if name in self.loops:
             sentence = f"`{name}` is a loop variable, not a component"
         return RuleFault(number, told, place, sentence, Rule.PEER)

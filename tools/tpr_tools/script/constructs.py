@@ -13,21 +13,9 @@ class Construct(Enum):
     # 5 to 7: basics, types, expressions
     NAME_BEGIN = ("a name that begins with `_`", "5.1", "a name that begins with a letter")
     MACRO = ("a preprocessing macro", "Annex D", "nothing: there is no preprocessor")
-    MODIFIER = (
-        "a modifier with `@`",
-        "5.4, 16.1",
-        "nothing: a run has nothing that it would change. Leave it out",
-    )
-    NAMED_ARGUMENT = (
-        "an argument by its parameter's name",
-        "5.4.2",
-        "the arguments in the order of the parameters",
-    )
-    FLOAT = (
-        "a float",
-        "6.1.0",
-        "an `integer`, of a smaller unit, or a `charstring` where only its text counts",
-    )
+    MODIFIER = ("a modifier with `@`", "5.4, 16.1", "nothing: a run has nothing that it would change. Leave it out")
+    NAMED_ARGUMENT = ("an argument by its parameter's name", "5.4.2", "the arguments in the order of the parameters")
+    FLOAT = ("a float", "6.1.0", "an `integer`, of a smaller unit, or a `charstring` where only its text counts")
     OTHER_BASE = ("the type {word}", "6.1.0", "an `integer`, a `boolean` or a `charstring`")
     STRING_OF_BITS = (
         "a bitstring, hexstring or octetstring",
@@ -40,11 +28,7 @@ class Construct(Enum):
         "6.1.2, 6.2.13",
         "the type without it, and the range in the template that receives: `integer:(0 .. 9)`",
     )
-    ALIAS = (
-        "a type that is another one under a new name",
-        "6.1.2",
-        "the type itself, in place of the new name",
-    )
+    ALIAS = ("a type that is another one under a new name", "6.1.2", "the type itself, in place of the new name")
     OPTIONAL = (
         "an optional field",
         "6.2.1.2",
@@ -56,33 +40,13 @@ class Construct(Enum):
         "6.2.1.3",
         "a definition of its own, `type record of integer L;`, and the field of type `L`",
     )
-    SET = (
-        "a set",
-        "6.2.2",
-        "`type record`: the order of its fields then counts, unless they are named",
-    )
+    SET = ("a set", "6.2.2", "`type record`: the order of its fields then counts, unless they are named")
     SET_OF = ("a set of", "6.2.3", "`type record of`: the order of its elements then counts")
-    ENUMERATED = (
-        "an enumerated type",
-        "6.2.4",
-        "a `charstring` with the name as its text, or an `integer`",
-    )
-    UNION = (
-        "a union",
-        "6.2.5",
-        "a record type for each alternative, each of them in the port's list",
-    )
+    ENUMERATED = ("an enumerated type", "6.2.4", "a `charstring` with the name as its text, or an `integer`")
+    UNION = ("a union", "6.2.5", "a record type for each alternative, each of them in the port's list")
     ANYTYPE = ("`anytype`", "6.2.6", "a record type for each, each of them in the port's list")
-    ARRAY = (
-        "an array",
-        "6.2.7",
-        "for values a `record of`; for ports, components and timers a name for each",
-    )
-    DEFAULT_TYPE = (
-        "the type `default`",
-        "6.2.8",
-        "nothing: there are no defaults. Write the branches into each `alt`",
-    )
+    ARRAY = ("an array", "6.2.7", "for values a `record of`; for ports, components and timers a name for each")
+    DEFAULT_TYPE = ("the type `default`", "6.2.8", "nothing: there are no defaults. Write the branches into each `alt`")
     PROCEDURE_PORT = (
         "a port of procedures or a mixed port",
         "6.2.9",
@@ -121,16 +85,8 @@ class Construct(Enum):
     )
     # 8: modules
     LANGUAGE = ("the language of a module", "8.1", "`module M {`, without it")
-    GLOBAL_NAME = (
-        "a name with its module before it",
-        "8.2.3.1",
-        "the name alone: a module uses no other module",
-    )
-    MODULEPAR = (
-        "a module parameter",
-        "8.2.1",
-        "the value itself, in place of the name; a script for each value",
-    )
+    GLOBAL_NAME = ("a name with its module before it", "8.2.3.1", "the name alone: a module uses no other module")
+    MODULEPAR = ("a module parameter", "8.2.1", "the value itself, in place of the name; a script for each value")
     GROUP = ("a group", "8.2.2", "its definitions, without the group around them")
     IMPORT = ("an import", "8.2.3", "the definitions themselves, copied into this module")
     VISIBILITY = (
@@ -147,11 +103,7 @@ class Construct(Enum):
     EXECUTE = ("`execute`", "26.1", "nothing: `tpr run` runs the one test case of the module")
     # 10 to 16: declarations, templates, functions
     CONST = ("a constant", "10", "the value itself, in place of the name")
-    INITIAL_VALUE = (
-        "a variable that has a value at once",
-        "11.1",
-        "`var {type} {name};`, set by `-> value {name}`",
-    )
+    INITIAL_VALUE = ("a variable that has a value at once", "11.1", "`var {type} {name};`, set by `-> value {name}`")
     SEVERAL_VARIABLES = ("several variables in one `var`", "11.1", "a `var` for each")
     VAR_TEMPLATE = ("a template variable", "11.2", "the template itself, in each `receive`")
     TIMER = (
@@ -160,11 +112,7 @@ class Construct(Enum):
         "nothing: there is no time in a run. Leave the timer and its branches out: a wait"
         " without an answer ends as `end waiting`, with the result `error`",
     )
-    SIGNATURE = (
-        "a signature",
-        "14",
-        "a record for the call and one for the reply, sent at a message port",
-    )
+    SIGNATURE = ("a signature", "14", "a record for the call and one for the reply, sent at a message port")
     TEMPLATE = (
         "a template definition",
         "15",
@@ -176,11 +124,7 @@ class Construct(Enum):
         "`p.receive(Order:?)` for any of a type, `p.receive(Order:{1, ?})` with the template"
         " written out",
     )
-    NO_TYPE = (
-        "a message without its type",
-        "15.4, 22.2",
-        "the type before it: `{port}.{operation}({type}:{value})`",
-    )
+    NO_TYPE = ("a message without its type", "15.4, 22.2", "the type before it: `{port}.{operation}({type}:{value})`")
     MODIFIES = ("a modified template", "15.5", "the whole template, written out")
     OMIT = (
         "`omit`",
@@ -193,17 +137,9 @@ class Construct(Enum):
         "B.1.4.2",
         "nothing: every field has a value, so the template without it means the same",
     )
-    LENGTH = (
-        "a length",
-        "6.1.2.4, B.1.4.1",
-        "`?` as often as there are elements: `L:{?, ?}`; or without it",
-    )
+    LENGTH = ("a length", "6.1.2.4, B.1.4.1", "`?` as often as there are elements: `L:{?, ?}`; or without it")
     PERMUTATION = ("a permutation", "B.1.3.3", "a list of the orders: `L:({1, 2}, {2, 1})`")
-    SUPERSET = (
-        "a superset or subset",
-        "B.1.2.6, B.1.2.7",
-        "a list of what matches: `L:({1}, {1, 2})`",
-    )
+    SUPERSET = ("a superset or subset", "B.1.2.6, B.1.2.7", "a list of what matches: `L:({1}, {1, 2})`")
     NOT_USED = ("`-` for a field", "15.5, 6.2.1", "a value; in a template `?`")
     LIST_BARE = (
         "a template without brackets, or a range in a list",
@@ -215,11 +151,7 @@ class Construct(Enum):
         "B.1.5",
         "`?` for any one character and `*` for any number of them, or a list of patterns",
     )
-    MATCHING = (
-        "the operation {word}",
-        "15.9, 15.10",
-        "a template in a `receive`, which matches or leaves the message",
-    )
+    MATCHING = ("the operation {word}", "15.9, 15.10", "a template in a `receive`, which matches or leaves the message")
     NO_RUNS_ON = (
         "a function without `runs on`",
         "16.1",
@@ -231,11 +163,7 @@ class Construct(Enum):
         "a component as the parameter, `function f(C peer) runs on C`; a value is written into"
         " the function, or sent to the component in a first message",
     )
-    RETURN = (
-        "`return`",
-        "16.1, 19.10",
-        "nothing: a function ends after its last statement. Send its result",
-    )
+    RETURN = ("`return`", "16.1, 19.10", "nothing: a function ends after its last statement. Send its result")
     CALL_FUNCTION = (
         "the call of a function",
         "16.1.1",
@@ -246,11 +174,7 @@ class Construct(Enum):
         "16.1.2",
         "the value itself; a template matches what is known only in a run",
     )
-    EXTERNAL = (
-        "an external function",
-        "16.1.3",
-        "the system under test as a function `sut`, and messages to it",
-    )
+    EXTERNAL = ("an external function", "16.1.3", "the system under test as a function `sut`, and messages to it")
     ALTSTEP = ("an altstep", "16.2", "its branches, written out in each `alt`")
     CASE_PARAMETER = (
         "a test case with parameters",
@@ -258,11 +182,7 @@ class Construct(Enum):
         "`testcase {name}() runs on TYPE`, with the values written out",
     )
     # 19, 20: statements
-    ASSIGNMENT = (
-        "an assignment",
-        "19.1",
-        "a variable is set by `-> value v` of a `receive`, and by nothing else",
-    )
+    ASSIGNMENT = ("an assignment", "19.1", "a variable is set by `-> value v` of a `receive`, and by nothing else")
     IF = (
         "`if`",
         "19.2",
@@ -281,11 +201,7 @@ class Construct(Enum):
         "a `for` with as many turns as are needed: `for (var integer i := 0; i < 10; i := i +"
         " 1) { .. }`",
     )
-    GOTO = (
-        "`goto` or a label",
-        "19.7, 19.8",
-        "a `for` around what is done again, or the statements once more",
-    )
+    GOTO = ("`goto` or a label", "19.7, 19.8", "a `for` around what is done again, or the statements once more")
     STOP = ("`stop` of a behaviour", "19.9, 21.3.3", "nothing: each behaviour runs to its own end")
     LOG = ("`log`", "19.11", "nothing: the report tells each message, port operation and verdict")
     BREAK = (
@@ -294,31 +210,11 @@ class Construct(Enum):
         "nothing: a loop runs all its turns, and an `alt` ends after its branch",
     )
     BLOCK = ("a block of its own", "19.14", "its statements, without the braces")
-    LATE_VARIABLE = (
-        "a declaration after statements",
-        "19.14",
-        "setup, starts, variables, statements, in this order",
-    )
-    GUARD = (
-        "a guard that is an expression",
-        "20.2",
-        "`[]` before the operation, and the case in its template",
-    )
-    BRANCH_ALTSTEP = (
-        "an altstep in an `alt`",
-        "16.2, 20.2",
-        "the altstep's branches, written out in the `alt`",
-    )
-    REPEAT = (
-        "`repeat`",
-        "20.3",
-        "`trigger` in place of `receive`, to skip messages; or the `alt` in a `for`",
-    )
-    INTERLEAVE = (
-        "`interleave`",
-        "20.4",
-        "an `alt`, and in each branch an `alt` for what is still missing",
-    )
+    LATE_VARIABLE = ("a declaration after statements", "19.14", "setup, starts, variables, statements, in this order")
+    GUARD = ("a guard that is an expression", "20.2", "`[]` before the operation, and the case in its template")
+    BRANCH_ALTSTEP = ("an altstep in an `alt`", "16.2, 20.2", "the altstep's branches, written out in the `alt`")
+    REPEAT = ("`repeat`", "20.3", "`trigger` in place of `receive`, to skip messages; or the `alt` in a `for`")
+    INTERLEAVE = ("`interleave`", "20.4", "an `alt`, and in each branch an `alt` for what is still missing")
     DEFAULT = (
         "a default",
         "20.5",
@@ -339,16 +235,8 @@ class Construct(Enum):
         "21.3.1",
         "`{type}.create`: its name is that of the variable",
     )
-    ALIVE = (
-        "`alive`",
-        "21.3.1, 21.3.5",
-        "`TYPE.create`: each component runs one function and then ends",
-    )
-    START_ARGUMENT = (
-        "an argument that is a value",
-        "21.3.2",
-        "a component: `mtc`, `self` or a variable of a `create`",
-    )
+    ALIVE = ("`alive`", "21.3.1, 21.3.5", "`TYPE.create`: each component runs one function and then ends")
+    START_ARGUMENT = ("an argument that is a value", "21.3.2", "a component: `mtc`, `self` or a variable of a `create`")
     KILL = (
         "`stop` or `kill` of a component",
         "21.3.3, 21.3.4",
@@ -385,31 +273,19 @@ class Construct(Enum):
         "22.2",
         "nothing: a mapped port leads to one port of the system and to nothing else",
     )
-    REDIRECT = (
-        "a redirect of a part, or of several",
-        "22.2.2",
-        "`-> value v sender w`: the whole value, and no comma",
-    )
+    REDIRECT = ("a redirect of a part, or of several", "22.2.2", "`-> value v sender w`: the whole value, and no comma")
     CHECK = ("`check` without an operation", "22.4", "`{port}.check(receive)`")
     CHECKSTATE = (
         "`checkstate`",
         "22.5.5",
         "nothing: what a port is follows from its operations, which the report tells",
     )
-    PORT_BRACKETS = (
-        "an operation on a port with brackets",
-        "22.5",
-        "`p.{operation}`, without them",
-    )
+    PORT_BRACKETS = ("an operation on a port with brackets", "22.5", "`p.{operation}`, without them")
     # 24 to 27
     REASON = ("a reason of a verdict", "24.2", "`setverdict({verdict})`")
     GETVERDICT = ("`getverdict`", "24.3", "nothing: no statement asks for a verdict")
     ACTION = ("`action`", "25", "a message to the system")
-    WITH = (
-        "`with` and its attributes",
-        "27",
-        "nothing: no encoder and no display reads them. Leave it out",
-    )
+    WITH = ("`with` and its attributes", "27", "nothing: no encoder and no display reads them. Leave it out")
 
     @property
     def title(self) -> str:

@@ -6,17 +6,7 @@ from typing import Optional
 from .faults import Faults, RuleFault, nearest
 from .refusal_rules import Rule
 from .tokens import Text
-from .tree import (
-    ComponentType,
-    Declared,
-    Definition,
-    Function,
-    ListType,
-    Module,
-    PortType,
-    Record,
-    TestCase,
-)
+from .tree import ComponentType, Declared, Definition, Function, ListType, Module, PortType, Record, TestCase
 
 BASE_TYPES = ("integer", "boolean", "charstring")
 MOST_PORTS = 64
@@ -187,10 +177,7 @@ class Names:
             sentence = "`sut` plays the system, so it can't have parameters"
             raise RuleFault(16, function.start, function.parameters[0].type, sentence, Rule.SUT)
         if self.word(function.runs_on) != system:
-            sentence = (
-                f"`sut` plays the system, so it runs on `{system}`, not on"
-                f" `{self.word(function.runs_on)}`"
-            )
+            sentence = (f"`sut` plays the system, so it runs on `{system}`, not on" f" `{self.word(function.runs_on)}`")
             fault = RuleFault(16, function.start, function.runs_on, sentence, Rule.SUT)
             raise fault.beside(self.case.system, "the type of the system")
 

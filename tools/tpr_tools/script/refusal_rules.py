@@ -20,23 +20,15 @@ class Rule(Enum):
     A_TEST_CASE = "there is a test case"
     ONE_NAME = "no two definitions have one name. The module's own name is no definition"
     ONE_TEST_CASE = "there is one test case"
-    ONE_INNER_NAME = (
-        "no two fields of a record, ports of a component type or parameters of a function have one name"
-    )
+    ONE_INNER_NAME = ("no two fields of a record, ports of a component type or parameters of a function have one name")
     MESSAGE_TYPE = (
         "a message type or the type of a field is `integer`, `boolean`, `charstring`, a record or a record of."
         " It may be defined later in the text, and may be the record itself"
     )
-    COMPONENT_TYPE = (
-        "a port is declared with a port type; `runs on`, `system` and parameters have component types"
-    )
+    COMPONENT_TYPE = ("a port is declared with a port type; `runs on`, `system` and parameters have component types")
     FEW_PORTS = "a component type has at most 64 ports"
-    SUT = (
-        "a function `sut` has no parameters, the test case has a `system` clause, and `sut` runs on its type"
-    )
-    CREATED_NAME = (
-        "no other component variable and no port of the type that the test case runs on has the name"
-    )
+    SUT = ("a function `sut` has no parameters, the test case has a `system` clause, and `sut` runs on its type")
+    CREATED_NAME = ("no other component variable and no port of the type that the test case runs on has the name")
     CREATED_TYPE = "the type is a component type"
     CREATED_SAME = "both types that it names are the same"
     FEW_COMPONENTS = "at most 64 components, `mtc` and `system` among them"
@@ -61,9 +53,7 @@ class Rule(Enum):
     STARTED_FUNCTION = "the function is known (11), and isn't `sut` (16)"
     STARTED_TYPE = "it runs on the component's type"
     ARGUMENT_COUNT = "there is an argument for each parameter"
-    ARGUMENTS = (
-        "each argument is known (11) and has its parameter's type (13), one after the other. `self` is `mtc`"
-    )
+    ARGUMENTS = ("each argument is known (11) and has its parameter's type (13), one after the other. `self` is `mtc`")
     ALL_STARTED = "each component variable is started"
     DONE = "where there is one, `all component.done` ends the test case"
     NOT_IN_SUT = "not in `sut`"

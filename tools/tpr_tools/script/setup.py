@@ -64,10 +64,7 @@ class Setup:
             raise fault.beside(ports[name].name, "the port")
         if type_name not in self.names.components:
             what = self.names.kind_of(type_name)
-            sentence = (
-                "there is no component type"
-                f" `{type_name}`{nearest(type_name, self.names.components)}"
-            )
+            sentence = ("there is no component type" f" `{type_name}`{nearest(type_name, self.names.components)}")
             sentence = f"`{type_name}` is {what}, not a component type" if what else sentence
             raise RuleFault(11, start, creation.type, sentence, Rule.CREATED_TYPE)
         created = self.names.word(creation.created)
@@ -293,10 +290,7 @@ class Setup:
                     fault = RuleFault(18, creation.start, creation.name, sentence, Rule.ALL_STARTED)
                     raise fault.write(f"`{name}.start(FUNCTION());` after the setup")
         if self.created and not self.case.has_done:
-            sentence = (
-                f"the test case creates {listed(self.created)}, but doesn't end with `all"
-                " component.done`"
-            )
+            sentence = (f"the test case creates {listed(self.created)}, but doesn't end with `all" " component.done`")
             fault = RuleFault(17, self.case.start, self.case.start, sentence, Rule.DONE)
             with self.names.faults:
                 raise fault.write("`all component.done;` as the last statement of the test case")

@@ -16,11 +16,7 @@ MOST_BYTES = 1_048_576
 LONGEST_NAME = 64
 GREATEST_NUMBER = 9_223_372_036_854_775_807
 
-_TOKEN = (
-    r"[A-Za-z][A-Za-z0-9_]*|0|[1-9][0-9]*"
-    r'|"[ !#-~]*(?:""[ !#-~]*)*"(?!")'
-    r"|\.\.|:=|->|[{}()\[\],;:.?*<+-]"
-)
+_TOKEN = (r"[A-Za-z][A-Za-z0-9_]*|0|[1-9][0-9]*" r'|"[ !#-~]*(?:""[ !#-~]*)*"(?!")' r"|\.\.|:=|->|[{}()\[\],;:.?*<+-]")
 _WHOLE_TOKEN = re.compile(_TOKEN)
 # What stands between tokens, and a token, or the whole rest of the text where none begins.
 _GAP = r"(?:[\t-\r ]+|//[^\n]*|/\*.*?\*/)*"
