@@ -107,11 +107,12 @@ def end(process: subprocess.Popen[bytes], has_session: bool = True) -> None:
         process.kill()
     finally:
         if has_session:
-            _kill_session(process)
+            kill_session(process)
         process.wait()
 
 
-def _kill_session(process: subprocess.Popen[bytes]) -> None:
+def kill_session(process: subprocess.Popen[bytes]) -> None:
+    """Ends a process that leads a session, with all that it has started."""
     try:
         os.killpg(process.pid, signal.SIGKILL)
     except (ProcessLookupError, PermissionError):

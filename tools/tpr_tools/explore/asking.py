@@ -10,7 +10,7 @@ import sys
 from typing import IO, Callable, Iterator, Optional, Sequence, Union
 
 from ..command import NOT_BUILT, NOT_WRITTEN, REFUSED, Stop, called, say
-from ..program import end
+from ..program import end, kill_session
 from .answers import Answer, read_answer
 
 
@@ -63,7 +63,7 @@ def _end_of(
         printed = _output_of(process, most_seconds, shows)
     except subprocess.TimeoutExpired:
         is_late = True
-        _kill(process)
+        kill_session(process)
         printed, _ = process.communicate()
     status = process.wait()
     return None if is_late or status < 0 else status, printed.decode("latin-1")
@@ -130,11 +130,3 @@ def _interrupts_held() -> Iterator[None]:
             signal.signal(number, handler)
     if came:
         raise KeyboardInterrupt
-
-
-def _kill(process: subprocess.Popen[bytes]) -> None:
-    """Ends it with all that it has started."""
-    try:
-        os.killpg(process.pid, signal.SIGKILL)
-    except (ProcessLookupError, PermissionError):
-        pass

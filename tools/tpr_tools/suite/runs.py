@@ -4,7 +4,6 @@ from __future__ import annotations
 import os
 import selectors
 import shutil
-import signal
 import subprocess
 import time
 from dataclasses import dataclass
@@ -12,7 +11,7 @@ from enum import Enum
 from typing import Mapping, Optional, Sequence
 
 from ..command import NOT_BUILT, Stop
-from ..program import build_if_wanted
+from ..program import build_if_wanted, kill_session
 
 _MEGABYTE = 1_000_000
 _PIECE = 1 << 16
@@ -92,7 +91,7 @@ class Runner:
             told = self.told(stopped, process) if stopped else ""
             return Printed(status, stopped, told, *reading.texts(), time.monotonic() - began)
         finally:
-            _kill(process)
+            kill_session(process)
             process.wait()
             reading.close()
             self.process = None
@@ -135,7 +134,7 @@ class Runner:
         """Stops the run, and lets none begin."""
         self.stopping = True
         if self.process is not None:
-            _kill(self.process)
+            kill_session(self.process)
 
 
 class _Reading:
@@ -182,10 +181,3 @@ class _Reading:
     def close(self) -> None:
         for pipe in self.pipes:
             pipe.close()
-
-
-def _kill(process: subprocess.Popen[bytes]) -> None:
-    try:
-        os.killpg(process.pid, signal.SIGKILL)
-    except (ProcessLookupError, PermissionError):
-        pass
