@@ -13,7 +13,6 @@ import re
 import sys
 import tempfile
 import xml.etree.ElementTree as xml
-from collections.abc import Iterator
 from dataclasses import replace
 from pathlib import Path
 from typing import Any, Optional
@@ -28,19 +27,8 @@ from explore_runs import DEPENDS, OVERTAKEN, PING_PONG, TELLS_PARTING, Exploring
 from judged import expected_beside
 from made_scripts import senders, stars
 from rule_cases import must
-from tool_runs import (
-    Case,
-    Ended,
-    Test,
-    Tool,
-    file_of,
-    judged,
-    prints,
-    prints_nothing,
-    run,
-    says_alone,
-    says_nothing,
-    tell,
+from tool_calls import (
+    Ended, Test, Tool, file_of, judged, prints, prints_nothing, run, says_alone, says_nothing, try_groups_of,
 )
 
 # The first script of each pair has a verdict that depends on the schedule, and the second is its repaired twin.
@@ -68,22 +56,22 @@ COMES_TO = "A run with the verdict "
 # Mistakes and their repairs
 
 
-def pairs(asked: Exploring) -> Iterator[Case]:
+def pairs(asked: Exploring) -> None:
     for faulty, repaired in PAIRS:
-        yield told_of_example(asked.tool, faulty, DEPENDS, "pass or fail")
-        yield told_of_example(asked.tool, repaired, 0, "always pass")
+        told_of_example(asked.tool, faulty, DEPENDS, "pass or fail")
+        told_of_example(asked.tool, repaired, 0, "always pass")
 
 
-def told_of_example(tool: Tool, name: str, status: int, answer: str) -> Case:
+def told_of_example(tool: Tool, name: str, status: int, answer: str) -> None:
     script = str(example_files.example(f"{name}.ttcn"))
-    return tool.case(f"what is said of {name}", [script, "--json"], status, says_nothing, tells(answer, script))
+    tool.case(f"what is said of {name}", [script, "--json"], status, says_nothing, tells(answer, script))
 
 
 def tells(answer: str, script: str) -> Test:
     """It has this answer, and its reports are those that the script may have."""
 
     def holds(ended: Ended) -> bool:
-        told = json.loads(ended.printed)
+        told = json.loads(ended.text)
         must(told["answer"] == answer, f"the answer is {told['answer']}")
         wrong = wrongly_told(told, expected_beside(script))
         must(wrong is None, f"{wrong}")
@@ -110,33 +98,33 @@ def wrongly_told(told: dict[str, Any], expected: set[str]) -> Optional[str]:
 # What parts runs, and orders that are run again
 
 
-def one_script(asked: Exploring) -> Iterator[Case]:
+def one_script(asked: Exploring) -> None:
     """What its text says, and the document; and the order of a run that is told, run again."""
     ended = asked.tool.run(f"{OVERTAKEN}.ttcn")
-    yield judged("where two runs part", ended, DEPENDS, TELLS_PARTING)
-    yield judged("what docs/EXPLORING.md shows", ended, DEPENDS, says_nothing, is_shown)
-    _, again, report = re.split(f"^{COMES_TO}fail; to repeat it: (.*)\n", ended.printed, flags=re.M)
+    judged("where two runs part", ended, DEPENDS, TELLS_PARTING)
+    judged("what docs/EXPLORING.md shows", ended, DEPENDS, says_nothing, is_shown)
+    _, again, report = re.split(f"^{COMES_TO}fail; to repeat it: (.*)\n", ended.text, flags=re.M)
     lines = [line.removeprefix("  ") for line in report.splitlines(keepends=True) if line.startswith("  ")]
     must(lines, "there is a report of the run that comes to fail")
-    run_again = run(["bash", "-c", again], variables={"TPR_ORDERED": asked.ordered})
-    yield judged("the order of a run that is told", run_again, 0, prints("".join(lines)))
-    yield asked.tool.full_device("an answer that can't be written", f"{OVERTAKEN}.ttcn")
+    run_again = run("bash", "-c", again, folder=ROOT, more={"TPR_ORDERED": asked.ordered})
+    judged("the order of a run that is told", run_again, 0, prints("".join(lines)))
+    asked.tool.full_device("an answer that can't be written", f"{OVERTAKEN}.ttcn")
 
 
-def pictures(asked: Exploring) -> Iterator[Case]:
+def pictures(asked: Exploring) -> None:
     """Two runs beside each other, with a line where they diverge; and a script that has no two."""
     case = asked.tool.case
-    yield case("two runs beside each other", [f"{OVERTAKEN}.ttcn", "--svg"], DEPENDS, says_nothing, shows_where)
+    case("two runs beside each other", [f"{OVERTAKEN}.ttcn", "--svg"], DEPENDS, says_nothing, shows_where)
     discarded = f"{DISCARDED}.ttcn"
-    yield case("runs with what is discarded", [discarded, "--svg"], DEPENDS, says_nothing, shows_where)
+    case("runs with what is discarded", [discarded, "--svg"], DEPENDS, says_nothing, shows_where)
     alone = says_alone("explore: always pass: no two runs diverge")
-    yield case("one run, which has no other beside it", [PING_PONG, "--svg"], 0, alone)
-    yield case("a picture as an object", [PING_PONG, "--svg", "--json"], 4, prints_nothing)
+    case("one run, which has no other beside it", [PING_PONG, "--svg"], 0, alone)
+    case("a picture as an object", [PING_PONG, "--svg", "--json"], 4, prints_nothing)
 
 
 def shows_where(ended: Ended) -> bool:
     """In both charts the same rows stand above the line, below it another one, and on it no text."""
-    root = xml.fromstring(ended.printed)
+    root = xml.fromstring(ended.text)
     charts = [it for it in root.iter(f"{SVG}g") if it.get("transform")]
     must(len(charts) == 2, f"there are {len(charts)} charts")
     rows = [rows_round_the_line(it) for it in charts]
@@ -177,13 +165,13 @@ def rows_round_the_line(chart: xml.Element) -> tuple[list[str], list[str]]:
 
 def is_shown(ended: Ended) -> bool:
     """The parts above the first report stand in the document, which leaves out what each component came to."""
-    head = ended.printed[: ended.printed.index(f"\n{COMES_TO}")].rstrip("\n")
+    head = ended.text[: ended.text.index(f"\n{COMES_TO}")].rstrip("\n")
     parts = re.sub("^(?=.)", "    ", head, flags=re.M).split("\n\n")
     shown = (ROOT / "docs" / "EXPLORING.md").read_text(encoding="utf-8").split("\n\n")
     return len(parts) > 2 and all(any(part in it for it in shown) for part in parts)
 
 
-def orders(asked: Exploring) -> Iterator[Case]:
+def orders(asked: Exploring) -> None:
     """Orders that are given, right and wrong."""
     file, script = asked.room / "order", f"{OVERTAKEN}.ttcn"
     unnamed = f"explore: {file}, line 1: no component is named"
@@ -204,21 +192,21 @@ def orders(asked: Exploring) -> Iterator[Case]:
         ("an order with two signs behind a name", "a mtc++", BETWEEN_TWO_LOOKS, 2, says_alone(f"{unnamed} 'mtc++'")),
     ):
         file_of(file, f"{order}\n")
-        yield asked.tool.case(name, [asked_of, "--order", file], status, test)
+        asked.tool.case(name, [asked_of, "--order", file], status, test)
 
 
 # Other scripts
 
 
-def other_scripts(asked: Exploring) -> Iterator[Case]:
+def other_scripts(asked: Exploring) -> None:
     """Larger ones, and those in which others act between two discards or two looks."""
     case, room = asked.tool.case, asked.room
     same, different = file_of(room / "same.ttcn", senders(10, "1")), file_of(room / "different.ttcn", senders(4, "@"))
-    yield case("ten senders that can't be told apart", [same], 0, begins_with("always pass"))
-    yield case("four senders of different numbers", [different], 0, begins_with("always pass"))
+    case("ten senders that can't be told apart", [same], 0, begins_with("always pass"))
+    case("four senders of different numbers", [different], 0, begins_with("always pass"))
     discards = "tests/golden/receiving/trigger_in_an_alt_comes_before_else.ttcn"
     always_inconc = begins_with("always inconc")
-    yield case("an alt between the discards of which others may act", [discards], 0, always_inconc)
+    case("an alt between the discards of which others may act", [discards], 0, always_inconc)
     # Both messages are of one sender, in one order: it is the look that comes before or behind the second.
     parting = has_in_order(
         "  line 17: mtc discarded integer:1 from a at port p, sent at line 7;",
@@ -226,43 +214,43 @@ def other_scripts(asked: Exploring) -> Iterator[Case]:
         "  line 16 and line 8 can come in either order",
     )
     depends = "a verdict that depends on what comes between two looks"
-    yield case(depends, [BETWEEN_TWO_LOOKS], DEPENDS, begins_with("pass or fail"), parting)
+    case(depends, [BETWEEN_TWO_LOOKS], DEPENDS, begins_with("pass or fail"), parting)
     many, soon = file_of(room / "stars.ttcn", stars(20, 400)), replace(asked.tool, most_seconds=60)
-    yield soon.case("templates of 20 stars, and long values", [many], 0, begins_with("always pass"))
+    soon.case("templates of 20 stars, and long values", [many], 0, begins_with("always pass"))
     waiting = "tests/orders/messages/all_wait_for_each_other.ttcn"
-    yield case("components that wait for good", [waiting], 0, says_nothing, waits_for_good)
+    case("components that wait for good", [waiting], 0, says_nothing, waits_for_good)
 
 
 def waits_for_good(ended: Ended) -> bool:
-    return re.search("^error: .* none, which waits for good", ended.printed, re.M) is not None
+    return re.search("^error: .* none, which waits for good", ended.text, re.M) is not None
 
 
-def refusals(asked: Exploring) -> Iterator[Case]:
+def refusals(asked: Exploring) -> None:
     """Scripts and calls that are refused."""
     case, nowhere = asked.tool.case, asked.room / "nowhere.ttcn"
-    yield case("a script that is refused", [f"{REFUSED}.ttcn"], 2, prints_file(f"{REFUSED}.expected"))
-    yield case("a script that isn't there", [nowhere], 2, says_alone(f"explore: {nowhere} can't be read"))
-    yield case("no script", [], 4, prints_nothing)
-    yield case("an option that is gone", [PING_PONG, "--runs", "5"], 4, prints_nothing)
+    case("a script that is refused", [f"{REFUSED}.ttcn"], 2, prints_file(f"{REFUSED}.expected"))
+    case("a script that isn't there", [nowhere], 2, says_alone(f"explore: {nowhere} can't be read"))
+    case("no script", [], 4, prints_nothing)
+    case("an option that is gone", [PING_PONG, "--runs", "5"], 4, prints_nothing)
 
 
 # Suites
 
 
-def suites(asked: Exploring) -> Iterator[Case]:
+def suites(asked: Exploring) -> None:
     """What tools/suite writes of each case where it is asked."""
     names = ("clear_may_discard_the_answer", "clear_comes_before_the_question")
     scripts, file = [f"examples/{it}.ttcn" for it in names], asked.room / "explored.xml"
     suite = asked.asking(asked.tpr, asked.ordered, "suite")
     ended = suite.run(*scripts, "--explore", "--want", "none,pass,fail", "--junit", file)
     answers = [(names[0], "pass or fail"), (names[1], "always pass")]
-    yield judged("a suite that explores", ended, 0, lambda _: explored_in(file) == answers)
-    yield suite.case("a suite that explores and writes no XML", [scripts[1], "--explore"], 0, has_answer("always pass"))
+    judged("a suite that explores", ended, 0, lambda _: explored_in(file) == answers)
+    suite.case("a suite that explores and writes no XML", [scripts[1], "--explore"], 0, has_answer("always pass"))
 
 
 def has_answer(answer: str) -> Test:
     """Its table has this answer behind the result."""
-    return lambda ended: re.search(f" {answer} +[0-9.]+s$", ended.printed, re.M) is not None
+    return lambda ended: re.search(f" {answer} +[0-9.]+s$", ended.text, re.M) is not None
 
 
 def explored_in(file: Path) -> list[tuple[Optional[str], Optional[str]]]:
@@ -291,7 +279,7 @@ def main() -> int:
     words.add_argument("ordered", metavar="ORDERED", help="the one that forces orders")
     asked = words.parse_args()
     with tempfile.TemporaryDirectory() as room:
-        return tell(GROUPS, Exploring(asked.tpr, asked.ordered, Path(room)))
+        return try_groups_of(Exploring(asked.tpr, asked.ordered, Path(room)), GROUPS)
 
 
 if __name__ == "__main__":

@@ -4,7 +4,7 @@ from __future__ import annotations
 from itertools import takewhile
 from pathlib import Path
 
-from tool_runs import ROOT, Ended, Test, Tool, prints, says_nothing
+from tool_calls import ROOT, Ended, Test, Tool, prints, says_nothing
 
 OVERTAKEN = "examples/broadcast_is_overtaken_by_an_answer"
 PING_PONG = "examples/ping_pong.ttcn"
@@ -26,7 +26,7 @@ class Exploring:
 
 def begins_with(*lines: str) -> Test:
     """The first lines are these, and it says nothing."""
-    return lambda ended: tuple(ended.printed.split("\n")[: len(lines)]) == lines and says_nothing(ended)
+    return lambda ended: tuple(ended.text.split("\n")[: len(lines)]) == lines and says_nothing(ended)
 
 
 def prints_file(file: str) -> Test:
@@ -35,7 +35,7 @@ def prints_file(file: str) -> Test:
 
 def has_in_order(*lines: str) -> Test:
     """Of its lines those that are one of these are these, and it says nothing."""
-    return lambda ended: tuple(it for it in ended.printed.split("\n") if it in lines) == lines and says_nothing(ended)
+    return lambda ended: tuple(it for it in ended.text.split("\n") if it in lines) == lines and says_nothing(ended)
 
 
 def tells_faults(*lines: str) -> Test:
@@ -44,11 +44,11 @@ def tells_faults(*lines: str) -> Test:
 
 
 def faults_of(ended: Ended) -> tuple[str, ...]:
-    return tuple(takewhile(bool, ended.printed.split("\n")[2:]))
+    return tuple(takewhile(bool, ended.text.split("\n")[2:]))
 
 
 def parts_runs(ended: Ended) -> bool:
-    return "\nWhere the runs diverge (" in f"\n{ended.printed}"
+    return "\nWhere the runs diverge (" in f"\n{ended.text}"
 
 
 # What stands between the two runs of OVERTAKEN, in the words of the script.

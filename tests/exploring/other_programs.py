@@ -8,9 +8,8 @@ import shlex
 import signal
 import subprocess
 import time
-from collections.abc import Iterator, Mapping
+from collections.abc import Mapping
 from pathlib import Path
-from typing import Optional
 
 from explore_runs import (
     DEPENDS,
@@ -25,19 +24,7 @@ from explore_runs import (
     tells_faults,
 )
 from rule_cases import must
-from tool_runs import (
-    ROOT,
-    Case,
-    Ended,
-    judged,
-    prints,
-    prints_nothing,
-    program_of,
-    run,
-    says_alone,
-    says_nothing,
-    text_of,
-)
+from tool_calls import ROOT, Ended, judged, prints, prints_nothing, program_of, ruled, run, says_alone, says_nothing
 
 MOST_SECONDS = 60
 TAKES_SIGNALS = ("env", "--default-signal=HUP,INT,PIPE,TERM")  # before a command, so that it ignores none of them
@@ -55,23 +42,23 @@ def answer_of(asked: Exploring, status: int, text: str, script: str) -> Ended:
     return asked.asking(program, asked.ordered).run(script)
 
 
-def undecided_answers(asked: Exploring) -> Iterator[Case]:
+def undecided_answers(asked: Exploring) -> None:
     """Above the limit of states, and without memory."""
     script, undecided = f"{OVERTAKEN}.ttcn", "undecided, seen pass"
     one = answer_of(asked, 3, f"undecided\nseen pass\nstates 9\npass: {TO_PASS}\n", script)
-    yield judged("where one verdict is seen", one, UNDECIDED, begins_with(undecided, "states 9"), runs_to_pass)
+    judged("where one verdict is seen", one, UNDECIDED, begins_with(undecided, "states 9"), runs_to_pass)
     two = answer_of(asked, 3, f"undecided\nseen pass fail\nstates 9\npass: {TO_PASS}\nfail: {TO_FAIL}\n", script)
-    yield judged("where two are seen", two, DEPENDS, begins_with(f"{undecided} or fail", "states 9"))
+    judged("where two are seen", two, DEPENDS, begins_with(f"{undecided} or fail", "states 9"))
     nothing, fault = "undecided\nstates 0\n", "fault 50 Memory\n"
-    yield judged("where nothing is seen", answer_of(asked, 3, nothing, script), UNDECIDED, prints(nothing))
-    yield judged("where memory is refused", answer_of(asked, 3, fault, script), 3, prints(fault))
+    judged("where nothing is seen", answer_of(asked, 3, nothing, script), UNDECIDED, prints(nothing))
+    judged("where memory is refused", answer_of(asked, 3, fault, script), 3, prints(fault))
 
 
 def runs_to_pass(ended: Ended) -> bool:
-    return "\nA run with the verdict pass; to repeat it: " in ended.printed and not parts_runs(ended)
+    return "\nA run with the verdict pass; to repeat it: " in ended.text and not parts_runs(ended)
 
 
-def orders_that_are_wrong(asked: Exploring) -> Iterator[Case]:
+def orders_that_are_wrong(asked: Exploring) -> None:
     """By the order of a verdict the model of runs comes to another, or to none."""
     fault = f"{FAULT} the model of runs reaches"
     for name, orders, faults in (
@@ -92,10 +79,10 @@ def orders_that_are_wrong(asked: Exploring) -> Iterator[Case]:
         ),
     ):
         text = "pass or fail\nstates 9\npass: {}\nfail: {}\n".format(*orders)
-        yield judged(f"an order that {name}", answer_of(asked, 2, text, f"{OVERTAKEN}.ttcn"), 1, tells_faults(*faults))
+        judged(f"an order that {name}", answer_of(asked, 2, text, f"{OVERTAKEN}.ttcn"), 1, tells_faults(*faults))
 
 
-def answers_that_are_none(asked: Exploring) -> Iterator[Case]:
+def answers_that_are_none(asked: Exploring) -> None:
     for name, status, text, said in (
         ("an answer that is none", 0, "always pass\n", "verdicts ended with status 0: always pass"),
         ("another status", 2, "always pass\nstates 9\n", "verdicts ended with status 2: always pass states 9"),
@@ -103,38 +90,38 @@ def answers_that_are_none(asked: Exploring) -> Iterator[Case]:
         ("a program that can't be built", 1, "", "can't be built"),
     ):
         ended = answer_of(asked, status, text, PING_PONG)
-        yield judged(name, ended, 1, says_alone(f"explore: {asked.room / 'answer'} {said}"))
+        judged(name, ended, 1, says_alone(f"explore: {asked.room / 'answer'} {said}"))
     nothing = says_alone(f"explore: {asked.nowhere} can't be run: No such file or directory")
-    yield asked.asking(asked.nowhere, asked.ordered).case("no program", [PING_PONG], 1, nothing)
+    asked.asking(asked.nowhere, asked.ordered).case("no program", [PING_PONG], 1, nothing)
 
 
 # No program, or another one, that forces orders
 
 
-def without_reports(asked: Exploring) -> Iterator[Case]:
+def without_reports(asked: Exploring) -> None:
     """Reports are left out where nothing runs orders, and said to be."""
     script, tool = f"{OVERTAKEN}.ttcn", asked.asking(asked.tpr, asked.nowhere)
     ended = tool.run(script)
-    yield judged("where two runs part, without reports", ended, DEPENDS, TELLS_PARTING)
-    yield judged("the orders and why there are no reports", ended, DEPENDS, prints_orders)
-    yield tool.case("the same as an object", [script, "--json"], DEPENDS, says_nothing, lacks_reports)
-    answer = run([asked.tpr, "verdicts", PING_PONG])
-    must(answer.printed, "there is an answer to compare with")
-    yield tool.case("one verdict alone, without a report", [PING_PONG], 0, prints(answer.printed))
+    judged("where two runs part, without reports", ended, DEPENDS, TELLS_PARTING)
+    judged("the orders and why there are no reports", ended, DEPENDS, prints_orders)
+    tool.case("the same as an object", [script, "--json"], DEPENDS, says_nothing, lacks_reports)
+    answer = run(asked.tpr, "verdicts", PING_PONG, folder=ROOT)
+    must(answer.text, "there is an answer to compare with")
+    tool.case("one verdict alone, without a report", [PING_PONG], 0, prints(answer.text))
     no_program = says_alone(f"explore: there is no program {asked.nowhere}")
-    yield tool.case("orders, and nothing to run them", [script, "--order", "/dev/null"], 1, no_program)
+    tool.case("orders, and nothing to run them", [script, "--order", "/dev/null"], 1, no_program)
 
 
 def prints_orders(ended: Ended) -> bool:
     """What `tpr verdicts` prints stands above where the runs diverge, with an empty line behind the states."""
-    told, _, behind = ended.printed.partition("\nWhere the runs diverge (")
+    told, _, behind = ended.text.partition("\nWhere the runs diverge (")
     wanted = (ROOT / f"{OVERTAKEN}.verdicts").read_text(encoding="utf-8")
     lines = told.split("\n")
     return lines[2:3] == [""] and "\n".join(lines[:2] + lines[3:]) == wanted and f"\nNo reports: {WANTS}" in behind
 
 
 def lacks_reports(ended: Ended) -> bool:
-    runs = json.loads(ended.printed)["runs"]
+    runs = json.loads(ended.text)["runs"]
     return len(runs) == 2 and all(it["missing"].startswith(WANTS) and it["report"] is None for it in runs)
 
 
@@ -148,21 +135,21 @@ def altered_by(asked: Exploring, sed: str) -> Ended:
     return forced_by(asked, f'{shlex.quote(asked.ordered)} "$@" | sed {shlex.quote(sed)}')
 
 
-def other_reports(asked: Exploring) -> Iterator[Case]:
+def other_reports(asked: Exploring) -> None:
     """A program that holds no order, two that come to something else, one that refuses the script."""
     ended = forced_by(asked, 'while read -r line; do printf "order %s\\nnot held\\n\\n" "$line"; done <"$2"')
-    yield judged("a program that holds no order", ended, 0, has_in_order("no report: the order couldn't be held"))
+    judged("a program that holds no order", ended, 0, has_in_order("no report: the order couldn't be held"))
     ended = altered_by(asked, "s/^result pass/result fail/")
     fault = f"pass: {FAULT} the run by its order"
-    yield judged("a program that comes to another verdict", ended, 1, tells_faults(f"{fault} reached fail"))
+    judged("a program that comes to another verdict", ended, 1, tells_faults(f"{fault} reached fail"))
     ended = altered_by(asked, "s/^took /found /")
     other = tells_faults(f"{fault} has a different report from the model of runs")
-    yield judged("a program that comes to another report", ended, 1, other)
+    judged("a program that comes to another report", ended, 1, other)
     ended = forced_by(asked, 'printf "refused 15 Limit line 0\\n"; exit 2')
-    yield judged("a program that refuses what is run", ended, 0, begins_with("always pass"))
+    judged("a program that refuses what is run", ended, 0, begins_with("always pass"))
 
 
-def programs_that_break_off(asked: Exploring) -> Iterator[Case]:
+def programs_that_break_off(asked: Exploring) -> None:
     for line, said in (
         ('cat -- "$2" >/dev/null', "ended with status 0: "),
         ("echo a file; exit 7", "ended with status 7: a file"),
@@ -170,13 +157,13 @@ def programs_that_break_off(asked: Exploring) -> Iterator[Case]:
         ('printf "component mtc\\n\\n"', "ended with status 0: component mtc"),
     ):
         told = says_alone(f"explore: {asked.room / 'other'} {said}")
-        yield judged(f"a program of the line {line}", forced_by(asked, line), 1, told)
+        judged(f"a program of the line {line}", forced_by(asked, line), 1, told)
 
 
 # Signals
 
 
-def interrupted(asked: Exploring) -> Iterator[Case]:
+def interrupted(asked: Exploring) -> None:
     """A signal comes while a program is asked, which is ended with the tool."""
     number = asked.room / "number"
     sleeps = f"echo $$ >{shlex.quote(str(number))}; exec sleep {MOST_SECONDS}"
@@ -184,13 +171,13 @@ def interrupted(asked: Exploring) -> Iterator[Case]:
     holding = program_of(asked.room / "holding", f'if test -s "$2"; then {sleeps}; fi')
     for sent in (signal.SIGINT, signal.SIGTERM):
         ended = ended_by(sent, asked.asking(sleeper, asked.ordered).variables, number)
-        yield judged(f"tpr verdicts that is interrupted by {sent.name}", ended, 130, prints_nothing)
-        yield f"it is ended too by {sent.name}", left_at_work(number)
+        judged(f"tpr verdicts that is interrupted by {sent.name}", ended, 130, prints_nothing)
+        ruled(f"it is ended too by {sent.name}", is_gone, number)
         ended = ended_by(sent, asked.asking(asked.tpr, holding).variables, number)
-        yield judged(f"runs that are interrupted by {sent.name}", ended, 130, begins_with("pass or fail"))
+        judged(f"runs that are interrupted by {sent.name}", ended, 130, begins_with("pass or fail"))
         why = has_in_order("No reports: it was interrupted")
-        yield judged(f"why they have no reports at {sent.name}", ended, 130, why)
-        yield f"they are ended too by {sent.name}", left_at_work(number)
+        judged(f"why they have no reports at {sent.name}", ended, 130, why)
+        ruled(f"they are ended too by {sent.name}", is_gone, number)
 
 
 def ended_by(sent: signal.Signals, programs: Mapping[str, str], number: Path) -> Ended:
@@ -204,13 +191,13 @@ def ended_by(sent: signal.Signals, programs: Mapping[str, str], number: Path) ->
             time.sleep(0.05)
         process.send_signal(sent)
         printed, said = process.communicate(timeout=MOST_SECONDS)
-    return Ended(process.returncode, text_of(printed), text_of(said))
+    return Ended(process.returncode, printed, said)
 
 
-def left_at_work(number: Path) -> Optional[str]:
-    """What is wrong where the program that was asleep is still there."""
+def is_gone(number: Path) -> None:
+    """The program that was asleep is no longer there."""
     process = int(number.read_text())
-    return f"process {process} is still there" if Path(f"/proc/{process}").exists() else None
+    must(not Path(f"/proc/{process}").exists(), f"process {process} is still there")
 
 
 # A terminal

@@ -16,7 +16,7 @@ import shlex
 import shutil
 import sys
 import tempfile
-from collections.abc import Callable, Iterator
+from collections.abc import Callable
 from pathlib import Path
 
 sys.dont_write_bytecode = True
@@ -25,24 +25,9 @@ import explain_rules
 from explained_texts import NUMBERS, PLACES
 from explained_words import BEGINNING, MANY_SENDS, SENTENCES, WARNINGS
 from rule_cases import must
-from tool_runs import (
-    ROOT,
-    Case,
-    Ended,
-    Test,
-    Tool,
-    block_of,
-    file_of,
-    judged,
-    prints,
-    prints_line,
-    program_of,
-    ruled,
-    run,
-    says_alone,
-    says_nothing,
-    says_usage,
-    tell,
+from tool_calls import (
+    ROOT, Ended, Test, Tool, block_of, case, difference, file_of, judged, prints, prints_line, program_of, ruled, run,
+    says_alone, says_nothing, says_usage, shown, try_groups_of,
 )
 
 EXAMPLE = "examples/closed_counter_serves_no_order.ttcn"
@@ -74,18 +59,18 @@ class Explaining:
         """What is said of the script, whose file is told as FILE; or by another program."""
         tool = Tool("explain", ("--tpr", program)) if program else self.tool
         ended = tool.run(*options, self.script)
-        return ended._replace(printed=re.sub(f"^{re.escape(str(self.script))}", "FILE", ended.printed, flags=re.M))
+        return ended._replace(printed=re.sub(b"(?m)^" + re.escape(bytes(self.script)), b"FILE", ended.printed))
 
     def of_text(self, text: bytes, *options: str) -> Ended:
         self.script.write_bytes(text)
         return self.of_script(*options)
 
-    def by_another(self, name: str, status: int, answer: str, told: str) -> Case:
+    def by_another(self, name: str, status: int, answer: str, told: str) -> None:
         """What is said by a program that answers this, whatever the script is."""
         program = program_of(self.room / "program", "cat >/dev/null", f"echo {shlex.quote(answer)}")
-        return judged(name, self.of_script(program=program), status, prints(told))
+        judged(name, self.of_script(program=program), status, prints(told))
 
-    def otherwise(self, name: str, answer: str, sentence: str, reading: str, *rules: str) -> Case:
+    def otherwise(self, name: str, answer: str, sentence: str, reading: str, *rules: str) -> None:
         """The own reading comes to something else than the answer: the rules of its number are told, all of them and no
         others, and no column."""
         _, number, word, *line = answer.split()
@@ -96,7 +81,7 @@ class Explaining:
             f"  no place is shown, because explain finds something else: {reading}",
             *(f"  {head}: {it}" for it in rules),
         )
-        return self.by_another(name, 2, answer, "".join(f"{it}\n" for it in lines))
+        self.by_another(name, 2, answer, "".join(f"{it}\n" for it in lines))
 
 
 # Tables
@@ -106,33 +91,33 @@ def keeps(rule: Callable[..., None], *asked: object) -> Test:
     """It says nothing, and the rule holds of what it told of each script."""
 
     def holds(ended: Ended) -> bool:
-        rule(explain_rules.told_in(ended.printed), *asked)
+        rule(explain_rules.told_in(ended.text), *asked)
         return says_nothing(ended)
 
     return holds
 
 
-def tables(asked: Explaining) -> Iterator[Case]:
+def tables(asked: Explaining) -> None:
     """All texts of tests/checking/, the constructs of the full language, and the scripts of docs/REFUSALS.md."""
     texts = asked.room / "texts"
-    made = run([sys.executable, "-B", "tests/checking/check.py", "--texts", texts, "grammar", "changes"])
+    made = run(sys.executable, "-B", "tests/checking/check.py", "--texts", texts, "grammar", "changes", folder=ROOT)
     written = len([*texts.glob("*.ttcn")])
     must(made.status == 0 and written >= asked.texts, f"{written} texts are written, {asked.texts} at least are wanted")
     told = asked.tool.run("--json", texts)
     answers = keeps(explain_rules.check_answers, str(texts))
-    yield judged("the number and the line of each text of the tables", told, 2, answers)
-    yield judged("a column for nine of ten", told, 2, keeps(explain_rules.check_columns))
-    yield ruled("other refusals than those of the texts of the tables", explain_rules.check_planted, str(texts))
+    judged("the number and the line of each text of the tables", told, 2, answers)
+    judged("a column for nine of ten", told, 2, keeps(explain_rules.check_columns))
+    ruled("other refusals than those of the texts of the tables", explain_rules.check_planted, str(texts))
     table = ROOT / "tests" / "tools" / "explained"
     constructs = keeps(explain_rules.check_table, str(table / "constructs"), 38)
-    yield asked.tool.case("the constructs of the full language", ["--json", table], 2, constructs)
+    asked.tool.case("the constructs of the full language", ["--json", table], 2, constructs)
     refusals = keeps(explain_rules.check_table, str(table / "refusals"), 18)
     scripts = scripts_of_refusals(asked.room / "refusals")
-    yield asked.tool.case("the scripts of docs/REFUSALS.md", ["--json", scripts], 2, refusals)
-    yield ruled("the words of explain are those of the documents", explain_rules.check_words)
-    yield ruled("the clauses of rules are those of the document", explain_rules.check_clauses)
+    asked.tool.case("the scripts of docs/REFUSALS.md", ["--json", scripts], 2, refusals)
+    ruled("the words of explain are those of the documents", explain_rules.check_words)
+    ruled("the clauses of rules are those of the document", explain_rules.check_clauses)
     numbers = "the numbers and names of refusals are those of the document and of the program"
-    yield ruled(numbers, explain_rules.check_numbers)
+    ruled(numbers, explain_rules.check_numbers)
 
 
 def scripts_of_refusals(folder: Path) -> Path:
@@ -148,7 +133,7 @@ def scripts_of_refusals(folder: Path) -> Path:
 # The first example, numbers, and places
 
 
-def example(asked: Explaining) -> Iterator[Case]:
+def example(asked: Explaining) -> None:
     """Line 26 of the first example of README.md is changed, as it says there."""
     case = asked.tool.case
     lines = (ROOT / EXAMPLE).read_text(encoding="utf-8").splitlines(keepends=True)
@@ -157,35 +142,36 @@ def example(asked: Explaining) -> Iterator[Case]:
     block = block_of("README.md", f"kitchen.ttcn:{BROKEN_LINE}:")
     must(block.count("\n") >= 6, "README.md shows what explain says of its wrong line")
     shown, first = f"{asked.room}/{block}", block.partition("\n")[0]
-    yield case("README.md shows what is said", [kitchen], 2, prints(shown))
+    case("README.md shows what is said", [kitchen], 2, prints(shown))
     both = prints(f"{asked.room}/{first}\n{EXAMPLE}: accepted\n")
-    yield case("the first line of each", ["--short", kitchen, EXAMPLE], 2, both)
-    yield case("a valid script", [EXAMPLE], 0, prints(f"{EXAMPLE}: accepted\n"))
+    case("the first line of each", ["--short", kitchen, EXAMPLE], 2, both)
+    case("a valid script", [EXAMPLE], 0, prints(f"{EXAMPLE}: accepted\n"))
     folder.mkdir()
     for script in (ROOT / EXAMPLE, kitchen):
         shutil.copy(script, folder)
     all_of_folder = prints(f"{folder}/{Path(EXAMPLE).name}: accepted\n{folder}/{first}\n")
-    yield case("a folder", ["--short", folder], 2, all_of_folder)
+    case("a folder", ["--short", folder], 2, all_of_folder)
 
 
-def numbers(asked: Explaining) -> Iterator[Case]:
+def numbers(asked: Explaining) -> None:
     """Two by which scripts are refused or end, and those by which none is."""
     for it in NUMBERS:
-        yield asked.tool.case(it.name, ["--number", it.asked], 0, prints(it.told))
+        asked.tool.case(it.name, ["--number", it.asked], 0, prints(it.told))
 
 
-def places(asked: Explaining) -> Iterator[Case]:
+def places(asked: Explaining) -> None:
     for it in PLACES:
-        yield judged(it.name, asked.of_text(it.asked.encode()), 2, prints(it.told))
+        judged(it.name, asked.of_text(it.asked.encode()), 2, prints(it.told))
 
 
-def words(asked: Explaining) -> Iterator[Case]:
+def words(asked: Explaining) -> None:
     """What is said in the first line, and what is to be written instead."""
     for it in SENTENCES:
         ended = asked.of_text(f"{BEGINNING}{it.asked}".encode())
-        first, *others = ended.printed.splitlines() or [""]
+        first, *others = ended.text.splitlines() or [""]
         told = "".join(f"{one}\n" for one in (first.partition(": refused ")[2], *others) if has_words(one, it.told))
-        yield it.name, None if (ended.status, told) == (2, it.told) else ended.shown()
+        with case(it.name):
+            ended.must_end(2).must(told == it.told, f"another is wanted{shown(difference(it.told, told))}")
 
 
 def has_words(line: str, told: str) -> bool:
@@ -194,91 +180,91 @@ def has_words(line: str, told: str) -> bool:
     return not line.startswith(" ") and "|" not in line or line.partition(":")[0] in kinds
 
 
-def warnings(asked: Explaining) -> Iterator[Case]:
+def warnings(asked: Explaining) -> None:
     """Of scripts that are accepted: no warning changes the status."""
     for it in WARNINGS:
-        yield judged(it.name, asked.of_text(it.asked.encode()), 0, prints(f"FILE: accepted\n{it.told}"))
+        judged(it.name, asked.of_text(it.asked.encode()), 0, prints(f"FILE: accepted\n{it.told}"))
     first = asked.of_text(WARNINGS[0].asked.encode(), "--short")
-    yield judged("warnings aren't told in short", first, 0, prints("FILE: accepted\n"))
+    judged("warnings aren't told in short", first, 0, prints("FILE: accepted\n"))
     [told] = json.loads(asked.of_text(WARNINGS[0].asked.encode(), "--json").printed)
     sentences = [it["sentence"] for it in told["warnings"]]
     wanted = re.findall("warning: (.*)", WARNINGS[0].told)
-    yield "warnings in JSON", None if sentences == wanted != [] else f"{sentences}"
+    ruled("warnings in JSON", must, sentences == wanted != [], f"{sentences}")
     many = asked.of_text(MANY_SENDS.encode())
-    yield judged("many warnings are counted", many, 0, lambda ended: ended.printed.endswith("FILE: 5 more warnings\n"))
+    judged("many warnings are counted", many, 0, lambda ended: ended.text.endswith("FILE: 5 more warnings\n"))
 
 
 # Input that isn't as usual
 
 
-def texts_that_are_none(asked: Explaining) -> Iterator[Case]:
+def texts_that_are_none(asked: Explaining) -> None:
     missing = asked.room / "missing"
     told = f"{missing}: refused 2 Read: {NO_FILE}\n  rule: {NO_FILE}\n"
-    yield asked.tool.case("a missing file", [missing], 2, prints(told))
+    asked.tool.case("a missing file", [missing], 2, prints(told))
     ends = prints("FILE:1:1: refused 10 Syntax: unexpected end of the text at the beginning\n")
-    yield judged("an empty file", asked.of_text(b"", "--short"), 2, ends)
+    judged("an empty file", asked.of_text(b"", "--short"), 2, ends)
     too_long = prints("FILE:0: refused 15 Limit: the text has more than 1,048,576 bytes\n")
-    yield judged("2 MiB", asked.of_text(b" " * 2 * MEBIBYTE, "--short"), 2, too_long)
+    judged("2 MiB", asked.of_text(b" " * 2 * MEBIBYTE, "--short"), 2, too_long)
     with open(sys.executable, "rb") as program:
         no_text = program.read(65536)
-    yield judged("bytes that are no text", asked.of_text(no_text), 2, says_nothing)
+    judged("bytes that are no text", asked.of_text(no_text), 2, says_nothing)
     no_token = prints("FILE:1:1: refused 10 Syntax: the byte 255 isn't a valid token\n")
-    yield judged("a byte that begins no token", asked.of_text(b"\377\376\r\n\0module", "--short"), 2, no_token)
+    judged("a byte that begins no token", asked.of_text(b"\377\376\r\n\0module", "--short"), 2, no_token)
     empty = asked.room / "empty"
     empty.mkdir()
     no_script = says_alone(f"explain: there is no script *.ttcn in {empty}")
-    yield asked.tool.case("a folder without scripts", [empty], 2, no_script)
+    asked.tool.case("a folder without scripts", [empty], 2, no_script)
 
 
-def calls(asked: Explaining) -> Iterator[Case]:
+def calls(asked: Explaining) -> None:
     """Command lines that are wrong, a full device, no program, and the help."""
     tool, missing = asked.tool, asked.room / "missing"
-    yield tool.case("nothing to explain", [], 4, says_usage("explain"))
+    tool.case("nothing to explain", [], 4, says_usage("explain"))
     listed = "isn't one of 1, 2, 10, 11"
-    yield tool.case("a number that isn't given", ["--number", "19"], 4, says_usage("explain", f"'19' {listed}"))
-    yield tool.case("the number that is never printed", ["--number", "3"], 4, says_usage("explain", f"'3' {listed}"))
-    yield tool.case("two forms", ["--short", "--json", RIGHT], 4, says_usage("explain"))
-    yield tool.full_device("onto a full device", RIGHT)
+    tool.case("a number that isn't given", ["--number", "19"], 4, says_usage("explain", f"'19' {listed}"))
+    tool.case("the number that is never printed", ["--number", "3"], 4, says_usage("explain", f"'3' {listed}"))
+    tool.case("two forms", ["--short", "--json", RIGHT], 4, says_usage("explain"))
+    tool.full_device("onto a full device", RIGHT)
     nowhere = Tool("explain", ("--tpr", str(missing)))
-    yield nowhere.case("a program that isn't there", [RIGHT], 1, says_alone(f"explain: {missing} can't be run"))
-    yield tool.case("the help", ["--help"], 0, prints_line("  2  a script is refused, or can't be read\n"))
+    nowhere.case("a program that isn't there", [RIGHT], 1, says_alone(f"explain: {missing} can't be run"))
+    tool.case("the help", ["--help"], 0, prints_line("  2  a script is refused, or can't be read\n"))
 
 
 # Answers of other programs
 
 
-def other_answers(asked: Explaining) -> Iterator[Case]:
+def other_answers(asked: Explaining) -> None:
     """Where the answer isn't what the own reading comes to, less is told."""
     case, by_another, set_is_none = asked.otherwise, asked.by_another, "refused 10 Syntax line 2"
     no_token = ("a byte that begins no token", "a token that can't stand at its place")
     file_of(asked.script, WITH_A_SET)
-    yield case("another line than its own reading", "refused 10 Syntax line 3", UNSURE, set_is_none, *no_token)
-    yield case("a line behind the text", "refused 10 Syntax line 99", UNSURE, set_is_none, *no_token)
-    yield case("another number than its own reading", "refused 17 NoDone line 2", DONE, set_is_none, DONE)
+    case("another line than its own reading", "refused 10 Syntax line 3", UNSURE, set_is_none, *no_token)
+    case("a line behind the text", "refused 10 Syntax line 99", UNSURE, set_is_none, *no_token)
+    case("another number than its own reading", "refused 17 NoDone line 2", DONE, set_is_none, DONE)
     rules = ("it isn't started twice", "each component variable is started")
-    yield case("several rules of another number", "refused 18 NotStarted line 2", UNSURE, set_is_none, *rules)
-    yield case("a file that can be read", "refused 2 Read", NO_FILE, set_is_none, NO_FILE)
+    case("several rules of another number", "refused 18 NotStarted line 2", UNSURE, set_is_none, *rules)
+    case("a file that can be read", "refused 2 Read", NO_FILE, set_is_none, NO_FILE)
     other_name = "refused 12 Syntax line 2"
-    yield by_another("a number with the name of another", 1, other_name, f"FILE: {other_name}\n")
-    yield by_another("a fault", 3, "fault 50 Memory", "FILE: fault 50 Memory\n")
-    yield by_another("no answer of tpr", 1, "hello", "FILE: hello\n")
+    by_another("a number with the name of another", 1, other_name, f"FILE: {other_name}\n")
+    by_another("a fault", 3, "fault 50 Memory", "FILE: fault 50 Memory\n")
+    by_another("no answer of tpr", 1, "hello", "FILE: hello\n")
     long = f"refused {'9' * 5000} Limit"
-    yield by_another("a number that is none", 1, long, f"FILE: {long}\n")
+    by_another("a number that is none", 1, long, f"FILE: {long}\n")
     asked.script.write_bytes(b" " * 2 * MEBIBYTE)
     too_long = "refused 15 Limit line 0"
-    yield case("another number of a long text", "refused 14 Direction line 3", LISTED, too_long, LISTED)
+    case("another number of a long text", "refused 14 Direction line 3", LISTED, too_long, LISTED)
     file_of(asked.script, WITH_NO_FAULT)
     refused = "refused 28 NotSystem line 3"
-    yield case("a valid script, refused by another program", refused, ONE_SIDE, "accepted", ONE_SIDE)
+    case("a valid script, refused by another program", refused, ONE_SIDE, "accepted", ONE_SIDE)
 
 
-def at_length(asked: Explaining) -> Iterator[Case]:
+def at_length(asked: Explaining) -> None:
     """A script of 1 MiB, in which one line is wrong. How long it takes, bench/explaining/run says."""
-    made = run(["bash", "-c", ". bench/explaining/script.sh && script_of_a_mebibyte"])
-    must(len(made.printed) > MEBIBYTE - 1000, "the script is long")
-    line = made.printed.count("\n") - 2
+    made = run("bash", "-c", ". bench/explaining/script.sh && script_of_a_mebibyte", folder=ROOT)
+    must(len(made.text) > MEBIBYTE - 1000, "the script is long")
+    line = made.text.count("\n") - 2
     told = f"FILE:{line}:28: refused 13 WrongType: `2` is an integer, but `charstring` is expected\n"
-    yield judged("1 MiB", asked.of_text(made.printed.encode(), "--short"), 2, prints(told))
+    judged("1 MiB", asked.of_text(made.text.encode(), "--short"), 2, prints(told))
 
 
 GROUPS = (
@@ -301,7 +287,7 @@ def main() -> int:
     words.add_argument("texts", metavar="TEXTS", type=int, help="how many texts the tables have at least")
     asked = words.parse_args()
     with tempfile.TemporaryDirectory() as room:
-        return tell(GROUPS, Explaining(asked.program, asked.texts, Path(room)))
+        return try_groups_of(Explaining(asked.program, asked.texts, Path(room)), GROUPS)
 
 
 if __name__ == "__main__":

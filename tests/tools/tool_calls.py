@@ -1,7 +1,7 @@
 """Commands that a test runs, what must come of each, and what is told of each case.
 
-A case is a block: `with case(NAME):`. Where it ends, a line `passed NAME` is printed, and where it raises, lines that
-begin with `FAILED: NAME: `.
+A case is a block `with case(NAME):`, or a call of `judged` or `ruled`. At its end a line `passed NAME` is printed, or
+lines that begin with `FAILED: NAME: ` if it raises.
 """
 from __future__ import annotations
 
@@ -12,8 +12,11 @@ import subprocess
 import sys
 from collections.abc import Callable, Iterable, Iterator, Mapping
 from contextlib import contextmanager
+from dataclasses import dataclass, field
+from functools import partial
+from itertools import takewhile
 from pathlib import Path
-from typing import Any, NamedTuple, Optional, Union
+from typing import Any, NamedTuple, Optional, TypeVar, Union
 
 ROOT = Path(__file__).resolve().parents[2]
 sys.path.append(str(ROOT / "tests" / "program"))
@@ -25,7 +28,9 @@ from rule_cases import Wrong, must
 EXAMPLES = ROOT / "examples"
 MOST_SECONDS = 900
 MOST_LINES = 40  # of what is shown where it is wrong
+SHOWN = 2000  # characters of what breaks a rule
 
+Asked = TypeVar("Asked")
 Text = Union[str, bytes]
 Word = Union[str, bytes, "os.PathLike[str]"]
 
@@ -61,12 +66,24 @@ class Ended(NamedTuple):
         """What it printed."""
         return self.printed.decode("utf-8", "surrogateescape")
 
+    @property
+    def told(self) -> str:
+        """What it said."""
+        return self.said.decode("utf-8", "surrogateescape")
+
     def must(self, holds: object, what: str) -> Ended:
         must(holds, f"{what}; status {self.status}, it said{shown(self.said)}\nand printed{shown(self.printed)}")
         return self
 
     def must_end(self, status: int) -> Ended:
         return self.must(self.status == status, f"status {status} is wanted")
+
+    def must_hold(self, status: int, *tests: Test) -> Ended:
+        """It ended with the status, and each of the tests holds of it."""
+        self.must_end(status)
+        for test in tests:
+            self.must(test(self), "it is otherwise than wanted")
+        return self
 
     def must_say_nothing(self, status: int = 0) -> Ended:
         return self.must_end(status).must(not self.said, "nothing is to be said")
@@ -89,7 +106,7 @@ class Ended(NamedTuple):
 
     def must_complain(self, form: str, status: int) -> Ended:
         """A line on standard error has this form somewhere in it."""
-        has = re.search(form, self.said.decode("utf-8", "surrogateescape"), re.MULTILINE)
+        has = re.search(form, self.told, re.MULTILINE)
         return self.must_end(status).must(has, f"no line that was said has the form {form!r}")
 
 
@@ -98,6 +115,7 @@ def run(
     folder: Optional[Path] = None,
     more: Optional[Mapping[str, str]] = None,
     only: Optional[Mapping[str, str]] = None,
+    most_seconds: int = MOST_SECONDS,
     **files: Any,
 ) -> Ended:
     """Runs a command in the folder, with further variables, or with these only. `files` are its standard input and so
@@ -107,9 +125,9 @@ def run(
         given.setdefault("stdin", subprocess.DEVNULL)
     variables = dict(only) if only is not None else {**os.environ, **(more or {})}
     try:
-        done = subprocess.run(words, cwd=folder, env=variables, timeout=MOST_SECONDS, check=False, **given)
+        done = subprocess.run(words, cwd=folder, env=variables, timeout=most_seconds, check=False, **given)
     except subprocess.TimeoutExpired:
-        raise Wrong(f"no end after {MOST_SECONDS} seconds: {words}") from None
+        raise Wrong(f"no end after {most_seconds} seconds: {words}") from None
     return Ended(done.returncode, done.stdout or b"", done.stderr or b"")
 
 
@@ -129,7 +147,77 @@ def rules_must_hold(*words: Word, **more: Any) -> None:
     python("tool_rules.py", *words, **more).must_print("")
 
 
+@dataclass(frozen=True)
+class Tool:
+    """A tool, the words that stand before all others, its variables, and how long it may take. It runs at the root."""
+
+    name: str
+    first: tuple[str, ...] = ()
+    variables: Mapping[str, str] = field(default_factory=dict)
+    most_seconds: int = 300
+
+    def run(self, *words: Word, **files: Any) -> Ended:
+        command: tuple[Word, ...] = (ROOT / "tools" / self.name, *self.first, *words)
+        return run(*command, folder=ROOT, more=self.variables, most_seconds=self.most_seconds, **files)
+
+    def case(self, name: str, words: Iterable[Word], status: int, *tests: Test) -> None:
+        """A run with these words ends with this status, and each of the tests holds of it."""
+        with case(name):
+            self.run(*words).must_hold(status, *tests)
+
+    def full_device(self, name: str, *words: Word) -> None:
+        """An answer that can't be written is told."""
+        with open("/dev/full", "wb") as full:
+            judged(name, self.run(*words, stdout=full), 3, says_alone(f"{self.name}: the answer can't be written"))
+
+
+# What holds of a run
+
+Test = Callable[[Ended], object]
+
+
+def prints(text: str) -> Test:
+    """This and nothing else, and it says nothing."""
+    return lambda ended: ended.must_print(text, ended.status)
+
+
+def prints_line(beginning: str) -> Test:
+    """A line that begins so, and it says nothing."""
+    return lambda ended: f"\n{beginning}" in f"\n{ended.text}" and says_nothing(ended)
+
+
+def says(text: str) -> Test:
+    """This and nothing else, and it prints nothing."""
+    return lambda ended: ended.told == text and prints_nothing(ended)
+
+
+def says_alone(beginning: str) -> Test:
+    """It says one line that begins so, and prints nothing."""
+    return lambda ended: ended.must_say(beginning, ended.status)
+
+
+def says_usage(tool: str, why: str = "") -> Test:
+    """How the tool is called, and this, and it prints nothing."""
+    return lambda ended: ended.told.startswith(f"usage: {tool}") and why in ended.told and prints_nothing(ended)
+
+
+def says_nothing(ended: Ended) -> bool:
+    return not ended.said
+
+
+def prints_nothing(ended: Ended) -> bool:
+    return not ended.printed
+
+
+# Cases
+
 _TOLD: list[bool] = []  # of each case, whether it passed
+
+
+def _tell(name: str, wrong: Optional[str]) -> None:
+    line = f"passed {shown(name).strip()}" if wrong is None else f"FAILED: {shown(name).strip()}: {wrong}"
+    print(line.encode("utf-8", "backslashreplace").decode(), flush=True)
+    _TOLD.append(wrong is None)
 
 
 @contextmanager
@@ -137,13 +225,24 @@ def case(name: str) -> Iterator[None]:
     """Tells how the block ended."""
     try:
         yield
-    except (Wrong, OSError, ValueError, LookupError, subprocess.SubprocessError) as wrong:
-        what = str(wrong) if isinstance(wrong, Wrong) else f"{type(wrong).__name__}: {wrong}"
-        print(f"FAILED: {shown(name).strip()}: {what}", flush=True)
-        _TOLD.append(False)
+    except Wrong as wrong:
+        _tell(name, str(wrong))
+    except Exception as broken:  # as where what was printed can't be read
+        _tell(name, f"{type(broken).__name__}: {broken}"[:SHOWN])
     else:
-        print(f"passed {shown(name).strip()}", flush=True)
-        _TOLD.append(True)
+        _tell(name, None)
+
+
+def judged(name: str, ended: Ended, status: int, *tests: Test) -> None:
+    """The run ended with the status, and each of the tests holds of it."""
+    with case(name):
+        ended.must_hold(status, *tests)
+
+
+def ruled(name: str, rule: Callable[..., None], *asked: object) -> None:
+    """The rule isn't broken, of what it is asked."""
+    with case(name):
+        rule(*asked)
 
 
 class Group(NamedTuple):
@@ -155,12 +254,44 @@ class Group(NamedTuple):
 
 
 def try_groups(groups: Iterable[Group]) -> int:
-    """Tries them one behind the other. The status: 1 where a case failed, or a group has too few."""
+    """Tries them one behind the other. What breaks one off is a failure, and not the end of the others. The status: 1
+    where a case failed, or a group has too few."""
     for group in groups:
         before = len(_TOLD)
-        group.attempt()
+        try:
+            group.attempt()
+        except Exception as broken:
+            _tell(f"{group.name} broke off", f"{type(broken).__name__}: {broken}"[:SHOWN])
         tried = len(_TOLD) - before
         if tried < group.least:
             print(f"FAILED: {tried} cases of {group.name}, and there are {group.least} at least", flush=True)
             _TOLD.append(False)
     return 0 if _TOLD and all(_TOLD) else 1
+
+
+def try_groups_of(asked: Asked, groups: Iterable[tuple[Callable[[Asked], None], int]]) -> int:
+    """The same, of groups that are all tried with this."""
+    return try_groups(Group(partial(attempt, asked), least, attempt.__name__) for attempt, least in groups)
+
+
+# Files
+
+
+def file_of(path: Path, text: str) -> Path:
+    """The file, in which this stands now."""
+    path.write_bytes(text.encode())
+    return path
+
+
+def program_of(path: Path, *lines: str) -> str:
+    """A program of these lines, for sh."""
+    file_of(path, "".join(f"{line}\n" for line in ("#!/bin/sh", *lines))).chmod(0o755)
+    return str(path)
+
+
+def block_of(document: str, beginning: str) -> str:
+    """The indented block of a document with a line that begins so, from that line on."""
+    _, beginning, behind = (ROOT / document).read_text(encoding="utf-8").partition(f"\n    {beginning}")
+    must(beginning, f"{document} has no such block")
+    block = takewhile(lambda line: not line or line.startswith("    "), f"{beginning[1:]}{behind}".split("\n"))
+    return "\n".join(line[4:] for line in block).rstrip("\n") + "\n"

@@ -13,34 +13,16 @@ import argparse
 import re
 import sys
 import tempfile
-from collections.abc import Iterator
 from pathlib import Path
 from typing import NamedTuple
 
 sys.dont_write_bytecode = True
-ROOT = Path(__file__).resolve().parents[2]
-sys.path.append(str(ROOT / "tests" / "program"))
 
-import example_files
 import why_rules
 from rule_cases import must
-from tool_runs import (
-    Case,
-    Ended,
-    Test,
-    Tool,
-    block_of,
-    file_of,
-    judged,
-    prints,
-    prints_line,
-    ruled,
-    run,
-    says,
-    says_alone,
-    says_nothing,
-    says_usage,
-    tell,
+from tool_calls import (
+    ROOT, Ended, Test, Tool, block_of, example_files, file_of, judged, prints, prints_line, ruled, run, says, says_alone,
+    says_nothing, says_usage, try_groups_of,
 )
 
 WHYS = Path("tests/tools/whys")
@@ -97,9 +79,9 @@ class Reasoning:
 
     def report_of(self, script: str) -> Path:
         """The report of a run, in a file."""
-        ended = run([self.program, "run", script])
-        must(ended.status == 0 and says_nothing(ended), f"{script} isn't run: {ended.shown()}")
-        return file_of(self.room / "report", ended.printed)
+        ended = run(self.program, "run", script, folder=ROOT)
+        must(ended.status == 0 and says_nothing(ended), f"{script} isn't run: {ended}")
+        return file_of(self.room / "report", ended.text)
 
 
 # Lines and reasons, by the rules
@@ -110,22 +92,22 @@ def reports_of_examples() -> list[str]:
     return [str(it) for it in files if it.read_bytes().startswith(b"component mtc\n")]
 
 
-def lines_of_reports(_: Reasoning) -> Iterator[Case]:
+def lines_of_reports(_: Reasoning) -> None:
     """Beside the model, and beside what was worked out by hand."""
     reports, own = reports_of_examples(), [str(it) for it in sorted((ROOT / WHYS).glob("*.expected"))]
     for it in (*reports, *own):
-        yield ruled(f"the lines of {Path(it).name} are those of the model", why_rules.example_rule, it)
+        ruled(f"the lines of {Path(it).name} are those of the model", why_rules.example_rule, it)
     by_hand = (str(ROOT / WHYS / "lines"), *reports, *own)
-    yield ruled("the lines that were worked out by hand", why_rules.table_rule, *by_hand)
-    yield ruled("the lines of 300 scripts by chance are those of the model", why_rules.random_rule, 300)
+    ruled("the lines that were worked out by hand", why_rules.table_rule, *by_hand)
+    ruled("the lines of 300 scripts by chance are those of the model", why_rules.random_rule, 300)
     discarded = "by which clear or start a message was discarded, in all runs of 40 scripts"
-    yield ruled(discarded, why_rules.discarded_rule, 40)
+    ruled(discarded, why_rules.discarded_rule, 40)
 
 
-def causes_of_results(asked: Reasoning) -> Iterator[Case]:
+def causes_of_results(asked: Reasoning) -> None:
     for script in sorted((ROOT / CAUSES).glob("*/*.ttcn")):
         name = f"why the result of {script.name} isn't pass, as worked out by hand"
-        yield ruled(name, why_rules.cause_rule, asked.program, str(script))
+        ruled(name, why_rules.cause_rule, asked.program, str(script))
 
 
 # What is printed of one script, and of several
@@ -133,35 +115,35 @@ def causes_of_results(asked: Reasoning) -> Iterator[Case]:
 
 def has(part: str) -> Test:
     """It prints this somewhere."""
-    return lambda ended: part in ended.printed
+    return lambda ended: part in ended.text
 
 
 def ends_with(line: str) -> Test:
-    return lambda ended: ended.printed.endswith(line)
+    return lambda ended: ended.text.endswith(line)
 
 
-def one_script(asked: Reasoning) -> Iterator[Case]:
+def one_script(asked: Reasoning) -> None:
     script, case = str(BEHIND_THE_MARK), asked.tool.case
     listed = prints(LISTED + (ROOT / BEHIND_THE_MARK.with_suffix(".why")).read_text(encoding="utf-8"))
     report = asked.report_of(script)
-    yield case("a script that is run", [script], 0, listed)
-    yield case("the same of its report", [script, report], 0, listed)
-    of_input = asked.tool.run(script, "/dev/stdin", given=report.read_bytes())
-    yield judged("and of standard input", of_input, 0, listed)
-    yield case("an empty standard input", [script, "/dev/stdin"], 2, says_alone("why: /dev/stdin, line 1: "))
-    yield case("a result that is pass has no reason", [LOGIN], 0, says_nothing, ends_with("  result pass\n"))
+    case("a script that is run", [script], 0, listed)
+    case("the same of its report", [script, report], 0, listed)
+    of_input = asked.tool.run(script, "/dev/stdin", input=report.read_bytes())
+    judged("and of standard input", of_input, 0, listed)
+    case("an empty standard input", [script, "/dev/stdin"], 2, says_alone("why: /dev/stdin, line 1: "))
+    case("a result that is pass has no reason", [LOGIN], 0, says_nothing, ends_with("  result pass\n"))
     shown = block_of("tools/README.md", "line          report\n")
     must(shown.count("\n") >= 15, "tools/README.md shows what why says")
-    yield case("tools/README.md shows it", [f"{HALT}.ttcn"], 0, prints(shown))
+    case("tools/README.md shows it", [f"{HALT}.ttcn"], 0, prints(shown))
 
 
-def several_scripts(asked: Reasoning) -> Iterator[Case]:
+def several_scripts(asked: Reasoning) -> None:
     """How often each statement was reached, beside NAME.annotated, and how many were."""
     for annotated in sorted((ROOT / WHYS).rglob("*.annotated")):
         script = annotated.with_suffix(".ttcn").relative_to(ROOT)
         wanted = prints(annotated.read_text(encoding="utf-8"))
-        yield asked.tool.case(f"{script.name} is annotated", ["--annotate", script], 0, wanted)
-    yield asked.tool.case("a summary", ["--summary", IN_A_TURN, FOR_EACH_OTHER], 0, prints(SUMMARY))
+        asked.tool.case(f"{script.name} is annotated", ["--annotate", script], 0, wanted)
+    asked.tool.case("a summary", ["--summary", IN_A_TURN, FOR_EACH_OTHER], 0, prints(SUMMARY))
 
 
 # Reports that don't fit their scripts
@@ -285,39 +267,39 @@ MISFITS = (
 )
 
 
-def misfits(asked: Reasoning) -> Iterator[Case]:
+def misfits(asked: Reasoning) -> None:
     for it in MISFITS:
         report = file_of(asked.room / "changed", it.changed())
         said = says(f"why: {report}, line {it.line}: {it.said}\n")
-        yield asked.tool.case(it.name, [f"{it.report}.ttcn", report], 1, said)
+        asked.tool.case(it.name, [f"{it.report}.ttcn", report], 1, said)
 
 
 # Calls that are wrong
 
 
-def bad_input(asked: Reasoning) -> Iterator[Case]:
+def bad_input(asked: Reasoning) -> None:
     """Files that aren't there, or aren't what they are to be."""
     script, missing, case = f"{KITCHEN}.ttcn", asked.missing, asked.tool.case
     unread = says_alone(f"why: {missing} can't be read")
-    yield case("a missing script", [missing], 2, unread)
-    yield case("a script that is refused", [REFUSED], 2, says_alone(f"why: {REFUSED}, line "))
-    yield case("a missing report", [script, missing], 2, unread)
-    yield case("a report that is none", [script, script], 2, says_alone(f"why: {script}, line 1: "))
+    case("a missing script", [missing], 2, unread)
+    case("a script that is refused", [REFUSED], 2, says_alone(f"why: {REFUSED}, line "))
+    case("a missing report", [script, missing], 2, unread)
+    case("a report that is none", [script, script], 2, says_alone(f"why: {script}, line 1: "))
     nothing = says_alone(f"why: there is no file or folder {missing}")
-    yield case("a summary of nothing", ["--summary", missing], 2, nothing)
-    yield case("a summary of a script that is refused", ["--summary", REFUSED, LOGIN], 2, has("\n2 scripts: "))
+    case("a summary of nothing", ["--summary", missing], 2, nothing)
+    case("a summary of a script that is refused", ["--summary", REFUSED, LOGIN], 2, has("\n2 scripts: "))
 
 
-def calls(asked: Reasoning) -> Iterator[Case]:
+def calls(asked: Reasoning) -> None:
     """Command lines that are wrong, a full device, no program, and the help."""
     script, case = f"{KITCHEN}.ttcn", asked.tool.case
     no_program = says_alone(f"why: {asked.missing} can't be run")
-    yield asked.nowhere.case("a program that isn't there", [script], 1, no_program)
-    yield asked.nowhere.case("a summary without a program", ["--summary", script, LOGIN], 1, no_program)
-    yield asked.tool.full_device("onto a full device", script)
-    yield case("no script", [], 4, says_usage("why"))
-    yield case("too many files", [script, "a", "b"], 4, says_usage("why"))
-    yield case("the help", ["--help"], 0, prints_line("  1  the report isn't one of this script"))
+    asked.nowhere.case("a program that isn't there", [script], 1, no_program)
+    asked.nowhere.case("a summary without a program", ["--summary", script, LOGIN], 1, no_program)
+    asked.tool.full_device("onto a full device", script)
+    case("no script", [], 4, says_usage("why"))
+    case("too many files", [script, "a", "b"], 4, says_usage("why"))
+    case("the help", ["--help"], 0, prints_line("  1  the report isn't one of this script"))
 
 
 # Charts
@@ -325,40 +307,40 @@ def calls(asked: Reasoning) -> Iterator[Case]:
 
 def is_drawn(ended: Ended) -> bool:
     """The chart in letters, but for how wide its spaces are."""
-    return in_letters(ended.printed) == in_letters(CHART)
+    return in_letters(ended.text) == in_letters(CHART)
 
 
 def in_letters(chart: str) -> str:
     return re.sub("^ ", "", re.sub(" +", " ", chart), flags=re.M)
 
 
-def charts(_: Reasoning) -> Iterator[Case]:
+def charts(_: Reasoning) -> None:
     """With the lines of the script."""
     report, chart = f"{HALT}.expected", Tool("chart", variables={"COLUMNS": COLUMNS})
     lined = ["--script", f"{HALT}.ttcn", report]
-    yield chart.case("a chart with the lines of the script", ["--text", *lined], 0, says_nothing, is_drawn)
-    yield chart.case("the lines in a drawn chart", lined, 0, says_nothing, has(">took p (7)<"))
-    yield chart.case("the lines in a page", ["--html", *lined], 0, says_nothing, has("halted p (8)"))
+    chart.case("a chart with the lines of the script", ["--text", *lined], 0, says_nothing, is_drawn)
+    chart.case("the lines in a drawn chart", lined, 0, says_nothing, has(">took p (7)<"))
+    chart.case("the lines in a page", ["--html", *lined], 0, says_nothing, has("halted p (8)"))
     other = ["--script", f"{WHYS}/answered.ttcn", report]
-    yield chart.case("a chart beside another script", other, 1, says_alone(f"chart: {report}, line "))
+    chart.case("a chart beside another script", other, 1, says_alone(f"chart: {report}, line "))
 
 
 # A long report
 
 
-def at_length(asked: Reasoning) -> Iterator[Case]:
+def at_length(asked: Reasoning) -> None:
     """Two loops of 1,000 turns. How long it takes, bench/why/run says."""
-    made = run(["bash", "-c", ". bench/why/script.sh && script_of_60000_entries"])
-    script = file_of(asked.room / "script", made.printed)
+    made = run("bash", "-c", ". bench/why/script.sh && script_of_60000_entries", folder=ROOT)
+    script = file_of(asked.room / "script", made.text)
     report = asked.report_of(str(script))
     lines = report.read_text(encoding="utf-8").count("\n")
     must(lines == 60007, f"the report has {lines} lines, and 60,000 entries are wanted")
-    yield asked.tool.case("60,000 entries", [script, report], 0, says_nothing, last_is_told)
+    asked.tool.case("60,000 entries", [script, report], 0, says_nothing, last_is_told)
 
 
 def last_is_told(ended: Ended) -> bool:
     last = ' *125 <- 163 *took counter mtc 29999 Order:{number := 999, dish := "soup of the day"}'
-    return re.fullmatch(last, ended.printed.split("\n")[60004]) is not None
+    return re.fullmatch(last, ended.text.split("\n")[60004]) is not None
 
 
 GROUPS = (
@@ -379,7 +361,7 @@ def main() -> int:
     words.add_argument("program", metavar="PROGRAM", help="the program that runs the scripts")
     asked = words.parse_args()
     with tempfile.TemporaryDirectory() as room:
-        return tell(GROUPS, Reasoning(asked.program, Path(room)))
+        return try_groups_of(Reasoning(asked.program, Path(room)), GROUPS)
 
 
 if __name__ == "__main__":
