@@ -7,20 +7,17 @@ It prints a line `passed NAME` for each case, or lines that begin with `FAILED: 
 """
 from __future__ import annotations
 
-import argparse
 import os
 import re
 import signal
 import sys
-import tempfile
 from collections.abc import Sequence
 from functools import partial
-from pathlib import Path
 
 sys.dont_write_bytecode = True
 
 from calling import Ended, wait_until
-from tree_of_crates import ALL, NAME, WITHOUT_RT, Tree, end_of, has_begun, is_gone, lines
+from tree_of_crates import ALL, NAME, WITHOUT_RT, Tree, end_of, has_begun, is_gone, lines, try_in_a_tree
 
 BUILD = f"{NAME}/build"
 USAGE = "usage: ./build [tpr_ordered] [--jobs N] | ./build is_built | ./build lanes | ./build clear\n"
@@ -220,12 +217,5 @@ GROUPS = (
 )
 
 
-def main() -> int:
-    argparse.ArgumentParser(description="What ./build builds, and that ./tpr then runs it.").parse_args()
-    with tempfile.TemporaryDirectory() as folder:
-        tree = Tree(Path(folder))
-        return tree.cases.try_groups(Building(tree), GROUPS)
-
-
 if __name__ == "__main__":
-    sys.exit(main())
+    sys.exit(try_in_a_tree("What ./build builds, and that ./tpr then runs it.", Building, GROUPS))

@@ -8,24 +8,21 @@ It prints a line `passed NAME` for each case, or lines that begin with `FAILED: 
 """
 from __future__ import annotations
 
-import argparse
 import os
 import pty
 import shutil
 import signal
 import subprocess
 import sys
-import tempfile
 from collections.abc import Iterator
 from contextlib import contextmanager
 from functools import partial
-from pathlib import Path
 
 sys.dont_write_bytecode = True
 
 from calling import MOST_SECONDS, take_signals, wait_until
 from refusing import ROOT
-from tree_of_crates import ALL, NAME, Tree, end_of, has_begun, is_gone
+from tree_of_crates import ALL, NAME, Tree, end_of, has_begun, is_gone, try_in_a_tree
 from trying import HANGS, Trying
 
 SUITE = (f"{NAME}/tools/suite", "text.ttcn")
@@ -156,12 +153,5 @@ def is_interrupted(tools: Tools, words: tuple[str, str], number: signal.Signals)
 GROUPS = ((suites_build_nothing_unasked, 6), (interrupted_builds, 6), (interrupted_tools, 30))
 
 
-def main() -> int:
-    argparse.ArgumentParser(description="What tools do that ask ./tpr or ./build.").parse_args()
-    with tempfile.TemporaryDirectory() as folder:
-        tree = Tree(Path(folder))
-        return tree.cases.try_groups(Tools(tree), GROUPS)
-
-
 if __name__ == "__main__":
-    sys.exit(main())
+    sys.exit(try_in_a_tree("What tools do that ask ./tpr or ./build.", Tools, GROUPS))

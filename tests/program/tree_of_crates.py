@@ -2,17 +2,19 @@
 which proves nothing, and says what it was asked for."""
 from __future__ import annotations
 
+import argparse
 import os
 import re
 import shutil
 import subprocess
 import sys
-from collections.abc import Iterator, Sequence
+import tempfile
+from collections.abc import Callable, Iterable, Iterator, Sequence
 from contextlib import contextmanager
 from pathlib import Path
 from typing import Any, Optional
 
-from calling import MOST_SECONDS, Cases, Ended, Word, call, take_signals
+from calling import MOST_SECONDS, Cases, Ended, Tried, Word, call, take_signals
 from refusing import ROOT, must
 
 # The program that it makes prints its words and ends with 7. Files beside the crates of the tree TREE make it refuse a
@@ -162,3 +164,13 @@ def is_gone(file: Path) -> bool:
 def has_begun(file: Path) -> bool:
     """Whether something stands in the file."""
     return file.exists() and file.stat().st_size > 0
+
+
+def try_in_a_tree(
+    description: str, trying: Callable[[Tree], Tried], groups: Iterable[tuple[Callable[[Tried], None], int]]
+) -> int:
+    """Tries the groups in a new tree. The status to end with."""
+    argparse.ArgumentParser(description=description).parse_args()
+    with tempfile.TemporaryDirectory() as folder:
+        tree = Tree(Path(folder))
+        return tree.cases.try_groups(trying(tree), groups)
