@@ -113,75 +113,33 @@ def report_of_two_senders(name: str) -> list[str]:
     return [f"{line}\n" for line in (*lines, f"result {result}")]
 
 
-OF_TWO_SENDERS = (
-    (
-        "two senders",
-        0,
-        f"""\
-{EQUAL_EXCEPT_FOR_THE_ORDER}mtc, open: which came first
-  - report A, line 2: took p a 0 integer:1
-  + report B, line 2: took p b 0 integer:1
-""",
-        "a_then_b",
-        "b_then_a",
-    ),
-    (
-        "a verdict between two senders",
-        5,
-        """\
-different
-mtc, the order of what it did
-  - report A, line 3: took p b 0 integer:1
-  + report B, line 3: set fail
-""",
-        "a_then_b",
-        "a_then_fail",
-    ),
-    (
-        "the same behind each message",
-        0,
-        f"""\
-{EQUAL_EXCEPT_FOR_THE_ORDER}mtc, open: which came first
-  - report A, line 2: took p b 0 integer:1
-  + report B, line 2: took p a 0 integer:1
-""",
-        "b_then_a",
-        "a_then_fail",
-    ),
+OPEN, OWN_ORDER = "mtc, open: which came first", "mtc, the order of what it did"
+A, B, FAIL, SECOND_OF_A = "took p a 0 integer:1", "took p b 0 integer:1", "set fail", "took p a 1 integer:1"
+TO_A, TO_B = "sent a.p 0 integer:2", "sent b.p 0 integer:2"
+# The name, the two reports, and where they differ: what it is, the line, and what stands there in each.
+Place = tuple[str, int, str, str]
+OF_TWO_SENDERS: tuple[tuple[str, str, str, tuple[Place, ...]], ...] = (
+    ("two senders", "a_then_b", "b_then_a", ((OPEN, 2, A, B),)),
+    ("a verdict between two senders", "a_then_b", "a_then_fail", ((OWN_ORDER, 3, B, FAIL),)),
+    ("the same behind each message", "b_then_a", "a_then_fail", ((OPEN, 2, B, A),)),
     (
         "a verdict at another place behind an open order",
-        5,
-        """\
-different
-mtc, the order of what it did
-  - report A, line 4: took p a 1 integer:1
-  + report B, line 4: set fail
-mtc, open: which came first
-  - report A, line 2: took p a 0 integer:1
-  + report B, line 2: took p b 0 integer:1
-""",
         "three",
         "fail_between",
+        ((OWN_ORDER, 4, SECOND_OF_A, FAIL), (OPEN, 2, A, B)),
     ),
-    (
-        "the order of its own sendings",
-        5,
-        """\
-different
-mtc, the order of what it did
-  - report A, line 2: sent a.p 0 integer:2
-  + report B, line 2: sent b.p 0 integer:2
-""",
-        "sent_to_a",
-        "sent_to_b",
-    ),
+    ("the order of its own sendings", "sent_to_a", "sent_to_b", ((OWN_ORDER, 2, TO_A, TO_B),)),
 )
 
 
 def comparisons_of_two_senders(folder: Path) -> None:
     reports = {name: written(folder / name, report_of_two_senders(name)) for name in ENTRIES}
-    for name, status, printed, one, other in OF_TWO_SENDERS:
-        compared(name, status, printed, reports[one], reports[other])
+    for name, one, other, places in OF_TWO_SENDERS:
+        is_open = all(what == OPEN for what, *_ in places)
+        status, head = (0, EQUAL_EXCEPT_FOR_THE_ORDER) if is_open else (5, "different\n")
+        lines = (f"{what}\n  - report A, line {at}: {a}\n  + report B, line {at}: {b}\n" for what, at, a, b in places)
+        compared(name, status, "".join([head, *lines]), reports[one], reports[other])
+
 
 
 # The reports of the examples
