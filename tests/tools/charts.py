@@ -23,7 +23,7 @@ from tool_calls import EXAMPLES, ROOT, Group, case, onto_a_full_device, rules_mu
 CHART = ROOT / "tools" / "chart"
 LOGIN = EXAMPLES / "login_is_answered.expected"
 LONG_NAMES = 12
-WIDTH = {"COLUMNS": "90"}
+WIDTH = {"COLUMNS": "90"}  # of a chart in letters
 
 
 def charts_of_examples(folder: Path) -> None:
@@ -167,18 +167,104 @@ def without_width(text: str) -> str:
     return re.sub("^ ", "", re.sub(" +", " ", text), flags=re.MULTILINE)
 
 
-def must_be_in_letters(folder: Path, name: str, report: str, wanted: str) -> None:
+def report_of(folder: Path, name: str, report: str) -> Path:
     file = folder / f"{name}.report"
     file.write_text(report.replace("|", "\n"), encoding="ascii")
-    ended = run(CHART, "--text", file, more=WIDTH)
+    return file
+
+
+def must_be_in_letters(report: Path, wanted: str, *words: str) -> None:
+    ended = run(CHART, "--text", *words, report, more=WIDTH)
     ended._replace(printed=without_width(ended.text).encode()).must_print(without_width(wanted))
 
 
 def charts_of_emptied_ports(folder: Path) -> None:
     with case("a message that the first of two emptyings discards"):
-        must_be_in_letters(folder, "first", FIRST, OF_FIRST)
+        must_be_in_letters(report_of(folder, "first", FIRST), OF_FIRST)
     with case("a message that comes behind an emptying"):
-        must_be_in_letters(folder, "behind", BEHIND, OF_BEHIND)
+        must_be_in_letters(report_of(folder, "behind", BEHIND), OF_BEHIND)
+
+
+# Parts of charts: --only, --rows, --around and --fold
+
+PART = (
+    "component mtc|sent a.p 0 integer:1|took p b 0 integer:5|set pass|end done|verdict pass|"
+    f"component a|took p mtc 0 integer:1|sent b.p 0 integer:1|{END}"
+    f"component b|took p a 0 integer:1|sent mtc.p 0 integer:5|{END}result pass|"
+)
+OF_TWO_OF_THREE = """\
+part: result pass
+
+ mtc b
+ (2 of 3 components)
+ [sent a.p 0 integer:1] |
+ | [took p a 0 integer:1]
+ took p |<-- integer:5 --|
+ [set pass] .
+ end done end done
+ verdict pass verdict none
+
+result pass
+"""
+OF_ONE_ROW = """\
+part: result pass
+
+ b
+ (1 of 3 components, rows 2 to 2 of 4)
+ [took p a 0 integer:1]
+ end done
+ verdict none
+
+result pass
+"""
+# Ten round trips, of which the sixth has another message.
+TRIPS = [f"integer:{int(number == 5)}" for number in range(10)]
+REPEATS = (
+    f"component mtc|{''.join(f'sent a.p {at} {it}|took p a {at} {it}|' for at, it in enumerate(TRIPS))}{END}"
+    f"component a|{''.join(f'took p mtc {at} {it}|sent mtc.p {at} {it}|' for at, it in enumerate(TRIPS))}{END}"
+    "result none|"
+)
+OF_REPEATS = """\
+repeats: result none
+
+ mtc a
+ |-- integer:0 -->| took p
+ took p |<-- integer:0 --|
+ (the 2 rows above, 4 times more)
+ |-- integer:1 -->| took p
+ took p |<-- integer:1 --|
+ |-- integer:0 -->| took p
+ took p |<-- integer:0 --|
+ (the 2 rows above, 3 times more)
+ end done end done
+ verdict none verdict none
+
+result none
+"""
+NO_PARTS = ("--only c", "--rows 5-9", "--around 5", "--around 17")
+WRONG_WORDS = (
+    "--rows 3-2", "--rows 0-1", "--rows 3", "--around x", "--rows 1-2 --around 3", "--html --fold", "--html --text",
+)
+
+
+def parts_of_charts(folder: Path) -> None:
+    report, repeats = report_of(folder, "part", PART), report_of(folder, "repeats", REPEATS)
+    with case("a chart of two of three components"):
+        must_be_in_letters(report, OF_TWO_OF_THREE, "--only", "b,mtc")
+    with case("a chart of one row and one component"):
+        must_be_in_letters(report, OF_ONE_ROW, "--rows", "2-2", "--only", "b")
+    with case("a chart with repeats"):
+        must_be_in_letters(repeats, OF_REPEATS, "--fold")
+    with case("the rows around a line"):
+        run(CHART, "--text", "--around", "13", repeats, more=WIDTH).must_show(r"^    \(rows 2 to 20 of 20\)$")
+    for words in NO_PARTS:
+        with case(f"a chart with {words}, which there isn't"):
+            run(CHART, *words.split(), report).must_say(f"chart: {report}: ", 2)
+    for words in WRONG_WORDS:
+        with case(f"a chart asked with the words {words}"):
+            run(CHART, *words.split(), report).must_complain("^usage: chart", 4)
+    with case("parts of charts at random"):
+        rules_must_hold("parts", "100")
 
 
 def main() -> int:
@@ -191,6 +277,7 @@ def main() -> int:
             Group(charts_of_documents, 3, "charts of documents"),
             Group(rules_on_reports, 5, "rules on reports"),
             Group(partial(charts_in_other_ways, folder), 13, "charts in other ways"),
+            Group(partial(parts_of_charts, folder), 16, "parts of charts"),
         ]
     )
 

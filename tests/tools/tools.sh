@@ -3,8 +3,7 @@
 
 tools() {
     mkdir -- "$room/charts" "$room/comparisons"
-    at_least $((reports_of_examples + 22)) told "$room/told_of_charts" tests/tools/charts.py "$room/charts"
-    at_least 16 parts_of_charts
+    at_least $((reports_of_examples + 38)) told "$room/told_of_charts" tests/tools/charts.py "$room/charts"
     at_least $((small_scripts + 9)) told "$room/told_of_connections" tests/tools/connections.py
     at_least 238 refused_reports
     at_least 115 suites
