@@ -38,30 +38,12 @@ set_up() { # WHAT HOLDS, COMMAND..
 
 # Examples
 
-# Where an example stands, below `root`: in examples/, or in a folder of tests/golden/.
-place_of_example() { # FILE
-    local file
-    for file in "$root/examples/$1" "$root"/tests/golden/*/"$1"; do
-        if [[ -e $file ]]; then
-            echo "${file#"$root"/}"
-            return
-        fi
-    done
-    echo "FAILED: there is no example $1" >&2
-    return 1
-}
-
-# Whether the answer to an example is that it is refused.
-is_refused() { # FILE
-    grep -qs '^refused ' -- "${1%.*}.expected"
-}
-
 # The scripts of the examples and of tests/orders/ that can be run, in `runnable`.
 find_runnable() {
     local script
     runnable=()
     for script in examples/*.ttcn tests/golden/*/*.ttcn tests/orders/*/*.ttcn; do
-        if ! is_refused "$script"; then runnable+=("$script"); fi
+        if ! grep -qs '^refused ' -- "${script%.*}.expected"; then runnable+=("$script"); fi
     done
 }
 
@@ -121,18 +103,11 @@ tool_must() { # NAME STATUS COMMAND..
     count 1
 }
 
-says_nothing() { [[ ! -s $room/said ]]; }
-prints_nothing() { [[ ! -s $room/printed ]]; }
-
 # Standard error is one line that begins so, and nothing was printed.
 says_alone() { # BEGINNING
     local said
     said=$(cat -- "$room/said")
-    [[ $said == "$1"* && $said != *$'\n'* ]] && prints_nothing
-}
-
-prints() { # TEXT
-    says_nothing && printf %s "$1" | cmp -s -- - "$room/printed"
+    [[ $said == "$1"* && $said != *$'\n'* && ! -s $room/printed ]]
 }
 
 # Files and processes

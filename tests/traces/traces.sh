@@ -30,11 +30,11 @@ the_judge_of_traces() {
 
 # What `tpr trace` prints of five examples.
 make_traces() { # FOLDER
-    local name
+    local script
     mkdir -- "$1"
-    for name in closed_counter_serves_no_order heartbeats_are_skipped login_is_answered replies_go_to_their_senders \
-        two_senders_to_one_that_ended; do
-        "$tpr" trace "$(place_of_example "$name.ttcn")" >"$1/$name.trace" </dev/null || return
+    for script in examples/{closed_counter_serves_no_order,heartbeats_are_skipped,login_is_answered}.ttcn \
+        examples/replies_go_to_their_senders.ttcn tests/golden/all_orders/two_senders_to_one_that_ended.ttcn; do
+        "$tpr" trace "$script" >"$1/$(basename "$script" .ttcn).trace" </dev/null || return
     done
 }
 
