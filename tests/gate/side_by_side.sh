@@ -66,17 +66,20 @@ begin_part() { # NAME COMMAND..
     tell_what_is_at_work
 }
 
-# On a terminal: which parts are at work, and how long each took the last time.
+# On a terminal: how many parts are done, which are at work, and how long each took the last time.
 tell_what_is_at_work() {
-    local process its_room name parts=()
+    local process its_room name ended all=0 parts=()
     [[ -t 2 ]] || return 0
+    ended=$(cat -- "$room_of_all/parts" 2>/dev/null | wc -l)
+    while read -r name _; do if is_tried "$name"; then ((all += 1)); fi; done < <(listed_parts)
     for process in "${!at_work[@]}"; do
         read -r _ its_room <<<"${at_work[$process]}"
         name=${its_room##*/}
         name=${name%.*}
         parts+=("$name$(last_time_of "$name")")
     done
-    printf '%s\n' "${parts[@]}" | sort | paste -s -d , | sed -e 's/^/test: at work: /' -e 's/,/, /g' >&2
+    name=$(printf '%s\n' "${parts[@]}" | sort | paste -s -d ,)
+    echo "test: $ended of $all done; at work: ${name//,/, }" >&2
 }
 
 last_time_of() { # NAME

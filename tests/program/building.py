@@ -28,6 +28,7 @@ NONE_PROVED = "0 of 3 proved, about 5 minutes left"
 ONE, TWO, THREE = "1 of 3 proved, about 2 minutes left", "2 of 3 proved, about 1 minute left", "3 of 3 proved"
 LAST_LEFT, LOW_LEFT = "2 of 3 proved, about 4 minutes left", "1 of 3 proved, about 5 minutes left"
 LAST, LOW, EACH = (LAST_LEFT, THREE), (LOW_LEFT, TWO, THREE), (NONE_PROVED, ONE, TWO, THREE)
+LEFT = ["build.log", "built", "lock", "times_of_crates"]  # by a build
 ASKED_LAST = "rt was asked in tpr: run --jobs 1 -- queue"
 
 
@@ -89,7 +90,7 @@ def first_build(building: Building) -> None:
         ASKED_LAST,
         *(f"tpr: {it} took N seconds with 1 job" for it in ("low", "side", "tpr")),
     )
-    building.cases.must_be("what a build leaves", sorted(os.listdir(building.tree.out)), ["build.log", "built", "lock"])
+    building.cases.must_be("what a build leaves", sorted(os.listdir(building.tree.out)), LEFT)
 
 
 def words_of_a_build(building: Building) -> None:
@@ -101,6 +102,18 @@ def words_of_a_build(building: Building) -> None:
     lanes = building.build("lanes")
     is_so = lanes.status == 0 and lanes.said == b"" and 1 <= int(lanes.printed) <= len(os.sched_getaffinity(0))
     building.cases.must_be(f"at most as many checks at one time as processors: {lanes}", is_so, True)
+
+
+def progress_on_a_terminal(building: Building) -> None:
+    """Which crates are at work, and how long each took the last time, if a build has kept that."""
+    for name, last_time in (("of the last time", " (N s the last time)"), ("of the first time", "")):
+        if not last_time:
+            (building.tree.out / "times_of_crates").unlink()
+        building.touch("low/src/lib.rt")
+        said = building.tree.said_on_a_terminal(BUILD, "--jobs", "2")
+        told = re.findall("^tpr: at work: .*", re.sub("[0-9]+ s ", "N s ", said), re.M)
+        wanted = [f"tpr: at work: {it}{last_time}" for it in ("low", "tpr")]
+        building.cases.must_be(f"what is at work is told on a terminal, {name}", told, wanted)
 
 
 def other_program(building: Building) -> None:
@@ -209,6 +222,7 @@ def killed_build(building: Building) -> None:
 GROUPS = (
     (first_build, 6),
     (words_of_a_build, 5),
+    (progress_on_a_terminal, 2),
     (other_program, 6),
     (what_is_newer, 19),
     (failed_builds, 8),

@@ -22,7 +22,7 @@ sys.dont_write_bytecode = True
 
 from calling import MOST_SECONDS, take_signals, wait_until
 from refusing import ROOT
-from tree_of_crates import ALL, NAME, Tree, end_of, has_begun, is_gone, try_in_a_tree
+from tree_of_crates import ALL, NAME, Tree, end_of, has_begun, is_gone, said_at, try_in_a_tree
 from trying import HANGS, Trying
 
 SUITE = (f"{NAME}/tools/suite", "text.ttcn")
@@ -67,17 +67,6 @@ class Tools(Trying):
                 raise
             finally:
                 os.close(ours)
-
-
-def said_at(terminal: int) -> str:
-    """What stands at a terminal that nobody else has open any more. The answer stands there too."""
-    said = b""
-    try:
-        while piece := os.read(terminal, 1 << 16):
-            said += piece
-    except OSError:
-        pass
-    return said.decode().replace("\r\n", "\n")
 
 
 def suites_build_nothing_unasked(tools: Tools) -> None:

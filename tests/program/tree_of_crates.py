@@ -4,6 +4,7 @@ from __future__ import annotations
 
 import argparse
 import os
+import pty
 import re
 import shutil
 import subprocess
@@ -94,6 +95,16 @@ class Tree:
         ended = call(words, cwd=self.folder, env={**self.environment(commands), **(more or {})}, **how)
         return ended._replace(said=ended.said + "".join(f"{it} is left\n" for it in self.left_files()).encode())
 
+    def said_on_a_terminal(self, *words: str) -> str:
+        """What a command says if a terminal is its standard error."""
+        ours, theirs = pty.openpty()
+        self.call(words, stderr=theirs)
+        os.close(theirs)
+        try:
+            return said_at(ours)
+        finally:
+            os.close(ours)
+
     def left_files(self) -> list[Path]:
         return sorted(self.rooms.rglob("*"))
 
@@ -146,6 +157,17 @@ def write_command(file: Path, text: str) -> None:
 def end_of(process: subprocess.Popen[bytes]) -> Ended:
     printed, said = process.communicate(timeout=MOST_SECONDS)
     return Ended(process.returncode, printed, said)
+
+
+def said_at(terminal: int) -> str:
+    """What stands at a terminal that nobody else has open any more. The answer stands there too."""
+    said = b""
+    try:
+        while piece := os.read(terminal, 1 << 16):
+            said += piece
+    except OSError:
+        pass
+    return said.decode().replace("\r\n", "\n")
 
 
 def lines(*texts: str) -> str:
