@@ -177,6 +177,24 @@ def failed_builds(building: Building) -> None:
     kept.rename(listed)
 
 
+# Runs ./build, and interrupts it while `subprocess` holds a lock to look whether rt has ended. An exception that is
+# raised there leaves the lock held, so that a wait for rt never ends.
+INTERRUPTED_WITHIN_A_LOOK = """
+import os, runpy, signal, subprocess, sys
+
+def lines(frame, event, _):
+    if frame.f_locals["self"]._waitpid_lock.locked():
+        sys.settrace(None)
+        frame.f_trace = None
+        os.kill(os.getpid(), signal.SIGINT)
+    return lines
+
+sys.settrace(lambda frame, *_: lines if frame.f_code is subprocess.Popen._internal_poll.__code__ else None)
+sys.argv = sys.argv[1:]
+runpy.run_path(sys.argv[0], run_name="__main__")
+"""
+
+
 def interrupted_build(building: Building) -> None:
     """An interrupt while a crate is at work: what was kept of it is given back."""
     hanging, log = building.crates / "hanging", building.log
@@ -189,6 +207,10 @@ def interrupted_build(building: Building) -> None:
     building.cases.must_come("rt is ended", partial(is_gone, hanging))
     left = os.listdir(building.crates / "low/out"), (building.tree.out / "rooms").exists()
     building.cases.must_be("what was kept of the crate is back, and its room is gone", left, (["rlib"], False))
+    within = ["python3", "-c", INTERRUPTED_WITHIN_A_LOOK, BUILD, "--jobs", "2"]
+    said = of_tpr(AGAIN, log, LOW_LEFT)
+    building.tree.must_end("an interrupt within a look at rt", building.tree.call(within), 130, "", said)
+    building.cases.must_be("what was kept is back too", os.listdir(building.crates / "low/out"), ["rlib"])
     building.remove("hangs in low")
     building.builds("once it hangs no longer", AGAIN, log, *LOW)
 
@@ -226,7 +248,7 @@ GROUPS = (
     (other_program, 6),
     (what_is_newer, 19),
     (failed_builds, 8),
-    (interrupted_build, 5),
+    (interrupted_build, 7),
     (killed_build, 11),
 )
 
