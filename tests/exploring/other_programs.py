@@ -203,34 +203,34 @@ def is_gone(number: Path) -> None:
 # A terminal
 
 
-def waits_are_shown(asked: Exploring) -> Iterator[Case]:
+def waits_are_shown(asked: Exploring) -> None:
     """A terminal shows from the first second on how long `tpr verdicts` has been searching, and nothing at the end."""
     slow = program_of(asked.room / "slow", f'sleep 2.5; exec {shlex.quote(asked.tpr)} "$@"')
-    wiped, seconds = "\r\x1b[K", "explore: `tpr verdicts` has been searching for {} s".format
-    shown = "".join(wiped + text for text in (seconds(1), seconds(2), ""))
-    yield "a search of two seconds at a terminal", must_show(said_at_a_terminal(asked, slow), shown)
-    yield "a short search at a terminal", must_show(said_at_a_terminal(asked, asked.tpr), wiped)
-    case = asked.asking(slow, asked.nowhere).case
-    yield case("a search of two seconds without a terminal", [PING_PONG], 0, begins_with("always pass"))
+    line = "\r\x1b[Kexplore: `tpr verdicts` has been searching for {} s".format
+    ruled("a search of two seconds at a terminal", shows_alone, asked, slow, line(1) + line(2))
+    ruled("a short search at a terminal", shows_alone, asked, asked.tpr, "")
+    without = asked.asking(slow, asked.nowhere)
+    without.case("a search of two seconds without a terminal", [PING_PONG], 0, begins_with("always pass"))
+
+
+def shows_alone(asked: Exploring, tpr: str, shown: str) -> None:
+    """Its terminal gets this first; a busy machine may take longer, and show more. At the end the line is wiped out."""
+    said = said_at_a_terminal(asked, tpr)
+    must(said.startswith(shown) and said.endswith("\r\x1b[K"), f"it says {said!r}")
 
 
 def said_at_a_terminal(asked: Exploring, tpr: str) -> str:
     """What is written on standard error, if that is a terminal."""
     ours, theirs = pty.openpty()
-    words, variables = [str(ROOT / "tools" / "explore"), PING_PONG], asked.asking(tpr, asked.nowhere).variables
-    none = subprocess.DEVNULL
-    with subprocess.Popen(
-        words, cwd=ROOT, env={**os.environ, **variables}, stdin=none, stdout=none, stderr=theirs
-    ) as process:
+    command, none = [str(ROOT / "tools" / "explore"), PING_PONG], subprocess.DEVNULL
+    variables = {**os.environ, **asked.asking(tpr, asked.nowhere).variables}
+    with subprocess.Popen(command, cwd=ROOT, env=variables, stdin=none, stdout=none, stderr=theirs) as process:
         os.close(theirs)
         process.wait(MOST_SECONDS)
-    with open(ours, "rb", buffering=0) as terminal:
-        return text_of(terminal.read(1 << 16) or b"")
-
-
-def must_show(said: str, shown: str) -> Optional[str]:
-    """A busy machine may take longer, and show more seconds."""
-    return None if said.startswith(shown[: shown.rindex("\r")]) and said.endswith("\r\x1b[K") else f"it says {said!r}"
+    try:
+        return os.read(ours, 1 << 16).decode()
+    finally:
+        os.close(ours)
 
 
 # Each group, with how many cases it has at least.
