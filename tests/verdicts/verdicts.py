@@ -10,7 +10,7 @@ The verdicts must be exactly those of every order, where the model comes through
 that it came to may be missing. The status, the number of states and the order of the lines must be as the manual
 says, and by each order that is printed the model must come to its verdict, and to an end. `random` does so with scripts
 made by chance that have few components, and `alike` with such in which some are alike. `limit` has scripts whose states are counted by hand, up to the limit and
-beyond. `answers` looks whether answers that can't be are refused.
+beyond, and scripts with too many templates times messages. `answers` looks whether answers that can't be are refused.
 
 Of each script it prints `passed 1 STATES SCRIPT`, `passed 0 STATES SCRIPT` where the model didn't come through all
 orders, or lines that begin with `FAILED: `, with the script. STATES is how many the program looked at. The last line
@@ -181,6 +181,33 @@ def limited(program: str, path: Path, first: int, second: int) -> str:
     return f"FAILED: of {states} states: {wrong}" if wrong else f"passed of {states} states"
 
 
+# Templates times messages: 4,096 turns may have a message and a template each, and then there may be no other template.
+# Equal ones count once, so that more turns may have the same.
+MOST_PAIRS = 16_777_216
+TURNING = """module Turning {{
+    type port P message {{ inout integer; }}
+    type component C {{ port P p, q; }}
+    testcase t() runs on C {{
+        connect(self:p, self:q);
+        for (var integer i := 0; i < {0}; i := i + 1) {{ p.send(integer:{1}); q.receive(integer:{1}); }}
+        p.send(integer:0); q.receive(integer:?); setverdict(pass);
+    }}
+}}
+"""
+PAIRS = (("i", 4096, 4096 * 4097), ("1", 4097, 2 * 2))
+
+
+def paired(program: str, path: Path, value: str, turns: int, pairs: int) -> str:
+    """The line for the script with so many turns, with so many pairs of a template and a message."""
+    path.write_text(TURNING.format(turns, value), encoding="latin-1")
+    status, printed = printed_of(program, path)
+    answer = read_answer(printed)
+    wanted = (("pass",), True, 0) if pairs <= MOST_PAIRS else ((), False, 3)
+    if answer is None or (answer.verdicts, answer.decided, status) != wanted or (answer.states > 0) != answer.decided:
+        return f"FAILED: of {pairs} pairs the status is {status}, and it says {printed[:200]}"
+    return f"passed of {pairs} pairs"
+
+
 # Answers that can't be
 
 REFUSED = (
@@ -250,6 +277,8 @@ def tell_made(asked: argparse.Namespace, folder: str) -> None:
     if asked.what == "limit":
         for first, second in LOOKS:
             print(limited(asked.program, Path(folder, "looking.ttcn"), first, second), flush=True)
+        for value, turns, pairs in PAIRS:
+            print(paired(asked.program, Path(folder, "turning.ttcn"), value, turns, pairs), flush=True)
         return
     tell_each(asked.program, made_by_chance(asked.what, asked.seed, asked.number, folder))
 
