@@ -35,7 +35,7 @@ class Schedule:
     """What was answered."""
 
     answer: str  # the first line: `always pass`, `pass or fail`, `undecided`
-    orders: str = ""  # of each verdict the components by whose steps a run reaches it
+    orders: str = ""  # of each verdict the components by whose steps the model reaches it
     explored: str = ""  # the first line of tools/explore
     diverging: str = ""  # and what it says of where the runs diverge
     fault: str = ""  # why this isn't as expected
