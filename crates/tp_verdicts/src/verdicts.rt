@@ -1,9 +1,9 @@
-//! The verdicts that a test case can have.
+//! The verdicts that the machine of a test case reaches.
 use tp_config::port_type::CompId;
 use tp_value::verdict::Verdict;
 
-/// A verdict that a test case can have, and the components whose steps, one after another, lead a
-/// run to it.
+/// A verdict, and the components whose steps, one after another, lead the machine of the test case
+/// to an end with it.
 #[derive(Drop)]
 pub struct FoundVerdict {
     pub verdict: Verdict,

@@ -63,7 +63,7 @@ fn decide<W: Write>(alloc: Global, test_case: &TestCase, writer: &mut Watched<W>
     }
 }
 
-/// Reads and checks a script, and prints the verdicts that its test case can have, as
+/// Reads and checks a script, and prints the verdicts that the machine of its test case reaches, as
 /// [`write_verdicts`] writes them, or the line of its first fault. It looks at no more than
 /// 4,194,304 states.
 ///
