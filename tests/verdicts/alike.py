@@ -1,15 +1,16 @@
-"""Scripts made by chance in which some components are alike: clients of one function, and a server that may answer by
-sender. So components can be exchanged, or just not: one has another function, or `mtc` names some of them."""
+"""Scripts made by chance in which some components are alike: clients of one body, and a server that may answer by
+sender. So components can be exchanged, or just not: one has another body, `mtc` names some of them, or each sends a
+number of its own, which its receivers may tell apart."""
 from __future__ import annotations
 
 import random
+import re
 
 VERDICTS = ("pass", "inconc", "fail")
 SCRIPT = """module Alike {{
     type port P message {{ inout integer; }}
     type component C {{ port P p, q; }}
-    function client() runs on C {{ {client} }}
-    function other() runs on C {{ {other} }}
+    {bodies}
     function server() runs on C {{ var C w; {server} }}
     testcase t() runs on C {{
         var C s := C.create; {created}
@@ -70,18 +71,35 @@ def central_act(chance: random.Random, port: str, names: list[str]) -> str:
     return chance.choice((f"setverdict({chance.choice(VERDICTS)});", f"{port}.halt;", f"{port}.start;"))
 
 
+def sending(number: str, body: str) -> str:
+    """The body that sends this number wherever it sent one."""
+    return re.sub(r"send\(integer:\d\)", f"send(integer:{number})", body)
+
+
+def own_bodies(chance: random.Random, clients: list[str], asks: str) -> list[str]:
+    """What the clients carry out: the same, but for one of them, or for the numbers that they send."""
+    client = " ".join([asks, *(own_act(chance) for _ in range(chance.randint(1, 3)))])
+    other = " ".join([asks, *(own_act(chance) for _ in range(chance.randint(1, 3)))])
+    kind = chance.random()
+    if kind < 0.2:
+        odd = chance.choice(clients)
+        return [other if it == odd else client for it in clients]
+    if kind < 0.5:
+        return [sending(chance.choice("123"), client) for _ in clients]
+    return [client for _ in clients]
+
+
 def some_alike_script(chance: random.Random) -> str:
     clients = [f"c{at}" for at in range(chance.choice((2, 2, 3)))]
-    odd = chance.choice(clients) if chance.random() < 0.2 else None
     known = clients if chance.random() < 0.3 else []
     asks = "p.send(integer:1); q.send(integer:1);" if chance.random() < 0.8 else ""
     answers = ANSWERS.format(clients=len(clients), last=chance.choice("12")) if asks else ""
+    bodies = own_bodies(chance, clients, asks)
     return SCRIPT.format(
-        client=" ".join([asks, *(own_act(chance) for _ in range(chance.randint(1, 3)))]),
-        other=" ".join([asks, *(own_act(chance) for _ in range(chance.randint(1, 3)))]),
+        bodies=" ".join(f"function of_{it}() runs on C {{ {body} }}" for it, body in zip(clients, bodies)),
         server=" ".join([answers, *(central_act(chance, "p", []) for _ in range(chance.randint(0, 2)))]),
         created=" ".join(f"var C {it} := C.create;" for it in clients),
         connected=" ".join(f"connect(s:p, {it}:p); connect(self:q, {it}:q);" for it in clients),
-        started=" ".join(f"{it}.start({'other' if it == odd else 'client'}());" for it in clients),
+        started=" ".join(f"{it}.start(of_{it}());" for it in clients),
         main=" ".join(central_act(chance, "q", known) for _ in range(chance.randint(0, 2))),
     )
