@@ -15,6 +15,7 @@ import shutil
 import signal
 import sys
 import tempfile
+import textwrap
 import time
 from pathlib import Path
 from typing import Any
@@ -31,6 +32,7 @@ sys.path.append(str(ROOT / "tools"))
 from tpr_tools.words import RESERVED
 
 PROGRAM, ORDERED = sys.argv[1], sys.argv[2]
+EDITORS = ROOT / "tools" / "tpr_tools" / "lsp" / "editors"
 os.environ["TPR_ORDERED"] = ORDERED
 URI = "file:///nowhere/script.ttcn"
 DOCUMENT = {"textDocument": {"uri": URI}}
@@ -488,16 +490,20 @@ def neovim() -> None:
     with tempfile.TemporaryDirectory() as folder, case("neovim shows a fault where it is, after an edit"):
         script = Path(folder) / "kitchen.ttcn"
         script.write_text(KITCHEN, encoding="utf-8")
-        more = {"TPR": PROGRAM, "HOME": folder, "XDG_CONFIG_HOME": folder, "LSP": str(ROOT / "tools" / "lsp")}
+        setup = Path(folder) / "setup.lua"
+        setup.write_text(setup_of("Neovim").replace("tools/lsp", str(ROOT / "tools" / "lsp")), encoding="utf-8")
+        more = {"TPR": PROGRAM, "HOME": folder, "XDG_CONFIG_HOME": folder, "SETUP": str(setup), "SCRIPT": str(script)}
         drive = Path(__file__).parent / "neovim.lua"
-        ended = run(editor, "--headless", "--clean", "-n", "-c", f"luafile {drive}", script, more=more).must_end(0)
+        words = ("--headless", "--clean", "-n", "-c", f"luafile {drive}", "-c", "cquit 1")
+        ended = run(editor, *words, more=more).must_end(0)
         line, column = place_of(KITCHEN, 'bell.send(charstring:"one more?")')
         ended.must_show(rf"^error {line}:{column + 10}-{column + 15} `bell` sends no `Order`")
         ended.must_show(r"^lens always pass$")
+        ended.must_show(r"^filetype ttcn$")
     with tempfile.TemporaryDirectory() as folder, case("the picture of docs/EDITORS.md has what neovim shows"):
         picture = Path(folder) / "editor.svg"
         more = {"TPR": PROGRAM, "HOME": folder, "XDG_CONFIG_HOME": folder, "PICTURE": str(picture)}
-        words = ("--headless", "--clean", "-n", "-c", "luafile tests/lsp/picture.lua")
+        words = ("--headless", "--clean", "-n", "-c", "luafile tests/lsp/picture.lua", "-c", "cquit 1")
         run(editor, *words, folder=ROOT, more=more).must_end(0)
         kept = ROOT / "docs" / "editor.svg"
         for file in (picture, kept):
@@ -506,17 +512,58 @@ def neovim() -> None:
                 must(piece in " ".join(text.split()), f"{file} lacks {piece}")
 
 
+def setup_of(editor: str) -> str:
+    """The lines of docs/EDITORS.md for an editor."""
+    page = (ROOT / "docs" / "EDITORS.md").read_text(encoding="utf-8")
+    found = re.search(rf"^## {editor}\b.*?\n\n((?:    [^\n]*\n)+)", page, re.DOTALL | re.MULTILINE)
+    must(found, f"docs/EDITORS.md has no lines for {editor}")
+    return textwrap.dedent(found[1]) if found else ""
+
+
 def colours() -> None:
     """The syntax files have each reserved word once."""
-    folder = ROOT / "tools" / "tpr_tools" / "lsp" / "editors"
+    folder = EDITORS
     lines = (folder / "ttcn.vim").read_text(encoding="utf-8").splitlines()
     words = {"ttcn.vim": [word for line in lines if line.startswith("syn keyword ") for word in line.split()[3:]]}
     grammar = json.loads((folder / "ttcn.tmLanguage.json").read_text(encoding="utf-8"))
     matches = [it["match"] for it in grammar["patterns"] if it.get("match", "").startswith(r"\b(")]
     words["ttcn.tmLanguage.json"] = [word for match in matches for word in match[3:-3].split("|")]
+    kate = ElementTree.parse(folder / "ttcn.xml").getroot()
+    words["ttcn.xml"] = [it.text or "" for it in kate.iter("item")]
     for name, found in words.items():
         with case(f"the reserved words in {name}"):
             must_be(sorted(found), sorted(RESERVED))
+    with case("what docs/EDITORS.md says of Kate has the name in ttcn.xml"):
+        (server,) = json.loads(setup_of("Kate"))["servers"].values()
+        must_be(server["highlightingModeRegex"], f"^{kate.get('name')}$")
+    with case("VS Code finds the grammar, by its language and scope"):
+        contributes = json.loads((folder / "package.json").read_text(encoding="utf-8"))["contributes"]
+        (language,), (told,) = contributes["languages"], contributes["grammars"]
+        must_be([told["language"], told["scopeName"]], [language["id"], grammar["scopeName"]])
+        must_be([told["path"], grammar["fileTypes"]], ["./ttcn.tmLanguage.json", ["ttcn", "ttcn3"]])
+    vim_colours()
+
+
+def vim_colours() -> None:
+    vim = shutil.which("vim")
+    if vim is None:
+        print("left out the colours of vim: there is no vim")
+        return
+    with tempfile.TemporaryDirectory() as name, case("vim has colours, set up as in docs/EDITORS.md"):
+        folder = Path(name)
+        (folder / ".vim" / "syntax").mkdir(parents=True)
+        shutil.copy(EDITORS / "ttcn.vim", folder / ".vim" / "syntax")
+        (folder / ".vimrc").write_text(setup_of("Vim"), encoding="utf-8")
+        line = 'testcase t() /* in */ { p.send(charstring:"a ""in"" b"); }'
+        (folder / "one.ttcn").write_text(line + "\n", encoding="utf-8")
+        looks = "synIDattr(synID(1, match(getline(1), v:val) + 1, 1), 'name')"
+        places = ["testcase", " t()", "in", "send", "charstring", "b", "}"]
+        wanted = ["Keyword", "", "Comment", "Operation", "Type", "String", ""]
+        ask = f"call writefile([json_encode(map({json.dumps(places)}, {json.dumps(looks)}))], 'found')"
+        words = ("-N", "-u", ".vimrc", "-n", "-es", "-c", "edit one.ttcn", "-c", ask, "-c", "qall!")
+        run(vim, *words, folder=folder, more={"HOME": name, "LC_ALL": "C.UTF-8"})
+        found = json.loads((folder / "found").read_text(encoding="utf-8"))
+        must_be(found, [it and f"ttcn{it}" for it in wanted])
 
 
 if __name__ == "__main__":
