@@ -79,6 +79,13 @@ CONTRASTS = """(() => {
 SHOWN = "[...document.querySelectorAll('.row')].filter((row) => !row.hidden)"
 IN_SIGHT = ("((box) => 0 <= box.top && box.top < innerHeight)"
             "(document.querySelector('.row[open] summary').getBoundingClientRect())")
+# Of which rows a cell begins, in the same line, before the one at its left has ended with some room behind it.
+TOUCHING = """rows.filter((row) => {
+  const cells = [...row.querySelectorAll('summary span')].map((it) => it.getBoundingClientRect());
+  const touch = (one, other) => one.left < other.left && one.right + 4 > other.left && one.top < other.bottom
+    && other.top < one.bottom;
+  return cells.some((one) => cells.some((other) => touch(one, other)));
+}).map((row) => row.dataset.state)"""
 RACES = "each/races.ttcn"
 
 
@@ -279,6 +286,7 @@ class Pages:
             ask("rows.forEach((row) => { row.open = true; })")
             browser.look(width, 800, scheme)
             self.case(f"{scheme}, {width} wide: no wider", ask("document.documentElement.scrollWidth <= innerWidth"), True)
+            self.case(f"{scheme}, {width} wide: no cells touch", ask(TOUCHING), [])
             worst = ask(CONTRASTS)[0]
             self.case(f"{scheme}, {width} wide: contrast", worst[0] >= LEAST_CONTRAST or worst, True)
             browser.picture(os.path.join(self.folder, f"suite_{scheme}_{width}.png"))

@@ -9,7 +9,7 @@ pages() {
         leave_out "charts and suites as pages, because there is no chromium"
         return
     fi
-    at_least 78 cases_of_pages
+    at_least 82 cases_of_pages
     if ((status != 0)) || [[ -s $room/said ]]; then
         echo "FAILED: pages: the status was $status"
         tail -n 5 -- "$room/said"
