@@ -300,6 +300,13 @@ def verdicts_and_runs() -> None:
             must_be([client.end(), written.parent.exists()], [0, False])
 
 
+    with Client(PROGRAM, can={}) as client, case("where the runs are, for a client that can't show a document"):
+        client.open(RACE)
+        shown = client.ask("workspace/executeCommand", command)
+        told = client.notice("window/showMessage")["params"]["message"]
+        must_be(told, f"The runs are in {shown['uri'].removeprefix('file://')}.")
+
+
 def programs_that_take_long() -> None:
     with tempfile.TemporaryDirectory() as folder:
         slow, started = Path(folder) / "slow", Path(folder) / "started"

@@ -312,6 +312,8 @@ class Server:
         uri = path.as_uri()
         if self._client_can("window", "showDocument", "support"):
             self.client.request("window/showDocument", {"uri": uri, "takeFocus": True})
+        else:
+            self.client.notify("window/showMessage", {"type": 3, "message": f"The runs are in {path}."})
         for held in [it for it in document.held if it.wants == "runs"]:
             document.held.remove(held)
             self.client.answer(held.number, {"uri": uri, "text": text})
