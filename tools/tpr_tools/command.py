@@ -9,7 +9,7 @@ import gc
 import os
 import re
 import sys
-from typing import TYPE_CHECKING, Callable, NoReturn, Optional, Sequence, TypeVar
+from typing import TYPE_CHECKING, Callable, NoReturn, Optional, Sequence, TypeVar, Union
 
 if TYPE_CHECKING:
     from .report.report import NotAReport, Report
@@ -159,10 +159,10 @@ def say(text: str) -> None:
         pass
 
 
-def write_file(file: str, text: str) -> None:
+def write_file(file: str, text: Union[str, bytes]) -> None:
     try:
-        with open(file, "w", encoding="utf-8", newline="\n") as opened:
-            opened.write(text)
+        with open(file, "wb") as opened:
+            opened.write(text if isinstance(text, bytes) else text.encode())
     except OSError as error:
         raise Stop(NOT_WRITTEN, f"{file} can't be written: {error.strerror}") from None
 

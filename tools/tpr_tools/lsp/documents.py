@@ -6,7 +6,7 @@ from dataclasses import dataclass, field
 from typing import Optional, Union
 from urllib.parse import unquote, urlsplit
 
-from ..explore.answers import read_answer
+from ..explore.answers import first_line, read_answer
 from .diagnostics import Found
 from .frames import Json
 from .jobs import Job
@@ -100,5 +100,4 @@ def verdict_told(printed: str, why: str) -> str:
         return f"no verdicts: {printed.partition(chr(10))[0] or why}"
     if not answer.decided:
         return f"undecided after {answer.states:,} states"
-    told = " or ".join(answer.verdicts)
-    return f"always {told}" if len(answer.verdicts) == 1 else f"{told}: show where the runs diverge"
+    return first_line(answer) + (": show where the runs diverge" if len(answer.verdicts) > 1 else "")

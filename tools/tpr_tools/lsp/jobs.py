@@ -1,11 +1,11 @@
 """Programs in the background, each of which is ended by the next change of the text that it was given."""
 from __future__ import annotations
 
-import os
-import signal
 import subprocess
 import threading
 from typing import Callable, Optional, Sequence
+
+from ..program import kill_session
 
 
 class Job:
@@ -24,10 +24,7 @@ class Job:
         with self._lock:
             self._is_cancelled = True
             if self._process is not None and self._process.returncode is None:
-                try:
-                    os.killpg(self._process.pid, signal.SIGKILL)
-                except (ProcessLookupError, PermissionError):
-                    pass
+                kill_session(self._process)
 
     def _work(self, data: bytes, seconds: Optional[float], post: Callable[[Job], None]) -> None:
         try:

@@ -8,7 +8,7 @@ from typing import Optional
 
 from ..chart.sequence import Marks, sequence_of
 from ..chart.svg import svg_of
-from ..command import NOT_WRITTEN, Stop
+from ..command import NOT_WRITTEN, Stop, write_file
 from ..report.order import NoOrderFound
 from .judging import Judged
 from .runs import Printed
@@ -32,7 +32,7 @@ def prepare(folders: list[str]) -> None:
             for name in os.listdir(folder):
                 if _OWN.fullmatch(name):
                     os.remove(os.path.join(folder, name))
-            write(os.path.join(folder, "run0.is.said"), b"")
+            write_file(os.path.join(folder, "run0.is.said"), b"")
             os.remove(os.path.join(folder, "run0.is.said"))
         except OSError as error:
             raise Stop(NOT_WRITTEN, f"{folder} can't be made or written to: {error.strerror}") from None
@@ -52,7 +52,7 @@ def keep(
     if run.said:
         files[f"{base}.said"] = run.said
     for file, data in files.items():
-        write(file, data)
+        write_file(file, data)
     return tuple(files)
 
 
@@ -63,11 +63,3 @@ def drop(files: tuple[str, ...]) -> None:
             os.remove(file)
         except OSError:
             pass
-
-
-def write(file: str, data: bytes) -> None:
-    try:
-        with open(file, "wb") as opened:
-            opened.write(data)
-    except OSError as error:
-        raise Stop(NOT_WRITTEN, f"{file} can't be written: {error.strerror}") from None

@@ -9,7 +9,7 @@ from typing import Callable, Iterable, NamedTuple, Optional
 from ..chart.connections import connections_of
 from ..chart.line_marks import LineMarks
 from ..chart.sequence import Marks
-from ..command import Stop, read_bytes
+from ..command import Stop, read_bytes, write_file
 from ..explore.answers import Answer
 from ..explore.exploration import Exploration
 from ..explore.exploration_text import text_of_partings
@@ -23,7 +23,7 @@ from ..why.annotated import Done
 from ..why.beside import case_of, ways_of
 from ..why.walk import Walk
 from .judging import Judged
-from .kept import CONNECTIONS, DIVERGING, write
+from .kept import CONNECTIONS, DIVERGING
 from .schedule import Schedule
 
 
@@ -128,7 +128,7 @@ class Drawer:
 
     def draw_connections(self) -> None:
         if self.case is not None:
-            write(os.path.join(self.folder, CONNECTIONS), connections_of(self.case).encode())
+            write_file(os.path.join(self.folder, CONNECTIONS), connections_of(self.case))
             self.pictures.connections = True
 
     def draw_diverging(self, answer: Answer) -> None:
@@ -140,7 +140,7 @@ class Drawer:
         self.pictures.where = text_of_partings(partings, origins).strip("\n")
         if partings:
             picture = picture_of(os.path.basename(self.script), partings, origins)
-            write(os.path.join(self.folder, DIVERGING), picture.encode())
+            write_file(os.path.join(self.folder, DIVERGING), picture)
             self.pictures.diverging = True
         for shown in exploration.all_shown():
             if shown.told is not None and not shown.fault and self.case is not None:
