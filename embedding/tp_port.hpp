@@ -155,6 +155,7 @@ public:
     bool empty() const noexcept { return size() == 0; }
 
     // What is queued, the oldest first: `for (const auto &queued : port) use(queued.message);`
+    // In C++20 a port is a `std::ranges::input_range`.
     class Iterator {
     public:
         using iterator_category = std::input_iterator_tag;
@@ -163,6 +164,7 @@ public:
         using pointer = void;
         using reference = Queued<Message>;
 
+        Iterator() noexcept : Iterator(nullptr, 0) {} // of no port: only to be assigned to
         Iterator(const Port *port, std::uint64_t place) noexcept : port_(port), place_(place) {}
 
         Queued<Message> operator*() const {

@@ -1,7 +1,11 @@
 // tp::Port: every operation, and that each message is destroyed once.
 #include "tp_port.hpp"
 
+#include <algorithm>
 #include <cstdio>
+#if __cplusplus >= 202002L
+#include <ranges>
+#endif
 #include <stdexcept>
 #include <string>
 #include <vector>
@@ -63,6 +67,20 @@ static void emptying() {
     MUST(port.status() == tp::Status::stopped && !port.receive() && port.size() == 1 && port.begin() != port.end());
 }
 
+static void looking() {
+    tp::Port<Order> port;
+    port.emplace(1, 0, "soup");
+    port.emplace(2, 1, "bread");
+    port.emplace(2, 2, "cake");
+    const auto is_of_2 = [](const auto &queued) { return queued.sender == 2; };
+    MUST(std::count_if(port.begin(), port.end(), is_of_2) == 2);
+    MUST((*std::find_if(port.begin(), port.end(), is_of_2)).message.dish == "bread");
+#if __cplusplus >= 202002L
+    static_assert(std::ranges::input_range<const tp::Port<Order>>);
+    MUST(std::ranges::count_if(port, is_of_2) == 2);
+#endif
+}
+
 static void moving() {
     tp::Port<Order> first;
     first.emplace(1, 0, "soup");
@@ -93,6 +111,8 @@ int main() {
     receiving();
     MUST(alive == 0);
     emptying();
+    MUST(alive == 0);
+    looking();
     MUST(alive == 0);
     moving();
     MUST(alive == 0);
