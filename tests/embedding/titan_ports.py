@@ -10,7 +10,8 @@ does.
     tests/embedding/titan_ports.py PORT FOLDER [NAME..]
 
 PORT is a folder that `embedding/build` has made, all is built into the FOLDER, and NAME is a script to try in place of
-all. It prints a line `passed NAME`, `left out NAME: WHY` or `FAILED: NAME: WHY` for each script.
+all. TTCN3_DIR names the folder of a Titan that isn't below /usr. It prints a line `passed NAME`, `left out NAME: WHY` or
+`FAILED: NAME: WHY` for each script.
 """
 from __future__ import annotations
 
@@ -28,8 +29,8 @@ sys.dont_write_bytecode = True
 
 ROOT = Path(__file__).resolve().parents[2]
 NEEDS = ("compiler", "mctr_cli", "g++")
-HEADERS = Path("/usr/include/titan")
-LIBRARIES = "/usr/lib/titan"
+TITAN = Path(os.environ.get("TTCN3_DIR", "/usr"))  # as Debian's package lays it out
+HEADERS, LIBRARIES = TITAN / "include" / "titan", TITAN / "lib" / "titan"
 RUN = ROOT / "bench" / "running" / "titan"
 SECONDS_OF_A_CASE, SECONDS_OF_WAITING = 60, 5
 MOST_SECONDS = 900
