@@ -12,10 +12,10 @@
  *
  *   tp_port port;
  *   tp_port_init(&port);
- *   tp_port_arrive(&port, sender, 0, message);
+ *   if (!tp_port_arrive(&port, sender, 0, message)) refuse(message);
  *   tp_answer top = tp_port_check(&port, false, 0, true);
  *   if (top.outcome == TP_FOUND && wants(top.message))
- *       tp_port_receive(&port, false, 0, true);
+ *       serve(tp_port_receive(&port, false, 0, true).message);
  *   tp_port_drop(&port);
  *
  * Messages. A message is 64 bits that the port keeps and gives back: an index, a handle, or an
@@ -33,6 +33,7 @@
  *
  * Undefined behaviour, in every function that takes a port: an address that is null or at which no
  * port is; a port that another call uses at the same time; a port whose bytes the caller changed.
+ * `tp_port_init` alone needs no port there, but memory of the size and the alignment of a `tp_port`.
  *
  * The functions are proved to do what their contracts say (crates/tp_c). This header, and that the
  * caller keeps the conditions above, is not: docs/EMBEDDING.md says what is trusted.
@@ -91,8 +92,8 @@ size_t tp_port_size(void);
 /* The address of a port is a multiple of this many bytes: at most `_Alignof(tp_port)`. */
 size_t tp_port_align(void);
 
-/* Makes a started port with nothing queued in the memory at `port`, whatever is there. Asks for no
- * memory. Every port ends with `tp_port_drop`. */
+/* Makes a started port with nothing queued in the memory at `port`, whatever is there: if a port is
+ * there, its memory leaks. Asks for no memory. Every port ends with `tp_port_drop`. */
 void tp_port_init(tp_port *port);
 
 /* Frees the memory of the queue, and forgets the messages. There is no port at the address from then

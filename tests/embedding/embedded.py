@@ -29,6 +29,11 @@ ADDRESSES = ("-g", "-O1", "-fsanitize=address,undefined", "-fno-sanitize-recover
 THREADS = ("-g", "-O1", "-fsanitize=thread", "-pthread")
 VALGRIND = ("valgrind", "-q", "--leak-check=full", "--errors-for-leak-kinds=all", "--error-exitcode=9")
 WRAPPED = ("-Wl,--wrap=malloc", "-Wl,--wrap=realloc")
+# How the example of each header begins, what is before each of its lines, and the file that a program includes.
+EXAMPLES = {
+    "tp_port.h": ("tp_port port;", " *   ", "example_of_c.inc"),
+    "tp_port.hpp": ("tp::Port<", "//     ", "example_of_cpp.inc"),
+}
 SEEDS = tuple(str(seed) for seed in range(1, 6))
 MOST_SECONDS = 120
 
@@ -47,6 +52,8 @@ class Build:
 PLAIN = (
     Build("sizes and numbers", "layout.c"),
     Build("each function", "calls.c"),
+    Build("the example of tp_port.h", "example.c"),
+    Build("the example of tp_port.hpp", "example.cpp"),
     Build("memory that is refused", "refused_memory.c", ("-O2", *WARNINGS, *WRAPPED)),
     Build("tp::Port", "owning.cpp"),
     Build("tp::Port in C++20", "owning.cpp", ("-O2", "-std=c++20", *WARNINGS)),
@@ -97,7 +104,7 @@ class Room:
         is_c = build.source.endswith(".c")
         made = re.sub(r"\W+", "_", f"{compilers[0]} {build.name}")
         words = [compilers[0], "-std=c11", "-D_GNU_SOURCE"] if is_c else [compilers[1], "-std=c++17"]
-        words += [*build.flags, f"-I{self.port}/include", f"-I{PROGRAMS}", str(PROGRAMS / build.source)]
+        words += [*build.flags, f"-I{self.port}/include", f"-I{PROGRAMS}", "-I.", str(PROGRAMS / build.source)]
         status, said = self.run([*words, f"{self.port}/lib/libtp_port.a", "-o", made])
         return made, said[:2000] if status else None
 
@@ -141,6 +148,15 @@ def try_compilers(room: Room, compilers: tuple[str, str]) -> None:
             room.tell(f"{build.name}, {compilers[0]}", room.wrong(compilers, build))
         if builds is OF_THREADS:
             room.tell(f"{RACE.name}, {compilers[0]}", room.tells_race(compilers))
+
+
+def write_examples(room: Room) -> None:
+    """The example at the head of each header, for the program that has it within."""
+    for header, (start, prefix, name) in EXAMPLES.items():
+        lines = (room.port / "include" / header).read_text(encoding="utf-8").splitlines()
+        shown = [it[len(prefix) :] for it in lines if it.startswith(prefix)]
+        whole = shown[shown.index(next(it for it in shown if it.startswith(start))) :]
+        (room.folder / name).write_text("\n".join(whole) + "\n", encoding="utf-8")
 
 
 def links_into_a_shared_library(room: Room, compilers: tuple[str, str]) -> Optional[str]:
@@ -188,6 +204,7 @@ def main() -> int:
     words.add_argument("folder", metavar="FOLDER", type=Path)
     asked = words.parse_args()
     room = Room(asked.port.resolve(), asked.folder.resolve())
+    write_examples(room)
     for compilers in COMPILERS:
         if all(shutil.which(it) for it in compilers):
             try_compilers(room, compilers)
