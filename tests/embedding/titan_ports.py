@@ -18,6 +18,7 @@ from __future__ import annotations
 import argparse
 import os
 import re
+import shlex
 import shutil
 import subprocess
 import sys
@@ -32,6 +33,8 @@ NEEDS = ("compiler", "mctr_cli", "g++")
 TITAN = Path(os.environ.get("TTCN3_DIR", "/usr"))  # as Debian's package lays it out
 HEADERS, LIBRARIES = TITAN / "include" / "titan", TITAN / "lib" / "titan"
 RUN = ROOT / "bench" / "running" / "titan"
+PAGE = ROOT / "docs" / "EMBEDDING.md"
+KITCHEN = ROOT / "examples" / "closed_counter_serves_no_order.ttcn"  # the script of the page
 SECONDS_OF_A_CASE, SECONDS_OF_WAITING = 60, 5
 MOST_SECONDS = 900
 OF_TITAN = ("-lcrypto", "-lxml2", "-ldl", "-lpthread", "-lrt")
@@ -241,6 +244,29 @@ def try_scripts(room: Room, scripts: list[Script]) -> int:
     return failed + sum(tell(room, some, mode) for some, mode in modes)
 
 
+def wrong_page(room: Room) -> str:
+    """What is wrong with the commands of docs/EMBEDDING.md, which compile and link the script of the README."""
+    folder = room.folder / "page"
+    folder.mkdir()
+    shutil.copyfile(KITCHEN, folder / "Kitchen.ttcn")
+    (folder / "tools").symlink_to(ROOT / "tools")
+    shown = re.search(r"^    compiler Kitchen\.ttcn\n(?:    .*\n)+", PAGE.read_text(encoding="utf-8"), re.M)
+    commands = shown[0].replace("/usr/include/titan", str(HEADERS)) if shown else "false"
+    found = f"PKG_CONFIG_PATH={shlex.quote(str(room.port))}/lib/pkgconfig\nexport PKG_CONFIG_PATH\n"
+    status, said = run(["sh", "-e", "-c", found + commands.replace("/usr/lib/titan", str(LIBRARIES))], folder)
+    return "" if status == 0 and (folder / "kitchen").exists() else f"status {status}: {said[-500:]}"
+
+
+def try_page(room: Room) -> int:
+    """Carries out the commands of the page, tells what came of it, and returns how many cases failed."""
+    if not shutil.which("pkg-config"):
+        print("left out the commands of docs/EMBEDDING.md for Titan, because there is no pkg-config", flush=True)
+        return 0
+    wrong = wrong_page(room)
+    print(f"FAILED: the commands of the page: {wrong}" if wrong else "passed the commands of the page", flush=True)
+    return 1 if wrong else 0
+
+
 def tell(room: Room, scripts: list[Script], mode: str) -> int:
     """Runs them with both queues, tells what came of each test case, and returns how many failed."""
     found = {which: room.verdicts(scripts, which, mode) for which in (OWN, OURS)}
@@ -265,7 +291,8 @@ def main() -> int:
         print(f"left out the scripts by Titan, because there is no {missing[0]}")
         return 0
     room = Room(asked.port.resolve(), asked.folder.resolve())
-    return 1 if try_scripts(room, scripts_of(asked.names)) else 0
+    failed = try_scripts(room, scripts_of(asked.names)) + (0 if asked.names else try_page(room))
+    return 1 if failed else 0
 
 
 if __name__ == "__main__":
