@@ -246,11 +246,11 @@ def archive_is_used(tree: Tree) -> None:
 # The library for C and C++
 
 
-def uses_library(tree: Tree, name: str, *words: str, more: Optional[dict[str, str]] = None) -> None:
-    """A program in C is linked with the library by these words, or those that pkg-config gives, and runs."""
-    program = ROOT / "tests" / "embedding" / "programs" / "calls.c"
+def uses_library(tree: Tree, name: str, example: Path, *words: str, more: Optional[dict[str, str]] = None) -> None:
+    """The example in C is linked with the library by these words, or those that pkg-config gives, and runs."""
     with case(name):
-        run("sh", "-c", f"{' '.join(words)} -o calls && ./calls", program, folder=tree.room, more=more).must_print("")
+        ran = run("sh", "-c", f"{' '.join(words)} -o soup && ./soup", example, folder=tree.room, more=more)
+        ran.must_print("soup of the day\n")
 
 
 def library_is_used(tree: Tree) -> None:
@@ -259,14 +259,17 @@ def library_is_used(tree: Tree) -> None:
         return
     port, root = tree.room / "port" / f"tpr-{tree.version}" / "port", tree.room / "library"
     shutil.unpack_archive(tree.made("made").archive, port.parent.parent, "gztar")
-    uses_library(tree, "the library that is unpacked", f'cc "$0" -I{port}/include {port}/lib/libtp_port.a')
+    example = port / "examples" / "soup.c"
+    uses_library(tree, "the library that is unpacked", example, f'cc "$0" -I{port}/include {port}/lib/libtp_port.a')
     if shutil.which("pkg-config"):
         more = {"PKG_CONFIG_PATH": f"{port}/lib/pkgconfig"}
-        uses_library(tree, "the same by pkg-config", 'cc "$0" $(pkg-config --cflags --libs tp_port)', more=more)
+        by_name = 'cc "$0" $(pkg-config --cflags --libs tp_port)'
+        uses_library(tree, "the same by pkg-config", example, by_name, more=more)
     if shutil.which("dpkg-deb"):
         run("dpkg-deb", "-x", tree.made("made").library, root).must_end(0)
         there = f"-I{root}/usr/include {root}/usr/lib/x86_64-linux-gnu/libtp_port.a"
-        uses_library(tree, "the library of the package", f'cc "$0" {there}')
+        example = root / "usr" / "share" / "doc" / "libtp-port-dev" / "examples" / "soup.c"
+        uses_library(tree, "the library of the package", example, f'cc "$0" {there}')
 
 
 # The manual page

@@ -11,7 +11,7 @@ from typing import NamedTuple, Optional
 from tool_calls import ROOT, Ended, run
 from rule_cases import must
 
-HEADERS = ("embedding/tp_port.h", "embedding/tp_port.hpp")
+OF_THE_LIBRARY = tuple(f"embedding/{it}" for it in ("tp_port.h", "tp_port.hpp", "soup.c", "soup.cpp"))
 # The library where none is given: the releases are looked at, and no program is linked with it.
 STAND_IN = b"!<arch>\n"
 PLACES = ("CHANGELOG.md", "LICENSE", "README.md", "VERSION", "docs", "examples", "tools")
@@ -62,8 +62,8 @@ class Tree:
             else:
                 shutil.copy2(ROOT / place, self.folder / place)
         (self.folder / "embedding").mkdir()
-        for header in HEADERS:
-            shutil.copy2(ROOT / header, self.folder / header)
+        for file in OF_THE_LIBRARY:
+            shutil.copy2(ROOT / file, self.folder / file)
 
     def release_changes(self) -> None:
         """As in the commit of a release, CHANGELOG.md has no changes that are not released."""
@@ -162,6 +162,8 @@ LIBRARY_PLACES = {
     "port/include/tp_port.hpp": "usr/include/tp_port.hpp",
     "port/lib/libtp_port.a": "usr/lib/x86_64-linux-gnu/libtp_port.a",
     "port/lib/pkgconfig/tp_port.pc": "usr/lib/x86_64-linux-gnu/pkgconfig/tp_port.pc",
+    "port/examples/soup.c": "usr/share/doc/libtp-port-dev/examples/soup.c",
+    "port/examples/soup.cpp": "usr/share/doc/libtp-port-dev/examples/soup.cpp",
 }
 
 

@@ -13,7 +13,7 @@ from datetime import datetime, timezone
 from ..command import NOT_BUILT, REFUSED, Stop, with_installed_names
 
 from .archives import ar_of, gzip_of, tar_of
-from .port_library import LIBRARY, PKG_CONFIG, below_usr
+from .port_library import EXAMPLES, LIBRARY, PKG_CONFIG, below_usr
 from .tree import MANUAL, PROGRAMS, Entry, Release
 
 _HOME = "usr/lib/tpr"
@@ -199,6 +199,7 @@ def _placed_library(release: Release) -> list[Entry]:
     facts = {"package": "libtp-port-dev", "version": release.version, "maintainer": release.maintainer}
     docs = f"usr/share/doc/{facts['package']}"
     places = {LIBRARY: f"{_LIBRARIES}/libtp_port.a", PKG_CONFIG: f"{_LIBRARIES}/pkgconfig/tp_port.pc"}
+    places.update((it, f"{docs}/{it}") for it in EXAMPLES)
     entries = [replace(it, path=places.get(it.path, f"usr/{it.path}")) for it in release.library]
     found = below_usr(release.version, _LIBRARIES).encode()
     entries = [replace(it, data=found) if it.path == places[PKG_CONFIG] else it for it in entries]

@@ -6,6 +6,8 @@ LIBRARY = "lib/libtp_port.a"
 PKG_CONFIG = "lib/pkgconfig/tp_port.pc"
 # The headers, each with its file of the repository.
 HEADERS = {"include/tp_port.h": "embedding/tp_port.h", "include/tp_port.hpp": "embedding/tp_port.hpp"}
+# The same of the programs that docs/EMBEDDING.md shows.
+EXAMPLES = {"examples/soup.c": "embedding/soup.c", "examples/soup.cpp": "embedding/soup.cpp"}
 
 _PKG_CONFIG = """\
 prefix={prefix}

@@ -10,7 +10,7 @@ from ..command import REFUSED, Stop
 from ..version import has_later_changes, is_number, newest_in
 
 from .gate import git
-from .port_library import HEADERS, LIBRARY, PKG_CONFIG, below_its_folder
+from .port_library import EXAMPLES, HEADERS, LIBRARY, PKG_CONFIG, below_its_folder
 
 # What of the repository is handed out, and what of that isn't: it is for whoever changes tpr.
 _PLACES = ("CHANGELOG.md", "LICENSE", "README.md", "VERSION", "docs", "examples", "tools")
@@ -60,8 +60,8 @@ def release_of(root: str, programs: tuple[bytes, ...], library: bytes, said: str
 
 
 def _library(root: str, library: bytes, version: str) -> tuple[Entry, ...]:
-    headers = [Entry(place, bytes_of(f"{root}/{file}")) for place, file in HEADERS.items()]
-    return (*headers, Entry(LIBRARY, library), Entry(PKG_CONFIG, below_its_folder(version).encode()))
+    texts = [Entry(place, bytes_of(f"{root}/{file}")) for place, file in {**HEADERS, **EXAMPLES}.items()]
+    return (*texts, Entry(LIBRARY, library), Entry(PKG_CONFIG, below_its_folder(version).encode()))
 
 
 def _entry(root: str, path: str) -> Entry:
