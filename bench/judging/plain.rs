@@ -247,7 +247,7 @@ impl<'t> Judge<'t> {
         places
     }
 
-    /// The routes both ends of which have a section.
+    /// The routes whose ends both have a section.
     fn joined(&self) -> impl Iterator<Item = &Route> {
         self.routes.iter().filter(|route| self.is_joined(route))
     }

@@ -1,15 +1,18 @@
 #!/usr/bin/env python3
-"""Whether the documents keep the style of docs/DEVELOPING.md ("How we write").
+"""Whether the documents and the sources keep the style of docs/DEVELOPING.md ("How we write").
 
     document_style.py [FILE..]
 
-Without a FILE it looks at all documents. For each it prints a line `passed ..`, or lines `FAILED: ..`, by these rules:
+Without a FILE it looks at all documents and sources. It prints a line `passed ..` for each document and for all sources
+of a folder, or lines `FAILED: ..`, by these rules:
 
 - no document has a phrase of the table below: each stands beside what to write instead. Blocks of code may have it,
   since they show what a program prints;
+- no source has such a phrase: neither a comment, nor what a tool, `build`, `test`, `try` or a test prints. Only the
+  statements in `crates/*/specs/` are left out, since each change there costs a proof;
 - no sentence of README.md has more than 30 words, or begins with Who, What, Of or That. A question may begin with What.
 
-Before that it looks whether it finds each phrase, and each fault of a sentence, in texts of its own.
+Before that it checks that it finds each phrase, and each fault of a sentence, in texts of its own.
 """
 from __future__ import annotations
 
@@ -17,13 +20,15 @@ import argparse
 import os
 import re
 import sys
-from collections.abc import Iterator
+from collections.abc import Container, Iterator
 from pathlib import Path
 
-from document_names import find_documents, text_of
+from document_names import SOURCES, files_below, find_documents, text_of
 
 ROOT = Path(__file__).resolve().parents[2]
 README = "README.md"
+# These have the phrases on purpose.
+SHOWING_PHRASES = frozenset(("tests/documents/document_style.py", "tests/gate/parts"))
 MOST_WORDS_OF_A_SENTENCE = 30
 NO_BEGINNINGS = ("who", "what", "of", "that")
 
@@ -79,6 +84,8 @@ TRIED = (
     ("    What a program prints\n\n| Of | a table |\n", ""),
 )
 
+_MARKS_OF_COMMENTS = re.compile(r"^ *(?://[/!]?|\(\*|#+!?|\*)(?= |$)", re.MULTILINE)
+_QUOTED_END = re.compile(r"[\"'] *\n *[bfr]*[\"']")
 _FENCED = re.compile(r"^ *```.*?^ *```$", re.DOTALL | re.MULTILINE)
 _INDENTED = re.compile(r"^ {4}.*$", re.MULTILINE)
 _TARGET = re.compile(r"\]\([^)\s]*\)")
@@ -93,9 +100,14 @@ def prose_of(text: str) -> str:
     return _TARGET.sub("]", _INDENTED.sub("", _FENCED.sub("", text)))
 
 
-def found_phrases(text: str) -> Iterator[str]:
-    """What is wrong with the words of a document."""
-    words = " ".join(re.sub(r"[`*_\[\]]", "", prose_of(text)).lower().split())
+def prose_of_source(text: str) -> str:
+    """A source in which a sentence runs on over the lines of a comment, or of a text in several pieces."""
+    return _QUOTED_END.sub("", _MARKS_OF_COMMENTS.sub("", text))
+
+
+def found_phrases(prose: str) -> Iterator[str]:
+    """What is wrong with the words of a document, or of a source."""
+    words = " ".join(re.sub(r"[`*_\[\]]", "", prose).lower().split())
     for phrase, instead in INSTEAD.items():
         if phrase in words:
             yield f'it says "{phrase}": write "{instead}"'
@@ -120,9 +132,19 @@ def wrong_sentences(text: str) -> Iterator[str]:
             yield f'the sentence "{begin} .." begins with {words[0]}'
 
 
+def is_found(phrase: str) -> bool:
+    """Whether the phrase is found in a document, in a comment of each kind, and in what a tool prints."""
+    document = prose_of(f"Here\n**{phrase}** it is.\n\n    {phrase}\n")
+    first, _, last = phrase.partition(" ")
+    sources = (f"{mark} Here {first}\n    {mark} {last} it is\n" for mark in ("///", "//!", "#", " *"))
+    printed = f'say(\n    f"here {first} "\n    "{last} it is"\n)\n'
+    texts = [document, *map(prose_of_source, (*sources, printed))]
+    return all(len([*found_phrases(text)]) == 1 for text in texts)
+
+
 def tell_finding() -> bool:
     """Whether each phrase and each fault of a sentence is found."""
-    lost = [phrase for phrase in INSTEAD if len([*found_phrases(f"Here\n**{phrase}** it is.\n\n    {phrase}\n")]) != 1]
+    lost = [phrase for phrase in INSTEAD if not is_found(phrase)]
     for text, wrong in TRIED:
         found = " ".join(wrong_sentences(text))
         if (wrong not in found) if wrong else found:
@@ -134,22 +156,45 @@ def tell_finding() -> bool:
     return not lost
 
 
+def tell_faults(path: str, faults: list[str]) -> bool:
+    """Whether there are none."""
+    for it in faults:
+        print(f"FAILED: {path}: {it}")
+    return not faults
+
+
+def is_document_well(path: str) -> bool:
+    text = text_of(path)
+    faults = [*found_phrases(prose_of(text)), *(wrong_sentences(text) if path == README else ())]
+    if not faults:
+        print(f"passed {path}, its style")
+    return tell_faults(path, faults)
+
+
+def is_source(path: str) -> bool:
+    """Whether the file is held to the style."""
+    return path not in SHOWING_PHRASES and not path.endswith(".antt")
+
+
+def are_sources_well(place: str, documents: Container[str]) -> bool:
+    """Whether the sources at and below this place have no phrase of the table."""
+    paths = [path for path in files_below(place) if is_source(path) and path not in documents]
+    is_well = all([tell_faults(path, [*found_phrases(prose_of_source(text_of(path)))]) for path in paths])
+    if is_well:
+        print(f"passed {place}, the style of its sources")
+    return is_well
+
+
 def main() -> int:
-    words = argparse.ArgumentParser(description="Whether the documents keep their style.")
-    words.add_argument("files", metavar="FILE", nargs="*", help="a document; all where none is given")
+    words = argparse.ArgumentParser(description="Whether the documents and the sources keep their style.")
+    words.add_argument("files", metavar="FILE", nargs="*", help="a document; without it all documents and all sources")
     os.chdir(ROOT)
     documents = find_documents()
     files = words.parse_args().files
-    is_well = tell_finding()
-    for path in files or documents:
-        text = text_of(path)
-        wrong = [*found_phrases(text), *(wrong_sentences(text) if path == README else ())]
-        for it in wrong:
-            print(f"FAILED: {path}: {it}")
-        if not wrong:
-            print(f"passed {path}, its style")
-        is_well = is_well and not wrong
-    return 0 if is_well else 1
+    are_well = [tell_finding(), *map(is_document_well, files or documents)]
+    if not files:
+        are_well += [are_sources_well(place, documents) for place in SOURCES]
+    return 0 if all(are_well) else 1
 
 
 if __name__ == "__main__":

@@ -6,7 +6,7 @@ documents() {
     at_least 82 told "$room/word_lists" tests/documents/word_lists.py
 }
 
-# How the documents are written.
+# How the documents and the sources are written.
 style() {
     told "$room/style" tests/documents/document_style.py
 }

@@ -3,7 +3,7 @@
 belongs.
 
     word_lists.py               a line `passed ..` or `FAILED: ..` for each list
-    word_lists.py NEW [OLD]     the places that name fellows of the OLD word (`halt`) and not the NEW one
+    word_lists.py NEW [OLD]     the places that name words related to the OLD word (`halt`), but not the NEW one
 
 What there is, the sources say. A list is a row of words with nothing but marks, `and` and `or` between them, or lines
 of one form with one of the words in each. Somebody who adds the port operation `flush` calls the second form with that
@@ -162,7 +162,8 @@ def told(family: Family, place: Place) -> str:
 
 
 def roots_beside(old: str) -> tuple[dict[str, str], int]:
-    """The fellows of a word, the line of an operation as that operation; and how many are near each other in a place."""
+    """The words related to a word, the line of an operation as that operation; and how many must be near each other in
+    a place."""
     operations, lines, *others = families()
     if old in operations.words | lines.words:
         roots = {line: word for line in lines.words for word in operations.words if line.startswith(word)}
@@ -188,7 +189,7 @@ def tell_places(new: str, old: str) -> int:
     """A line for each place, and last how many there are."""
     roots, least = roots_beside(old)
     if not roots:
-        print(f"word_lists.py: {old} is no word of a list", file=sys.stderr)
+        print(f"word_lists.py: {old} isn't a word of any list", file=sys.stderr)
         return 4
     found = 0
     for path, text in texts():
@@ -204,8 +205,8 @@ def tell_places(new: str, old: str) -> int:
 
 def main() -> int:
     words = argparse.ArgumentParser(description="Whether each list has all words, or where a new word belongs.")
-    words.add_argument("new", metavar="NEW", nargs="?", help="a new word: print where fellows of OLD stand without it")
-    words.add_argument("old", metavar="OLD", nargs="?", default="halt", help="a word of a list; halt where none is given")
+    words.add_argument("new", metavar="NEW", nargs="?", help="a new word: print places that lack it")
+    words.add_argument("old", metavar="OLD", nargs="?", default="halt", help="a related word of a list (default: halt)")
     given = words.parse_args()
     os.chdir(ROOT)
     if given.new is not None:

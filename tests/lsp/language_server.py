@@ -118,9 +118,8 @@ def full_language() -> None:
             found = client.diagnostics(4)
             told = {it["message"].split("\n")[0]: it["message"] for it in found}
             must("`log` isn't supported" in "\n".join(told), f"no log in {list(told)}")
-            must(
-                all("write instead" in it or "no replacement" in it for it in told.values()), f"nothing instead: {told}"
-            )
+            is_replaced = all("write instead" in it or "no replacement" in it for it in told.values())
+            must(is_replaced, f"a message names no replacement, and doesn't say that there is none: {told}")
             must(all("tools/rewrite carries it over" in it for it in told.values()), f"not carried over: {told}")
         with case("a hover on a construct has its clause"):
             must("ES 201 873-1, 19.11" in hover_at(client, FULL, "log"), "no clause")

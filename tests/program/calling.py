@@ -39,7 +39,7 @@ class Ended(NamedTuple):
         """What isn't as it is wanted, None where all is."""
         if self == wanted:
             return None
-        other = "" if self.status == wanted.status else f", and {wanted.status} is wanted"
+        other = "" if self.status == wanted.status else f", and {wanted.status} is expected"
         return "\n".join([
             f"status {self.status}{other}",
             *different_lines("printed", wanted.printed, self.printed),
@@ -49,7 +49,7 @@ class Ended(NamedTuple):
 
 def different_lines(what: str, wanted: bytes, found: bytes) -> list[str]:
     before, after = ([repr(line)[2:-1] for line in text.splitlines(keepends=True)] for text in (wanted, found))
-    return [*difflib.unified_diff(before, after, f"{what}, as wanted", what, lineterm="")][:MOST_LINES]
+    return [*difflib.unified_diff(before, after, f"{what}, as expected", what, lineterm="")][:MOST_LINES]
 
 
 def take_signals() -> None:

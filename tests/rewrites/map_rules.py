@@ -149,7 +149,7 @@ def raced(program: str, output: str) -> None:
     found = tool(program, "explore", output)
     told = found[found.find("lines of ") : found.find("\nNo reports: ")]
     is_so = found.startswith("pass or fail\n") and told == read(f"{FOLDER}/mapped/race.explored")
-    judged("what parts two runs, of two modules", is_so, found)
+    judged("where two runs diverge, of two modules", is_so, found)
     printed = tool(program, "explore", output, "--json")
     where = json.loads(printed)["partings"][0]["where"] if printed.startswith("{") else {}
     places = [where.get(key, {}).get("origin") for key in ("first", "second")]

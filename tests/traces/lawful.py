@@ -130,7 +130,7 @@ class Route:
 
 
 def routes_of(trace: Trace) -> list[Route]:
-    """The routes both ends of which have a section."""
+    """The routes whose ends both have a section."""
     routes: dict[tuple[bytes, bytes, bytes], Route] = {}
     for section in trace.sections.values():
         for line in section.lines:

@@ -48,7 +48,7 @@ class Cursor:
         return self.tokens[self.place].kind is Kind.END
 
     def note(self, construct: Construct, token: Token) -> None:
-        """A construct that the profile hasn't stands here."""
+        """A construct that isn't in the profile is found here."""
         self.noted.append((construct, token))
 
     def is_at(self, *words: str) -> bool:

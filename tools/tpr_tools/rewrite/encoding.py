@@ -1,12 +1,12 @@
-"""How types that the profile hasn't are told by those that it has (`--encode`), so that a value matches the same.
+"""Encodes types that aren't in the profile by types that are (`--encode`), so that each value matches as before.
 
 An enumerated type becomes a record of its value's name. A union becomes a record with a list for each alternative: the
 chosen one's has an element, and the others have none. An optional field becomes such a list, which is empty where the
 field is left out. A string of bits, hex digits or octets becomes a charstring of its digits.
 
-Each value has one form here and two values never have the same, and nothing else is ever sent. So a template matches
-the same where each matching mechanism in it goes over to one that says the same of that form; where none does, or two
-types of messages would be one, it is refused.
+Each value has one form here, no two values share a form, and only such forms are sent. Therefore a template matches as
+before if each of its matching mechanisms is replaced by one that means the same for these forms. If there is none, or if
+two types of messages would become one, the script is refused.
 """
 from __future__ import annotations
 
@@ -109,7 +109,7 @@ class Encoder:
 
 
 def _is_encoded(root: Type, above: list[Type]) -> bool:
-    """Whether the profile hasn't it, or something that it is made of."""
+    """Whether the type, or a type that it is made of, isn't in the profile."""
     if root in above:
         return False
     if root.kind in (Kind.ENUM, Kind.UNION, Kind.BITS):

@@ -1,4 +1,4 @@
-"""Lists all of a script that the profile hasn't, each with its place (`explain --every`)."""
+"""Lists everything in a script that isn't in the profile, each with its place (`explain --every`)."""
 from __future__ import annotations
 
 from dataclasses import dataclass
