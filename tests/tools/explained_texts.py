@@ -259,4 +259,33 @@ FILE:4:28: refused 11 Unknown: `C` has no port `conter` (did you mean `counter`?
   rule: the type that the body runs on has the port
 """,
     ),
+    Explained(
+        "a report in place of a script",
+        """\
+component mtc
+took p a 0 integer:1
+end done
+verdict none
+result none
+""",
+        """\
+FILE:1:1: refused 10 Syntax: this is a report of `tpr run`; a script begins with `module`
+   1 | component mtc
+     | ^^^^^^^^^
+  write instead: `tpr trace SCRIPT`, if `tpr judge` is to read it: a report has no lines `came`
+""",
+    ),
+    Explained(
+        "a trace in place of a script",
+        """\
+component mtc
+came p a 0 integer:1
+took p a 0 integer:1
+""",
+        """\
+FILE:1:1: refused 10 Syntax: this is a trace, which `tpr judge` reads; a script begins with `module`
+   1 | component mtc
+     | ^^^^^^^^^
+""",
+    ),
 )

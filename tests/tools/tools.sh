@@ -31,7 +31,7 @@ suites() {
 # What tools/explain says of scripts that are refused, and of what an accepted one does in vain; and all faults at once,
 # in each form.
 explains() {
-    at_least 80 told "$room/explained" tests/tools/explain_cases.py "$tpr" $((grammar_texts + 103 + changed_scripts))
+    at_least 82 told "$room/explained" tests/tools/explain_cases.py "$tpr" $((grammar_texts + 103 + changed_scripts))
     at_least 55 told "$room/formats" tests/tools/explain_formats.py "$tpr"
 }
 

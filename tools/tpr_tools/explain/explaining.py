@@ -20,6 +20,7 @@ from .warnings import warnings_of
 
 _REFUSED = re.compile(r"refused ([0-9]{1,9}) ([A-Za-z]+)(?: line ([0-9]{1,9}))?")
 _FAULT = re.compile(r"fault ([0-9]+) [A-Za-z]+")
+_ARRIVAL = re.compile(r"^came ", re.MULTILINE)
 _MOST_WARNINGS = 20  # of one script: the others are counted
 
 Fault = Union[TokenFault, GrammarFault, RuleFault]
@@ -165,6 +166,8 @@ def _of_grammar(explanation: Explanation, text: Text, fault: GrammarFault) -> No
         is_number = text.spelling(fault.place).isdecimal()
         explanation.rules = [Rule.POSITIVE_NUMBER if is_number else Rule.FEW_BRACKETS]
         return
+    if _of_report(explanation, text):
+        return
     explanation.can_stand = fault.wanted[:6]
     if _of_type_alone(explanation, text, fault) or _of_open_bracket(explanation, text, fault):
         return
@@ -175,6 +178,18 @@ def _of_grammar(explanation: Explanation, text: Text, fault: GrammarFault) -> No
     if found:
         _add_construct(explanation, found, explanation.sentence)
         _add_start(explanation, text, found, fault.place)
+
+
+def _of_report(explanation: Explanation, text: Text) -> bool:
+    """Whether the text is a report or a trace in place of a script. Somebody may ask why `tpr judge` calls it unlawful."""
+    if text.spelling(0) != "component":
+        return False
+    if _ARRIVAL.search(text.letters):
+        explanation.sentence = "this is a trace, which `tpr judge` reads; a script begins with `module`"
+    else:
+        explanation.sentence = "this is a report of `tpr run`; a script begins with `module`"
+        explanation.instead = "`tpr trace SCRIPT`, if `tpr judge` is to read it: a report has no lines `came`"
+    return True
 
 
 # What stands for a value of these types, where somebody wrote the type alone.
