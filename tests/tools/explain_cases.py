@@ -38,13 +38,13 @@ MEBIBYTE = 1 << 20
 
 WITH_A_SET = "module M {\n  type set S { }\n}\n"
 WITH_NO_FAULT = "module M {\n  type component C { }\n  testcase t() runs on C { }\n}\n"
-DONE = "where there is one, `all component.done` ends the test case"
+DONE = "if there is a component variable, `all component.done` ends the test case"
 NO_FILE = "the file isn't there, is a folder, or can't be read"
 ONE_SIDE = "exactly one is a port of `system`"
 UNSURE = "a rule is broken, but explain doesn't find the place"
 LISTED = (
-    "it is in the port's list of sent types for a send, of received types for a receiving operation; in `sut` the"
-    " two lists are exchanged"
+    "the message type is in the port's list of sent types, or for a receiving operation in its list of received types;"
+    " in `sut` the two lists are exchanged"
 )
 
 
@@ -236,7 +236,7 @@ def calls(asked: Explaining) -> None:
 def other_answers(asked: Explaining) -> None:
     """Where the answer isn't what the own reading comes to, less is told."""
     case, by_another, set_is_none = asked.otherwise, asked.by_another, "refused 10 Syntax line 2"
-    no_token = ("a byte that begins no token", "a token that can't stand at its place")
+    no_token = ("a byte that begins no token", "a token that isn't allowed at its place")
     file_of(asked.script, WITH_A_SET)
     case("another line than its own reading", "refused 10 Syntax line 3", UNSURE, set_is_none, *no_token)
     case("a line behind the text", "refused 10 Syntax line 99", UNSURE, set_is_none, *no_token)

@@ -26,7 +26,7 @@ NUMBERS = (
         "41",
         """\
 41 NoRoute
-  the port isn't connected or mapped, or not with the component behind `to`
+  the port isn't connected or mapped, or not with the component after `to`
 """,
     ),
     Explained(
@@ -34,7 +34,7 @@ NUMBERS = (
         "1",
         """\
 1 BadLine
-  modes `queue` and `judge`: a line is none of a queue file, or of a trace
+  modes `queue` and `judge`: a line isn't one of a queue file, or of a trace
   what to do: docs/PROFILE.md, "The queue file", has the form of its lines; docs/TRACES.md has that of the lines of \
 a trace, and where each can stand
 """,
@@ -135,7 +135,7 @@ FILE:3:13: refused 12 Duplicate: `R` has two fields `a`
      |             ^
    2 |   type record R { integer a,
      |                           ^ the first one
-  rule: no two fields of a record, ports of a component type or parameters of a function have one name
+  rule: no two fields of a record, ports of a component type or parameters of a function have the same name
 """,
     ),
     Explained(

@@ -15,12 +15,14 @@ class Rule(Enum):
         """The rule without the numbers of refusals, which the documents have in brackets."""
         return re.sub(r" \([0-9]+\)", "", self.value)
 
-    A_TOKEN = "a token that can't stand at its place"
+    A_TOKEN = "a token that isn't allowed at its place"
     A_BYTE = "a byte that begins no token"
     A_TEST_CASE = "there is a test case"
-    ONE_NAME = "no two definitions have one name. The module's own name is no definition"
-    ONE_TEST_CASE = "there is one test case"
-    ONE_INNER_NAME = ("no two fields of a record, ports of a component type or parameters of a function have one name")
+    ONE_NAME = "no two definitions have the same name. The module's own name doesn't count"
+    ONE_TEST_CASE = "there is only one test case"
+    ONE_INNER_NAME = (
+        "no two fields of a record, ports of a component type or parameters of a function have the same name"
+    )
     MESSAGE_TYPE = (
         "a message type or the type of a field is `integer`, `boolean`, `charstring`, a record or a record of."
         " It may be defined later in the text, and may be the record itself"
@@ -55,14 +57,14 @@ class Rule(Enum):
     ARGUMENT_COUNT = "there is an argument for each parameter"
     ARGUMENTS = ("each argument is known (11) and has its parameter's type (13), one after the other. `self` is `mtc`")
     ALL_STARTED = "each component variable is started"
-    DONE = "where there is one, `all component.done` ends the test case"
+    DONE = "if there is a component variable, `all component.done` ends the test case"
     NOT_IN_SUT = "not in `sut`"
     NOT_ERROR = "not of `error`"
     BODY_PORT = "the type that the body runs on has the port"
     BODY_TYPE = "the message type is known"
     LISTED = (
-        "it is in the port's list of sent types for a send, of received types for a receiving operation;"
-        " in `sut` the two lists are exchanged"
+        "the message type is in the port's list of sent types, or for a receiving operation in its list of"
+        " received types; in `sut` the two lists are exchanged"
     )
     FITS = "the value or template fits the type"
     SENT_VARIABLE = (
@@ -70,18 +72,18 @@ class Rule(Enum):
         " A loop variable holds an integer"
     )
     PEER = (
-        "a parameter, a component variable of the test case, `mtc` or `self`; behind `to` also a variable"
-        " that holds a component"
+        "a parameter, a component variable of the test case, `mtc` or `self`; after `to` also a variable that"
+        " holds a component"
     )
     VALUE_TO = "`v` is known (11) and has the template's type (13); there is a template (13)"
     SENDER_TO = "`w` is known (11) and holds a component (13)"
     VARIABLE_TYPE = "its type is a message type or a component type"
     NEW_NAME = (
-        "the name is none of a port of the type that the body runs on, of another parameter, variable or"
-        " loop variable in scope, or, in the test case's own body, of a component variable."
-        " A parameter's clash stands at its function"
+        "no port of the type that the body runs on, no other parameter, variable or loop variable in scope,"
+        " and in the test case's own body no component variable has the name. A parameter's clash is reported"
+        " at its function"
     )
-    FEW_STATEMENTS = "the statements of all components' bodies come to at most 100,000"
+    FEW_STATEMENTS = "the bodies of all components have at most 100,000 statements together"
     SHORT_TEXT = "a text of more than 1,048,576 bytes"
     SHORT_NAME = "a name of more than 64 characters"
     SMALL_NUMBER = "a number above 9223372036854775808"
@@ -89,10 +91,10 @@ class Rule(Enum):
     FEW_BRACKETS = "a bracket `{`, `(` or `[` where 32 are open"
     READ = "the file isn't there, is a folder, or can't be read"
     NOT_SENDING = "a send at a port that isn't started"
-    NO_ROUTE = "the port isn't connected or mapped, or not with the component behind `to`"
+    NO_ROUTE = "the port isn't connected or mapped, or not with the component after `to`"
     NEEDS_TO = "the port has several connections and the send names no receiver"
     UNSET = "a send of a variable, or to one, that has no value"
-    BAD_LINE = "modes `queue` and `judge`: a line is none of a queue file, or of a trace"
+    BAD_LINE = "modes `queue` and `judge`: a line isn't one of a queue file, or of a trace"
     MEMORY = "memory was refused"
     NO_THREAD = "modes `run` and `trace`: the starting of a thread was refused"
     RESTLESS = "a run ended a behaviour as waiting although one of its branches is open"
