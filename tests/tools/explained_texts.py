@@ -67,11 +67,11 @@ a trace, and where each can stand
 """,
     ),
     Explained(
-        "a run that no one order gives",
+        "a run that no single order gives",
         "62",
         """\
 62 NoOrder
-  no one order of all that the components of a run did gives what each did and saw
+  no single order of all that the components of a run did gives what each did and saw
   what to do: run it again. It is a fault of `tpr`, and not of the script: report it, with the script
 """,
     ),

@@ -98,7 +98,7 @@ class Rule(Enum):
     MEMORY = "memory was refused"
     NO_THREAD = "modes `run` and `trace`: the starting of a thread was refused"
     RESTLESS = "a run ended a behaviour as waiting although one of its branches is open"
-    NO_ORDER = "no one order of all that the components of a run did gives what each did and saw"
+    NO_ORDER = "no single order of all that the components of a run did gives what each did and saw"
 
 
 # The clauses of ES 201 873-1 that the passes of the checks are about, each with its first rule.
