@@ -156,7 +156,7 @@ fn shortest(limit: usize) -> String {
     fill_one("component a\n", limit, |_| "else\n".to_string())
 }
 
-/// A fault in each other line.
+/// A fault in every second line.
 fn unlawful(limit: usize) -> String {
     fill_one("", limit, |number| {
         format!("component c{number}\ntook p b 0 m\n")
