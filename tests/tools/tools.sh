@@ -13,8 +13,11 @@ tools() {
     at_least 41 told "$room/told_of_words" tests/tools/tool_words.py
 }
 
-# tools/costs.py, and tests/gate/gate_times.py.
-costs() { told "$room/costs" tests/tools/costs_cases.py; }
+# What says how long something takes: tools/costs.py, tests/gate/gate_times.py, and ./test while its parts are at work.
+costs() {
+    at_least 13 told "$room/costs" tests/tools/costs_cases.py
+    at_least 3 told "$room/at_work" tests/gate/at_work.py
+}
 
 # Reports that are cut, and texts that are no reports: the tools refuse each, with its line.
 refused_reports() {
