@@ -87,6 +87,14 @@ def traces_in_place_of_reports(texts: Texts) -> None:
             run(ROOT / "tools" / tool, *words, trace).must_say(said, 2)
 
 
+def scripts_in_place_of_reports(texts: Texts) -> None:
+    """A script, of which `tpr run` prints a report, isn't taken for a broken one."""
+    for tool, *words in (("chart",), ("compare", str(EXAMPLES / "ping_pong.expected")), ("why", PING_PONG)):
+        with case(f"{tool} of a script"):
+            said = f"{tool}: {PING_PONG}, line 1: this isn't a report of `tpr run`, which begins with `component mtc`: "
+            run(ROOT / "tools" / tool, *words, PING_PONG).must_say(said, 2)
+
+
 def charts_of_refusals(texts: Texts) -> None:
     """What is printed of a script that is refused is no report."""
     for file in sorted(GOLDEN.glob("*/*refused.expected")):
@@ -110,6 +118,7 @@ def main() -> int:
             Group(partial(cut_reports, texts), 66, "reports that are cut"),
             Group(partial(changed_reports, texts), 96, "reports that are changed"),
             Group(partial(traces_in_place_of_reports, texts), 3, "traces in place of reports"),
+            Group(partial(scripts_in_place_of_reports, texts), 3, "scripts in place of reports"),
             Group(partial(charts_of_refusals, texts), 45, "charts of refusals"),
             Group(partial(refusals_of_texts, texts), 28, "texts that are refused"),
         ]

@@ -5,7 +5,7 @@ tools() {
     mkdir -- "$room/charts" "$room/comparisons"
     at_least $((reports_of_examples + 38)) told "$room/told_of_charts" tests/tools/charts.py "$room/charts"
     at_least $((small_scripts + 9)) told "$room/told_of_connections" tests/tools/connections.py
-    at_least 238 refused_reports
+    at_least 241 refused_reports
     at_least 115 suites
     pages
     at_least 16 told "$room/told_of_build_servers" tests/tools/build_servers.py "$tpr"

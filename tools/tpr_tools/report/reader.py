@@ -74,11 +74,14 @@ class _Reader:
         if line is None:
             return NotAReport(len(self.lines) + 1, f"the text ends where {wanted} is needed")
         if self.place == 0 and _NO_REPORT.fullmatch(line.text):
-            return NotAReport(line.number, f"{line.text!r} is an answer of tpr, and no report")
+            return NotAReport(line.number, f"{line.text!r} is an answer of tpr, but not a report")
+        if self.place == 0 and not line.text.startswith("component"):
+            told = "this isn't a report of `tpr run`, which begins with `component mtc`: it begins with"
+            return NotAReport(line.number, f"{told} {_short(line.text)}")
         if line.text.startswith("came "):
             told = "this is a trace, as `tpr trace` prints it for `tpr judge`; a report of `tpr run` is needed"
             return NotAReport(line.number, told)
-        return NotAReport(line.number, f"{wanted} is needed, and {_short(line.text)} is there")
+        return NotAReport(line.number, f"{wanted} is needed, but {_short(line.text)} is there")
 
     def take(self, form: re.Pattern[str], wanted: str) -> tuple[Line, re.Match[str]]:
         line = self.next()
