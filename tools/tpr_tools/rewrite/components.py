@@ -115,13 +115,13 @@ class Behaviour(Chooser):
                 return self._is_running(started, node, path)
             if node.word == "alive":
                 return not started or self._may_be_alive(value.number, path) or self._is_running(started, node, path)
-        refuse(node.at, f"`{node.word}` asks for what only a run tells")
+        refuse(node.at, f"`{node.word}` asks for something that is known only in a run")
 
     def _is_running(self, started: list[int], node: tree.Asked, path: Path) -> bool:
         """Of components that were started: not if all of them surely have ended, and else it is open."""
         if self.can_set_up and set(started) <= path.state.done | path.state.awaited:
             return False
-        refuse(node.at, f"`{node.word}` asks for what only a run tells")
+        refuse(node.at, f"`{node.word}` asks for something that is known only in a run")
 
     # Defaults
 

@@ -69,7 +69,7 @@ class Cursor:
 
     def expect(self, word: str) -> Token:
         if not self.is_at(word):
-            self.fail(f"`{word}` is wanted here")
+            self.fail(f"`{word}` is expected here")
         return self.take()
 
     def listed(self, read: Callable[[], Read], end: str) -> list[Read]:
@@ -87,7 +87,7 @@ class Cursor:
         found: list[Read] = []
         while not self.is_at("}"):
             if self.token.kind is Kind.END:
-                self.fail("`}` is wanted here")
+                self.fail("`}` is expected here")
             if not self.accept(";"):
                 found.append(read())
         self.expect("}")
@@ -95,7 +95,7 @@ class Cursor:
 
     def name(self, what: str = "a name") -> Token:
         if self.token.kind is not Kind.NAME:
-            self.fail(f"{what} is wanted here")
+            self.fail(f"{what} is expected here")
         return self.take()
 
     def fail(self, reason: str) -> NoReturn:
@@ -121,7 +121,7 @@ class Cursor:
         if not self.accept("("):
             return ""
         if self.token.text not in ("value", "omit", "present"):
-            self.fail("`value`, `omit` or `present` is wanted here")
+            self.fail("`value`, `omit` or `present` is expected here")
         word = self.take().text
         self.expect(")")
         return word
@@ -143,7 +143,7 @@ class Cursor:
             return
         before = self.tokens[self.place - 1].text if self.place else ""
         if not self.is_at("}", ",") and before != "}" and self.token.kind is not Kind.END:
-            self.fail("`;` is wanted here")
+            self.fail("`;` is expected here")
 
     def skip_brackets(self) -> None:
         """Passes what stands in these brackets, whatever it is."""

@@ -5,8 +5,8 @@ chosen one's has an element, and the others have none. An optional field becomes
 field is left out. A string of bits, hex digits or octets becomes a charstring of its digits.
 
 Each value has one form here, no two values share a form, and only such forms are sent. Therefore a template matches as
-before if each of its matching mechanisms is replaced by one that means the same for these forms. If there is none, or if
-two types of messages would become one, the script is refused.
+before if each of its matching mechanisms is replaced by one that means the same for these forms. If there is none, or
+if two types of messages would become one, the script is refused.
 """
 from __future__ import annotations
 

@@ -136,7 +136,7 @@ class Evaluator(Asker):
         return self.asked_of(node, path, scope)
 
     def asked_of(self, node: tree.Asked, path: Path, scope: Optional[Scope]) -> Form:
-        refuse(node.at, f"`{node.word}` asks for what only a run tells")
+        refuse(node.at, f"`{node.word}` asks for something that is known only in a run")
 
     def create(self, node: tree.Create, path: Path, scope: Optional[Scope]) -> Form:
         refuse(node.at, "a component is created in the test case's own body alone")
@@ -194,7 +194,7 @@ class Evaluator(Asker):
             Sign.NULL: Mark.NULL, Sign.NOT_USED: Mark.NOT_USED, Sign.MTC: ComponentValue(0),
         }
         if sign not in simple:
-            refuse(node.at, f"`{sign.value}` can't stand here")
+            refuse(node.at, f"`{sign.value}` isn't allowed here")
         return simple[sign]
 
     def asked(

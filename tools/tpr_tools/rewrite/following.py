@@ -80,7 +80,7 @@ def follow(run: Run, case: tree.TestCase) -> Followed:
             return followed
         for key in short:
             run.most[key] = counts[key]
-    refuse_open(case.at, "how often a `repeat` is come to has no bound that is known before the run")
+    refuse_open(case.at, "the number of times that a `repeat` is reached has no bound that is known before the run")
 
 
 def _follow_flows(run: Run, case: tree.TestCase, flows: Flows) -> Followed:
@@ -179,7 +179,7 @@ def _arguments_of(run: Run, case: tree.TestCase) -> list[tree.Argument]:
 
 def _look_at_exits(run: Run, ways: list[Path], at: Token) -> None:
     if any(way.exit in (Exit.BREAK, Exit.CONTINUE, Exit.REPEAT) for way in ways):
-        run.tell(Refusal(at, "a `break`, `continue` or `repeat` stands outside of what it could leave"))
+        run.tell(Refusal(at, "a `break`, `continue` or `repeat` isn't inside a statement that it could leave"))
 
 
 def _part(run: Run, number: int, state: State, started: dict[int, Started]) -> Part:
@@ -321,7 +321,7 @@ def _reason_to_wait(followed: Followed, part: Part) -> str:
     if any(VERDICTS.index(word) > VERDICTS.index(followed.least) for word in words):
         return "the test case may end before this component sets its verdict, which always counts here"
     if any(_may_fail(followed, part, one) for one in statements_of(part.code)):
-        return "the test case may end before this component comes to a send that fails, which always counts here"
+        return "the test case may end before this component reaches a send that fails, but here that send always counts"
     return ""
 
 

@@ -147,7 +147,7 @@ class Expander(Closed):
     ) -> None:
         found.scopes.append(inner)
         if len(found.scopes) > MOST_GUARDS:
-            refuse(altstep.at, "this altstep comes to itself again and again")
+            refuse(altstep.at, "this altstep calls itself again and again")
         for declaration in altstep.declarations:
             written = len(path.code)
             if self.declare(declaration, path, inner) != [path] or len(path.code) != written:

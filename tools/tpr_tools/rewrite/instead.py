@@ -25,7 +25,7 @@ _TABLE = (
     (r"hangs on a message|components are created|component is created|was used before it was joined"
      r"|a component that runs already|the argument for", _SETUP),
     (r"\.done|may end before|still waits|may still send|was disconnected", _ORDER),
-    (r"more than|nested too deep|no bound|goes on and on|repeated|seconds|comes to itself|too many", _SMALLER),
+    (r"more than|nested too deep|no bound|goes on and on|repeated|seconds|calls itself again|too many", _SMALLER),
     (r"below 0|whose name isn't known here|this operation on a timer|form of `timeout`|several timers alone|which timer is meant", _TIMED),
     (r"a timer of `sut`", "give --timers=never in place of the other reading"),
     (r"no time in a run", "give --timers=both, or --timers=never or --timers=any alone; or leave the timer and its branches out"),
@@ -47,7 +47,7 @@ _TABLE = (
     (r"which (component|port|default|ports)|this redirect|who is meant", "name it by a variable that is set before the run"),
     (r"of the port's types|the port's list|doesn't fit the type|one type here|no message has the type"
      r"|allows less|subtype|sent as another type|hasn't the type", _TYPES),
-    (r"isn't evaluated|isn't computed|asks for what only a run|the verdict isn't known|`error` isn't set", _KNOWN),
+    (r"isn't evaluated|isn't computed|asks for something that is known only in a run|the verdict isn't known|`error` isn't set", _KNOWN),
     (r"isn't carried over|aren't carried over|no place in the profile|has no parameters", _PLAIN),
     (r"", _COMPILER),
 )

@@ -86,7 +86,7 @@ class Messages(Timers):
                 if not fitting and others:
                     refuse(node.at, f"no message has the type `{others[0]}` here")
                 count = "none" if not fitting else "several"
-                refuse(node.at, f"{count} of the port's types fits what stands here: write the type before it")
+                refuse(node.at, f"{count} of the port's types fits this: write the type before it")
             return fitting[0]
         for type in listed:
             if type is declared or (type.root is declared.root and type.is_universal is declared.is_universal):

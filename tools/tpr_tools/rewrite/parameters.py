@@ -25,7 +25,7 @@ def expressions_of(
         try:
             values[name] = reader.expression()
             if reader.token.text:
-                reader.fail("nothing more is wanted here")
+                reader.fail("nothing more is expected here")
         except ReadFault as fault:
             reader.tell(fault)
         wrong += reader.faults

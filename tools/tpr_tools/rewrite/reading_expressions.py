@@ -124,7 +124,7 @@ class ExpressionReader(Cursor):
             return tree.OtherMatching(token, token.text, self.in_parentheses())
         if token.kind is Kind.KEYWORD and self.ahead(1).text == "(":
             return tree.Name(self.take(), token.text)
-        self.fail("a value is wanted here")
+        self.fail("a value is expected here")
 
     def _sign(self) -> Expression:
         token = self.take()

@@ -75,7 +75,7 @@ class ModuleReader(StatementReader):
             self.note(Construct.VISIBILITY, self.take())
         read = _DEFINITIONS.get(self.token.text)
         if read is None:
-            self.fail("a definition is wanted here")
+            self.fail("a definition is expected here")
         read(self, module)
         self._with()
         self.accept(";")
@@ -84,7 +84,7 @@ class ModuleReader(StatementReader):
         if self.is_at("with"):
             self.note(Construct.WITH, self.take())
             if not self.is_at("{"):
-                self.fail("`{` is wanted here")
+                self.fail("`{` is expected here")
             self.skip_brackets()
 
     def _type(self, module: tree.Module) -> None:

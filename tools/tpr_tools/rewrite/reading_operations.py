@@ -42,7 +42,7 @@ class OperationReader(TypeReader):
         return self._fail_at(at)
 
     def _fail_at(self, at: Token) -> Statement:
-        self.fail("an operation is wanted here")
+        self.fail("an operation is expected here")
 
     def _unsupported(self, at: Token, reason: str, start: int) -> tree.Unsupported:
         """Passes the rest of the operation; a call's answers are read."""

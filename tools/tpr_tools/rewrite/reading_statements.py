@@ -113,7 +113,7 @@ class StatementReader(OperationReader):
             at = self.take()
             value = tree.Name(at, at.text)
         else:
-            self.fail("a statement is wanted here")
+            self.fail("a statement is expected here")
         value = self._postfix(value)
         if self.is_at(":="):
             at = self.take()
@@ -129,7 +129,7 @@ class StatementReader(OperationReader):
             return tree.CallStatement(value.at, value, (start, self.place))
         if isinstance(value, (tree.Asked, tree.Create)):
             return tree.CallStatement(value.at, value, (start, self.place))
-        self.fail("`:=`, `(` or `.` is wanted here")
+        self.fail("`:=`, `(` or `.` is expected here")
 
     def _case_stop(self) -> Statement:
         start, at = self.place, self.take()

@@ -32,7 +32,7 @@ class TypeReader(ExpressionReader):
             self.expect("charstring")
             return TypeName(at, "universal charstring")
         if not self.is_type_ahead():
-            self.fail("a type is wanted here")
+            self.fail("a type is expected here")
         self.take()
         if at.text in _OTHER_BASES and at.kind is Kind.KEYWORD:
             self.note(_OTHER_BASES[at.text], at)
@@ -181,7 +181,7 @@ class TypeReader(ExpressionReader):
         name = self.name("the name of the port type").text
         kind = self.take()
         if kind.text not in ("message", "procedure", "mixed", "stream"):
-            self.fail("`message` is wanted here")
+            self.fail("`message` is expected here")
         if kind.text != "message":
             self.note(Construct.PROCEDURE_PORT, kind)
         if self.is_at("realtime"):
@@ -194,7 +194,7 @@ class TypeReader(ExpressionReader):
         while not self.is_at("}"):
             self._direction(body)
             if not self.accept(";") and not self.is_at("}"):
-                self.fail("`;` or `}` is wanted here")
+                self.fail("`;` or `}` is expected here")
         self.expect("}")
         return tree.TypeDefinition(at, name, body)
 
@@ -255,7 +255,7 @@ class TypeReader(ExpressionReader):
     def declaration(self) -> tree.Declaration:
         """A `var`, `const`, `template` or `timer` in a body or a component type."""
         if not self.is_at("var", "const", "template", "timer"):
-            self.fail("a declaration is wanted here")
+            self.fail("a declaration is expected here")
         start, at = self.place, self.take()
         kind = Declared(at.text)
         if kind is Declared.TEMPLATE:

@@ -176,7 +176,7 @@ class Shaper:
             if number is None:
                 refuse(node.at, f"the field `{node.word}` isn't known here")
             return key, (*steps, number)
-        refuse(node.at, "a variable is wanted here")
+        refuse(node.at, "a variable is expected here")
 
     # Matching mechanisms
 

@@ -136,7 +136,7 @@ class Timers(Follower):
         else:
             timers = [self._timer_of(node.target, path, scope)[1]]
         if node.word != "running":
-            refuse(node.at, f"`{node.word}` asks for what only a run tells")
+            refuse(node.at, f"`{node.word}` asks for something that is known only in a run")
         is_started = any(timer.is_running for timer in timers)
         if is_started and self.reading is not Reading.NEVER:
             refuse(node.at, "whether this timer still runs is open here, and there is no time in a run")

@@ -129,7 +129,7 @@ class Writer:
     def _head(self) -> None:
         files = ", ".join(os.path.basename(file) for file in self.files)
         files = "".join(letter if letter.isprintable() else "?" for letter in files)
-        self.lines.add(f"// Written by tools/rewrite from {files}: behind each statement stands where it comes from.")
+        self.lines.add(f"// Written by tools/rewrite from {files}: each statement is followed by the line that it comes from.")
 
     def _look_at_limits(self, at: Token) -> None:
         deep = self.lines.first_too_deep()
