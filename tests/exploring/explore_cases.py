@@ -222,7 +222,7 @@ def other_scripts(asked: Exploring) -> None:
 
 
 def waits_for_good(ended: Ended) -> bool:
-    return re.search("^error: .* none, which waits for good", ended.text, re.M) is not None
+    return re.search("^error: .* none, which waits forever", ended.text, re.M) is not None
 
 
 def refusals(asked: Exploring) -> None:

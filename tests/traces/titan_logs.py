@@ -140,7 +140,7 @@ def cases_of_logs(tool: Tool) -> None:
     more = "titan: the logs are of more than one test case: name one of greeting, leaving with --case"
     tool.must_be_refused("several test cases", 2, more, *logs)
     tool.must_be_refused("no such test case", 2, f"{of_both}meeting isn't one of them", "--case", "meeting", *logs)
-    twice = f"{of_both}greeting is executed more than once, and its logs can't be told "
+    twice = f"{of_both}greeting is executed more than once, and its logs can't be "
     tool.must_be_refused("a test case that is executed twice", 2, twice, "--case", "greeting", *logs)
     only = call([TITAN, "--case", "dinner", *(str(it) for it in logs_of("kitchen"))])
     tool.cases.must_end("the only test case", only, 0, trace_of("kitchen"))

@@ -52,7 +52,7 @@ def _is_left(line: str) -> bool:
 
 def _end_of(name: str, lines: list[str]) -> str:
     end, verdict = (line.split(" ", 1)[1] for line in lines[:2])
-    waits = {"done": "", "waiting": ", which waits for good"}.get(end, f", which ended by {end}")
+    waits = {"done": "", "waiting": ", which waits forever"}.get(end, f", which ended by {end}")
     return f"{name} {verdict}{waits}"
 
 

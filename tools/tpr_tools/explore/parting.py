@@ -125,7 +125,7 @@ class Told:
         return self.put.get(name, len(self.steps)) > place
 
     def waits_at(self, who: int) -> Optional[int]:
-        """The line at which the component waits for good."""
+        """The line at which the component waits forever."""
         statement = self.run.statement(who)
         return (self.case.line(statement) or 0) if isinstance(statement, Tried) else None
 
@@ -241,7 +241,7 @@ def _deed(told: Told, who: int, at: int) -> Deed:
     if (line := told.failed_at(who)) is not None:
         return Deed(line, f"ended by {told.run.end(who)}")
     line = told.waits_at(who)
-    return Deed(line, "ended" if line is None else "waits for good")
+    return Deed(line, "ended" if line is None else "waits forever")
 
 
 def _words(told: Told, step: Done) -> str:

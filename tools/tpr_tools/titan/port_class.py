@@ -38,7 +38,7 @@ def port_class(port_type: str, header: str, file: str) -> str:
     body = _body_of(name, port_type, header, file)
     space = re.search(r"^namespace (\w+) \{", header, re.M)
     if _PROCEDURES.search(body) or not space:
-        raise NoPort(f"`{port_type}` of {file} is no port type of messages alone")
+        raise NoPort(f"`{port_type}` of {file} isn't a port type for messages alone")
     return _CLASS.format(
         name=name,
         file=file,

@@ -330,7 +330,7 @@ class Walker:
                 raise self.misfit([receive.start], f"a message that is `{word}` is next")
             self.got(entry)
             return place
-        raise self.misfit(possible, "this message isn't wanted")
+        raise self.misfit(possible, "this message doesn't match")
 
     def got(self, entry: Received) -> None:
         port = self.walk.ports[entry.port]
