@@ -32,7 +32,7 @@ class LateSend:
     @property
     def reason(self) -> str:
         when = "this comes after the end of" if self.is_sure else "this may come after the end of"
-        return f"{when} `{self.receiver}`, which is an error there and leaves the message queued here"
+        return f"{when} `{self.receiver}`: in the full language that is an error, but here the message stays queued"
 
 
 @dataclass

@@ -316,10 +316,10 @@ def look_at_ends(run: Run, followed: Followed) -> None:
 def _reason_to_wait(followed: Followed, part: Part) -> str:
     """Why it isn't the same whether the end of the test case ends this component; empty where it is."""
     if waits(part.code):
-        return "the test case may end while this component still waits, which ends it there and is an error here"
+        return "the test case may end while this component still waits: that would end it, but here it is an error"
     words = [one.word for one in statements_of(part.code) if isinstance(one, Verdict)]
     if any(VERDICTS.index(word) > VERDICTS.index(followed.least) for word in words):
-        return "the test case may end before this component sets its verdict, which always counts here"
+        return "the test case may end before this component sets its verdict, but here that verdict always counts"
     if any(_may_fail(followed, part, one) for one in statements_of(part.code)):
         return "the test case may end before this component reaches a send that fails, but here that send always counts"
     return ""

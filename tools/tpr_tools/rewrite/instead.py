@@ -4,7 +4,7 @@ from __future__ import annotations
 import re
 
 _KNOWN = "write a value that is known before the run, or let a message tell the cases apart in the branches of an `alt`"
-_ORDER = "let the one wait for the other: for its message, or for its end with `.done`"
+_ORDER = "let one component wait for the other: for its message, or with `.done` for its end"
 _SMALLER = "split the test case into smaller ones, or let fewer messages decide how it goes on"
 _COMPILER = "correct the script as a compiler of TTCN-3 asks for it"
 _TIMED = "start, stop and wait for each timer by its own name"
