@@ -72,7 +72,7 @@ class Tools(Trying):
 def suites_build_nothing_unasked(tools: Tools) -> None:
     """Without a terminal a suite refuses; on one it asks."""
     tree, crates = tools.tree, tools.tree.crates
-    refused = f"suite: {tools.not_built}: {tools.builds}; TPR names another program\n"
+    refused = f"suite: {tools.not_built}: {tools.builds}; TPR=PROGRAM names another program\n"
     tree.must_end("a suite of a program that isn't built", tree.call(SUITE), 1, "", refused)
     tools.cases.must_be("builds nothing", (tree.out / "built").exists(), False)
     question = f"{tools.not_built}; {tools.builds}. Build it now? [y/N] "
