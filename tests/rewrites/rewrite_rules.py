@@ -196,6 +196,16 @@ def text_of(node: ast.expr) -> str:
     return node.value if isinstance(node, ast.Constant) and isinstance(node.value, str) else ""
 
 
+# Reasons with a word of another row too, and how what to do about each begins.
+ADVICE = {
+    "this call within an expression does more than compute a value": "call the function before this",
+    "the call that computes this value does more than compute it": "call the function before this",
+    "a permutation of more than four elements, or with `*`, isn't carried over": "leave it out, or say it",
+    "whether this is done depends on a message; here it is done before all messages": "create, connect and start all",
+    "more than 40,000 statements would be written": "split the test case into smaller ones",
+}
+
+
 def instead(_program: str) -> None:
     """Each reason in the sources has a row in the table of what to do, but for what a compiler refuses too."""
     from tpr_tools.rewrite.instead import instead_of
@@ -206,6 +216,8 @@ def instead(_program: str) -> None:
     reasons = dict.fromkeys(reasons_in_sources())
     for reason in reasons:
         judged(f"instead of: {reason}", (instead_of(reason) == last) is (reason in of_a_compiler), instead_of(reason))
+    for reason, begin in ADVICE.items():
+        judged(f"what to do about: {reason}", instead_of(reason).startswith(begin), instead_of(reason))
     judged("no reason of a compiler's that isn't there", of_a_compiler <= set(reasons), f"{of_a_compiler - set(reasons)}")
 
 

@@ -14,7 +14,7 @@ broken 14
 listed 60
 lines 2
 rows 219
-instead 160
+instead 165
 faults 98
 PARTS
     at_least 800 told "$room/rewrites_by_chance" tests/rewrites/chance/chance_rules.py

@@ -259,10 +259,10 @@ class Follower(ListFollower):
         variables = dict(path.state.variables)
         paths = self._quietly(node, path, scope)
         if len(paths) != 1 or len(paths[0].code) != written or paths[0].exit is not Exit.ON:
-            refuse(node.at, "this call within an expression does more than to compute a value")
+            refuse(node.at, "this call within an expression does more than compute a value")
         found = paths[0]
         if found.code is not path.code or found.state.setup() != before:
-            refuse(node.at, "this call within an expression does more than to compute a value")
+            refuse(node.at, "this call within an expression does more than compute a value")
         if self.is_looking and found.state.variables != variables:
             refuse(node.at, "what is evaluated at each look at the branches changes a variable")
         value = found.result

@@ -159,9 +159,9 @@ class Behaviour(Chooser):
 
     def _look_at_set_up(self, at: Token, path: Path) -> None:
         if not self.can_set_up:
-            refuse(at, "components are created, connected and started by the test case's own body alone")
+            refuse(at, "components are created, connected and started only by the test case's own body")
         if path.fork is not None:
-            refuse_open(at, "whether this is done hangs on a message; here it is done before all messages")
+            refuse_open(at, "whether this is done depends on a message; here it is done before all messages")
 
     def join(self, statement: tree.Join, path: Path, scope: Scope) -> list[Path]:
         if statement.how in (Joining.DISCONNECT, Joining.UNMAP):

@@ -139,10 +139,10 @@ class Evaluator(Asker):
         refuse(node.at, f"`{node.word}` asks for something that is known only in a run")
 
     def create(self, node: tree.Create, path: Path, scope: Optional[Scope]) -> Form:
-        refuse(node.at, "a component is created in the test case's own body alone")
+        refuse(node.at, "a component is created only in the test case's own body")
 
     def activate(self, node: tree.Activate, path: Path, scope: Optional[Scope]) -> Form:
-        refuse(node.at, "a default is activated in a body alone")
+        refuse(node.at, "a default is activated only in a body")
 
     def _name(self, node: tree.Name, path: Path, scope: Optional[Scope], type: Optional[Type]) -> Form:
         key = self.find(node.word, scope, path)
@@ -382,7 +382,7 @@ class Evaluator(Asker):
         refuse(node.at, f"the function `{word}` isn't evaluated")
 
     def called_value(self, node: tree.Call, path: Path, scope: Optional[Scope]) -> Form:
-        refuse(node.at, "a function is called in a body alone")
+        refuse(node.at, "a function is called only in a body")
 
     def _by_template(
         self, word: str, arguments: list[tree.Argument], at: Token, path: Path, scope: Optional[Scope]

@@ -151,7 +151,7 @@ class Expander(Closed):
         for declaration in altstep.declarations:
             written = len(path.code)
             if self.declare(declaration, path, inner) != [path] or len(path.code) != written:
-                refuse(declaration.at, "this value is computed by what does more than to compute it")
+                refuse(declaration.at, "the call that computes this value does more than compute it")
         for branch in altstep.branches:
             if not found.is_closed:
                 self._add(branch, path, inner, outer, found)

@@ -15,7 +15,7 @@ from .tree import Expression, Statement
 from .values import Form, Mark
 
 Answer = TypeVar("Answer")
-_MORE = "this call within an expression does more than to compute a value"
+_MORE = "this call within an expression does more than compute a value"
 
 
 class Communicates(Refusal):

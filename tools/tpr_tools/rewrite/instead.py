@@ -10,6 +10,7 @@ _COMPILER = "correct the script as a compiler of TTCN-3 asks for it"
 _TIMED = "start, stop and wait for each timer by its own name"
 _PLAIN = "leave it out, or say it with another construct: docs/FROM_TTCN3.md has one for each clause"
 _SETUP = "create, connect and start all components at the head of the test case, before a message is waited for"
+_CALLED = "call the function before this, in a statement of its own, and use a variable with its value"
 _TYPES = "write the type before the value, as `T:1`, or another type in the port's list"
 
 # A word of the reason, as a regular expression, and what to do.
@@ -22,9 +23,11 @@ _TABLE = (
     (r"isn't among the files", "give the module's file too"),
     (r"computed from what was received|what was received are compared|is open here|a part of what was received"
      r"|which alternative it has|isn't a template that can be written|isn't known before the run", _KNOWN),
-    (r"hangs on a message|components are created|component is created|was used before it was joined"
+    (r"depends on a message|components are created|component is created|was used before it was joined"
      r"|a component that runs already|the argument for", _SETUP),
     (r"\.done|may end before|still waits|may still send|was disconnected", _ORDER),
+    (r"does more than compute", _CALLED),
+    (r"permutation", _PLAIN),
     (r"more than|nested too deep|no bound|goes on and on|repeated|seconds|calls itself again|too many", _SMALLER),
     (r"below 0|whose name isn't known here|this operation on a timer|form of `timeout`|several timers alone|which timer is meant", _TIMED),
     (r"a timer of `sut`", "give --timers=never in place of the other reading"),
@@ -35,10 +38,9 @@ _TABLE = (
     (r"`alive`|killed|alive", "wait for the component's end with `.done`"),
     (r"interleave", "write an `alt`, and in each branch an `alt` for what is still missing"),
     (r"goto|a label", "write a `for` around what is done again, or the statements once more"),
-    (r"does more than to compute|no function is called|function is called|each look at|called through"
-     r"|changes a variable|returns nothing|without a `return`|`return` in an altstep",
-     "call the function before this, in a statement of its own, and use a variable with its value"),
-    (r"pattern|length|permutation|range|bound that|modifier|`@|redirect|decoded|subset|superset", _PLAIN),
+    (r"no function is called|function is called|each look at|called through"
+     r"|changes a variable|returns nothing|without a `return`|`return` in an altstep", _CALLED),
+    (r"pattern|length|range|bound that|modifier|`@|redirect|decoded|subset|superset", _PLAIN),
     (r"asked by the test case|connected with itself and|an altstep that has parameters|has a behaviour already"
      r"|part of a variable|may be gone by then|array of ports|has at most", _PLAIN),
     (r"the (index|size of the array|template|type of the component) isn't known|a value isn't known|is compared with"

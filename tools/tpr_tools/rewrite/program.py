@@ -11,7 +11,7 @@ from .types import Types
 _Body = Union[tree.Function, tree.Altstep, tree.TestCase, tree.TemplateDefinition, tree.Constant]
 
 
-# A function that has one of these does more than to compute.
+# A function that has one of these does more than compute.
 _WRITING = frozenset(
     "send receive trigger check alt interleave setverdict start stop halt clear done killed create connect map".split()
 )

@@ -96,7 +96,7 @@ class StatementReader(OperationReader):
             value = self._postfix(tree.Name(self.name(), self.tokens[self.place - 1].text))
             return self.operation(value, any_of, "from", start)
         if of.text not in ("port", "component", "timer"):
-            self.fail("`port`, `component`, `timer` or `from` is wanted before this")
+            self.fail("`port`, `component`, `timer` or `from` is expected before this")
         return self.operation(None, any_of, of.text, start)
 
     def _of_name(self) -> Statement:
@@ -387,7 +387,7 @@ class StatementReader(OperationReader):
             "goto": (Construct.GOTO, "`goto` isn't carried over"),
             "label": (Construct.GOTO, "a label isn't carried over"),
             "action": (Construct.ACTION, "`action` asks for something outside the run"),
-            "execute": (Construct.EXECUTE, "`execute` stands in a control part alone"),
+            "execute": (Construct.EXECUTE, "`execute` is allowed only in a control part"),
             "kill": (Construct.KILL, "`kill` ends a behaviour from outside; here each runs to its own end"),
         }
         start, at = self.place, self.take()

@@ -206,7 +206,7 @@ class TypeReader(ExpressionReader):
                 self.skip_brackets() if self.is_at("(") else self.take()
             return
         if word.text not in ("in", "out", "inout"):
-            self.fail("`in`, `out` or `inout` is wanted before this")
+            self.fail("`in`, `out` or `inout` is expected before this")
         while True:
             if self.is_at("all"):
                 self.note(Construct.PORT_ALL, self.take())
