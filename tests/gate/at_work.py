@@ -1,6 +1,6 @@
 #!/usr/bin/env python3
-"""What ./test says of its parts while they are at work (side_by_side.sh): on a terminal which these are, and how long
-each took the last time; elsewhere nothing.
+"""What ./test says of its parts while they are at work (side_by_side.sh): on a terminal how many are done, which are at
+work, and how long each took the last time; elsewhere nothing.
 
     tests/gate/at_work.py
 
@@ -21,6 +21,7 @@ ROOT = Path(__file__).resolve().parents[2]
 PARTS = r"""
 source tests/gate/side_by_side.sh
 is_tried() { return 0; }
+listed_parts() { printf '%s\n' "quick 1" "slow 1"; }
 nproc() { echo 2; }
 passed=0 failed=0 runs_of_all=0 refused_of_all=0
 last_times=$1
@@ -29,7 +30,7 @@ part quick sleep 0.2
 part slow sleep 0.4
 await_all_parts
 """
-TOLD = ["test: at work: quick (41 s the last time)", "test: at work: quick (41 s the last time), slow"]
+TOLD = [f"test: 0 of 2 done; at work: {it}" for it in ("quick (41 s the last time)", "quick (41 s the last time), slow")]
 
 
 def output_of(terminal: int) -> str:
