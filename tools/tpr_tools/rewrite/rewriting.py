@@ -51,9 +51,9 @@ def rewrite(
     if wrong:
         return Rewritten(Lines(), sorted_places([*program.faults, *wrong]))
     files = [source.file for source in sources]
-    run = Run(program, values, options)
+    run = Run(program, values, options, may_leave=True)
     lines = written(run, chosen, files)
-    if run.open and not program.faults:
+    if (run.open or run.has_left) and not program.faults:
         run, lines = with_what_comes(run, chosen, files)
     if lines is not None and not program.faults:
         return Rewritten(lines, notes=sorted_places([*run.notes, *_backslashes(sources)]))
@@ -92,12 +92,25 @@ def with_what_comes(before: Run, chosen: TestCase, files: list[str]) -> tuple[Ru
     try:
         lines = written(run, chosen, files)
     except NotClosed:
+        return whole(before, chosen, files)
+    if lines is not None:
+        return run, lines
+    if not before.open:
+        before, lines = whole(before, chosen, files)
+    if lines is not None:
+        return before, lines
+    for place, told in before.refused.items():
+        if place not in before.open:
+            run.refused.setdefault(place, told)
+    return run, None
+
+
+def whole(before: Run, chosen: TestCase, files: list[str]) -> tuple[Run, Optional[Lines]]:
+    """All that follows where it isn't known what can come, if much of it was left."""
+    if not before.has_left:
         return before, None
-    if lines is None:
-        for place, told in before.refused.items():
-            if place not in before.open:
-                run.refused.setdefault(place, told)
-    return run, lines
+    run = Run(before.program, before.parameters, before.options)
+    return run, written(run, chosen, files)
 
 
 def look_at_sends(run: Run, followed: Followed) -> None:

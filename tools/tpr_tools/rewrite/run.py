@@ -16,6 +16,9 @@ from .types import Kind, Type, Types
 from .values import Elements, Form, PortValue
 
 MOST_STEPS = 150_000
+# Without what can come: where something is refused that may be known with it, and else.
+MOST_OPEN_STEPS = 2_000
+MOST_FIRST_STEPS = 10_000
 # What tpr check takes at most.
 MOST_STATEMENTS = 100_000
 MOST_REFUSALS = 100
@@ -73,6 +76,9 @@ class Run:
     told_seconds: int = 0
     # Whether anything was waited for: else what comes changes nothing.
     has_waited: bool = False
+    # Whether much that follows is left for when it is known what can come, and whether it was.
+    may_leave: bool = False
+    has_left: bool = False
     steps: int = 0
     written: int = 0
     # The ports at which a `repeat` counts what can come.
@@ -94,8 +100,15 @@ class Run:
         self.steps += 1
         if self.steps % 256 == 0:
             self._look_at_time(at)
+        if self.may_leave and self.has_waited:
+            self._look_at_steps()
         if self.steps > MOST_STEPS:
             self._stop(at, f"to follow the script to here takes more than {MOST_STEPS:,} steps")
+
+    def _look_at_steps(self) -> None:
+        if self.steps > (MOST_OPEN_STEPS if self.open else MOST_FIRST_STEPS):
+            self.has_left = True
+            raise TooMany()
 
     def _look_at_time(self, at: Token) -> None:
         """A word of what is done, to who waits for it; and an end where it takes too long."""
