@@ -18,7 +18,7 @@ instead 165
 faults 98
 PARTS
     at_least 800 told "$room/rewrites_by_chance" tests/rewrites/chance/chance_rules.py
-    at_least 8 told "$room/rewrites_unseen" tests/rewrites/unseen_rules.py "$tpr"
+    at_least 25 told "$room/rewrites_unseen" tests/rewrites/unseen_rules.py "$tpr"
     at_least 28 told "$room/rewrites_skipped" tests/rewrites/skipped_rules.py "$tpr"
     at_least 25 told "$room/rewrites_maps" tests/rewrites/map_rules.py "$tpr"
     observe env -u TPR "$root/tools/rewrite" --help

@@ -252,7 +252,8 @@ class Reader:
         return "var", type_name, tuple(found)
 
     def read_port(self) -> Tree:
-        self.at = self.tokens.index(";", self.at)
+        while self.ahead() not in (";", "}"):
+            self.take()
         return "log", ()
 
     def read_timer(self) -> Tree:
