@@ -30,6 +30,10 @@ class Leaves(Exception):
         self.value = value
 
 
+class Jumps(Exception):
+    """`goto` with its label."""
+
+
 class Cell:
     def __init__(self, type_name: str, value: Any):
         self.type = type_name
@@ -82,9 +86,23 @@ class Behaviour:
     # Statements
 
     def block(self, statements: tuple[Tree, ...], outer: Scope) -> Acts:
-        scope = Scope(outer)
-        for statement in statements:
-            yield from self.do(statement, scope)
+        scope, at = Scope(outer), 0
+        while at < len(statements):
+            try:
+                yield from self.do(statements[at], scope)
+                at += 1
+            except Jumps as jumps:
+                label = ("label", str(jumps))
+                if label not in statements:
+                    raise
+                at = statements.index(label)
+
+    def do_label(self, scope: Scope, _: str) -> Acts:
+        yield from ()
+
+    def do_goto(self, scope: Scope, label: str) -> Acts:
+        yield from ()
+        raise Jumps(label)
 
     def do(self, statement: Tree, scope: Scope) -> Acts:
         self.turns += 1

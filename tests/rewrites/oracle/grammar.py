@@ -216,6 +216,8 @@ class Reader:
             return self.take(), self.arguments()
         if word in ("break", "continue", "repeat", "stop"):
             return "leave", self.take(), None
+        if word in ("label", "goto"):
+            return self.take(), self.name()
         if self.is_event():
             return "alt", (("branch", None, self.event(), ()),)
         if self.ahead(1) == ".":

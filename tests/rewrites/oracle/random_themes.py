@@ -1,6 +1,8 @@
 """More programs by chance: answers that wait, streams, functions that ask, tokens that go round."""
 from __future__ import annotations
 
+import re
+
 from random_programs import ENCODED_TYPES, SHARED, TYPES, Maker
 
 _ASKING = """  function f_ask(integer p_n) runs on C return integer {
@@ -226,4 +228,19 @@ class Themes(Maker):
 
 
 def program_of(seed: int) -> str:
-    return (Themes if seed % 2 else Maker)(seed).program()
+    text = (Themes if seed % 2 else Maker)(seed).program()
+    return with_jumps(text) if seed % 5 < 2 else text
+
+
+def with_jumps(text: str) -> str:
+    """Each `while` that nothing leaves or shortens as an `if` whose last statement jumps back to it."""
+    lines = text.split("\n")
+    for at in range(len(lines) - 1, -1, -1):
+        loop = re.fullmatch(r"( *)while (\(.*\)) \{", lines[at])
+        if loop is None:
+            continue
+        end = lines.index(f"{loop[1]}}}", at)
+        if not re.search(r"\b(break|continue);", "\n".join(lines[at:end])):
+            lines[end] = f"{loop[1]}goto l_{at}; }}"
+            lines[at] = f"{loop[1]}label l_{at}; if {loop[2]} {{"
+    return "\n".join(lines)

@@ -7,6 +7,7 @@ from typing import Callable, Optional
 from . import tree
 from .emitted import Verdict
 from .hoisting import Communicates, calls_in, key_of
+from .labels import lost_label
 from .paths import Exit, Key, Path, Scope, Slot, State, joined
 from .refusing import Refusal, refuse, refuse_open, refuse_silently
 from .run import members_of
@@ -239,6 +240,9 @@ class Follower(ListFollower):
         assert function.body is not None
         paths = self.left(inner, self.statements(function.body.statements, path, inner))
         self.results.pop()
+        lost = lost_label(paths)
+        if lost is not None:
+            refuse(at, f"a `goto` in what is called here has no label `{lost}` that it may jump to")
         for one in paths:
             if one.exit is Exit.RETURN:
                 one.exit = Exit.ON
@@ -432,6 +436,12 @@ class Follower(ListFollower):
                 finished.append(one)
         return going_on
 
+    def _jump(self, statement: tree.Goto, path: Path, scope: Scope) -> None:
+        path.exit, path.label = Exit.JUMP, statement.name
+
+    def _pass(self, statement: tree.Label, path: Path, scope: Scope) -> None:
+        """A label alone does nothing."""
+
     def _leave(self, statement: tree.Leave, path: Path, scope: Scope) -> None:
         path.exit = _EXITS[statement.how]
 
@@ -481,6 +491,8 @@ _Simple = Callable[[Follower, "Statement", Path, Scope], None]
 _Followed = Callable[[Follower, "Statement", Path, Scope], list[Path]]
 _SIMPLE: dict[type, _Simple] = {
     tree.Leave: Follower._leave,  # type: ignore[dict-item]
+    tree.Goto: Follower._jump,  # type: ignore[dict-item]
+    tree.Label: Follower._pass,  # type: ignore[dict-item]
     tree.Dropped: Follower._drop,  # type: ignore[dict-item]
     tree.SetVerdict: Follower._set_verdict,  # type: ignore[dict-item]
     tree.Deactivate: Follower._deactivate,  # type: ignore[dict-item]

@@ -12,6 +12,7 @@ from .emitted import Code, Failed, Got, GotDone, GotEnd, Message, Ticked, Tickin
 from .evaluating import SENDER
 from .fitting import open_alternatives, type_at
 from .guards import Expander, Guard, is_repeat_alone, may_repeat
+from .labels import lost_label
 from .paths import Exit, Fork, Path, Scope
 from .refusing import refuse, refuse_open
 from .tokens import Token
@@ -264,6 +265,8 @@ class Chooser(Expander):
                 found += self.block(body.block, one, body.scope) if one.exit is Exit.ON else [one]
             if body.is_of_altstep and any(one.exit is Exit.RETURN for one in found):
                 refuse(body.block.at, "`return` in an altstep isn't carried over")
+            if body.is_of_altstep and lost_label(found) is not None:
+                refuse(body.block.at, "a `goto` in an altstep jumps within its own block alone")
             paths = found
         return paths
 

@@ -9,6 +9,7 @@ from . import tree
 from .components import SYSTEM, Behaviour
 from .flowing import Flows, flow_from
 from .emitted import Code, EndTold, Emitted, Got, GotDone, GotEnd, Operated, Sent, Ticked, Told, Verdict, Ways
+from .labels import lost_label
 from .paths import End, Exit, Joined, Path, Started, State, peers
 from .refusing import Refusal, refuse, refuse_open
 from .run import Run
@@ -180,6 +181,9 @@ def _arguments_of(run: Run, case: tree.TestCase) -> list[tree.Argument]:
 def _look_at_exits(run: Run, ways: list[Path], at: Token) -> None:
     if any(way.exit in (Exit.BREAK, Exit.CONTINUE, Exit.REPEAT) for way in ways):
         run.tell(Refusal(at, "a `break`, `continue` or `repeat` isn't inside a statement that it could leave"))
+    lost = lost_label(ways)
+    if lost is not None:
+        run.tell(Refusal(at, f"a `goto` has no label `{lost}` here that it may jump to"))
 
 
 def _part(run: Run, number: int, state: State, started: dict[int, Started]) -> Part:

@@ -9,6 +9,7 @@ from .emitted import Emitted, Got, GotDone, Verdict, Ways
 from .evaluating import Evaluator
 from .hoisting import Communicates, Hoister, expressions_of, key_of, names_beside
 from .interleaving import Interleaving
+from .labels import Labels, has_labels
 from .paths import Checkpoint, Exit, Key, Path, Scope, Slot, Split, checkpoint, joined
 from .refusing import Refusal
 from .run import PortOf, Run, members_of
@@ -65,17 +66,20 @@ class ListFollower(Evaluator, Hoister):
         points: list[Checkpoint] = []
         paths, index = [path], 0
         open_now = (len(self.frames), len(self.results), self.depth)
+        labels = Labels(listed)
         while index < len(listed):
+            labels.land(index, paths)
             points.append(checkpoint(index, self.counted, paths))
             try:
                 paths = self._one(listed, index, paths, scope)
             except Split as split:
                 index, paths = self._back(points, split)
+                labels.forget()
                 self._close(open_now)
                 continue
             if self.counted == points[-1].counted:
                 points.pop()
-            index += 1
+            index = labels.next(index, paths)
         return paths
 
     def _back(self, points: list[Checkpoint], split: Split) -> tuple[int, list[Path]]:
@@ -102,7 +106,8 @@ class ListFollower(Evaluator, Hoister):
     def _one(self, listed: list[Statement], index: int, paths: list[Path], scope: Scope) -> list[Path]:
         found: list[Path] = []
         depth = len(self.frames)
-        self.frames.append((listed, index))
+        # What stands before may be come to again by a `goto`.
+        self.frames.append((listed, 0 if has_labels(listed) else index))
         for path in paths:
             if path.exit is Exit.ON:
                 found += self._guarded(listed[index], path, scope)
@@ -110,7 +115,7 @@ class ListFollower(Evaluator, Hoister):
                 found.append(path)
         del self.frames[depth:]
         if len(found) > 1 or found[0].fork is not None:
-            self.frames.append((listed, index + 1))
+            self.frames.append((listed, 0 if has_labels(listed) else index + 1))
             found = joined(found, self.live(), self.has_verdict, self.leave_behind)
             del self.frames[depth:]
         return found

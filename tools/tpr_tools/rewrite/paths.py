@@ -114,6 +114,9 @@ class Exit(Enum):
     REPEAT = "repeat"
     RETURN = "return"
     END = "end"
+    # On the way to a label, and at the end of the list that has one, while others are on the way.
+    JUMP = "goto"
+    BEHIND = "behind"
     # It isn't come to, or waits for good: the behaviour doesn't end by it.
     STUCK = "stuck"
 
@@ -135,9 +138,10 @@ class Path:
     fork: Optional[Fork]
     exit: Exit = Exit.ON
     result: Optional[Form] = None
+    label: str = ""
 
     def copy(self) -> Path:
-        return Path(self.code, self.state.copy(), self.fork, self.exit, self.result)
+        return Path(self.code, self.state.copy(), self.fork, self.exit, self.result, self.label)
 
 
 @dataclass

@@ -381,11 +381,17 @@ class StatementReader(OperationReader):
             self.note(Construct.BRANCH_ALTSTEP, at)
         return found
 
+    def _jump(self) -> Statement:
+        start, at = self.place, self.take()
+        self.note(Construct.GOTO, at)
+        name = self.name("a label").text
+        self.end()
+        span = (start, self.place)
+        return tree.Label(at, name, span) if at.text == "label" else tree.Goto(at, name, span)
+
     def _outside(self) -> Statement:
         """A statement that has no place in the profile, whatever stands in it."""
         reasons = {
-            "goto": (Construct.GOTO, "`goto` isn't carried over"),
-            "label": (Construct.GOTO, "a label isn't carried over"),
             "action": (Construct.ACTION, "`action` asks for something outside the run"),
             "execute": (Construct.EXECUTE, "`execute` is allowed only in a control part"),
             "kill": (Construct.KILL, "`kill` ends a behaviour from outside; here each runs to its own end"),
@@ -434,8 +440,8 @@ _STATEMENTS: dict[str, _Read] = {
     "deactivate": StatementReader._deactivate,
     "alt": StatementReader._alt,
     "interleave": StatementReader._alt,
-    "goto": StatementReader._outside,
-    "label": StatementReader._outside,
+    "goto": StatementReader._jump,
+    "label": StatementReader._jump,
     "action": StatementReader._outside,
     "execute": StatementReader._outside,
     "kill": StatementReader._outside,

@@ -86,6 +86,18 @@ class Leave(Node):
 
 
 @dataclass(eq=False)
+class Label(Node):
+    name: str
+    span: tuple[int, int] = (0, 0)
+
+
+@dataclass(eq=False)
+class Goto(Node):
+    name: str
+    span: tuple[int, int] = (0, 0)
+
+
+@dataclass(eq=False)
 class Return(Node):
     value: Optional[Expression]
     span: tuple[int, int] = (0, 0)
