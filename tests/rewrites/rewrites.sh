@@ -6,7 +6,7 @@ rewrites() {
     while read -r part least; do
         at_least "$least" told "$room/rewrites_$part" tests/rewrites/rewrite_rules.py "$tpr" "$part"
     done <<'PARTS'
-table 171
+table 172
 natural 89
 timed 7
 same 59

@@ -63,7 +63,12 @@ def rewrite(
     if program.faults:
         # What couldn't be read isn't known where it is used.
         told = [one for one in told if not _FOLLOWS.search(one.reason)]
-    return Rewritten(Lines(), sorted_places([*told, *program.faults]))
+    return Rewritten(Lines(), sorted_places([*without_what_follows(told), *program.faults]))
+
+
+def without_what_follows(told: list[Refused]) -> list[Refused]:
+    """What is refused sets no variable, so that behind it one may seem to have no value, or another alternative."""
+    return [one for one in told if not _SEEMING.search(one.reason)] or told
 
 
 def written(run: Run, chosen: TestCase, files: list[str]) -> Optional[Lines]:
@@ -129,6 +134,7 @@ def _backslashes(sources: list[Source]) -> list[Refused]:
     return [refused_at(source.escaped, reason) for source in sources if source.escaped is not None][:1]
 
 
+_SEEMING = re.compile(r"this has no value yet|isn't the chosen one")
 _FOLLOWS = re.compile(r"isn't known|is no |no value|returns nothing|without a `return`|there is no |no branch")
 
 
