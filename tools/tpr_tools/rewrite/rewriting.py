@@ -2,7 +2,7 @@
 from __future__ import annotations
 
 import re
-from dataclasses import dataclass, field
+from dataclasses import dataclass, field, replace
 from typing import Optional
 
 from .ended import EndedFinder
@@ -63,7 +63,12 @@ def rewrite(
     if program.faults:
         # What couldn't be read isn't known where it is used.
         told = [one for one in told if not _FOLLOWS.search(one.reason)]
-    return Rewritten(Lines(), sorted_places([*without_what_follows(told), *program.faults]))
+    told = without_what_follows(told)
+    encoding = [one for one in told if "--encode" in one.reason]
+    if encoding and not program.faults:
+        # What else is refused is what --encode leaves.
+        told = encoding + rewrite(sources, case, parameters, replace(options, encodes=True)).refused
+    return Rewritten(Lines(), sorted_places([*told, *program.faults]))
 
 
 def without_what_follows(told: list[Refused]) -> list[Refused]:
