@@ -207,9 +207,9 @@ def interrupted_build(building: Building) -> None:
     building.cases.must_come("rt is ended", partial(is_gone, hanging))
     left = os.listdir(building.crates / "low/out"), (building.tree.out / "rooms").exists()
     building.cases.must_be("what was kept of the crate is back, and its room is gone", left, (["rlib"], False))
-    within = ["python3", "-c", INTERRUPTED_WITHIN_A_LOOK, BUILD, "--jobs", "2"]
-    said = of_tpr(AGAIN, log, LOW_LEFT)
-    building.tree.must_end("an interrupt within a look at rt", building.tree.call(within), 130, "", said)
+    with building.tree.started("python3", "-c", INTERRUPTED_WITHIN_A_LOOK, BUILD, "--jobs", "2") as process:
+        ended = end_of(process)
+    building.tree.must_end("an interrupt within a look at rt", ended, 130, "", of_tpr(AGAIN, log, LOW_LEFT))
     building.cases.must_be("what was kept is back too", os.listdir(building.crates / "low/out"), ["rlib"])
     building.remove("hangs in low")
     building.builds("once it hangs no longer", AGAIN, log, *LOW)
