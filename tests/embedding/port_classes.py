@@ -72,7 +72,7 @@ def main() -> int:
     wrong = {
         "the class of a port type": writes(),
         "a port type that isn't there": refuses(plain, "Bell", "has no class `Bell_BASE` for the port type `Bell`"),
-        "a port type with calls": refuses(calls, "My_Counter", "`My_Counter` of Kitchen.hh is no port type"),
+        "a port type with calls": refuses(calls, "My_Counter", "`My_Counter` of Kitchen.hh isn't a port type"),
         "a header that isn't there": refuses(None, "Bell", "Kitchen.hh can't be read"),
         "no header": "" if asked(plain, "--port", "Bell")[0] == 4 else "its status isn't 4",
     }

@@ -89,7 +89,7 @@ def diagnostics() -> None:
             must_be([found["code"], found["severity"], found["source"]], ["14 Direction", 1, "tpr"])
             must_be([it["message"] for it in found["relatedInformation"]], ["the port type"])
         with case("a hover on a fault has its rule, with the clauses"):
-            form = r"rule: the message type is in the port's list of sent types .* \(ES 201 873-1, 15, 19 to 24\)$"
+            form = r"rule: the message type is in the port's list of sent types, .* \(ES 201 873-1, 15, 19 to 24\)$"
             found = hover_at(client, WRONG, 'Order:{2, "x"}')
             must(re.search(form, found, re.MULTILINE), f"another rule: {found}")
         with case("all faults at once, the first of which is the program's"):
