@@ -147,13 +147,13 @@ def made_by_chance(what: str, seed: str, number: int, folder: str) -> Iterator[P
 
 # Two components look so often at a port to which the other still sends: each look may come before or behind each of the
 # other's. Each has so many places, and one more. When one has sent, the other's looks are taken at once, and so are two
-# sends behind all looks: one state more, the end, in place of that before the sends. They send different values, so that
-# they can't be exchanged.
+# sends behind all looks: one state more, the end, in place of that before the sends. One of them sets a verdict behind
+# its send, at once, so that they can't be exchanged.
 LOOKS = ((5, 5), (7, 3), (2047, 2047), (2047, 2048))
 LOOKING = """module Looking {{
     type port P message {{ inout integer; }}
     type component C {{ port P p; }}
-    function first() runs on C {{ {} p.send(integer:1); }}
+    function first() runs on C {{ {} p.send(integer:1); setverdict(none); }}
     function second() runs on C {{ {} p.send(integer:3); }}
     testcase t() runs on C {{
         var C a := C.create; var C b := C.create; connect(a:p, b:p);
