@@ -193,7 +193,7 @@ MISFITS = (
         KITCHEN,
         (("we close", "we closed"),),
         3,
-        'mtc: `took bell chef 0 charstring:"we closed"` doesn\'t fit the script: this message isn\'t wanted (line 25)',
+        'mtc: `took bell chef 0 charstring:"we closed"` doesn\'t fit the script: this message doesn\'t match (line 25)',
     ),
     Misfit(
         "a value that isn't sent",
