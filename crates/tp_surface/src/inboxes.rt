@@ -9,8 +9,11 @@ use tp_config::config::Config;
 use tp_config::port_type::{CompId, PortRef, RouteId};
 use tp_inbox::gathered::{Rest, gather};
 use tp_inbox::making::inbox;
+use tp_inbox::owner::{Closer, Owner};
+use tp_inbox::sender::Sender;
 use tp_inbox::settled::put_on_route;
 use tp_inbox::{Desk, Entry, Floor, Stamped, Woken};
+use tp_port::Env;
 use tp_refusal::memory::Memory;
 use tp_value::message::{Message, MsgTemplate};
 use tp_value::types::Ty;
@@ -32,7 +35,12 @@ fn messages_are_put(rt: HostRuntime) {
     let config = made(&rt);
     assert!(rt; config.len() > 1);
     let floor = Floor::new(rt.alloc(), 2).ok().expect(&rt, "memory");
-    let made = inbox(rt.alloc(), &config, CompId(1), &floor);
+    let made: Result<(Owner, Vec<Sender>, Closer), Memory> = inbox(
+        rt.alloc(),
+        &config,
+        CompId(1),
+        &floor,
+    );
     let (owner, mut senders, closer) = made.ok().expect(&rt, "memory");
     assert!(rt; senders.len() == 1 && senders[0].ways() == 1);
     assert!(rt; matches!(senders[0].put(&rt, 0, integer(4, 0)), Ok(0)));
@@ -88,7 +96,13 @@ fn one_desk(rt: HostRuntime) {
         .expect(&rt, "memory");
     assert!(rt; desk.port_count() == 1);
     let any = MsgTemplate::Any;
-    assert!(rt; matches!(desk.halt(0), Ok(Some(0))) && matches!(desk.clear(0), Ok(0)));
+    let env = Env {
+        sender: 0,
+        number: 0,
+        msg: integer(4, 0).message,
+    };
+    assert!(rt; desk.arrive(0, env, 0).is_ok());
+    assert!(rt; matches!(desk.halt(0), Ok(Some(1))) && matches!(desk.clear(0), Ok(1)));
     assert!(rt; desk.stop(0).is_ok() && matches!(desk.start(0), Ok(0)));
     assert!(rt; matches!(desk.receive(0, &any, None, 0), Ok(None)));
     assert!(rt; matches!(desk.check(0, &any, None, 0), Ok(None)));

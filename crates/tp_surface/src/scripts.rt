@@ -2,11 +2,16 @@
 use std::process::Abort;
 use std::sync::Wait;
 use std::thread::Threads;
+use tp_config::port_type::CompId;
 use tp_exec::gate::{Gate, OpenGate};
 use tp_exec::run::run;
 use tp_exec::{CompReport, End, Report, RunFault, Telling, Verdict, write_report};
 use tp_port::Watched;
-use tp_script::{Module, RecvMsg, TestCase, check, fill_template, lex, parse};
+use tp_script::{
+    Module, RecvMsg, ScriptFault, SendMsg, SendValue, TestCase, check, fill_message, fill_template,
+    lex, parse,
+};
+use tp_value::types::Ty;
 
 /// A test case whose only component sends to itself.
 const SCRIPT: &[u8] = b"module M {
@@ -50,14 +55,21 @@ fn accepted_script(rt: HostRuntime) {
 
 #[test]
 fn refused_script(rt: HostRuntime) {
-    assert!(rt; parse(rt.alloc(), b"module").is_err());
+    let refused: Result<Module, ScriptFault> = parse(rt.alloc(), b"module");
+    assert!(rt; refused.is_err());
 }
 
 #[test]
+#[tactic(auto, using(crate::proofs::NeededByIntegers::needed_int))]
 fn filled(rt: HostRuntime) {
+    let sent = SendMsg {
+        ty: Ty::Integer,
+        value: SendValue::Int(5),
+    };
+    assert!(rt; fill_message(rt.alloc(), &sent, [].as_slice()).is_ok());
     let wanted = RecvMsg::Any;
     assert!(rt; fill_template(rt.alloc(), &wanted, [].as_slice()).is_ok());
-    drop(wanted);
+    drop((sent, wanted));
 }
 
 /// Runs the test case with this gate, and writes its report.
@@ -76,6 +88,8 @@ fn reports<R: AllocGlobal + Abort + Threads + Wait + Sync, G: Gate>(rt: &R, gate
 
 #[test]
 fn reported(rt: HostRuntime) {
+    OpenGate.before(CompId(0), 0);
+    OpenGate.inside(CompId(0), 0);
     reports(&rt, &OpenGate);
 }
 
