@@ -4,9 +4,11 @@ use crate::making::route;
 use crate::showing::{debug, says};
 use std::process::Abort;
 use std::sync::Wait;
+use tp_config::port_type::{CompId, PortRef, RouteId};
 use tp_floor::floor::Floor;
 use tp_floor::notifier::Woken;
 use tp_inbox::sender::{PutFault, ROUTE_LIMIT};
+use tp_inbox::settled::put_on_route;
 use tp_refusal::memory::Memory;
 
 enum InboxCall {
@@ -78,6 +80,46 @@ fn two_routes(rt: HostRuntime) {
     carries_out(&rt, &mut ends, &floor, CALLS);
     drop(floor);
     settles(&rt, ends, LOG, REST);
+}
+
+/// Asserts which messages were put from component 0 on the route to port 0, and what is left.
+fn tells_what_was_put<R: AllocGlobal + Abort + Wait>(
+    rt: &R,
+    ends: InboxEnds,
+    wanted: &str,
+    rest: &str,
+) {
+    let (left, desk) = ends.settle(rt);
+    let to = PortRef {
+        comp: desk.comp(),
+        port: 0,
+    };
+    let source = CompId(0);
+    let put = put_on_route(rt.alloc(), &desk, left.as_slice(), RouteId { source, to });
+    says(rt, 0, debug(rt, put.ok().expect(rt, "memory")), wanted);
+    drop(desk);
+    says(rt, 1, debug(rt, left), rest);
+}
+
+#[test]
+fn what_was_put_is_told(rt: HostRuntime) {
+    const CALLS: &[(InboxCall, &str)] = &[
+        (InboxCall::Put(0, 4), "Some(Ok(0))"),
+        (InboxCall::Put(0, 5), "Some(Ok(1))"),
+        (InboxCall::Count, "2"),
+        (InboxCall::Drain, "Ok(2)"),
+        (InboxCall::Put(0, 6), "Some(Ok(2))"),
+    ];
+    const PUT: &str = "[\
+        Message { ty: Integer, value: Int(4) }, \
+        Message { ty: Integer, value: Int(5) }, \
+        Message { ty: Integer, value: Int(6) }]";
+    const REST: &str =
+        "[(0, Env { sender: 0, number: 2, msg: Message { ty: Integer, value: Int(6) } }, 6)]";
+    let (mut ends, floor) = two(&rt, ["p"].as_slice());
+    carries_out(&rt, &mut ends, &floor, CALLS);
+    drop(floor);
+    tells_what_was_put(&rt, ends, PUT, REST);
 }
 
 #[test]
