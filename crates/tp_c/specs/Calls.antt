@@ -48,6 +48,17 @@ triggered_by zero answer = trigger_answer.Nothing
 triggered_by (suc zero) answer = trigger_answer.Took (envelope answer)
 triggered_by (suc (suc n)) answer = trigger_answer.Dropped (envelope answer)
 
+-- how a receive, a check or a look at a place answers: the fields of no message are 0
+abbrev pub answer_to : Option (Env ℕ) → Answer
+answer_to None = record { outcome = 0; sender = 0; number = 0; message = 0 }
+answer_to (Some e) = answer_with 1 e
+
+-- how a trigger answers
+abbrev pub trigger_to : TriggerAnswer ℕ → Answer
+trigger_to trigger_answer.Nothing = record { outcome = 0; sender = 0; number = 0; message = 0 }
+trigger_to (trigger_answer.Took e) = answer_with 1 e
+trigger_to (trigger_answer.Dropped e) = answer_with 2 e
+
 -- the sender that is named, if one is
 abbrev pub the_sender : Bool → ℕ → Option ℕ
 the_sender true from = Some from
@@ -67,15 +78,18 @@ Arrived before sender number message false after = after ≡ before
 
 abbrev pub Received : QueueState ℕ → Bool → ℕ → Bool → Answer → QueueState ℕ → Type 0
 Received before named from fits answer after =
-    AtHistory before (λ h. ReceivesFor (λ msg. IsTrue fits) (the_sender named from) h (found answer) after)
+    (answer ≡ answer_to (found answer))
+    × AtHistory before (λ h. ReceivesFor (λ msg. IsTrue fits) (the_sender named from) h (found answer) after)
 
 abbrev pub Triggered : QueueState ℕ → Bool → ℕ → Bool → Answer → QueueState ℕ → Type 0
 Triggered before named from fits answer after =
-    AtHistory before (λ h. TriggersFor (λ msg. IsTrue fits) (the_sender named from) h (triggered_by answer.outcome answer) after)
+    (answer ≡ trigger_to (triggered_by answer.outcome answer))
+    × AtHistory before (λ h. TriggersFor (λ msg. IsTrue fits) (the_sender named from) h (triggered_by answer.outcome answer) after)
 
 abbrev pub Checked : QueueState ℕ → Bool → ℕ → Bool → Answer → QueueState ℕ → Type 0
 Checked before named from fits answer after =
-    AtHistory before (λ h. Checks (λ msg. IsTrue fits) (the_sender named from) h (found answer) × StandsFor after (checked h (found answer)))
+    (answer ≡ answer_to (found answer))
+    × AtHistory before (λ h. Checks (λ msg. IsTrue fits) (the_sender named from) h (found answer) × StandsFor after (checked h (found answer)))
 
 abbrev pub Started : QueueState ℕ → ℕ → QueueState ℕ → Type 0
 Started before count after = AtHistory before (λ h. (count ≡ length (queued h)) × StandsFor after (h ++ event.Started ∷ []))
@@ -101,4 +115,4 @@ abbrev pub StatusIs : QueueState ℕ → ℕ → QueueState ℕ → Type 0
 StatusIs before code after = (code ≡ code_of before.status) × (after ≡ before)
 
 abbrev pub Placed : QueueState ℕ → ℕ → Answer → QueueState ℕ → Type 0
-Placed before place answer after = (found answer ≡ slice_get before.entries place) × (after ≡ before)
+Placed before place answer after = (answer ≡ answer_to (slice_get before.entries place)) × (after ≡ before)
