@@ -254,7 +254,7 @@ class Alt(Node):
 
 
 Statement = Union[
-    Declaration, Assignment, CallStatement, Block, If, Select, For, While, Leave, Return, Dropped,
+    Declaration, Assignment, CallStatement, Block, If, Select, For, While, Leave, Label, Goto, Return, Dropped,
     SetVerdict, Deactivate, Join, Operate, Send, Receive, Find, Unsupported, Alt,
 ]
 
