@@ -107,6 +107,25 @@ def halted(number: int) -> Work:
     return Work(body, asks, to_mtc(number))
 
 
+def barriers(number: int, rounds: int) -> Work:
+    """All meet so many times: `mtc` tells all of them when the last has come."""
+    body: list[Statement] = [For(rounds, [For(number, [Take(1)], "j"), Send(2, "all component")]), PASS]
+    return Work(body, [[For(rounds, [Send(1), Take(2)]), PASS]] * number, to_mtc(number))
+
+
+def two_groups(number: int) -> Work:
+    """Two servers, each with so many clients that it answers by name. The groups have nothing to do with each other."""
+    server: list[Statement] = [Variables("w"), For(number, [Take(into="w"), Send(2, "w")])]
+    links = [((first, "p"), (first + at, "p")) for first in (1, number + 2) for at in range(1, number + 1)]
+    return Work([], [server, *[[Send(1), Take(2)]] * number] * 2, links)
+
+
+def heartbeats(number: int, beats: int) -> Work:
+    """Each sends so many heartbeats, and then that it is done. `mtc` counts who is done, and drops heartbeats."""
+    done = Alt([Take(9, [SetVerdict("fail")]), Take(1, kind="trigger")])
+    return Work([For(number, [done]), PASS], [[For(beats, [Send(0)]), Send(1), PASS]] * number, to_mtc(number))
+
+
 def alone(turns: int) -> Work:
     """`mtc` sends itself so many messages, and takes each before the next: there is one order."""
     return Work([For(turns, [Send(1), Take(port="q")]), PASS], [], [((0, "p"), (0, "q"))])
@@ -129,5 +148,9 @@ WORKS = {
     "60 senders, taken in one order": fixed_order(60),
     "8 senders, answered by name": answered_by_name(8),
     "12 senders, answered by name": answered_by_name(12),
+    "60 senders, answered by name": answered_by_name(60),
+    "60 components, three barriers": barriers(60, 3),
+    "two groups of 30, answered by name": two_groups(30),
+    "60 senders of one heartbeat": heartbeats(60, 1),
     "4 senders, a halted port": halted(4),
 }

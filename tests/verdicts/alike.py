@@ -1,6 +1,7 @@
 """Scripts made by chance in which some components are alike: clients of one body, and a server that may answer by
 sender. So components can be exchanged, or just not: one has another body, `mtc` names some of them, or each sends a
-number of its own, which its receivers may tell apart."""
+number of its own, which its receivers may tell apart. In some scripts there are two servers, each with clients of its
+own, and the two groups have nothing to do with each other, unless `mtc` tells all of both."""
 from __future__ import annotations
 
 import random
@@ -89,7 +90,51 @@ def own_bodies(chance: random.Random, clients: list[str], asks: str) -> list[str
     return [client for _ in clients]
 
 
+GROUPS = """module Groups {{
+    type port P message {{ inout integer; }}
+    type component C {{ port P p, q; }}
+    {bodies}
+    testcase t() runs on C {{
+        {created}
+        {connected}
+        {started}
+        {main}
+        all component.done;
+    }}
+}}
+"""
+
+
+def of_one_group(chance: random.Random, name: str, clients: list[str], told: bool) -> dict[str, str]:
+    """The bodies of a server and its clients."""
+    asks = chance.choice(("p.send(integer:1);", "p.send(integer:1);", "q.receive; p.send(integer:1);" if told else ""))
+    client = " ".join([asks, *(own_act(chance) for _ in range(chance.randint(0, 2)))])
+    answers = ANSWERS.format(clients=len(clients), last=chance.choice("12"))
+    server = " ".join(["var C w;", answers, *(central_act(chance, "p", []) for _ in range(chance.randint(0, 1)))])
+    return {name: server, **{it: client for it in clients}}
+
+
+def some_groups_script(chance: random.Random) -> str:
+    """Two groups, which `mtc` may tell to begin."""
+    told = chance.random() < 0.4
+    groups = {"a": ["a0", "a1"][: chance.randint(1, 2)], "b": ["b0"]}
+    bodies: dict[str, str] = {}
+    for name, clients in groups.items():
+        bodies |= of_one_group(chance, name, clients, told)
+    links = [f"connect({name}:p, {it}:p);" for name, clients in groups.items() for it in clients]
+    links += [f"connect(self:q, {it}:q);" for clients in groups.values() for it in clients if told]
+    return GROUPS.format(
+        bodies=" ".join(f"function of_{it}() runs on C {{ {body} }}" for it, body in bodies.items()),
+        created=" ".join(f"var C {it} := C.create;" for it in bodies),
+        connected=" ".join(links),
+        started=" ".join(f"{it}.start(of_{it}());" for it in bodies),
+        main="q.send(integer:1) to all component;" if told else "",
+    )
+
+
 def some_alike_script(chance: random.Random) -> str:
+    if chance.random() < 0.2:
+        return some_groups_script(chance)
     clients = [f"c{at}" for at in range(chance.choice((2, 2, 3)))]
     known = clients if chance.random() < 0.3 else []
     asks = "p.send(integer:1); q.send(integer:1);" if chance.random() < 0.8 else ""
