@@ -1,7 +1,8 @@
 -- Routes and their places, by a table.
-use Rattle.std.proofs.Common.{◌≡◌, ◌≢◌, ◌⊎◌, inl, inr, ℕ, ◌+◌, ◌<◌, true, false, cond, eqb, Some, List, length, sym, ap, ◌∙◌, arith}
-use Rattle.std.specs.Prelude.{◌&&◌, AllPairs}
+use Rattle.std.proofs.Common.{◌≡◌, ◌≢◌, ◌⊎◌, inl, inr, ℕ, ◌+◌, ◌<◌, ◌≤◌, true, false, cond, eqb, Option, Some, None, List, length, take, refl, sym, ap, subst, ◌∙◌, arith}
+use Rattle.std.specs.Prelude.{◌&&◌, All, AllPairs}
 use Rattle.std.proofs.lemmas.Bool.{and_parts, eqb-true, cases_Bool, cases_order}
+use Rattle.std.proofs.lemmas.List.{take_all}
 use Rattle.std.proofs.lemmas.Option.{same_Some, none-some}
 use Rattle.indexmap.specs.IndexMap.{IndexMap, IsEmpty, Updates, get}
 use Rattle.std.specs.Map.{lookup}
@@ -52,3 +53,14 @@ filed_next routes m after n apart low filed up = record {
         let at : n ≡ k = same_Some n k (sym (up.0 r ∙ ap (λ b. cond b (Some n) (get route_eq m r)) same) ∙ is) in
         (omega (arith, at), ap (route_at routes) (sym at) ∙ eq_same here r same)
     known r k is (inr differs) = let old = filed.known r k (sym (up.2 r differs) ∙ is) in (let less = old.0 in omega arith, old.1)
+
+none_or : (o : Option ℕ) → ((k : ℕ) → o ≡ Some k → ⊥) → None ≡ o
+none_or None other = refl
+none_or (Some k) other = absurd (other k refl)
+
+-- a route that none of these is isn't found
+pub found_nowhere : {S : Type 0} (routes : List RouteId) (m : IndexMap RouteId ℕ S) (r : RouteId) (n : ℕ) → AreFiled (length routes) routes m
+    → length routes ≤ n → All (λ (q : RouteId). q ≢ r) (take n routes) → None ≡ get route_eq m r
+found_nowhere routes m r n filed whole none =
+    none_or (get route_eq m r) (λ k is. let at = filed.known r k is in
+    subst (All (λ (q : RouteId). q ≢ r)) (take_all n routes whole) none k absent_route at.0 at.1)

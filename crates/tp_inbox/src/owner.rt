@@ -9,6 +9,8 @@ ghost use Rattle.tp_inbox.specs.Envelopes.{EndsWith, one_of};
 ghost use Rattle.tp_inbox.specs.InboxEndFields.{Fetches, GivesNext, IsTakenCount, KeepsRoutes};
 ghost use Rattle.tp_inbox.specs.Routed.{AreArrivals, arrival_of};
 ghost use Rattle.tp_inbox.specs.Ledgers.{IsDeskOf, drained_on};
+ghost use Rattle.tp_inbox.specs.Places.{AreFiled, route_eq};
+ghost use Rattle.indexmap.specs.IndexMap.{get};
 
 use crate::channel::Channel;
 use crate::envelope::InboxEnvelope;
@@ -144,6 +146,24 @@ fn in_hand(hand: &Option<InboxEnvelope>) -> Option<Woken>
     None
 }
 
+/// So many routes are looked through, which takes less than a search in the table.
+const FEW_ROUTES: usize = 4;
+
+fn place_of(routes: &[RouteId], places: &IndexMap<RouteId, usize>, route: RouteId) -> Option<usize>
+    requires { AreFiled (length routes.now) routes.now places.now }
+    ensures { result ≡ get route_eq places.now route }
+{
+    if routes.len() > FEW_ROUTES {
+        return places.get(&route).copied();
+    }
+    for place in 0..routes.len() {
+        if routes[place] == route {
+            return Some(place);
+        }
+    }
+    None
+}
+
 impl Owner {
     /// Moves the envelope in hand, or else the next of the queue, to its port. Returns false if
     /// there is neither. After 50 `Memory` the envelope is in hand.
@@ -202,8 +222,8 @@ impl Owner {
     pub fn drained(&self, route: RouteId) -> u64
         ensures { result ≡ drained_on self.now route }
     {
-        match self.places.get(&route) {
-            Some(place) => self.counts[*place],
+        match place_of(self.channel.routes.as_slice(), &self.places, route) {
+            Some(place) => self.counts[place],
             None => 0,
         }
     }
