@@ -5,12 +5,12 @@ ghost use Rattle.tp_text.specs.Watching.{Writes};
 ghost use Rattle.tp_refusal.specs.Label.{label};
 ghost use Rattle.tp_config.specs.Setup.{IsComponent, IsPort};
 ghost use Rattle.tp_history.specs.Faults.{send_refusal};
-ghost use Rattle.tp_report.specs.ReportWords.{component_name, line, message_text, port_name, verdict_word};
-ghost use Rattle.tp_report.specs.LineOpenings.{HasItsText, fate_word};
+ghost use Rattle.tp_report.specs.ReportWords.{component_name, line, message_text, port_name, rest_of_line, verdict_word};
+ghost use Rattle.tp_report.specs.LineOpenings.{HasItsText, NamesKnown, fate_word, opening_text};
 ghost use Rattle.tp_report.specs.Lines.{end_text, heading, sender_of, sent_line};
 
-use crate::opening::{Fate, KeptOpening, Opening};
-use crate::rest::write_rest;
+use crate::opening::{Fate, KeptOpening, Opening, write_opening};
+use crate::rest::write_opened;
 use crate::words::{verdict_word, write_component_name, write_port_name};
 use std::io::Write;
 use tp_config::port_type::{CompId, PortRef, RouteId};
@@ -69,6 +69,29 @@ pub fn write_port<W: Write>(test_case: &TestCase, word: &[u8], port: PortRef, ou
     write_bytes(b"\n", out)
 }
 
+/// Writes a line on a message. If there is room for its opening, the opening is kept for the next
+/// line.
+fn write_line<W: Write>(
+    test_case: &TestCase,
+    opening: Opening,
+    number: u64,
+    message: &Message,
+    kept: &mut KeptOpening,
+    out: &mut Watched<W>,
+)
+    requires named { NamesKnown test_case.now.config opening }
+    requires kept { HasItsText test_case.now.config kept.old }
+    ensures written { Writes W.contents out.old out.new (opening_text test_case.now.config opening
+        ++ rest_of_line (decimal number ∷ message_text test_case.now.types message.now ∷ [])) }
+    ensures kept { HasItsText test_case.now.config kept.new }
+{
+    if kept.holds(test_case.config(), opening) {
+        return write_opened(kept.text(), test_case.types(), number, message, out);
+    }
+    write_opening(test_case.config(), opening, out);
+    write_opened(b"", test_case.types(), number, message, out)
+}
+
 pub fn write_envelope<W: Write>(
     test_case: &TestCase,
     fate: Fate,
@@ -87,8 +110,7 @@ pub fn write_envelope<W: Write>(
     ensures kept { HasItsText test_case.now.config kept.new }
 {
     let opening = Opening::At(fate, port, CompId(env.sender));
-    kept.write(test_case.config(), opening, out);
-    write_rest(test_case.types(), env.number, &env.msg, out)
+    write_line(test_case, opening, env.number, &env.msg, kept, out)
 }
 
 pub fn write_sent<W: Write>(
@@ -105,6 +127,12 @@ pub fn write_sent<W: Write>(
         (sent_line test_case.now route number message.now) }
     ensures kept { HasItsText test_case.now.config kept.new }
 {
-    kept.write(test_case.config(), Opening::Sent(route.to), out);
-    write_rest(test_case.types(), number, message, out)
+    write_line(
+        test_case,
+        Opening::Sent(route.to),
+        number,
+        message,
+        kept,
+        out,
+    )
 }

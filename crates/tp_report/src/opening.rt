@@ -121,9 +121,11 @@ fn put_pieces(pieces: OpeningPieces<'_>, text: &mut [u8; ROOM]) -> Option<usize>
     try_put(pieces.word, text, front)
 }
 
-fn write_pieces<W: Write>(pieces: OpeningPieces<'_>, out: &mut Watched<W>)
-    ensures { Writes W.contents out.old out.new (pieces_text pieces.entry) }
+pub fn write_opening<W: Write>(config: &Config, opening: Opening, out: &mut Watched<W>)
+    requires { NamesKnown config.now opening }
+    ensures { Writes W.contents out.old out.new (opening_text config.now opening) }
 {
+    let pieces = opening.pieces(config);
     write_bytes(pieces.word, out);
     write_bytes(pieces.front, out);
     write_bytes(pieces.between, out);
@@ -179,17 +181,23 @@ impl KeptOpening {
         }
     }
 
-    /// Writes an opening: in one piece if it is kept or there is room for it.
-    pub fn write<W: Write>(&mut self, config: &Config, opening: Opening, out: &mut Watched<W>)
+    /// Returns whether the opening is kept, now if not before: there is room for its text.
+    pub fn holds(&mut self, config: &Config, opening: Opening) -> bool
         requires named { NamesKnown config.now opening }
         requires kept { HasItsText config.now self.old }
-        ensures written { Writes W.contents out.old out.new (opening_text config.now opening) }
         ensures kept { HasItsText config.now self.new }
+        ensures of { IsTrue result → self.new.of ≡ Some opening }
     {
-        if self.is_of(opening) || self.keep(config, opening) {
-            return write_bytes(&self.text[self.start..], out);
-        }
-        write_pieces(opening.pieces(config), out)
+        self.is_of(opening) || self.keep(config, opening)
+    }
+
+    /// The text of the opening that is kept.
+    pub fn text(&self) -> &[u8]
+        requires { self.now.start ≤ 128 }
+        ensures text { result.now ≡ drop self.now.start self.now.text }
+        ensures short { length result.now ≤ 128 }
+    {
+        &self.text[self.start..]
     }
 }
 

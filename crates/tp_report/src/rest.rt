@@ -1,5 +1,5 @@
-//! The rest of a line on a message: its number, and the message.
-ghost use Rattle.std.specs.Prelude.{◌∷◌, ◌++◌, [], IfSome, codes};
+//! A line on a message: its opening, its number, and the message.
+ghost use Rattle.std.specs.Prelude.{◌∷◌, ◌++◌, ◌≤◌, [], IfSome, codes, length};
 ghost use Rattle.std.specs.Fmt.{decimal, signed_decimal};
 ghost use Rattle.tp_text.specs.Watching.{Writes};
 ghost use Rattle.tp_report.specs.Integers.{IsInteger};
@@ -26,26 +26,37 @@ fn message_integer(message: &Message) -> Option<i64>
     }
 }
 
-fn write_integer<W: Write>(number: u64, integer: i64, out: &mut Watched<W>)
-    ensures { Writes W.contents out.old out.new
-        (rest_of_line (decimal number ∷ (codes "integer:" ++ signed_decimal integer) ∷ [])) }
+fn write_integer<W: Write>(opening: &[u8], number: u64, integer: i64, out: &mut Watched<W>)
+    requires { length opening.now ≤ 128 }
+    ensures { Writes W.contents out.old out.new (opening.now
+        ++ rest_of_line (decimal number ∷ (codes "integer:" ++ signed_decimal integer) ∷ [])) }
 {
-    // The number and the integer have 20 characters each at most, all else has 11.
-    let mut text = [b'\n'; 51];
-    let integer_start = put_integer(integer, &mut text, 50);
+    // The opening has 128 characters at most, the number and the integer 20 each, all else 11.
+    let mut text = [b'\n'; 179];
+    let integer_start = put_integer(integer, &mut text, 178);
     let type_start = put_bytes(b" integer:", &mut text, integer_start);
     let number_start = write_digits(number, &mut text, type_start);
-    let start = put_bytes(b" ", &mut text, number_start);
+    let rest_start = put_bytes(b" ", &mut text, number_start);
+    let start = put_bytes(opening, &mut text, rest_start);
     write_bytes(&text[start..], out)
 }
 
-pub fn write_rest<W: Write>(types: &Types, number: u64, message: &Message, out: &mut Watched<W>)
-    ensures { Writes W.contents out.old out.new
-        (rest_of_line (decimal number ∷ message_text types.now message.now ∷ [])) }
+/// Writes a line that begins so, that of an integer in one piece.
+pub fn write_opened<W: Write>(
+    opening: &[u8],
+    types: &Types,
+    number: u64,
+    message: &Message,
+    out: &mut Watched<W>,
+)
+    requires { length opening.now ≤ 128 }
+    ensures { Writes W.contents out.old out.new (opening.now
+        ++ rest_of_line (decimal number ∷ message_text types.now message.now ∷ [])) }
 {
     if let Some(integer) = message_integer(message) {
-        return write_integer(number, integer, out);
+        return write_integer(opening, number, integer, out);
     }
+    write_bytes(opening, out);
     write_spaced(number, out);
     write_message(types, message, out);
     write_bytes(b"\n", out)

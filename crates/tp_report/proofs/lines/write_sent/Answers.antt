@@ -1,9 +1,5 @@
--- How the line begins, and the rest of it.
-use Rattle.tp_text.proofs.WatchedWriterGrowth.{writes_both}
+-- The line begins with its opening.
 use Rattle.tp_report.proofs.lines.write_sent.Goals as goal
 
 pub returns-clause-written : goal.returns-clause-written
-returns-clause-written g c =
-    let opening = rw c.config.ensures at c.write.ensures.written in
-    let rest = rw c.types.ensures at c.write_rest.ensures in
-    writes_both _ _ _ _ _ _ opening rest
+returns-clause-written g c = c.write_line.ensures.written

@@ -1,18 +1,20 @@
 -- The text of an integer is its type's name, a colon and its digits.
-use Rattle.std.proofs.Common.{List, ℕ, [], ◌∷◌, append_assoc, subst, to_z-of_z}
+use Rattle.std.proofs.Common.{List, ℕ, [], ◌∷◌, ◌++◌, append_assoc, subst, to_z-of_z}
 use Rattle.std.specs.Fmt.{decimal}
 use Rattle.tp_text.specs.Watching.{Writes}
 use Rattle.tp_text.proofs.WatchedWriterGrowth.{writes_both}
 use Rattle.tp_report.specs.ReportWords.{rest_of_line}
 use Rattle.tp_report.proofs.IntegerMessageText.{integer_text}
-use Rattle.tp_report.proofs.rest.write_rest.Goals as goal
+use Rattle.tp_report.proofs.rest.write_opened.Goals as goal
 
 pub returns-in-Some : goal.returns-in-Some
 returns-in-Some g c =
-    subst (λ (text : List ℕ). Writes g.W.Write.contents c.args.out.now c.write_integer.new.out (rest_of_line (decimal c.args.number ∷ text ∷ [])))
+    subst
+    (λ (text : List ℕ). Writes g.W.Write.contents c.args.out.now c.write_integer.new.out (c.args.opening.now ++ rest_of_line (decimal c.args.number ∷ text ∷ [])))
     (integer_text c.args.types.now c.args.message.now c.in-Some.integer c.in-Some.ensures)
     (rw (to_z-of_z c.in-Some.ensures.2) at c.write_integer.ensures)
 
 pub returns : goal.returns
 returns g c =
-    let whole = writes_both _ _ _ _ _ _ c.write_spaced.ensures (writes_both _ _ _ _ _ _ c.write_message.ensures c.write_bytes.ensures) in simp append_assoc at whole
+    let rest = writes_both _ _ _ _ _ _ c.write_spaced.ensures (writes_both _ _ _ _ _ _ c.write_message.ensures c.write_bytes-2.ensures) in
+    let whole = writes_both _ _ _ _ _ _ c.write_bytes.ensures rest in simp append_assoc at whole
