@@ -18,7 +18,7 @@ sys.dont_write_bytecode = True
 sys.path.append(str(Path(__file__).resolve().parents[1] / "program"))
 
 from examples import is_report, reports, script
-from refusing import MOST_CALLS, NO_MEMORY, NO_READ, NO_THREAD, Case, Ran, Refusing, try_one_of
+from refusing import MOST_CALLS, NO_MEMORY, NO_READ, NO_THREAD, Case, Ran, Refusing, Wrong, try_one_of
 
 OF_EACH_ALLOCATION = (
     "trigger_skips_to_what_matches",
@@ -40,6 +40,15 @@ TURNS = """module Turns {
                 [else] { }
             }
         }
+    }
+}
+"""
+LONG = """module Long {
+    type port Numbers message { inout integer; }
+    type component Talker { port Numbers mouth, ear; }
+    testcase talks() runs on Talker {
+        connect(self:mouth, self:ear);
+        for (var integer turn := 0; turn < TURNS; turn := turn + 1) { mouth.send(integer:turn); }
     }
 }
 """
@@ -92,6 +101,28 @@ class Example:
         self.refusing.each_is_told(self.words, "READ", lambda ran: ran.is_so(2, NO_READ), self.is_report)
 
 
+def spared_in(refusing: Refusing, turns: int) -> int:
+    """How many allocations of a run with so many turns can be refused and leave its report as it is."""
+    file = refusing.folder / f"{turns}.ttcn"
+    file.write_text(LONG.replace("TURNS", str(turns)), encoding="ascii")
+    words, spared = [refusing.program, "run", str(file)], 0
+    whole = refusing.run(words).printed
+    for number, ran in refusing.each(words, "MEMORY", MOST_CALLS):
+        is_fault = ran.is_fault(NO_MEMORY) or ran.is_fault(NO_THREAD)
+        if not is_fault and not ran.is_so(0, whole):
+            raise ran.wrong(f"with allocation {number} refused")
+        spared += "MEMORY" in ran.refused and not is_fault
+    return spared
+
+
+def grows_as_it_is_used(refusing: Refusing) -> None:
+    """A history of 80 entries gets room for many by one allocation, and one of 4 entries doesn't. If that is refused,
+    there is the same report."""
+    few, many = spared_in(refusing, 2), spared_in(refusing, 40)
+    if many != few + 1:
+        raise Wrong(f"{many} refusals were followed by a report, and {few} in a short run")
+
+
 def of_runs(refusing: Refusing) -> Iterator[Case]:
     for name in OF_EACH_ALLOCATION:
         yield f"each allocation of {name}", Example(refusing, "run", name).each_allocation
@@ -109,6 +140,7 @@ def of_runs(refusing: Refusing) -> Iterator[Case]:
     for name in ("halt_holds_back_what_comes_later", "two_senders_to_one_that_ended"):
         yield f"each allocation of the trace of {name}", Example(refusing, "trace", name).each_allocation
     yield "each read of a trace", Example(refusing, "trace", "login_is_answered").each_read
+    yield "each allocation of a long history", functools.partial(grows_as_it_is_used, refusing)
     trace = Example(refusing, "trace", "two_senders_to_one_that_ended")
     yield "each thread of a trace", functools.partial(trace.each_thread, 4)
 

@@ -1,6 +1,6 @@
 //! A component's desk: its ports and its history.
 ghost use Rattle.std.specs.Prelude.{◌≡◌, [], ℕ, ◌+◌, ◌^◌, ◌<◌, ◌≤◌};
-ghost use Rattle.std.specs.Prelude.{All, SomeIff, length, IfErr, IfOk, OnErr, OnOk};
+ghost use Rattle.std.specs.Prelude.{All, SomeIff, length, IfErr, IfOk, OnErr, OnOk, vec_capacity, vec_len};
 ghost use Rattle.std.specs.Option.{option_copied};
 ghost use Rattle.std.specs.Borrow.{sem};
 ghost use Rattle.tp_queue.specs.History.{Lawful, queued, status_of};
@@ -54,6 +54,31 @@ impl Model for Desk {
     ghost invariant = { λ d. IsKept d.ports.items d.clock d.log.items };
 }
 
+/// A history of so many entries gets room for [`MANY_ENTRIES`].
+const FEW_ENTRIES: usize = 32;
+
+/// 7 MiB of entries, which cost nothing until they are used.
+const MANY_ENTRIES: usize = 131_072;
+
+/// Makes room for another entry. A history is moved once on its way to [`MANY_ENTRIES`], unless so
+/// much memory is refused: then it grows as it is used.
+fn reserve_entry(log: &mut Vec<Entry>) -> Result<(), Memory>
+    ensures items { log.new.items ≡ log.old.items }
+    ensures room { OnOk result (vec_len log.new < vec_capacity log.new) }
+{
+    let count = log.len();
+    if count < log.capacity() {
+        return Ok(());
+    }
+    if count >= FEW_ENTRIES && count < MANY_ENTRIES {
+        if log.reserve_exact(MANY_ENTRIES - count).is_ok() {
+            return Ok(());
+        }
+    }
+    log.reserve(1)?;
+    Ok(())
+}
+
 impl Desk {
     /// The desk of a component of the configuration: all its ports are started (ES 201 873-1,
     /// 21.3.1), and the history is empty.
@@ -95,7 +120,7 @@ impl Desk {
         ensures ok { OnOk result (self.new ≡ adding self.old (entry.Arrive port env stamp)) }
         ensures err { IfErr result (λ back. (back.1 ≡ env) × (self.new ≡ self.old)) }
     {
-        if self.log.reserve(1).is_err() {
+        if reserve_entry(&mut self.log).is_err() {
             return Err((Memory, env));
         }
         let Ok(noted) = env.copy(self.alloc) else {
@@ -120,7 +145,7 @@ impl Desk {
             ReceivesAt (W.admits wanted.now) from port branch self.old answer self.new) }
         ensures err { OnErr result (self.new ≡ self.old) }
     {
-        self.log.reserve(1)?;
+        reserve_entry(&mut self.log)?;
         let queue = &mut self.ports[port as usize];
         let noted = match queue.check(wanted, from) {
             None => return Ok(None),
@@ -145,7 +170,7 @@ impl Desk {
             TriggersAt (W.admits wanted.now) from port branch self.old answer self.new) }
         ensures err { OnErr result (self.new ≡ self.old) }
     {
-        self.log.reserve(1)?;
+        reserve_entry(&mut self.log)?;
         let queue = &mut self.ports[port as usize];
         let noted = match queue.top() {
             None => return Ok(TriggerAnswer::Nothing),
@@ -179,7 +204,7 @@ impl Desk {
         ensures found { IfOk result (λ answer.
             Checks (W.admits wanted.now) from (at_port self.old port) (option_copied answer)) }
     {
-        self.log.reserve(1)?;
+        reserve_entry(&mut self.log)?;
         let Some(env) = self.ports[port as usize].check(wanted, from) else {
             return Ok(None);
         };
@@ -195,7 +220,7 @@ impl Desk {
         ensures ok { OnOk result (self.new ≡ adding self.old (entry.Cleared port)) }
         ensures err { OnErr result (self.new ≡ self.old) }
     {
-        self.log.reserve(1)?;
+        reserve_entry(&mut self.log)?;
         let discarded = self.ports[port as usize].clear();
         self.log.push_reserved(Entry::Cleared(port));
         Ok(discarded)
@@ -208,7 +233,7 @@ impl Desk {
         ensures ok { OnOk result (self.new ≡ adding self.old (entry.Started port)) }
         ensures err { OnErr result (self.new ≡ self.old) }
     {
-        self.log.reserve(1)?;
+        reserve_entry(&mut self.log)?;
         let discarded = self.ports[port as usize].start();
         self.log.push_reserved(Entry::Started(port));
         Ok(discarded)
@@ -219,7 +244,7 @@ impl Desk {
         ensures ok { OnOk result (self.new ≡ adding self.old (entry.Stopped port)) }
         ensures err { OnErr result (self.new ≡ self.old) }
     {
-        self.log.reserve(1)?;
+        reserve_entry(&mut self.log)?;
         self.ports[port as usize].stop();
         self.log.push_reserved(Entry::Stopped(port));
         Ok(())
@@ -233,7 +258,7 @@ impl Desk {
         ensures ok { OnOk result (self.new ≡ adding self.old (entry.Halted port)) }
         ensures err { OnErr result (self.new ≡ self.old) }
     {
-        self.log.reserve(1)?;
+        reserve_entry(&mut self.log)?;
         let ahead = self.ports[port as usize].halt();
         self.log.push_reserved(Entry::Halted(port));
         Ok(ahead)
@@ -247,7 +272,7 @@ impl Desk {
         ensures ok { OnOk result (self.new ≡ adding self.old entry) }
         ensures err { IfErr result (λ back. (back.1 ≡ entry) × (self.new ≡ self.old)) }
     {
-        if self.log.reserve(1).is_err() {
+        if reserve_entry(&mut self.log).is_err() {
             return Err((Memory, entry));
         }
         self.clock = self.clock.max(entry.stamp());
@@ -271,7 +296,7 @@ impl Desk {
         let Some(stamp) = self.stamp() else {
             return Err((Memory, message));
         };
-        if self.log.reserve(1).is_err() {
+        if reserve_entry(&mut self.log).is_err() {
             return Err((Memory, message));
         }
         let put = Stamped { stamp, message };

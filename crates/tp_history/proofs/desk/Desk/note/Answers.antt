@@ -10,4 +10,4 @@ invariant_of-self-2 c =
     let timely = subst (λ (d : Journal). IsTimely d.log c.args.entry) (sym c.self.view_is) c.requires.timely in
     kept_by_note _ _ _ _ _ c.args.entry c.self.invariant c.requires.note timely
     (c.max-self-inside.ensures ∙ ap (max c.self.inside.clock) c.stamp.ensures)
-    (grown_by _ _ _ _ _ c.push_reserved.ensures.items c.reserve.ensures.items refl)
+    (grown_by _ _ _ _ _ c.push_reserved.ensures.items c.reserve_entry.ensures.items refl)

@@ -17,4 +17,4 @@ invariant_of-self-2 c =
     let time = c.self.invariant.time in
     let later : c.in-Some.stamp ≡ max c.self.inside.clock c.in-Ok.noted.stamp = omega (arith, next, mine, time) in
     kept_by_note _ _ _ _ _ (entry.Sent c.args.route c.args.number c.in-Ok.noted) c.self.invariant tt timely later
-    (grown_by _ _ _ _ _ c.push_reserved.ensures.items c.reserve.ensures.items refl)
+    (grown_by _ _ _ _ _ c.push_reserved.ensures.items c.reserve_entry.ensures.items refl)

@@ -11,4 +11,4 @@ invariant_of-self-2 c =
     kept_at _ _ _ _ c.args.port (entry.Stopped c.args.port) event.Stopped _ _ c.self.invariant
     (omega (arith, c.requires, ap (λ (d : Journal). d.ports) c.self.view_is))
     c.index_mut.ensures.value c.stop.ensures (λ p. refl) tt refl
-    (grown_by _ _ _ _ _ c.push_reserved.ensures.items c.reserve.ensures.items refl)
+    (grown_by _ _ _ _ _ c.push_reserved.ensures.items c.reserve_entry.ensures.items refl)
