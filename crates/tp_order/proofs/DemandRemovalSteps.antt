@@ -1,5 +1,6 @@
 -- The demands that have one number first are taken off, from the last to the first.
-use Rattle.std.proofs.Common.{◌≡◌, inl, inr, ℕ, ◌+◌, ◌-◌, ◌<◌, ◌≤◌, Bool, true, false, List, [], ◌∷◌, ◌++◌, length, set, refl, sym, subst, ◌∙◌, ap, slice_index, sum, arith}
+use Rattle.std.proofs.Common.{◌≡◌, inl, inr, ℕ, ◌+◌, ◌-◌, ◌<◌, ◌≤◌, Bool, true, false, List, [], ◌∷◌, ◌++◌, length, set}
+use Rattle.std.proofs.Common.{refl, sym, subst, ◌∙◌, ap, slice_index, sum, arith}
 use Rattle.std.proofs.lemmas.Bool.{cases_eq, cases_lt}
 use Rattle.std.proofs.lemmas.List.{length-set}
 use Rattle.std.proofs.lemmas.List.Sums.{sum_by-set}
@@ -10,7 +11,8 @@ use Rattle.tp_order.specs.Chains.{IsLast}
 use Rattle.tp_order.specs.Progress.{IsBegun, IsOrderedUpTo}
 use Rattle.tp_order.proofs.NumberPlaceGrowth.{stands_same, stands_within, stands_still, stands_last, stands_cases}
 use Rattle.tp_order.proofs.FreeNumberGrowth.{free_still, free_more}
-use Rattle.tp_order.proofs.WaitsAfterDemandRemoval.{without, without_other, without_true, without_false, waits_some, waits_none, waits_less}
+use Rattle.tp_order.proofs.WaitsAfterDemandRemoval.{without, without_other, without_true, without_false, waits_some}
+use Rattle.tp_order.proofs.WaitsAfterDemandRemoval.{waits_none, waits_less}
 
 -- the demands that are left are those whose first number isn't among the first `done` of the list,
 -- but for those that have `x` first and stand at the place `at` or behind it

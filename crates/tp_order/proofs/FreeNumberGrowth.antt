@@ -1,5 +1,6 @@
 -- A number that waits for one demand less.
-use Rattle.std.proofs.Common.{◌≡◌, ◌≢◌, inl, inr, ℕ, ◌<◌, List, [], ◌∷◌, ◌++◌, length, set, sym, subst, ◌∙◌, ap, slice_index, arith}
+use Rattle.std.proofs.Common.{◌≡◌, ◌≢◌, inl, inr, ℕ, ◌<◌, List, [], ◌∷◌, ◌++◌, length, set, sym, subst, ◌∙◌, ap}
+use Rattle.std.proofs.Common.{slice_index, arith}
 use Rattle.std.proofs.lemmas.Bool.{cases_eq}
 use Rattle.std.proofs.lemmas.List.{length-set, get_or-set_same, get_or-set_other}
 use Rattle.tp_order.specs.Order.{IsNumberAt}
