@@ -1,5 +1,6 @@
 -- What one line more leaves of what was made so far.
-use Rattle.std.proofs.Common.{◌≡◌, ℕ, ◌+◌, ◌<◌, Bool, true, false, Some, List, length, get_or, set, refl, ap, sym, ◌∙◌, subst, arith}
+use Rattle.std.proofs.Common.{◌≡◌, ℕ, ◌+◌, ◌<◌, Bool, true, false, Some, List, length, get_or, set, refl, ap, sym, ◌∙◌}
+use Rattle.std.proofs.Common.{subst, arith}
 use Rattle.std.specs.Prelude.{slice_get}
 use Rattle.std.proofs.lemmas.Bool.{false≢true}
 use Rattle.std.proofs.lemmas.List.{length-set}
@@ -18,7 +19,8 @@ use Rattle.tp_judge.specs.Lawful.{AreWithin}
 use Rattle.tp_judge.specs.Lines.{HasKeyBelow}
 use Rattle.tp_judge.specs.OneRun.{is_looking, is_own, ComesAt, IsOwnAt, IsSentAt, LineAt}
 use Rattle.tp_judge.specs.Latest.{after_arrival, after_own, AreMadeUpTo, IsLatestOf, IsMadeUpTo, IsOwn}
-use Rattle.tp_judge.proofs.LatestLinesAndDemands.{latest_all, latest_arrival, latest_none, latest_own, two_made, two_made_are, two_more, IsQuiet}
+use Rattle.tp_judge.proofs.LatestLinesAndDemands.{latest_all, latest_arrival, latest_none, latest_own, two_made}
+use Rattle.tp_judge.proofs.LatestLinesAndDemands.{two_made_are, two_more, IsQuiet}
 use Rattle.tp_judge.proofs.NextLineDemands.{arrival_made, own_made, quiet_made}
 use Rattle.tp_judge.proofs.SendingOfEachArrival.{all_at}
 

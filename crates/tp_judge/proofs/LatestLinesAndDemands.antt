@@ -1,9 +1,11 @@
 -- One line more, of those whose demands are made.
-use Rattle.std.proofs.Common.{◌≡◌, inl, inr, ℕ, zero, suc, ◌+◌, ◌<◌, Bool, true, false, cond, Option, Some, None, List, [], ◌++◌, length, get_or, set, refl, ap, sym, ◌∙◌, subst, arith}
+use Rattle.std.proofs.Common.{◌≡◌, inl, inr, ℕ, zero, suc, ◌+◌, ◌<◌, Bool, true, false, cond, Option, Some, None, List}
+use Rattle.std.proofs.Common.{[], ◌++◌, length, get_or, set, refl, ap, sym, ◌∙◌, subst, arith}
 use Rattle.std.specs.Prelude.{All, Contains, filter}
 use Rattle.std.proofs.lemmas.Bool.{cases_eq, false≢true}
 use Rattle.std.proofs.lemmas.List.{get_or-set_same, get_or-set_other}
-use Rattle.std.proofs.lemmas.List.Elements.{All-append, All-cons, All-nil, Contains-append_left, Contains-append_right, filter-append}
+use Rattle.std.proofs.lemmas.List.Elements.{All-append, All-cons, All-nil, Contains-append_left, Contains-append_right}
+use Rattle.std.proofs.lemmas.List.Elements.{filter-append}
 use Rattle.std.proofs.lemmas.Option.{same_Some}
 use Rattle.tp_order.specs.declared.demand.Demand.{Demand}
 use Rattle.tp_order.specs.Circle.{LeadsThrough}
@@ -13,8 +15,10 @@ use Rattle.tp_judge.specs.declared.line.IndexedLine.{IndexedLine}
 use Rattle.tp_judge.specs.declared.run_demands.Latest.{Latest}
 use Rattle.tp_judge.specs.declared.run_demands.Which.{Which}
 use Rattle.tp_judge.specs.declared.trace.IndexedTrace.{IndexedTrace}
-use Rattle.tp_judge.specs.OneRun.{is_looking, is_own, ComesAt, IsDemanded, in_section, IsLineOf, IsLookAt, IsOwnAt, IsSentAt}
-use Rattle.tp_judge.specs.Latest.{after_arrival, after_own, demand_of, is_made, AreDemandsUpTo, IsAllSeen, IsLatest, IsLatestOf, IsLatestSent, DemandsLead}
+use Rattle.tp_judge.specs.OneRun.{is_looking, is_own, ComesAt, IsDemanded, in_section, IsLineOf, IsLookAt, IsOwnAt}
+use Rattle.tp_judge.specs.OneRun.{IsSentAt}
+use Rattle.tp_judge.specs.Latest.{after_arrival, after_own, demand_of, is_made, AreDemandsUpTo, IsAllSeen, IsLatest}
+use Rattle.tp_judge.specs.Latest.{IsLatestOf, IsLatestSent, DemandsLead}
 use Rattle.tp_judge.proofs.HappensBeforeByDemands.{leads_on}
 use Rattle.tp_judge.proofs.OwnLinesInOrder.{look_is_own, own_not_come}
 

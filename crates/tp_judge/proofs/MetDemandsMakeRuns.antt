@@ -1,5 +1,6 @@
 -- An order that meets what is demanded is a run.
-use Rattle.std.proofs.Common.{◌≡◌, inl, inr, ℕ, ◌<◌, ◌≤◌, ◌++◌, Some, List, length, take, drop, refl, ap, sym, ◌∙◌, subst, arith}
+use Rattle.std.proofs.Common.{◌≡◌, inl, inr, ℕ, ◌<◌, ◌≤◌, ◌++◌, Some, List, length, take, drop, refl, ap, sym, ◌∙◌}
+use Rattle.std.proofs.Common.{subst, arith}
 use Rattle.std.specs.Prelude.{slice_get}
 use Rattle.std.specs.List.{filter_map}
 use Rattle.std.proofs.lemmas.Bool.{cases_lt, cases_order}
@@ -10,10 +11,15 @@ use Rattle.tp_judge.specs.declared.line.Mention.{Mention}
 use Rattle.tp_judge.specs.declared.trace.IndexedTrace.{IndexedTrace}
 use Rattle.tp_judge.specs.Delivered.{Delivered}
 use Rattle.tp_judge.specs.Lawful.{AreLinesRouted}
-use Rattle.tp_judge.specs.OneRun.{all_came_to, all_sent_to, came_to, sent_from, ComesAt, IsDemanded, in_section, in_turn, seen_before, unseen_before, IsFrontOf, IsLookAt, IsOwnAt, IsRun, IsSentAt}
-use Rattle.tp_judge.proofs.RanksOfGivenElements.{rank_of, ranked, rank_rises, rank_grows, rank_within, front_given, unranked, same_by_places, same_rank, slice_there, KeepsOrder, keeps_agree, keeps_count}
-use Rattle.tp_judge.proofs.SendingOfEachArrival.{came_for, came_to_from, came_to_some, comes_there, sent_once, sent_there}
-use Rattle.tp_judge.proofs.OwnLinesInOrder.{comes_same, look_is_own, own_not_come, sending_is_own, sent_from_is, sent_from_some}
+use Rattle.tp_judge.specs.OneRun.{all_came_to, all_sent_to, came_to, sent_from, ComesAt, IsDemanded, in_section}
+use Rattle.tp_judge.specs.OneRun.{in_turn, seen_before, unseen_before, IsFrontOf, IsLookAt, IsOwnAt, IsRun, IsSentAt}
+use Rattle.tp_judge.proofs.RanksOfGivenElements.{rank_of, ranked, rank_rises, rank_grows, rank_within, front_given}
+use Rattle.tp_judge.proofs.RanksOfGivenElements.{unranked, same_by_places, same_rank, slice_there, KeepsOrder}
+use Rattle.tp_judge.proofs.RanksOfGivenElements.{keeps_agree, keeps_count}
+use Rattle.tp_judge.proofs.SendingOfEachArrival.{came_for, came_to_from, came_to_some, comes_there, sent_once}
+use Rattle.tp_judge.proofs.SendingOfEachArrival.{sent_there}
+use Rattle.tp_judge.proofs.OwnLinesInOrder.{comes_same, look_is_own, own_not_come, sending_is_own, sent_from_is}
+use Rattle.tp_judge.proofs.OwnLinesInOrder.{sent_from_some}
 
 -- the order has all that components did themselves, each once, and meets what is demanded
 pub record MeetsAll (trace : IndexedTrace) (order : List ℕ) : Type 0 where

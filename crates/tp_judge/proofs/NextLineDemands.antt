@@ -1,5 +1,6 @@
 -- The demands that one line more makes.
-use Rattle.std.proofs.Common.{◌≡◌, ◌⊎◌, inl, inr, ℕ, ◌+◌, ◌<◌, true, Option, Some, None, List, refl, sym, ◌∙◌, subst, arith}
+use Rattle.std.proofs.Common.{◌≡◌, ◌⊎◌, inl, inr, ℕ, ◌+◌, ◌<◌, true, Option, Some, None, List, refl, sym, ◌∙◌, subst}
+use Rattle.std.proofs.Common.{arith}
 use Rattle.std.proofs.lemmas.Bool.{cases_eq}
 use Rattle.std.proofs.lemmas.Option.{none-some, same_Some}
 use Rattle.tp_order.specs.declared.demand.Demand.{Demand}
@@ -8,10 +9,12 @@ use Rattle.tp_judge.specs.declared.line.Act.TheVariants as act
 use Rattle.tp_judge.specs.declared.run_demands.Latest.{Latest}
 use Rattle.tp_judge.specs.declared.trace.IndexedTrace.{IndexedTrace}
 use Rattle.tp_judge.specs.Delivered.{Delivered, IsJoined}
-use Rattle.tp_judge.specs.OneRun.{is_own, ComesAt, IsDemanded, IsDemandedAt, in_section, in_turn, seen_before, unseen_before, IsLookAt, IsOwnAt, IsSentAt}
+use Rattle.tp_judge.specs.OneRun.{is_own, ComesAt, IsDemanded, IsDemandedAt, in_section, in_turn, seen_before}
+use Rattle.tp_judge.specs.OneRun.{unseen_before, IsLookAt, IsOwnAt, IsSentAt}
 use Rattle.tp_judge.specs.Latest.{AreDemandsUpTo, IsLatest, IsLatestOf, IsLatestSending, IsLatestSent, DemandsLead}
 use Rattle.tp_judge.proofs.OwnLinesInOrder.{comes_same, look_is_own, own_not_come}
-use Rattle.tp_judge.proofs.LatestLinesAndDemands.{first_leads, second_leads, leads_through, one_component, own_leads, still_leads, two_more, two_sound, IsQuiet}
+use Rattle.tp_judge.proofs.LatestLinesAndDemands.{first_leads, second_leads, leads_through, one_component, own_leads}
+use Rattle.tp_judge.proofs.LatestLinesAndDemands.{still_leads, two_more, two_sound, IsQuiet}
 use Rattle.tp_judge.proofs.SendingOfEachArrival.{sent_once}
 
 -- demands so far lead on where a line asks for something, and one line more

@@ -1,5 +1,6 @@
 -- Each number of a circle lies on it.
-use Rattle.std.proofs.Common.{◌≡◌, ◌⊎◌, inl, inr, ℕ, zero, suc, ◌+◌, ◌-◌, ◌<◌, List, length, ap, sym, ◌∙◌, subst, add-zero, arith}
+use Rattle.std.proofs.Common.{◌≡◌, ◌⊎◌, inl, inr, ℕ, zero, suc, ◌+◌, ◌-◌, ◌<◌, List, length, ap, sym, ◌∙◌, subst}
+use Rattle.std.proofs.Common.{add-zero, arith}
 use Rattle.std.specs.Prelude.{slice_index}
 use Rattle.tp_order.specs.declared.demand.Demand.{Demand}
 use Rattle.tp_order.specs.Circle.{IsCircle, LiesOnCircle}

@@ -10,7 +10,8 @@ use Rattle.tp_judge.specs.declared.line.IndexedLine.{IndexedLine}
 use Rattle.tp_judge.specs.declared.trace.IndexedTrace.{IndexedTrace}
 use Rattle.tp_judge.specs.Delivered.{Delivered}
 use Rattle.tp_judge.specs.Lawful.{AreLinesRouted}
-use Rattle.tp_judge.specs.OneRun.{IsDelayedAt, IsDemandCircle, IsDemanded, IsDemandedAt, in_section, in_turn, seen_before, unseen_before, IsLeastOf, IsOneRun, LineAt}
+use Rattle.tp_judge.specs.OneRun.{IsDelayedAt, IsDemandCircle, IsDemanded, IsDemandedAt, in_section, in_turn}
+use Rattle.tp_judge.specs.OneRun.{seen_before, unseen_before, IsLeastOf, IsOneRun, LineAt}
 use Rattle.tp_judge.specs.Latest.{AreDemandsUpTo, IsOwn}
 use Rattle.tp_judge.proofs.MetDemandsMakeRuns.{run_of}
 use Rattle.tp_judge.proofs.RunsMeetDemands.{leads_stand, run_meets, stands_apart}

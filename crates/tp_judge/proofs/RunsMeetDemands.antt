@@ -1,5 +1,6 @@
 -- A run meets what is demanded.
-use Rattle.std.proofs.Common.{◌≡◌, inl, inr, ℕ, zero, suc, ◌<◌, ◌++◌, Some, List, [], ◌∷◌, length, take, ap, sym, ◌∙◌, arith}
+use Rattle.std.proofs.Common.{◌≡◌, inl, inr, ℕ, zero, suc, ◌<◌, ◌++◌, Some, List, [], ◌∷◌, length, take, ap, sym, ◌∙◌}
+use Rattle.std.proofs.Common.{arith}
 use Rattle.std.specs.Prelude.{All, slice_get}
 use Rattle.std.specs.List.{filter_map}
 use Rattle.std.proofs.lemmas.Bool.{cases_lt, cases_order, true≢false}
@@ -14,8 +15,10 @@ use Rattle.tp_judge.specs.declared.line.IndexedLine.{IndexedLine}
 use Rattle.tp_judge.specs.declared.trace.IndexedTrace.{IndexedTrace}
 use Rattle.tp_judge.specs.Delivered.{Delivered, IsJoined}
 use Rattle.tp_judge.specs.Lawful.{AreLinesRouted}
-use Rattle.tp_judge.specs.OneRun.{all_came_to, all_sent_to, came_to, is_looking, sent_from, ComesAt, IsDemandedAt, in_section, in_turn, seen_before, unseen_before, IsLookAt, IsOwnAt, IsRun, IsSentAt}
-use Rattle.tp_judge.proofs.RanksOfGivenElements.{from_front, in_front, rank_of, ranked, rank_rises, rank_grows, unranked}
+use Rattle.tp_judge.specs.OneRun.{all_came_to, all_sent_to, came_to, is_looking, sent_from, ComesAt, IsDemandedAt}
+use Rattle.tp_judge.specs.OneRun.{in_section, in_turn, seen_before, unseen_before, IsLookAt, IsOwnAt, IsRun, IsSentAt}
+use Rattle.tp_judge.proofs.RanksOfGivenElements.{from_front, in_front, rank_of, ranked, rank_rises, rank_grows}
+use Rattle.tp_judge.proofs.RanksOfGivenElements.{unranked}
 use Rattle.tp_judge.proofs.SendingOfEachArrival.{came_for, came_to_from, came_to_some, comes_once, sent_once}
 use Rattle.tp_judge.proofs.OwnLinesInOrder.{look_is_own, sending_is_own, sent_from_is, sent_from_some}
 

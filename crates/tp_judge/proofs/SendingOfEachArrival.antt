@@ -1,5 +1,6 @@
 -- What came, and where it was sent.
-use Rattle.std.proofs.Common.{◌≡◌, ℕ, ◌<◌, ◌==◌, ◌&&◌, Bool, true, false, cond, Option, Some, None, List, [], ◌∷◌, length, refl, ap, sym, ◌∙◌, subst, eq-eqb, arith}
+use Rattle.std.proofs.Common.{◌≡◌, ℕ, ◌<◌, ◌==◌, ◌&&◌, Bool, true, false, cond, Option, Some, None, List, [], ◌∷◌}
+use Rattle.std.proofs.Common.{length, refl, ap, sym, ◌∙◌, subst, eq-eqb, arith}
 use Rattle.std.specs.Prelude.{All, slice_get, slice_index, unwrap_or, option_and_then}
 use Rattle.std.specs.List.{cons_option}
 use Rattle.std.proofs.lemmas.Bool.{and_parts, and_from, cond-true, eqb-true, false≢true}
@@ -15,7 +16,8 @@ use Rattle.tp_judge.specs.declared.trace.IndexedTrace.{IndexedTrace}
 use Rattle.tp_judge.specs.Lines.{came_route, is_number, lines_with, parcel_of, sent_route}
 use Rattle.tp_judge.specs.Lawful.{AreLinesRouted, IsRouted, IsRoutedAct}
 use Rattle.tp_judge.specs.Delivered.{AreParcelsNumbered, Delivered, IsJoined, parcels}
-use Rattle.tp_judge.specs.OneRun.{came_mention, came_to, kept_for, is_joined, sent_mention, sent_to, ComesAt, IsSentAt, LineAt}
+use Rattle.tp_judge.specs.OneRun.{came_mention, came_to, kept_for, is_joined, sent_mention, sent_to, ComesAt, IsSentAt}
+use Rattle.tp_judge.specs.OneRun.{LineAt}
 use Rattle.tp_judge.specs.Sendings.{came_parcel, came_parcels, sent_parcel, sent_parcels, HasCome, IsSendingsRow}
 use Rattle.tp_judge.proofs.RanksOfGivenElements.{rank_of, ranked, same_rank, unranked}
 

@@ -7,7 +7,10 @@ use Rattle.tp_judge.specs.declared.line.IndexedLine.{IndexedLine}
 use Rattle.tp_judge.specs.declared.place.Rule.{Rule}
 use Rattle.tp_judge.specs.declared.place.Rule.TheVariants as rule
 use Rattle.tp_judge.specs.declared.place.UnlawfulPlace.{UnlawfulPlace}
-use Rattle.tp_judge.specs.Delivered.{AreParcelsNumbered, DiffersAt, IsFirstArrival, IsMisnumbered, IsOvertaken, IsPlaceOfLine, IsUnlawfulRoute, different, numbering, IsWrongAt, changed, changed_later, doubled, invented, lost, reordered, NeverCame, NeverSent, NothingCame, ParcelAt, parcels}
+use Rattle.tp_judge.specs.Delivered.{AreParcelsNumbered, DiffersAt, IsFirstArrival, IsMisnumbered, IsOvertaken}
+use Rattle.tp_judge.specs.Delivered.{IsPlaceOfLine, IsUnlawfulRoute, different, numbering, IsWrongAt, changed}
+use Rattle.tp_judge.specs.Delivered.{changed_later, doubled, invented, lost, reordered, NeverCame, NeverSent}
+use Rattle.tp_judge.specs.Delivered.{NothingCame, ParcelAt, parcels}
 use Rattle.tp_judge.proofs.FirstPlaceIsUnique.{neither_less, same_place}
 
 same_parcel_at : (lines : List IndexedLine) (j k : ℕ) (p q : Parcel) → j ≡ k → ParcelAt lines j p → ParcelAt lines k q → p ≡ q

@@ -1,5 +1,6 @@
 -- Parcels that came, beside those that were sent.
-use Rattle.std.proofs.Common.{◌≡◌, ◌≢◌, ℕ, suc, ◌<◌, ◌≤◌, inl, inr, zero, Some, List, [], ◌∷◌, length, refl, ap, sym, ◌∙◌, subst, ⊎_elim, arith}
+use Rattle.std.proofs.Common.{◌≡◌, ◌≢◌, ℕ, suc, ◌<◌, ◌≤◌, inl, inr, zero, Some, List, [], ◌∷◌, length, refl, ap, sym}
+use Rattle.std.proofs.Common.{◌∙◌, subst, ⊎_elim, arith}
 use Rattle.std.specs.Prelude.{slice_get}
 use Rattle.std.proofs.lemmas.Bool.{cases_lt}
 use Rattle.std.proofs.lemmas.Option.{same_Some}
@@ -7,7 +8,9 @@ use Rattle.tp_judge.specs.declared.line.Parcel.{Parcel}
 use Rattle.tp_judge.specs.declared.line.IndexedLine.{IndexedLine}
 use Rattle.tp_judge.specs.declared.place.Rule.TheVariants as rule
 use Rattle.tp_judge.specs.declared.place.UnlawfulPlace.{UnlawfulPlace}
-use Rattle.tp_judge.specs.Delivered.{AgreesBelow, AreParcelsNumbered, CameAsSent, IsFirstArrival, IsOvertaken, IsPlaceOfLine, IsUnlawfulRoute, different, numbering, IsWrongAt, doubled, lost, NeverCame, ParcelAt, parcels}
+use Rattle.tp_judge.specs.Delivered.{AgreesBelow, AreParcelsNumbered, CameAsSent, IsFirstArrival, IsOvertaken}
+use Rattle.tp_judge.specs.Delivered.{IsPlaceOfLine, IsUnlawfulRoute, different, numbering, IsWrongAt, doubled, lost}
+use Rattle.tp_judge.specs.Delivered.{NeverCame, ParcelAt, parcels}
 use Rattle.tp_judge.specs.Routed.{HasNumberFrom, NoNumberFrom}
 
 pub same_parcel : (a b : Parcel) → a.number ≡ b.number → a.message ≡ b.message → a ≡ b
@@ -83,7 +86,7 @@ first_arrival sent came n k number p numbered agree large at is none = record {
 
 -- what was sent where another took its place came behind that
 pub record IsLater (came : List IndexedLine) (k m : ℕ) (p q : Parcel) : Type 0 where
-  pub behind : k < m
+  pub later : k < m
   pub first : IsFirstArrival came p.number m q
 
 pub later_arrival : (sent came : List IndexedLine) (k m : ℕ) (p q : Parcel) → AreParcelsNumbered (parcels sent) → AgreesBelow sent came k
@@ -94,10 +97,10 @@ later_arrival sent came k m p q numbered agree there over found at =
     let is : q.number ≡ k = ap (λ (r : Parcel). r.number) same ∙ found.is in
     let other = numbered over.0 over.1 over.3 in
     let later = over.2 in
-    let from = found.behind in
+    let from = found.within in
     let apart : k ≢ m = λ e. let r = ap (λ (r : Parcel). r.number) (same_Some over.1 q (sym over.4 ∙ ap (slice_get (parcels came)) e ∙ at)) in omega arith in
     record {
-      behind = omega arith;
+      later = omega arith;
       first =
           first_arrival sent came k m p.number q numbered agree (omega arith) at (is ∙ sym number)
           (λ j r high low came_at. subst (λ (n : ℕ). r.number ≢ n) (sym number) (found.none_before j r high low came_at));

@@ -26,7 +26,8 @@
 --     0  b  else                     One run, by the order 0 2: the `else` looked before the call was sent.
 --     1  b  came p a 0 call
 --     2  a  sent b.p 0 call
-use Rattle.std.specs.Prelude.{◌≡◌, ◌<◌, ◌≤◌, ◌+◌, ◌-◌, ◌==◌, ◌&&◌, ◌++◌, ℕ, Bool, true, false, Option, Some, None, List, All, Contains, cond, length, take, slice_get, slice_index, option_and_then, unwrap_or}
+use Rattle.std.specs.Prelude.{◌≡◌, ◌<◌, ◌≤◌, ◌+◌, ◌-◌, ◌==◌, ◌&&◌, ◌++◌, ℕ, Bool, true, false, Option, Some, None, List}
+use Rattle.std.specs.Prelude.{All, Contains, cond, length, take, slice_get, slice_index, option_and_then, unwrap_or}
 use Rattle.std.specs.List.{filter_map}
 use Rattle.tp_order.specs.Order.{IsNumberAt, StandsBefore}
 use Rattle.tp_judge.specs.declared.line.Mention.{Mention}

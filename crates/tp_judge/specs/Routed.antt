@@ -6,7 +6,7 @@ use Rattle.tp_judge.specs.Delivered.{ParcelAt}
 
 -- the first that came with this number, from the one place on, is there
 pub record HasNumberFrom (came : List IndexedLine) (from number k : ℕ) : Type 0 where
-  pub behind : from ≤ k
+  pub within : from ≤ k
   pub parcel : Parcel
   pub at : ParcelAt came k parcel
   pub is : parcel.number ≡ number

@@ -50,7 +50,7 @@ fn is_top(queue: &Queue<MessageId>, mention: Mention) -> bool
     }
 }
 
-fn is_behind(queue: &Queue<MessageId>, mention: Mention) -> bool
+fn is_after_mark(queue: &Queue<MessageId>, mention: Mention) -> bool
     ensures { AtHistory queue.now (λ h. IsTrue result ↔ IsBehind h (envelope_of mention)) }
 {
     for place in queue.ahead()..queue.queued_len() {
@@ -71,7 +71,7 @@ fn reason(queue: &Queue<MessageId>, mention: Mention) -> Rule
 {
     match queue.status() {
         Status::Stopped => Rule::Stopped,
-        Status::Halted if is_behind(queue, mention) => Rule::Behind,
+        Status::Halted if is_after_mark(queue, mention) => Rule::Behind,
         _ => Rule::NotTop,
     }
 }

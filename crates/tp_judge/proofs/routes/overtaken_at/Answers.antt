@@ -29,7 +29,7 @@ returns-then-ne c =
     let found = later_arrival (lines_at c.args.sent.now) (lines_at c.args.came.now) c.args.place c.in-Some.later sent c.parcel_at.result
     c.requires.numbered c.requires.agrees c.parcel_at-parcel.ensures c.requires.overtaken c.in-Some.ensures c.parcel_at.ensures in
     changed_later c.in-Some.later c.parcel_at.result sent c.told_at-then-ne.ensures.rule c.told_at-then-ne.ensures.told
-    c.requires.overtaken c.parcel_at-parcel.ensures found.behind found.first
+    c.requires.overtaken c.parcel_at-parcel.ensures found.later found.first
     (λ message. let same = same_parcel sent c.parcel_at.result (sym found.first.is) message in grind (arith, c.ne.ensures, c.if-ne.true, same))
 
 pub returns-else-ne : goal.returns-else-ne
@@ -39,5 +39,5 @@ returns-else-ne c =
     c.requires.numbered c.requires.agrees c.parcel_at-parcel.ensures c.requires.overtaken c.in-Some.ensures c.parcel_at.ensures in
     let same : c.parcel_at.result ≡ sent = grind (arith, c.ne.ensures, c.if-ne.false) in
     reordered c.in-Some.later sent c.told_at-in-Some.ensures.rule c.told_at-in-Some.ensures.told c.requires.overtaken
-    c.parcel_at-parcel.ensures found.behind
+    c.parcel_at-parcel.ensures found.later
     (subst (IsFirstArrival (lines_at c.args.came.now) sent.number c.in-Some.later) same found.first)

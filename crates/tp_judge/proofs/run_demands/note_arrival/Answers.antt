@@ -1,7 +1,8 @@
 -- One arrival more; by a route with one end it asks for nothing.
 use Rattle.std.proofs.Common.{Some, refl, ap, set, sym, ◌∙◌, arith}
 use Rattle.std.proofs.lemmas.Option.{slice_get_within, slice_get-get_or}
-use Rattle.tp_judge.proofs.DemandMakingGrowth.{came_below, component_below, line_read, made_arrival, made_unjoined, same_act}
+use Rattle.tp_judge.proofs.DemandMakingGrowth.{came_below, component_below, line_read, made_arrival, made_unjoined}
+use Rattle.tp_judge.proofs.DemandMakingGrowth.{same_act}
 use Rattle.tp_judge.proofs.run_demands.note_arrival.Goals as goal
 
 pub returns-then-not-index-clause-made : goal.returns-then-not-index-clause-made

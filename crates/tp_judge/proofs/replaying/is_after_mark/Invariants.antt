@@ -2,7 +2,7 @@
 use Rattle.std.proofs.Common.{◌≢◌, ◌<◌, ◌≤◌, ℕ, Some}
 use Rattle.std.specs.Prelude.{slice_get}
 use Rattle.tp_judge.specs.Lines.{envelope_of}
-use Rattle.tp_judge.proofs.replaying.is_behind.Given as goal
+use Rattle.tp_judge.proofs.replaying.is_after_mark.Given as goal
 
 abbrev pub invariant-loop-place : goal.invariant-loop-place
 invariant-loop-place l =
