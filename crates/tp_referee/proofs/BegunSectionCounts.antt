@@ -1,5 +1,6 @@
 -- How many sections have begun.
-use Rattle.std.proofs.Common.{◌≡◌, ℕ, zero, suc, ◌+◌, Bool, cond, true, false, Some, List, [], ◌∷◌, length, take, slice_get, refl, ap, ◌∙◌, arith}
+use Rattle.std.proofs.Common.{◌≡◌, ℕ, zero, suc, ◌+◌, Bool, cond, true, false, Some, List, [], ◌∷◌, length, take}
+use Rattle.std.proofs.Common.{slice_get, refl, ap, ◌∙◌, arith}
 use Rattle.std.proofs.lemmas.Option.{same_Some}
 use Rattle.tp_trace.specs.Line.{Told, begins, passed, operated, otherwise, remarked, ended, resulted}
 use Rattle.tp_trace.specs.Tree.{names_of}

@@ -1,5 +1,6 @@
 -- The numbers of the lines are within the counts.
-use Rattle.std.proofs.Common.{◌≡◌, ℕ, ◌<◌, ◌≤◌, ◌+◌, Option, List, [], ◌∷◌, length, map, get_or, All, ap, sym, ◌∙◌, subst, arith}
+use Rattle.std.proofs.Common.{◌≡◌, ℕ, ◌<◌, ◌≤◌, ◌+◌, Option, List, [], ◌∷◌, length, map, get_or, All, ap, sym, ◌∙◌}
+use Rattle.std.proofs.Common.{subst, arith}
 use Rattle.std.specs.Prelude.{IfSome}
 use Rattle.std.specs.List.{AllZip}
 use Rattle.std.proofs.lemmas.List.{length-map}
@@ -20,7 +21,8 @@ use Rattle.tp_judge.specs.Lawful.{AreWithin}
 use Rattle.tp_judge.specs.Lines.{HasKeyBelow, came_route, closed_by, event_port, left_port, sent_route}
 use Rattle.tp_referee.specs.declared.tables.PortKey.{PortKey}
 use Rattle.tp_referee.specs.declared.tables.Tables.{Tables}
-use Rattle.tp_referee.specs.Numbering.{IsAct, IsLine, IsNumberingOf, Stand, act_of, operation_act, stands_from, stands_of}
+use Rattle.tp_referee.specs.Numbering.{IsAct, IsLine, IsNumberingOf, Stand, act_of, operation_act, stands_from}
+use Rattle.tp_referee.specs.Numbering.{stands_of}
 use Rattle.tp_referee.specs.Turns.{IsWhole}
 use Rattle.tp_referee.proofs.ZippedPrefixGrowth.{zip_all}
 

@@ -1,5 +1,6 @@
 -- Two lines have one number exactly where they name the same.
-use Rattle.std.proofs.Common.{◌≡◌, ◌≢◌, inl, inr, ℕ, Option, Some, None, List, slice_get, refl, ap, sym, ◌∙◌, subst, arith}
+use Rattle.std.proofs.Common.{◌≡◌, ◌≢◌, inl, inr, ℕ, Option, Some, None, List, slice_get, refl, ap, sym, ◌∙◌, subst}
+use Rattle.std.proofs.Common.{arith}
 use Rattle.std.specs.Prelude.{◌↔◌, AllPairs}
 use Rattle.std.proofs.lemmas.Bool.{cases_lt}
 use Rattle.std.proofs.lemmas.Option.{same_Some, slice_get_within, get_or_from_slice_get}
@@ -14,8 +15,10 @@ use Rattle.tp_judge.specs.declared.line.IndexedLine.{IndexedLine}
 use Rattle.tp_referee.specs.declared.tables.PortKey.{PortKey}
 use Rattle.tp_referee.specs.declared.tables.RouteKey.{RouteKey}
 use Rattle.tp_referee.specs.declared.tables.Tables.{Tables}
-use Rattle.tp_referee.specs.Numbering.{AreTablesDistinct, IsAct, IsComponentNumber, IsLine, IsMention, IsPortNumber, Stand, act_of, operation_act, receiver_of, sender_of, stands_of}
-use Rattle.tp_referee.specs.OneToOne.{AreNumberedAlike, IsOneToOne, PortName, RouteName, mention_of, message_number, port_in_line, port_of_act, route_in, route_of, message_named}
+use Rattle.tp_referee.specs.Numbering.{AreTablesDistinct, IsAct, IsComponentNumber, IsLine, IsMention, IsPortNumber}
+use Rattle.tp_referee.specs.Numbering.{Stand, act_of, operation_act, receiver_of, sender_of, stands_of}
+use Rattle.tp_referee.specs.OneToOne.{AreNumberedAlike, IsOneToOne, PortName, RouteName, mention_of, message_number}
+use Rattle.tp_referee.specs.OneToOne.{port_in_line, port_of_act, route_in, route_of, message_named}
 use Rattle.tp_referee.proofs.ZippedPrefixGrowth.{zip_get}
 
 -- what stands twice stands at one place

@@ -1,5 +1,6 @@
 -- The components: those of the sections first, and the others behind them.
-use Rattle.std.proofs.Common.{◌≡◌, ◌≢◌, inl, inr, ℕ, zero, suc, ◌+◌, ◌-◌, Some, List, [], ◌∷◌, ◌++◌, length, get_or, slice_get, nat_lt, Contains, refl, ap, sym, ◌∙◌, subst, arith, zero-add}
+use Rattle.std.proofs.Common.{◌≡◌, ◌≢◌, inl, inr, ℕ, zero, suc, ◌+◌, ◌-◌, Some, List, [], ◌∷◌, ◌++◌, length, get_or}
+use Rattle.std.proofs.Common.{slice_get, nat_lt, Contains, refl, ap, sym, ◌∙◌, subst, arith, zero-add}
 use Rattle.std.specs.Prelude.{◌↔◌, AllPairs, IsTrue}
 use Rattle.std.specs.Str.{bytes_eq}
 use Rattle.std.proofs.lemmas.Bool.{cases_lt, lt-ltb, ltb-true}

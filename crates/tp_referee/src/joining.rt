@@ -1,5 +1,6 @@
 //! Routes with a section at both ends.
-ghost use Rattle.std.specs.Prelude.{◌≡◌, ◌↔◌, ◌<◌, ◌^◌, ℕ, Contains, IfOk, IsTrue, Some, List, length, map, slice_get, true};
+ghost use Rattle.std.specs.Prelude.{◌≡◌, ◌↔◌, ◌<◌, ◌^◌, ℕ, Contains, IfOk, IsTrue, Some, List, length, map, slice_get};
+ghost use Rattle.std.specs.Prelude.{true};
 ghost use Rattle.tp_trace.specs.Tree.{names_of};
 ghost use Rattle.tp_referee.specs.Kept.{Keeps};
 ghost use Rattle.tp_referee.specs.Joining.{AreSections, AreJoinedBy, IsJoinedBy};

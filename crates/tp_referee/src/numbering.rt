@@ -6,7 +6,8 @@ ghost use Rattle.tp_judge.specs.Lawful.{AreLinesRouted, AreWithin};
 ghost use Rattle.tp_referee.specs.Kept.{Keeps};
 ghost use Rattle.tp_referee.specs.Numbering.{IsComponentNumber, IsLine, IsNumberingOf, stands_of};
 ghost use Rattle.tp_referee.specs.OneToOne.{IsOneToOne};
-ghost use Rattle.tp_referee.specs.Turns.{KeepsNumbers, HasRoom, IsBegunBy, IsInside, IsTurn, IsWhole, is_beginning, size};
+ghost use Rattle.tp_referee.specs.Turns.{KeepsNumbers, HasRoom, IsBegunBy, IsInside, IsTurn, IsWhole, is_beginning};
+ghost use Rattle.tp_referee.specs.Turns.{size};
 
 use crate::joining::{joined_of, owners_of, sections_of};
 use crate::tables::Tables;

@@ -1,7 +1,8 @@
 //! The tables of the numbers in a trace.
 ghost use Rattle.std.specs.Prelude.{◌≡◌, ◌<◌, ◌≤◌, [], IfOk, OnOk, Some, length, slice_get};
 ghost use Rattle.tp_trace.specs.Tree.{letter_of, names_of, told_of};
-ghost use Rattle.tp_referee.specs.Numbering.{AreTablesDistinct, IsAct, IsComponentNumber, IsMention, IsOperated, IsPassed, IsPortNumber, act_of, operation_act, receiver_of, sender_of};
+ghost use Rattle.tp_referee.specs.Numbering.{AreTablesDistinct, IsAct, IsComponentNumber, IsMention, IsOperated};
+ghost use Rattle.tp_referee.specs.Numbering.{IsPassed, IsPortNumber, act_of, operation_act, receiver_of, sender_of};
 ghost use Rattle.tp_referee.specs.Turns.{KeepsNumbers, HasRoom, IsWhole, size};
 
 use crate::components::Components;
