@@ -1,6 +1,7 @@
 -- Of two components each sends to the other and then looks: where both looks have missed what the other sent, each history
 -- may be lawful, and so each route, but no one order gives them.
-use Rattle.std.proofs.Common.{◌≡◌, inl, inr, ℕ, zero, suc, ◌+◌, ◌<◌, ◌≤◌, ◌==◌, true, false, cond, Option, Some, None, List, [], ◌∷◌, length, take, refl, sym, ap, ◌∙◌, subst, arith}
+use Rattle.std.proofs.Common.{◌≡◌, inl, inr, ℕ, zero, suc, ◌+◌, ◌<◌, ◌≤◌, ◌==◌, true, false, cond, Option, Some, None}
+use Rattle.std.proofs.Common.{List, [], ◌∷◌, length, take, refl, sym, ap, ◌∙◌, subst, arith}
 use Rattle.std.specs.List.{cons_option}
 use Rattle.std.proofs.lemmas.Bool.{cases_Bool, cases_eq, cases_lt}
 use Rattle.std.proofs.lemmas.List.{take-take, take_all}
@@ -11,7 +12,8 @@ use Rattle.tp_history.specs.declared.entry.Entry.TheVariants as entry
 use Rattle.tp_history.specs.History.{is_arrival}
 use Rattle.tp_behaviour.specs.Fresh.{LooksAtPorts}
 use Rattle.tp_exec.specs.CausalOrder.{Spot}
-use Rattle.tp_exec.specs.OneOrder.{HasOneOrder, IsAt, IsOrderOf, IsOwn, came_before, entry_at_spot, log_in, sender_to, senders_to, sends_to}
+use Rattle.tp_exec.specs.OneOrder.{HasOneOrder, IsAt, IsOrderOf, IsOwn, came_before, entry_at_spot, log_in, sender_to}
+use Rattle.tp_exec.specs.OneOrder.{senders_to, sends_to}
 use Rattle.tp_exec.specs.Greedy.{many, count_sent_to}
 use Rattle.tp_exec.specs.LookLaws.{CrossedLooks, Misses}
 use Rattle.tp_exec.proofs.SpotOrderGrowth.{own_none, spot}
@@ -121,8 +123,8 @@ pub crossed_looks : CrossedLooks
 crossed_looks logs c d p q r s one other (order, is) =
     let own_look : IsOwn logs (spot c q) = record { act = one.look; stands = one.stands; own = look_own one.look one.looks } in
     let own_watch : IsOwn logs (spot d s) = record { act = other.look; stands = other.stands; own = look_own other.look other.looks } in
-    let first = is.kept c p q one.behind (sending_own logs order is c d p one.sent) own_look in
-    let second = is.kept d r s other.behind (sending_own logs order is d c r other.sent) own_watch in
+    let first = is.kept c p q one.looks_later (sending_own logs order is c d p one.sent) own_look in
+    let second = is.kept d r s other.looks_later (sending_own logs order is d c r other.sent) own_watch in
     let up : first.0 < first.1 = first.2 in
     let on : second.0 < second.1 = second.2 in
     let over = missed_before logs order is c p q d r first.1 second.0 one other.sent first.4 second.3 in
@@ -150,5 +152,5 @@ module _ (s look came t watch went : Entry) (out : sends_to 1 (Some s) ≡ true)
       let none : came_before logs (spot 0 1) ≡ [] = ap (λ o. cons_option o []) (own_none s (send_own 1 s out)) in
       let nil : came_before logs (spot 1 1) ≡ [] = ap (λ o. cons_option o []) (own_none t (send_own 0 t back)) in
       crossed_looks logs 0 1 0 1 0 1
-      (record { sent = out; behind = omega arith; look = look; stands = refl; looks = looks; fewer = fewer_none logs 0 1 1 0 none back })
-      (record { sent = back; behind = omega arith; look = watch; stands = refl; looks = watches; fewer = fewer_none logs 1 1 0 0 nil out })
+      (record { sent = out; looks_later = omega arith; look = look; stands = refl; looks = looks; fewer = fewer_none logs 0 1 1 0 none back })
+      (record { sent = back; looks_later = omega arith; look = watch; stands = refl; looks = watches; fewer = fewer_none logs 1 1 0 0 nil out })

@@ -1,5 +1,7 @@
 -- In one order a look at ports sees the very messages that were sent to its component before.
-use Rattle.std.proofs.Common.{◌≡◌, ◌⊎◌, inl, inr, ℕ, zero, suc, ◌+◌, ◌-◌, ◌<◌, ◌≤◌, ◌==◌, Bool, true, false, cond, eq-eqb, Option, Some, None, List, [], ◌∷◌, ◌++◌, length, get_or, take, drop, refl, sym, ap, ◌∙◌, subst, arith}
+use Rattle.std.proofs.Common.{◌≡◌, ◌⊎◌, inl, inr, ℕ, zero, suc, ◌+◌, ◌-◌, ◌<◌, ◌≤◌, ◌==◌, Bool, true, false, cond}
+use Rattle.std.proofs.Common.{eq-eqb, Option, Some, None, List, [], ◌∷◌, ◌++◌, length, get_or, take, drop, refl, sym}
+use Rattle.std.proofs.Common.{ap, ◌∙◌, subst, arith}
 use Rattle.std.specs.Prelude.{slice_get}
 use Rattle.std.specs.List.{cons_option, filter_map}
 use Rattle.std.proofs.Math.Seq.{take-append_seam}
@@ -7,7 +9,8 @@ use Rattle.std.proofs.lemmas.Bool.{cases_eq, cases_lt, false≢true, ne_eqb}
 use Rattle.std.proofs.lemmas.List.{append-nil, take-append-drop, take_all}
 use Rattle.std.proofs.lemmas.List.Elements.{filter_map-append}
 use Rattle.std.proofs.lemmas.List.Sums.{sum_by-cons}
-use Rattle.std.proofs.lemmas.Option.{same_Some, slice_get_cases, slice_get_within, slice_get-get_or, get_or_from_slice_get}
+use Rattle.std.proofs.lemmas.Option.{same_Some, slice_get_cases, slice_get_within, slice_get-get_or}
+use Rattle.std.proofs.lemmas.Option.{get_or_from_slice_get}
 use Rattle.tp_config.specs.declared.port_type.CompId.{CompId}
 use Rattle.tp_history.specs.declared.entry.Entry.{Entry}
 use Rattle.tp_history.specs.declared.entry.Entry.TheVariants as entry
@@ -16,7 +19,8 @@ use Rattle.tp_history.specs.History.{arrival_from, arrived_from, is_arrival, sen
 use Rattle.tp_report.specs.declared.report.CompReport.{CompReport}
 use Rattle.tp_behaviour.specs.Fresh.{LooksAtPorts}
 use Rattle.tp_exec.specs.CausalOrder.{Spot}
-use Rattle.tp_exec.specs.OneOrder.{IsAt, IsOrderOf, IsOwn, entry_at_spot, log_in, logs_of, sender_to, sends_to, source_of}
+use Rattle.tp_exec.specs.OneOrder.{IsAt, IsOrderOf, IsOwn, entry_at_spot, log_in, logs_of, sender_to, sends_to}
+use Rattle.tp_exec.specs.OneOrder.{source_of}
 use Rattle.tp_exec.specs.Greedy.{many}
 use Rattle.tp_exec.specs.LookLaws.{LooksSeeSent, sending_in, posted_at, posted_by}
 use Rattle.tp_exec.proofs.SpotOrderGrowth.{spot, spot_is}

@@ -1,5 +1,7 @@
 -- Where no component can go on there is an order only if all is done.
-use Rattle.std.proofs.Common.{◌≡◌, ◌⊎◌, inl, inr, ℕ, zero, suc, ◌+◌, ◌-◌, ◌<◌, ◌≤◌, ◌==◌, Bool, true, false, cond, eq-eqb, Option, Some, None, List, [], ◌∷◌, ◌++◌, length, get_or, take, drop, refl, sym, ap, ◌∙◌, subst, zero-add, arith}
+use Rattle.std.proofs.Common.{◌≡◌, ◌⊎◌, inl, inr, ℕ, zero, suc, ◌+◌, ◌-◌, ◌<◌, ◌≤◌, ◌==◌, Bool, true, false, cond}
+use Rattle.std.proofs.Common.{eq-eqb, Option, Some, None, List, [], ◌∷◌, ◌++◌, length, get_or, take, drop, refl, sym}
+use Rattle.std.proofs.Common.{ap, ◌∙◌, subst, zero-add, arith}
 use Rattle.std.specs.Prelude.{slice_get}
 use Rattle.std.specs.List.{cons_option, sum_by}
 use Rattle.std.proofs.Math.Seq.{take-suc, take-append_seam}
@@ -7,7 +9,8 @@ use Rattle.std.proofs.lemmas.Bool.{cases_eq, cases_lt, cases_order, false≢true
 use Rattle.std.proofs.lemmas.List.{length-append, take-append-drop, take-take, take_all}
 use Rattle.std.proofs.lemmas.List.Elements.{filter_map-append}
 use Rattle.std.proofs.lemmas.List.Sums.{sum_by-append, sum_by_push, sum_by-take-le}
-use Rattle.std.proofs.lemmas.Option.{same_Some, slice_get_cases, slice_get_within, slice_get-get_or, get_or_from_slice_get}
+use Rattle.std.proofs.lemmas.Option.{same_Some, slice_get_cases, slice_get_within, slice_get-get_or}
+use Rattle.std.proofs.lemmas.Option.{get_or_from_slice_get}
 use Rattle.tp_history.specs.declared.entry.Entry.{Entry}
 use Rattle.tp_history.specs.declared.entry.Entry.TheVariants as entry
 use Rattle.tp_history.specs.History.{is_arrival}
@@ -15,7 +18,8 @@ use Rattle.tp_behaviour.specs.Fresh.{LooksAtPorts}
 use Rattle.tp_exec.specs.declared.kind.EntryKind.{EntryKind}
 use Rattle.tp_exec.specs.declared.kind.EntryKind.TheVariants as kind
 use Rattle.tp_exec.specs.CausalOrder.{Spot}
-use Rattle.tp_exec.specs.OneOrder.{IsAt, IsOrderOf, IsOwn, came_before, entry_at_spot, log_in, sender_to, senders_to, sends_to, source_of, sources}
+use Rattle.tp_exec.specs.OneOrder.{IsAt, IsOrderOf, IsOwn, came_before, entry_at_spot, log_in, sender_to, senders_to}
+use Rattle.tp_exec.specs.OneOrder.{sends_to, source_of, sources}
 use Rattle.tp_exec.specs.OrderProgress.{IsGone, kind_of}
 use Rattle.tp_exec.specs.Greedy.{AreLookedBefore, CanHappen, IsGreedy, IsStuck, many, count_sent_to}
 use Rattle.tp_exec.proofs.SpotOrderGrowth.{came_all, came_on, one_more, spot, spot_is}

@@ -1,5 +1,6 @@
 -- What is given of the elements of a list: which place it has in all that is given, and of which element it is.
-use Rattle.std.proofs.Common.{◌≡◌, inl, inr, ℕ, zero, suc, ◌+◌, ◌<◌, ◌≤◌, Option, Some, None, List, [], ◌∷◌, ◌++◌, length, take, drop, refl, sym, ap, ◌∙◌, arith}
+use Rattle.std.proofs.Common.{◌≡◌, inl, inr, ℕ, zero, suc, ◌+◌, ◌<◌, ◌≤◌, Option, Some, None, List, [], ◌∷◌, ◌++◌}
+use Rattle.std.proofs.Common.{length, take, drop, refl, sym, ap, ◌∙◌, arith}
 use Rattle.std.specs.Prelude.{slice_get}
 use Rattle.std.specs.List.{filter_map, cons_option}
 use Rattle.std.proofs.lemmas.Bool.{cases_lt}
@@ -13,16 +14,16 @@ abbrev pub so_much : {X Y : Type 0} → (X → Option Y) → List X → ℕ → 
 so_much f k n = length (filter_map f (take n k))
 
 -- that is the place of what is given of the next
-behind : {Y : Type 0} (o : Option Y) (ys zs : List Y) (y : Y) → slice_get ys (length zs) ≡ Some y
+given_next : {Y : Type 0} (o : Option Y) (ys zs : List Y) (y : Y) → slice_get ys (length zs) ≡ Some y
     → slice_get (cons_option o ys) (length (cons_option o zs)) ≡ Some y
-behind None ys zs y h = h
-behind (Some z) ys zs y h = h
+given_next None ys zs y h = h
+given_next (Some z) ys zs y h = h
 
 pub given_at : {X Y : Type 0} (f : X → Option Y) (k : List X) (n : ℕ) (x : X) (y : Y) → slice_get k n ≡ Some x → f x ≡ Some y
     → slice_get (filter_map f k) (so_much f k n) ≡ Some y
 given_at f [] n x y is at = absurd (cc)
 given_at f (z ∷ k) zero x y is at = ap (λ o. slice_get (cons_option o (filter_map f k)) 0) (ap f (same_Some z x is) ∙ at)
-given_at f (z ∷ k) (suc n) x y is at = behind (f z) (filter_map f k) (filter_map f (take n k)) y (given_at f k n x y is at)
+given_at f (z ∷ k) (suc n) x y is at = given_next (f z) (filter_map f k) (filter_map f (take n k)) y (given_at f k n x y is at)
 
 -- with it there is one more
 pub one_more_given : {X Y : Type 0} (f : X → Option Y) (k : List X) (n : ℕ) (x : X) (y : Y) → slice_get k n ≡ Some x → f x ≡ Some y

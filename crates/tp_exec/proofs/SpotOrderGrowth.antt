@@ -1,5 +1,6 @@
 -- One order is built up, one spot after the other.
-use Rattle.std.proofs.Common.{◌≡◌, ◌⊎◌, inl, inr, ℕ, zero, suc, ◌+◌, ◌-◌, ◌<◌, ◌≤◌, true, false, Option, Some, None, List, [], ◌∷◌, ◌++◌, length, get_or, take, drop, refl, sym, ap, ◌∙◌, subst, arith}
+use Rattle.std.proofs.Common.{◌≡◌, ◌⊎◌, inl, inr, ℕ, zero, suc, ◌+◌, ◌-◌, ◌<◌, ◌≤◌, true, false, Option, Some, None}
+use Rattle.std.proofs.Common.{List, [], ◌∷◌, ◌++◌, length, get_or, take, drop, refl, sym, ap, ◌∙◌, subst, arith}
 use Rattle.std.specs.Prelude.{slice_get}
 use Rattle.std.specs.List.{cons_option}
 use Rattle.std.proofs.Math.Seq.{take-suc, take-append_seam, take-append-add, take-length}
@@ -12,7 +13,8 @@ use Rattle.tp_history.specs.declared.entry.Entry.TheVariants as entry
 use Rattle.tp_history.specs.History.{is_arrival}
 use Rattle.tp_behaviour.specs.Fresh.{LooksAtPorts}
 use Rattle.tp_exec.specs.CausalOrder.{Spot}
-use Rattle.tp_exec.specs.OneOrder.{IsAt, IsFrontOf, IsOrderOf, IsOwn, entry_at_spot, log_in, sender_to, senders_to, source_of, sources}
+use Rattle.tp_exec.specs.OneOrder.{IsAt, IsFrontOf, IsOrderOf, IsOwn, entry_at_spot, log_in, sender_to, senders_to}
+use Rattle.tp_exec.specs.OneOrder.{source_of, sources}
 use Rattle.tp_exec.specs.OrderProgress.{IsGone, MayComeNext}
 
 -- where spots stand in an order once one more is put behind it

@@ -42,7 +42,7 @@ LooksSeeSent =
 -- at its place r: fewer messages of d had come to c before it than d sends to c up to r, with what stands at r
 pub record Misses (logs : List (List Entry)) (c p q d r : ℕ) : Type 0 where
   pub sent : sends_to d (entry_at_spot logs (record { comp = c; place = p })) ≡ true
-  pub behind : p < q
+  pub looks_later : p < q
   pub look : Entry
   pub stands : entry_at_spot logs (record { comp = c; place = q }) ≡ Some look
   pub looks : LooksAtPorts look

@@ -1,7 +1,8 @@
 -- What it is that one order of all that the components did themselves gives their histories: each message is in its
 -- queue at once when it is sent, and a look at ports sees all that was sent to its component before (ES 201 873-4).
 -- A component is known by its number, and what it did by its place in the component's history: both are a spot.
-use Rattle.std.specs.Prelude.{◌≡◌, ℕ, ◌<◌, ◌==◌, ◌++◌, Bool, false, cond, Option, Some, None, List, [], map, take, slice_get, slice_index_or}
+use Rattle.std.specs.Prelude.{◌≡◌, ℕ, ◌<◌, ◌==◌, ◌++◌, Bool, false, cond, Option, Some, None, List, [], map, take}
+use Rattle.std.specs.Prelude.{slice_get, slice_index_or}
 use Rattle.std.specs.List.{filter_map}
 use Rattle.tp_history.specs.declared.entry.Entry.{Entry}
 use Rattle.tp_history.specs.declared.entry.Entry.TheVariants as entry

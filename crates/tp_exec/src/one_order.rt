@@ -112,7 +112,7 @@ fn is_possible(
     }
 }
 
-fn go_by(progress: &mut OrderProgress, c: usize, kind: EntryKind) -> usize
+fn pass_entry(progress: &mut OrderProgress, c: usize, kind: EntryKind) -> usize
     requires places { c < length progress.old.places.items }
     requires came { c < length progress.old.came.items }
     requires size { length progress.old.sent.items ≡ length progress.old.came.items }
@@ -167,10 +167,10 @@ fn step(
     if !is_possible(all_awaited, progress, c, kind) {
         return None;
     }
-    Some(go_by(progress, c, kind))
+    Some(pass_entry(progress, c, kind))
 }
 
-fn put_in(number: usize, ready: &mut Vec<usize>) -> Result<(), Memory>
+fn push_unless_last(number: usize, ready: &mut Vec<usize>) -> Result<(), Memory>
     ensures below { (size : ℕ) → number < size → All (λ x. x < size) ready.old.items
         → OnOk result (All (λ x. x < size) ready.new.items) }
     ensures most { OnOk result (length ready.new.items ≤ length ready.old.items + 1) }
@@ -197,13 +197,13 @@ fn wake(
     ensures most { OnOk result (length ready.new.items ≤ length ready.old.items + 2) }
 {
     if affected != c {
-        put_in(affected, &mut *ready)?;
+        push_unless_last(affected, &mut *ready)?;
     }
     if let Some(awaited) = all_awaited[affected].get(progress.sent[affected]) {
         let next = awaited.source as usize;
         // A component that isn't there does nothing.
         if next != c && next < all_awaited.len() {
-            put_in(next, &mut *ready)?;
+            push_unless_last(next, &mut *ready)?;
         }
     }
     Ok(())
@@ -211,7 +211,7 @@ fn wake(
 
 /// Passes the component's entries as long as possible, and lists the components that may then be
 /// able to go on.
-fn go_far(
+fn pass_entries(
     components: &[CompReport],
     all_awaited: &[Vec<AwaitedArrival>],
     progress: &mut OrderProgress,
@@ -238,7 +238,7 @@ fn go_far(
 
 /// Takes components out of the list and passes their entries as long as possible, until the list is
 /// empty.
-fn go_on(
+fn pass_ready(
     components: &[CompReport],
     all_awaited: &[Vec<AwaitedArrival>],
     progress: &mut OrderProgress,
@@ -254,12 +254,12 @@ fn go_on(
     ensures ready { OnOk result (All (λ x. x < length components.now) ready.new.items) }
 {
     while let Some(c) = ready.pop() {
-        go_far(components, all_awaited, &mut *progress, c, &mut *ready)?;
+        pass_entries(components, all_awaited, &mut *progress, c, &mut *ready)?;
     }
     Ok(())
 }
 
-fn go_all(
+fn pass_until_stuck(
     alloc: Global,
     components: &[CompReport],
     all_awaited: &[Vec<AwaitedArrival>],
@@ -282,7 +282,7 @@ fn go_all(
             Some(affected) => {
                 ready.push(c)?;
                 wake(all_awaited, progress, c, affected, &mut ready)?;
-                go_on(components, all_awaited, &mut *progress, &mut ready)?;
+                pass_ready(components, all_awaited, &mut *progress, &mut ready)?;
                 c = 0;
             }
         }
@@ -322,6 +322,6 @@ pub(crate) fn has_one_order(alloc: Global, components: &[CompReport]) -> Result<
 {
     let all_awaited = awaited_of_each(alloc, components)?;
     let mut progress = begin(alloc, components.len())?;
-    go_all(alloc, components, &all_awaited, &mut progress)?;
+    pass_until_stuck(alloc, components, &all_awaited, &mut progress)?;
     Ok(is_ended(components, &progress))
 }

@@ -6,8 +6,8 @@ use Rattle.tp_exec.proofs.OrderProgressGrowth.{begun, ended}
 use Rattle.tp_exec.proofs.NoOrderWhereStuck.{all_gone}
 use Rattle.tp_exec.proofs.one_order.has_one_order.Goals as goal
 
-pub go_all-requires-clause-progress : goal.go_all-requires-clause-progress
-go_all-requires-clause-progress c =
+pub pass_until_stuck-requires-clause-progress : goal.pass_until_stuck-requires-clause-progress
+pass_until_stuck-requires-clause-progress c =
     let logs = logs_of c.args.components.now in
     let n = length c.args.components.now in
     let none = replicate n 0 in
@@ -19,10 +19,10 @@ go_all-requires-clause-progress c =
 
 pub returns : goal.returns
 returns c =
-    let new = c.go_all.new.progress in
-    let size = c.in_ok-go_all.ensures.size in
-    let progress = c.in_ok-go_all.ensures.progress in
-    let stuck = c.in_ok-go_all.ensures.stuck in
+    let new = c.pass_until_stuck.new.progress in
+    let size = c.in_ok-pass_until_stuck.ensures.size in
+    let progress = c.in_ok-pass_until_stuck.ensures.progress in
+    let stuck = c.in_ok-pass_until_stuck.ensures.stuck in
     let logs = logs_of c.args.components.now in
     let at = slice_index new.places.items in
     let came = slice_index new.came.items in

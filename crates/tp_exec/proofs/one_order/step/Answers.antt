@@ -35,7 +35,7 @@ returns-clause-progress c =
     let r = done logs places known sent n e k (sym c.kind_of-kind.ensures) (ap (λ l. slice_get l p) log ∙ at) low low_known
     (size.sent ∙ sym count) can c.requires.progress in
     let then = set places n (p + 1) in
-    let new = c.go_by.new.progress in
-    subst (λ (s : List ℕ). IsProgressBy logs s new.came.items new.sent.items) (sym c.go_by.ensures.places)
-    (subst (λ (s : List ℕ). IsProgressBy logs then new.came.items s) (sym c.go_by.ensures.sent)
-    (subst (λ (s : List ℕ). IsProgressBy logs then s (sent_then k sent)) (sym c.go_by.ensures.came) r))
+    let new = c.pass_entry.new.progress in
+    subst (λ (s : List ℕ). IsProgressBy logs s new.came.items new.sent.items) (sym c.pass_entry.ensures.places)
+    (subst (λ (s : List ℕ). IsProgressBy logs then new.came.items s) (sym c.pass_entry.ensures.sent)
+    (subst (λ (s : List ℕ). IsProgressBy logs then s (sent_then k sent)) (sym c.pass_entry.ensures.came) r))

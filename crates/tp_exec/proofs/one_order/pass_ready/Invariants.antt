@@ -3,7 +3,7 @@ use Rattle.std.proofs.Common.{◌<◌, ◌≤◌, ◌+◌, ◌-◌, ◌*◌, All
 use Rattle.tp_exec.specs.OneOrder.{logs_of}
 use Rattle.tp_exec.specs.OrderProgress.{HasSize}
 use Rattle.tp_exec.specs.Greedy.{IsProgress}
-use Rattle.tp_exec.proofs.one_order.go_on.Given as goal
+use Rattle.tp_exec.proofs.one_order.pass_ready.Given as goal
 
 abbrev pub invariant-loop-c : goal.invariant-loop-c
 invariant-loop-c l = record {

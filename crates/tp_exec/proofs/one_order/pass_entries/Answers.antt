@@ -1,7 +1,7 @@
 -- One thing less is left to do.
 use Rattle.std.proofs.Common.{arith}
 use Rattle.tp_exec.proofs.OrderProgressGrowth.{places_within}
-use Rattle.tp_exec.proofs.one_order.go_far.Goals as goal
+use Rattle.tp_exec.proofs.one_order.pass_entries.Goals as goal
 
 pub loop-affected-smaller : goal.loop-affected-smaller
 loop-affected-smaller c =

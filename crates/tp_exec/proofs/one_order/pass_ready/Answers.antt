@@ -2,14 +2,14 @@
 use Rattle.std.proofs.Common.{length, ap, ◌∙◌, arith}
 use Rattle.std.proofs.lemmas.List.{length_push}
 use Rattle.tp_exec.proofs.OrderProgressGrowth.{places_within}
-use Rattle.tp_exec.proofs.one_order.go_on.Goals as goal
+use Rattle.tp_exec.proofs.one_order.pass_ready.Goals as goal
 
 pub loop-c-smaller : goal.loop-c-smaller
 loop-c-smaller c =
-    let new = c.go_far.new.progress in
-    let within = places_within c.args.components.now new.places.items new.came.items new.sent.items c.in_ok-go_far.ensures.size.places
-    c.in_ok-go_far.ensures.progress in
+    let new = c.pass_entries.new.progress in
+    let within = places_within c.args.components.now new.places.items new.came.items new.sent.items c.in_ok-pass_entries.ensures.size.places
+    c.in_ok-pass_entries.ensures.progress in
     let popped = ap length c.in-Some.ensures.items ∙ length_push c.pop.new.self.items c.in-Some.c in
-    let most = c.in_ok-go_far.ensures.most in
-    let grown = c.in_ok-go_far.ensures.grown in
+    let most = c.in_ok-pass_entries.ensures.most in
+    let grown = c.in_ok-pass_entries.ensures.grown in
     omega (arith, within, popped, most, grown)

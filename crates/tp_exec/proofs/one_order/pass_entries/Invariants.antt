@@ -3,7 +3,7 @@ use Rattle.std.proofs.Common.{◌<◌, ◌≤◌, ◌+◌, ◌-◌, ◌*◌, All
 use Rattle.tp_exec.specs.OneOrder.{logs_of}
 use Rattle.tp_exec.specs.OrderProgress.{HasSize}
 use Rattle.tp_exec.specs.Greedy.{IsProgress}
-use Rattle.tp_exec.proofs.one_order.go_far.Given as goal
+use Rattle.tp_exec.proofs.one_order.pass_entries.Given as goal
 
 abbrev pub invariant-loop-affected : goal.invariant-loop-affected
 invariant-loop-affected l = record {

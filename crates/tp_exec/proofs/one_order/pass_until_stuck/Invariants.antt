@@ -3,7 +3,7 @@ use Rattle.std.proofs.Common.{ℕ, ◌<◌, ◌+◌, ◌-◌, ◌*◌, All, leng
 use Rattle.tp_exec.specs.OneOrder.{logs_of}
 use Rattle.tp_exec.specs.OrderProgress.{HasSize}
 use Rattle.tp_exec.specs.Greedy.{IsProgress, CannotGoOn}
-use Rattle.tp_exec.proofs.one_order.go_all.Given as goal
+use Rattle.tp_exec.proofs.one_order.pass_until_stuck.Given as goal
 
 abbrev pub invariant-loop-c : goal.invariant-loop-c
 invariant-loop-c l = record {
