@@ -27,7 +27,7 @@ pub mod SpotOrderGrowth
 pub mod EntryKinds
 pub mod OrderProgressGrowth
 pub mod NoOrderWhereStuck
-pub mod AwaitedArrivals
+pub mod ArrivalCursors
 pub mod CrossedLooksWithoutOrder
 pub mod LooksSeeSentMessages
 pub mod PlacesOfGivenElements

@@ -1,14 +1,13 @@
 -- A component does its next thing, of one kind or another.
 use Rattle.std.proofs.Common.{◌≡◌, inl, inr, ℕ, suc, ◌+◌, ◌-◌, ◌*◌, ◌<◌, ◌≤◌, ◌==◌, Bool, true, false, cond, eq-eqb}
 use Rattle.std.proofs.Common.{Option, Some, None, List, [], ◌∷◌, ◌++◌, length, map, get_or, set, sum, take, replicate}
-use Rattle.std.proofs.Common.{slice_index, refl, sym, ap, ◌∙◌, subst, Vec, Global, arith}
+use Rattle.std.proofs.Common.{slice_index, refl, sym, ap, ◌∙◌, subst, arith}
 use Rattle.std.specs.Prelude.{slice_get}
 use Rattle.std.specs.List.{cons_option}
 use Rattle.std.proofs.Math.Seq.{take-suc}
-use Rattle.std.proofs.Math.ListN.{get_or-map as get_or_map_both}
 use Rattle.std.proofs.lemmas.Bool.{cases_eq, cases_lt, ne_eqb}
 use Rattle.std.proofs.lemmas.List.{append-nil, get_or-map, get_or_past, get_or-replicate, length-replicate}
-use Rattle.std.proofs.lemmas.List.{get_or-set_same, get_or-set_other, length-map, map-append, take_all}
+use Rattle.std.proofs.lemmas.List.{get_or-set_same, get_or-set_other, length-map, take_all}
 use Rattle.std.proofs.lemmas.List.Elements.{filter_map-append}
 use Rattle.std.proofs.lemmas.List.Sums.{sum_by-append, sum_by-cons}
 use Rattle.std.proofs.lemmas.Option.{slice_get_within, get_or_from_slice_get}
@@ -17,12 +16,11 @@ use Rattle.tp_history.specs.declared.entry.Entry.TheVariants as entry
 use Rattle.tp_history.specs.History.{is_arrival}
 use Rattle.tp_behaviour.specs.Fresh.{LooksAtPorts}
 use Rattle.tp_report.specs.declared.report.CompReport.{CompReport}
-use Rattle.tp_exec.specs.declared.kind.AwaitedArrival.{AwaitedArrival}
 use Rattle.tp_exec.specs.declared.kind.EntryKind.{EntryKind}
 use Rattle.tp_exec.specs.declared.kind.EntryKind.TheVariants as kind
 use Rattle.tp_exec.specs.OneOrder.{HasOneOrder, entry_at_spot, log_in, logs_of, sender_to, senders_to, sends_to}
 use Rattle.tp_exec.specs.OneOrder.{source_of, sources}
-use Rattle.tp_exec.specs.OrderProgress.{awaited_sources, kind_of, came_then, sent_then}
+use Rattle.tp_exec.specs.OrderProgress.{kind_of, came_then, sent_then}
 use Rattle.tp_exec.specs.CausalOrder.{Spot}
 use Rattle.tp_exec.specs.Greedy.{CanHappen, IsProgressBy, IsGreedy, many, count_sent_to}
 use Rattle.tp_exec.proofs.EntryKinds.{of_came, of_looked, of_quiet, of_sent}
@@ -47,11 +45,11 @@ abbrev AreLookedBelow : List Entry → ℕ → ℕ → Type 0
 AreLookedBelow k n place =
     (q : ℕ) (e : Entry) → slice_get k q ≡ Some e → LooksAtPorts e → length (sources (take q k)) < n → q < place
 
-pub none_some : (c : ℕ) → (let o : Option ℕ = None in o ≡ Some c) → ⊥
+none_some : (c : ℕ) → (let o : Option ℕ = None in o ≡ Some c) → ⊥
 none_some c e = cc
 
 -- nothing came where there is no component
-pub none_in : (logs : List (List Entry)) (d n c : ℕ) → length logs ≤ d → slice_get (sources (log_in logs d)) n ≡ Some c → ⊥
+none_in : (logs : List (List Entry)) (d n c : ℕ) → length logs ≤ d → slice_get (sources (log_in logs d)) n ≡ Some c → ⊥
 none_in logs d n c past at =
     let e : slice_get (sources (log_in logs d)) n ≡ None = ap (λ (k : List Entry). slice_get (sources k) n) (get_or_past logs d [] past) in
     none_some c (sym e ∙ at)
@@ -76,9 +74,6 @@ module _ (logs : List (List Entry)) where
       let one : n + 1 ≡ suc n = omega arith in
       ap (λ m. take m xs) one ∙ take-suc xs n c low ∙ ap (λ y. take n xs ++ y ∷ []) (get_or_from_slice_get xs n c c at)
       ∙ sym (ap (λ (y : Option ℕ). take n xs ++ cons_option y []) o)
-
-  sources_in : (d : ℕ) → get_or (map sources logs) d [] ≡ sources (log_in logs d)
-  sources_in d = get_or_map_both sources logs d []
 
   -- what is known of what was sent stays so
   greedy_own : (at out at' out' : ℕ → ℕ) (order : List Spot) (c : ℕ) (e : Entry) → IsGreedy logs at out order
@@ -230,35 +225,6 @@ pub log_is : (components : List CompReport) (c : ℕ) (x : CompReport) (log : Li
     → log_in (logs_of components) c ≡ log
 log_is components c x log low is = get_or-map (λ (y : CompReport). y.desk.log) components c x [] low ∙ sym is
 
--- what is known of the messages that came to it
-pub sources_of_awaited : (all : List (Vec AwaitedArrival Global)) (logs : List (List Entry)) (c : ℕ) (v : Vec AwaitedArrival Global)
-    → map (λ x. awaited_sources x.items) all ≡ map sources logs → c < length all → v ≡ get_or all c v
-    → awaited_sources v.items ≡ sources (log_in logs c)
-sources_of_awaited all logs c v are low is =
-    let one : get_or (map (λ (x : Vec AwaitedArrival Global). awaited_sources x.items) all) c [] ≡ awaited_sources v.items =
-    get_or-map (λ (x : Vec AwaitedArrival Global). awaited_sources x.items) all c v [] low ∙ ap (λ (x : Vec AwaitedArrival Global). awaited_sources x.items) (sym is) in
-    sym one ∙ ap (λ (l : List (List ℕ)). get_or l c []) are ∙ sources_in logs c
-
-pub all_awaited_are : (all : List (Vec AwaitedArrival Global)) (logs : List (List Entry)) (c : ℕ) (v : Vec AwaitedArrival Global)
-    → map (λ x. awaited_sources x.items) all ≡ map sources logs → c < length all → v ≡ get_or all c v
-    → length v.items ≡ length (sources (log_in logs c))
-all_awaited_are all logs c v are low is =
-    sym (length-map v.items (λ (d : AwaitedArrival). d.source)) ∙ ap length (sources_of_awaited all logs c v are low is)
-
-pub all_awaited_size : (all : List (Vec AwaitedArrival Global)) (components : List CompReport)
-    → map (λ x. awaited_sources x.items) all ≡ map sources (logs_of components) → length all ≡ length components
-all_awaited_size all components are =
-    sym (length-map all (λ (x : Vec AwaitedArrival Global). awaited_sources x.items)) ∙ ap length are ∙ length-map (logs_of components) sources
-    ∙ length-map components (λ (x : CompReport). x.desk.log)
-
--- one more entry of a history is looked at
-pub awaited_more : (k : List Entry) (n : ℕ) (e : Entry) (s after : ℕ) (all_awaited : List AwaitedArrival) → slice_get k n ≡ Some e → kind_of e ≡ kind.Came s
-    → awaited_sources all_awaited ≡ sources (take n k) → awaited_sources (all_awaited ++ record { source = s; after = after } ∷ []) ≡ sources (take (n + 1) k)
-awaited_more k n e s after all_awaited at is was =
-    let h = of_came e s is in
-    map-append (λ (d : AwaitedArrival). d.source) all_awaited (record { source = s; after = after } ∷ []) ∙ ap (λ l. l ++ s ∷ []) was
-    ∙ sym (came_on k n e at ∙ ap (λ (o : Option ℕ). sources (take n k) ++ cons_option o []) h.1)
-
 none_came : (k : List Entry) (n : ℕ) (e : Entry) → slice_get k n ≡ Some e → source_of e ≡ None → sources (take n k) ≡ sources (take (n + 1) k)
 none_came k n e at none =
     sym (came_on k n e at ∙ ap (λ (o : Option ℕ). sources (take n k) ++ cons_option o []) none ∙ append-nil (sources (take n k)))
@@ -272,12 +238,27 @@ source_by : (e : Entry) → source_of e ≡ came_by (kind_of e)
 source_by (entry.Arrive p v t) = refl
 source_by _ = refl
 
-pub awaited_still : (k : List Entry) (n : ℕ) (e : Entry) (w : EntryKind) (all_awaited : List AwaitedArrival) → slice_get k n ≡ Some e → kind_of e ≡ w
-    → ((s : ℕ) → w ≡ kind.Came s → ⊥) → awaited_sources all_awaited ≡ sources (take n k) → awaited_sources all_awaited ≡ sources (take (n + 1) k)
-awaited_still k n e (kind.Came s) all_awaited at is other was = absurd (other s refl)
-awaited_still k n e kind.Looked all_awaited at is other was = was ∙ none_came k n e at (source_by e ∙ ap came_by is)
-awaited_still k n e kind.Quiet all_awaited at is other was = was ∙ none_came k n e at (source_by e ∙ ap came_by is)
-awaited_still k n e (kind.Sent d) all_awaited at is other was = was ∙ none_came k n e at (source_by e ∙ ap came_by is)
+pub still_came : (k : List Entry) (n : ℕ) (e : Entry) (w : EntryKind) → slice_get k n ≡ Some e → kind_of e ≡ w
+    → ((s : ℕ) → w ≡ kind.Came s → ⊥) → sources (take (n + 1) k) ≡ sources (take n k)
+still_came k n e (kind.Came s) at is other = absurd (other s refl)
+still_came k n e kind.Looked at is other = sym (none_came k n e at (source_by e ∙ ap came_by is))
+still_came k n e kind.Quiet at is other = sym (none_came k n e at (source_by e ∙ ap came_by is))
+still_came k n e (kind.Sent d) at is other = sym (none_came k n e at (source_by e ∙ ap came_by is))
+
+-- what is sent grows
+pub sent_grows : (k : EntryKind) (sent : List ℕ) (c : ℕ) → slice_index sent c ≤ slice_index (sent_then k sent) c
+sent_grows (kind.Sent d) sent c = elim (cases_lt d (length sent)) [
+  | inl low ↦ grown sent d c low
+  | inr past ↦ elim (cases_eq c d) [
+    | inl same ↦
+        let none : slice_index sent c ≡ 0 = get_or_past sent c 0 (omega (arith, past, same)) in
+        omega (arith, none)
+    | inr other ↦ let e = others sent d c other in omega (arith, e)
+  ]
+]
+sent_grows kind.Looked sent c = omega arith
+sent_grows kind.Quiet sent c = omega arith
+sent_grows (kind.Came s) sent c = omega arith
 
 -- the places together are no more than all entries
 sum_within : (xs : List CompReport) (places : List ℕ) → length places ≡ length xs

@@ -1,18 +1,14 @@
 -- What it is that a component can go on in its history, and that none can.
-use Rattle.std.specs.Prelude.{◌≡◌, ℕ, ◌<◌, ◌≤◌, ◌==◌, Some, List, cond, length, take, slice_get, slice_index, ◌↔◌, map}
+use Rattle.std.specs.Prelude.{◌≡◌, ℕ, ◌<◌, ◌≤◌, ◌==◌, Some, List, cond, length, take, slice_get, slice_index}
 use Rattle.std.specs.List.{sum_by}
-use Rattle.std.specs.declared.vec.Vec.{Vec}
-use Rattle.std.specs.Global.{Global}
 use Rattle.tp_history.specs.declared.entry.Entry.{Entry}
 use Rattle.tp_behaviour.specs.Fresh.{LooksAtPorts}
-use Rattle.tp_report.specs.declared.report.CompReport.{CompReport}
 use Rattle.tp_exec.specs.declared.progress.OrderProgress.{OrderProgress}
-use Rattle.tp_exec.specs.declared.kind.AwaitedArrival.{AwaitedArrival}
 use Rattle.tp_exec.specs.declared.kind.EntryKind.{EntryKind}
 use Rattle.tp_exec.specs.declared.kind.EntryKind.TheVariants as kind
 use Rattle.tp_exec.specs.CausalOrder.{Spot}
-use Rattle.tp_exec.specs.OneOrder.{log_in, logs_of, senders_to, sends_to, sources}
-use Rattle.tp_exec.specs.OrderProgress.{IsGone, awaited_sources, kind_of}
+use Rattle.tp_exec.specs.OneOrder.{log_in, senders_to, sends_to, sources}
+use Rattle.tp_exec.specs.OrderProgress.{IsGone, kind_of}
 
 -- how many messages are sent to the component in this history
 abbrev pub count_sent_to : ℕ → List Entry → ℕ
@@ -63,19 +59,3 @@ CannotGoOn logs at came out c =
 -- none can
 abbrev pub IsStuck : List (List Entry) → (ℕ → ℕ) → (ℕ → ℕ) → (ℕ → ℕ) → Type 0
 IsStuck logs at came out = (c : ℕ) → CannotGoOn logs at came out c
-
--- each place is the least that is behind the looks which have to be before that message was sent
-abbrev pub AreAfter : List Entry → List AwaitedArrival → Type 0
-AreAfter k all_awaited =
-    (n : ℕ) (awaited : AwaitedArrival) → slice_get all_awaited n ≡ Some awaited
-    → (p : ℕ) → (awaited.after ≤ p) ↔ AreLookedBefore k n p
-
-abbrev pub AreAllAfter : List CompReport → List (Vec AwaitedArrival Global) → Type 0
-AreAllAfter components all =
-    (c : ℕ) (x : CompReport) (v : Vec AwaitedArrival Global)
-    → slice_get components c ≡ Some x → slice_get all c ≡ Some v → AreAfter x.desk.log v.items
-
--- this is known of the messages that came to these components
-pub record AreAwaitedOf (components : List CompReport) (all : List (Vec AwaitedArrival Global)) : Type 0 where
-  pub are : map (λ x. awaited_sources x.items) all ≡ map sources (logs_of components)
-  pub after : AreAllAfter components all

@@ -12,5 +12,6 @@ pub mod Laws
 pub mod OneOrder
 pub mod OrderProgress
 pub mod Greedy
+pub mod Cursors
 pub mod LookLaws
 pub mod MessageLaws

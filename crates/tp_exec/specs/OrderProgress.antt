@@ -1,11 +1,10 @@
 -- How far the histories of a run's components are gone through, on the way to one order.
-use Rattle.std.specs.Prelude.{◌≡◌, ℕ, ◌<◌, ◌≤◌, ◌+◌, ◌^◌, Some, List, length, map, take, slice_index, slice_set}
+use Rattle.std.specs.Prelude.{◌≡◌, ℕ, ◌<◌, ◌≤◌, ◌+◌, ◌^◌, Some, List, length, take, slice_index, slice_set}
 use Rattle.tp_history.specs.declared.entry.Entry.{Entry}
 use Rattle.tp_history.specs.declared.entry.Entry.TheVariants as entry
 use Rattle.tp_behaviour.specs.Fresh.{LooksAtPorts}
 use Rattle.tp_exec.specs.declared.kind.EntryKind.{EntryKind}
 use Rattle.tp_exec.specs.declared.kind.EntryKind.TheVariants as kind
-use Rattle.tp_exec.specs.declared.kind.AwaitedArrival.{AwaitedArrival}
 use Rattle.tp_exec.specs.declared.progress.OrderProgress.{OrderProgress}
 use Rattle.tp_exec.specs.CausalOrder.{Spot}
 use Rattle.tp_exec.specs.OneOrder.{IsAt, IsFrontOf, IsOwn, came_before, entry_at_spot, log_in, senders_to, sources}
@@ -24,10 +23,6 @@ kind_of (entry.Started port) = kind.Looked
 kind_of (entry.Stopped port) = kind.Looked
 kind_of (entry.Halted port) = kind.Looked
 kind_of entry.Else = kind.Looked
-
--- the senders of these arrivals
-abbrev pub awaited_sources : List AwaitedArrival → List ℕ
-awaited_sources all_awaited = map (λ x. x.source) all_awaited
 
 -- the spot may follow these in an order
 pub record MayComeNext (logs : List (List Entry)) (before : List Spot) (a : Spot) : Type 0 where

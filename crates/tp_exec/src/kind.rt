@@ -9,11 +9,3 @@ pub(crate) enum EntryKind {
     Looked,
     Quiet,
 }
-
-#[derive(Clone, Copy)]
-pub(crate) struct AwaitedArrival {
-    pub(crate) source: u32,
-    /// A place in the receiver's history: after the last look before the arrival, or 0 if there is
-    /// none. The message was sent after everything before this place.
-    pub(crate) after: usize,
-}

@@ -1,16 +1,15 @@
 //! The search for one order of everything that the components did that gives their histories.
-ghost use Rattle.std.specs.Prelude.{◌≡◌, ◌↔◌, ◌+◌, ◌*◌, ◌<◌, ◌≤◌, ◌^◌, ℕ, List, All};
+ghost use Rattle.std.specs.Prelude.{◌≡◌, ◌↔◌, ◌+◌, ◌*◌, ◌<◌, ◌≤◌, ◌^◌, ℕ, All};
 ghost use Rattle.std.specs.Prelude.{IfNone, IfOk, IfSome, IsTrue, OnOk, length, replicate};
-ghost use Rattle.std.specs.Prelude.{slice_index, slice_set, sum};
-ghost use Rattle.tp_report.specs.declared.report.CompReport.{CompReport as Report};
+ghost use Rattle.std.specs.Prelude.{slice_get, slice_index, slice_set, sum};
 ghost use Rattle.tp_exec.specs.OneOrder.{HasOneOrder, log_in, logs_of, sources};
-ghost use Rattle.tp_exec.specs.OrderProgress.{HasSpace, HasSize, affected, awaited_sources};
+ghost use Rattle.tp_exec.specs.OrderProgress.{HasSpace, HasSize, affected};
 ghost use Rattle.tp_exec.specs.OrderProgress.{kind_of as kind_of_entry, came_then, sent_then};
-ghost use Rattle.tp_exec.specs.Greedy.{AreAfter, AreAwaitedOf, CanHappen, IsProgress, CannotGoOn, IsStuck};
-ghost use Rattle.tp_exec.specs.Greedy.{MaySend};
+ghost use Rattle.tp_exec.specs.Greedy.{CanHappen, IsProgress, CannotGoOn, IsStuck, MaySend};
+ghost use Rattle.tp_exec.specs.Cursors.{AreCursorsOf, HasPassedLooks, IsAfterLooks, IsCursorOf, front};
 
-use crate::kind::{AwaitedArrival, EntryKind};
-use crate::progress::OrderProgress;
+use crate::kind::EntryKind;
+use crate::progress::{ArrivalCursor, OrderProgress};
 use std::alloc::Global;
 use tp_history::entry::Entry;
 use tp_refusal::memory::Memory;
@@ -29,78 +28,97 @@ fn kind_of(entry: &Entry) -> EntryKind
     }
 }
 
-fn awaited_of(alloc: Global, log: &[Entry]) -> Result<Vec<AwaitedArrival>, Memory>
-    ensures sources { IfOk result (λ all_awaited.
-        awaited_sources all_awaited.items ≡ sources log.now) }
-    ensures after { IfOk result (λ all_awaited. AreAfter log.now all_awaited.items) }
+/// Moves the cursor to the arrival that so many others precede, and returns its sender.
+fn find_arrival(log: &[Entry], cursor: &mut ArrivalCursor, number: usize) -> Option<u32>
+    requires cursor { IsCursorOf log.now cursor.old }
+    requires most { cursor.old.came ≤ number }
+    ensures cursor { IsCursorOf log.now cursor.new }
+    ensures most { cursor.new.came ≤ number }
+    ensures source { result ≡ slice_get (sources log.now) number }
+    ensures after { IfSome result (λ _. IsAfterLooks log.now number cursor.new.after) }
+    ensures space { IfSome result (λ _. number + 1 < 2 ^ 64) }
 {
-    let mut all_awaited = Vec::new(alloc);
-    let mut after = 0;
-    for (place, entry) in log.iter().enumerate() {
-        match kind_of(entry) {
-            EntryKind::Came(source) => all_awaited.push(AwaitedArrival { source, after })?,
-            EntryKind::Looked => after = place + 1,
+    while cursor.place < log.len() {
+        match kind_of(&log[cursor.place]) {
+            EntryKind::Came(source) => {
+                if cursor.came == number {
+                    return Some(source);
+                }
+                cursor.came += 1;
+            }
+            EntryKind::Looked => cursor.after = cursor.place + 1,
             EntryKind::Sent(_) | EntryKind::Quiet => {}
         }
+        cursor.place += 1;
     }
-    Ok(all_awaited)
+    None
 }
 
-fn awaited_of_each(
-    alloc: Global,
+/// The sender of the next message that is to be sent to the component, if another one came there.
+fn next_source(
     components: &[CompReport],
-) -> Result<Vec<Vec<AwaitedArrival>>, Memory>
-    ensures { IfOk result (λ all. AreAwaitedOf components.now all.items) }
+    progress: &OrderProgress,
+    cursors: &mut Vec<ArrivalCursor>,
+    to: usize,
+) -> Option<u32>
+    requires to { to < length components.now }
+    requires size { HasSize progress.now (length components.now) }
+    requires cursors { AreCursorsOf components.now progress.now cursors.old.items }
+    ensures cursors { AreCursorsOf components.now progress.now cursors.new.items }
+    ensures source { result ≡ slice_get (sources (log_in (logs_of components.now) to))
+        (slice_index progress.now.sent.items to) }
+    ensures after { IfSome result (λ _. HasPassedLooks (log_in (logs_of components.now) to)
+        (slice_index progress.now.sent.items to) cursors.new.items to) }
+    ensures space { IfSome result (λ _. slice_index progress.now.sent.items to + 1 < 2 ^ 64) }
 {
-    let mut all = Vec::new(alloc);
-    for component in components {
-        all.push(awaited_of(alloc, component.desk.log())?)?;
-    }
-    Ok(all)
+    let mut cursor = cursors[to];
+    let source = find_arrival(components[to].desk.log(), &mut cursor, progress.sent[to]);
+    cursors[to] = cursor;
+    source
 }
 
 fn may_send(
-    all_awaited: &[Vec<AwaitedArrival>],
+    components: &[CompReport],
     progress: &OrderProgress,
+    cursors: &mut Vec<ArrivalCursor>,
     c: usize,
     to: usize,
 ) -> bool
-    requires { HasSize progress.now (length all_awaited.now) }
-    ensures can { (components : List Report) → AreAwaitedOf components all_awaited.now
-        → (IsTrue result
-        ↔ MaySend (logs_of components) (slice_index progress.now.places.items)
-        (slice_index progress.now.sent.items) c to) }
+    requires size { HasSize progress.now (length components.now) }
+    requires cursors { AreCursorsOf components.now progress.now cursors.old.items }
+    ensures cursors { AreCursorsOf components.now progress.now cursors.new.items }
+    ensures can { IsTrue result ↔ MaySend (logs_of components.now)
+        (slice_index progress.now.places.items) (slice_index progress.now.sent.items) c to }
     ensures space { IsTrue result → (to < length progress.now.sent.items)
         × (slice_index progress.now.sent.items to + 1 < 2 ^ 64) }
 {
     // Nothing comes to a component that isn't there.
-    if to >= all_awaited.len() {
+    if to >= components.len() {
         return false;
     }
-    let come = all_awaited[to].as_slice();
-    let at = progress.sent[to];
-    if at >= come.len() {
+    let Some(source) = next_source(components, progress, &mut *cursors, to) else {
+        return false;
+    };
+    if source as usize != c {
         return false;
     }
-    let awaited = come[at];
-    if awaited.source as usize != c {
-        return false;
-    }
-    awaited.after <= progress.places[to]
+    cursors[to].after <= progress.places[to]
 }
 
 fn is_possible(
-    all_awaited: &[Vec<AwaitedArrival>],
+    components: &[CompReport],
     progress: &OrderProgress,
+    cursors: &mut Vec<ArrivalCursor>,
     c: usize,
     kind: EntryKind,
 ) -> bool
-    requires size { HasSize progress.now (length all_awaited.now) }
-    requires within { c < length all_awaited.now }
-    ensures can { (components : List Report) → AreAwaitedOf components all_awaited.now
-        → (IsTrue result
-        ↔ CanHappen (logs_of components) (slice_index progress.now.places.items)
-        (slice_index progress.now.came.items) (slice_index progress.now.sent.items) c kind) }
+    requires size { HasSize progress.now (length components.now) }
+    requires cursors { AreCursorsOf components.now progress.now cursors.old.items }
+    requires within { c < length components.now }
+    ensures cursors { AreCursorsOf components.now progress.now cursors.new.items }
+    ensures can { IsTrue result ↔ CanHappen (logs_of components.now)
+        (slice_index progress.now.places.items) (slice_index progress.now.came.items)
+        (slice_index progress.now.sent.items) c kind }
     ensures space { IsTrue result →
         HasSpace progress.now.came.items progress.now.sent.items c kind }
 {
@@ -108,7 +126,7 @@ fn is_possible(
         EntryKind::Came(_) => progress.came[c] < progress.sent[c],
         EntryKind::Looked => progress.came[c] == progress.sent[c],
         EntryKind::Quiet => true,
-        EntryKind::Sent(to) => may_send(all_awaited, progress, c, to as usize),
+        EntryKind::Sent(to) => may_send(components, progress, cursors, c, to as usize),
     }
 }
 
@@ -141,15 +159,16 @@ fn pass_entry(progress: &mut OrderProgress, c: usize, kind: EntryKind) -> usize
 
 fn step(
     components: &[CompReport],
-    all_awaited: &[Vec<AwaitedArrival>],
     progress: &mut OrderProgress,
+    cursors: &mut Vec<ArrivalCursor>,
     c: usize,
 ) -> Option<usize>
     requires size { HasSize progress.old (length components.now) }
-    requires all_awaited { AreAwaitedOf components.now all_awaited.now }
+    requires cursors { AreCursorsOf components.now progress.old cursors.old.items }
     requires within { c < length components.now }
     requires progress { IsProgress (logs_of components.now) progress.old }
     ensures size { HasSize progress.new (length components.now) }
+    ensures cursors { AreCursorsOf components.now progress.new cursors.new.items }
     ensures progress { IsProgress (logs_of components.now) progress.new }
     ensures ahead { IfSome result (λ d. (d < length components.now)
         × (sum progress.new.places.items ≡ sum progress.old.places.items + 1)) }
@@ -164,7 +183,7 @@ fn step(
         return None;
     }
     let kind = kind_of(&log[place]);
-    if !is_possible(all_awaited, progress, c, kind) {
+    if !is_possible(components, progress, &mut *cursors, c, kind) {
         return None;
     }
     Some(pass_entry(progress, c, kind))
@@ -184,25 +203,28 @@ fn push_unless_last(number: usize, ready: &mut Vec<usize>) -> Result<(), Memory>
 /// After an entry of component `c` lists those that may be able to go on because of it: the
 /// component that it affects, and the next to send to that one.
 fn wake(
-    all_awaited: &[Vec<AwaitedArrival>],
+    components: &[CompReport],
     progress: &OrderProgress,
+    cursors: &mut Vec<ArrivalCursor>,
     c: usize,
     affected: usize,
     ready: &mut Vec<usize>,
 ) -> Result<(), Memory>
-    requires size { HasSize progress.now (length all_awaited.now) }
-    requires affected { affected < length all_awaited.now }
-    requires below { All (λ x. x < length all_awaited.now) ready.old.items }
-    ensures below { OnOk result (All (λ x. x < length all_awaited.now) ready.new.items) }
+    requires size { HasSize progress.now (length components.now) }
+    requires cursors { AreCursorsOf components.now progress.now cursors.old.items }
+    requires affected { affected < length components.now }
+    requires below { All (λ x. x < length components.now) ready.old.items }
+    ensures cursors { AreCursorsOf components.now progress.now cursors.new.items }
+    ensures below { OnOk result (All (λ x. x < length components.now) ready.new.items) }
     ensures most { OnOk result (length ready.new.items ≤ length ready.old.items + 2) }
 {
     if affected != c {
         push_unless_last(affected, &mut *ready)?;
     }
-    if let Some(awaited) = all_awaited[affected].get(progress.sent[affected]) {
-        let next = awaited.source as usize;
+    if let Some(source) = next_source(components, progress, &mut *cursors, affected) {
+        let next = source as usize;
         // A component that isn't there does nothing.
-        if next != c && next < all_awaited.len() {
+        if next != c && next < components.len() {
             push_unless_last(next, &mut *ready)?;
         }
     }
@@ -213,25 +235,33 @@ fn wake(
 /// able to go on.
 fn pass_entries(
     components: &[CompReport],
-    all_awaited: &[Vec<AwaitedArrival>],
     progress: &mut OrderProgress,
+    cursors: &mut Vec<ArrivalCursor>,
     c: usize,
     ready: &mut Vec<usize>,
 ) -> Result<(), Memory>
     requires size { HasSize progress.old (length components.now) }
-    requires all_awaited { AreAwaitedOf components.now all_awaited.now }
+    requires cursors { AreCursorsOf components.now progress.old cursors.old.items }
     requires progress { IsProgress (logs_of components.now) progress.old }
     requires within { c < length components.now }
     requires ready { All (λ x. x < length components.now) ready.old.items }
     ensures size { HasSize progress.new (length components.now) }
+    ensures cursors { AreCursorsOf components.now progress.new cursors.new.items }
     ensures progress { IsProgress (logs_of components.now) progress.new }
     ensures grown { sum progress.old.places.items ≤ sum progress.new.places.items }
     ensures ready { OnOk result (All (λ x. x < length components.now) ready.new.items) }
     ensures most { OnOk result (length ready.new.items + 2 * sum progress.old.places.items
         ≤ length ready.old.items + 2 * sum progress.new.places.items) }
 {
-    while let Some(affected) = step(components, all_awaited, &mut *progress, c) {
-        wake(all_awaited, progress, c, affected, &mut *ready)?;
+    while let Some(affected) = step(components, &mut *progress, &mut *cursors, c) {
+        wake(
+            components,
+            progress,
+            &mut *cursors,
+            c,
+            affected,
+            &mut *ready,
+        )?;
     }
     Ok(())
 }
@@ -240,21 +270,22 @@ fn pass_entries(
 /// empty.
 fn pass_ready(
     components: &[CompReport],
-    all_awaited: &[Vec<AwaitedArrival>],
     progress: &mut OrderProgress,
+    cursors: &mut Vec<ArrivalCursor>,
     ready: &mut Vec<usize>,
 ) -> Result<(), Memory>
     requires size { HasSize progress.old (length components.now) }
-    requires all_awaited { AreAwaitedOf components.now all_awaited.now }
+    requires cursors { AreCursorsOf components.now progress.old cursors.old.items }
     requires progress { IsProgress (logs_of components.now) progress.old }
     requires ready { All (λ x. x < length components.now) ready.old.items }
     ensures size { HasSize progress.new (length components.now) }
+    ensures cursors { AreCursorsOf components.now progress.new cursors.new.items }
     ensures progress { IsProgress (logs_of components.now) progress.new }
     ensures grown { sum progress.old.places.items ≤ sum progress.new.places.items }
     ensures ready { OnOk result (All (λ x. x < length components.now) ready.new.items) }
 {
     while let Some(c) = ready.pop() {
-        pass_entries(components, all_awaited, &mut *progress, c, &mut *ready)?;
+        pass_entries(components, &mut *progress, &mut *cursors, c, &mut *ready)?;
     }
     Ok(())
 }
@@ -262,11 +293,11 @@ fn pass_ready(
 fn pass_until_stuck(
     alloc: Global,
     components: &[CompReport],
-    all_awaited: &[Vec<AwaitedArrival>],
     progress: &mut OrderProgress,
+    cursors: &mut Vec<ArrivalCursor>,
 ) -> Result<(), Memory>
     requires size { HasSize progress.old (length components.now) }
-    requires all_awaited { AreAwaitedOf components.now all_awaited.now }
+    requires cursors { AreCursorsOf components.now progress.old cursors.old.items }
     requires progress { IsProgress (logs_of components.now) progress.old }
     ensures size { HasSize progress.new (length components.now) }
     ensures progress { IsProgress (logs_of components.now) progress.new }
@@ -277,12 +308,12 @@ fn pass_until_stuck(
     let mut ready = Vec::new(alloc);
     let mut c = 0;
     while c < components.len() {
-        match step(components, all_awaited, &mut *progress, c) {
+        match step(components, &mut *progress, &mut *cursors, c) {
             None => c += 1,
             Some(affected) => {
                 ready.push(c)?;
-                wake(all_awaited, progress, c, affected, &mut ready)?;
-                pass_ready(components, all_awaited, &mut *progress, &mut ready)?;
+                wake(components, progress, &mut *cursors, c, affected, &mut ready)?;
+                pass_ready(components, &mut *progress, &mut *cursors, &mut ready)?;
                 c = 0;
             }
         }
@@ -314,14 +345,25 @@ fn begin(alloc: Global, size: usize) -> Result<OrderProgress, Memory>
     Ok(OrderProgress { places, came, sent })
 }
 
+fn cursors_at_front(alloc: Global, size: usize) -> Result<Vec<ArrivalCursor>, Memory>
+    ensures { IfOk result (λ cursors. cursors.items ≡ replicate size front) }
+{
+    let front = ArrivalCursor {
+        place: 0,
+        came: 0,
+        after: 0,
+    };
+    Ok(vec![in alloc; front; size]?)
+}
+
 /// Returns whether there is one order of everything that the components did that gives their
 /// histories, with each message in its queue as soon as it is sent. It takes time linear in the
 /// histories if `wake` forgets no component; no clause says so.
 pub(crate) fn has_one_order(alloc: Global, components: &[CompReport]) -> Result<bool, Memory>
     ensures { IfOk result (λ is. IsTrue is ↔ HasOneOrder (logs_of components.now)) }
 {
-    let all_awaited = awaited_of_each(alloc, components)?;
     let mut progress = begin(alloc, components.len())?;
-    pass_until_stuck(alloc, components, &all_awaited, &mut progress)?;
+    let mut cursors = cursors_at_front(alloc, components.len())?;
+    pass_until_stuck(alloc, components, &mut progress, &mut cursors)?;
     Ok(is_ended(components, &progress))
 }

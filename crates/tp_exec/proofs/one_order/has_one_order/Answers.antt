@@ -2,6 +2,8 @@
 use Rattle.std.proofs.Common.{ℕ, List, length, replicate, slice_index, sym, subst}
 use Rattle.tp_exec.specs.OneOrder.{logs_of}
 use Rattle.tp_exec.specs.Greedy.{IsProgressBy}
+use Rattle.tp_exec.specs.Cursors.{AreCursorsOf}
+use Rattle.tp_exec.proofs.ArrivalCursors.{cursors_begun}
 use Rattle.tp_exec.proofs.OrderProgressGrowth.{begun, ended}
 use Rattle.tp_exec.proofs.NoOrderWhereStuck.{all_gone}
 use Rattle.tp_exec.proofs.one_order.has_one_order.Goals as goal
@@ -16,6 +18,12 @@ pass_until_stuck-requires-clause-progress c =
     subst (λ (s : List ℕ). IsProgressBy logs new.places.items new.came.items s) (sym is.2)
     (subst (λ (s : List ℕ). IsProgressBy logs new.places.items s none) (sym is.1)
     (subst (λ (s : List ℕ). IsProgressBy logs s none none) (sym is.0) (begun logs n n n)))
+
+pub pass_until_stuck-requires-clause-cursors : goal.pass_until_stuck-requires-clause-cursors
+pass_until_stuck-requires-clause-cursors c =
+    let components = c.args.components.now in
+    let progress = c.in_ok-progress.progress in
+    subst (AreCursorsOf components progress) (sym c.in_ok-cursors.ensures) (cursors_begun components progress)
 
 pub returns : goal.returns
 returns c =

@@ -3,12 +3,14 @@ use Rattle.std.proofs.Common.{◌<◌, ◌≤◌, ◌+◌, ◌-◌, ◌*◌, All
 use Rattle.tp_exec.specs.OneOrder.{logs_of}
 use Rattle.tp_exec.specs.OrderProgress.{HasSize}
 use Rattle.tp_exec.specs.Greedy.{IsProgress}
+use Rattle.tp_exec.specs.Cursors.{AreCursorsOf}
 use Rattle.tp_exec.proofs.one_order.pass_ready.Given as goal
 
 abbrev pub invariant-loop-c : goal.invariant-loop-c
 invariant-loop-c l = record {
   ready : All (λ x. x < length l.components) l.ready.items;
   size : HasSize l.progress (length l.components);
+  cursors : AreCursorsOf l.components l.progress l.cursors.items;
   progress : IsProgress (logs_of l.components) l.progress;
   grown : sum l.initial.progress.places.items ≤ sum l.progress.places.items;
 }

@@ -3,12 +3,14 @@ use Rattle.std.proofs.Common.{ℕ, ◌<◌, ◌+◌, ◌-◌, ◌*◌, All, leng
 use Rattle.tp_exec.specs.OneOrder.{logs_of}
 use Rattle.tp_exec.specs.OrderProgress.{HasSize}
 use Rattle.tp_exec.specs.Greedy.{IsProgress, CannotGoOn}
+use Rattle.tp_exec.specs.Cursors.{AreCursorsOf}
 use Rattle.tp_exec.proofs.one_order.pass_until_stuck.Given as goal
 
 abbrev pub invariant-loop-c : goal.invariant-loop-c
 invariant-loop-c l = record {
   ready : All (λ x. x < length l.components) l.ready.items;
   size : HasSize l.progress (length l.components);
+  cursors : AreCursorsOf l.components l.progress l.cursors.items;
   progress : IsProgress (logs_of l.components) l.progress;
   held : (k : ℕ) → k < l.c → CannotGoOn (logs_of l.components) (slice_index l.progress.places.items) (slice_index l.progress.came.items)
       (slice_index l.progress.sent.items) k;

@@ -1,5 +1,5 @@
 -- The next thing is done.
-use Rattle.std.proofs.Common.{◌≡◌, ◌<◌, ◌+◌, ℕ, List, Some, length, set, refl, sym, ap, ◌∙◌, subst, slice_index, arith}
+use Rattle.std.proofs.Common.{◌≡◌, ◌<◌, ◌≤◌, ◌+◌, ℕ, List, Some, length, set, refl, sym, ap, ◌∙◌, subst, slice_index, arith}
 use Rattle.std.specs.Prelude.{slice_get}
 use Rattle.std.proofs.lemmas.Grind.{get_or_default_zero}
 use Rattle.std.proofs.lemmas.List.{length-map}
@@ -8,7 +8,8 @@ use Rattle.tp_report.specs.declared.report.CompReport.{CompReport}
 use Rattle.tp_exec.specs.OneOrder.{logs_of}
 use Rattle.tp_exec.specs.OrderProgress.{sent_then}
 use Rattle.tp_exec.specs.Greedy.{IsProgressBy}
-use Rattle.tp_exec.proofs.OrderProgressGrowth.{done, log_is}
+use Rattle.tp_exec.proofs.OrderProgressGrowth.{done, log_is, sent_grows}
+use Rattle.tp_exec.proofs.ArrivalCursors.{cursors_still}
 use Rattle.tp_exec.proofs.one_order.step.Goals as goal
 
 pub returns-clause-progress : goal.returns-clause-progress
@@ -29,7 +30,7 @@ returns-clause-progress c =
     let at : slice_get c.log-log.result.now p ≡ Some e =
     subst (λ m. slice_get c.log-log.result.now m ≡ Some e) is
     (slice_get_read c.log-log.result.now (length c.log-log.result.now) c.index-place.result.now e refl c.if-place-log.false c.index-log-place.is) in
-    let can = (c.if-not-is_possible.ensures.can c.args.components.now c.requires.all_awaited).0 refl in
+    let can = c.if-not-is_possible.ensures.can.0 refl in
     let count : length logs ≡ length c.args.components.now = length-map c.args.components.now (λ (x : CompReport). x.desk.log) in
     let low_known : n < length known = omega (arith, size.came, c.requires.within) in
     let r = done logs places known sent n e k (sym c.kind_of-kind.ensures) (ap (λ l. slice_get l p) log ∙ at) low low_known
@@ -39,3 +40,11 @@ returns-clause-progress c =
     subst (λ (s : List ℕ). IsProgressBy logs s new.came.items new.sent.items) (sym c.pass_entry.ensures.places)
     (subst (λ (s : List ℕ). IsProgressBy logs then new.came.items s) (sym c.pass_entry.ensures.sent)
     (subst (λ (s : List ℕ). IsProgressBy logs then s (sent_then k sent)) (sym c.pass_entry.ensures.came) r))
+
+pub returns-clause-cursors : goal.returns-clause-cursors
+returns-clause-cursors c =
+    let was = c.args.progress.now in
+    let new = c.pass_entry.new.progress in
+    cursors_still c.args.components.now was new _
+    (λ x. subst (λ (s : List ℕ). slice_index was.sent.items x ≤ slice_index s x) (sym c.pass_entry.ensures.sent)
+    (sent_grows c.kind_of-kind.result was.sent.items x)) c.if-not-is_possible.ensures.cursors
