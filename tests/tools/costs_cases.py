@@ -1,5 +1,6 @@
 #!/usr/bin/env python3
-"""tools/costs.py, on modules that are as old as the test says; and tests/gate/gate_times.py.
+"""tools/costs.py, on modules that are as old as the test says; tests/gate/gate_times.py; and what ./test says of its
+parts while they are at work (tests/gate/side_by_side.sh).
 
     tests/tools/costs_cases.py [Costs.test_NAME..]
 
@@ -8,7 +9,10 @@ It prints a line `passed NAME` for each case, or lines that begin with `FAILED: 
 from __future__ import annotations
 
 import ast
+import contextlib
 import os
+import pty
+import re
 import subprocess
 import sys
 import tempfile
@@ -63,6 +67,21 @@ wait
 exit 3
 """
 TOOK = ["low some some some some some some", "high some some - - - -", "all some some some"]
+
+# Two parts beside each other, as ./test runs them: `slow` ends last.
+PARTS = r"""
+source tests/gate/side_by_side.sh
+is_tried() { return 0; }
+listed_parts() { printf '%s\n' "quick 1" "slow 1"; }
+nproc() { echo 2; }
+passed=0 failed=0 runs_of_all=0 refused_of_all=0
+last_times=$1
+make_room_of_all
+part quick sleep 0.2
+part slow sleep 0.4
+await_all_parts
+"""
+AT_WORK = [f"test: 0 of 2 done; at work: quick (41 s the last time){it}" for it in ("", ", slow")]
 
 
 Raised = Union[tuple[type[BaseException], BaseException, TracebackType], tuple[None, None, None]]
@@ -194,6 +213,41 @@ class Times(Case):
         ended = subprocess.run([sys.executable, "-B", TIMES, "times"], capture_output=True, text=True, check=False)
         self.assertEqual((ended.returncode, ended.stdout), (2, ""))
         self.assertTrue(ended.stderr.startswith("usage: gate_times.py "), ended.stderr)
+
+
+class AtWork(Case):
+    """Parts that run beside each other, after a run in which one of them took 41 seconds."""
+
+    def setUp(self) -> None:
+        super().setUp()
+        self.times = self.room / "times"
+        self.times.write_text("other 7\nquick 41\n", encoding="utf-8")
+
+    def said(self, ours: int, theirs: int) -> str:
+        """What they say on standard error, of which these are the two ends."""
+        self.addCleanup(os.close, ours)
+        words = ["bash", "-c", PARTS, "parts", str(self.times)]
+        subprocess.run(words, cwd=ROOT, stdout=subprocess.DEVNULL, stderr=theirs, check=False)
+        os.close(theirs)
+        printed = b""
+        with contextlib.suppress(OSError):  # how Linux tells the end of a terminal
+            while more := os.read(ours, 4096):
+                printed += more
+        return printed.decode()
+
+    def test_terminal(self) -> None:
+        """which parts are at work, and how long they took the last time"""
+        self.assertEqual(self.said(*pty.openpty()).splitlines(), AT_WORK)
+
+    def test_no_terminal(self) -> None:
+        """nothing is said of parts at work if standard error is no terminal"""
+        self.assertEqual(self.said(*os.pipe()), "")
+
+    def test_times(self) -> None:
+        """the times of parts that are kept for the next run"""
+        self.said(*os.pipe())
+        kept = re.sub(r"^(quick|slow) (?!41$)[0-9]+$", r"\1 some", self.times.read_text(encoding="utf-8"), flags=re.M)
+        self.assertEqual(sorted(kept.splitlines()), ["other 7", "quick some", "slow some"])
 
 
 if __name__ == "__main__":
