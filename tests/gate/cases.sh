@@ -3,12 +3,6 @@
 # `called`, what is called on command lines, and `ordered`, tpr_ordered; `room`, a folder of the part's own, and
 # `room_of_all`, one of all parts; the counters `passed` and `failed`.
 
-# Runs a command, and keeps what it did for `tool_must`.
-observe() {
-    "$@" >"$room/printed" 2>"$room/said"
-    status=$?
-}
-
 # Counts a case, by the status of the command before it or of the one given.
 count() {
     if (($1 == 0)); then ((passed += 1)); else ((failed += 1)); fi
@@ -87,27 +81,6 @@ told_of_runs() { # COUNTER WORD..
 # The sum of the numbers that stand at the place of each line `passed ..`.
 sum_of() { # PLACE FILE
     awk -v place="$1" '$1 == "passed" { sum += $place } END { print sum + 0 }' "$2"
-}
-
-# Runs of a tool
-
-# The last run of a tool is one case: it ended with the STATUS, and the test given holds of it.
-tool_must() { # NAME STATUS COMMAND..
-    if [[ $status == "$2" ]] && "${@:3}"; then
-        count 0
-        return
-    fi
-    echo "FAILED: $1: the status was $status, and $2 is wanted; it said and printed"
-    head -n 5 -- "$room/said"
-    head -n 20 -- "$room/printed"
-    count 1
-}
-
-# Standard error is one line that begins so, and nothing was printed.
-says_alone() { # BEGINNING
-    local said
-    said=$(cat -- "$room/said")
-    [[ $said == "$1"* && $said != *$'\n'* && ! -s $room/printed ]]
 }
 
 # Files and processes

@@ -21,16 +21,7 @@ PARTS
     at_least 26 told "$room/rewrites_unseen" tests/rewrites/unseen_rules.py "$tpr"
     at_least 28 told "$room/rewrites_skipped" tests/rewrites/skipped_rules.py "$tpr"
     at_least 25 told "$room/rewrites_maps" tests/rewrites/map_rules.py "$tpr"
-    observe env -u TPR "$root/tools/rewrite" --help
-    tool_must "rewrite tells its words" 0 grep -q -- '--case NAME' "$room/printed"
-    observe "$root/tools/rewrite" --tpr "$tpr" "$room/nothing.ttcn"
-    tool_must "a file that isn't there" 2 says_alone "rewrite: $room/nothing.ttcn can't be read: No such file or directory"
-    observe "$root/tools/rewrite" --tpr "$room/nothing" tests/rewrites/natural/any_port.ttcn
-    tool_must "a program that isn't there" 1 says_alone "rewrite: $room/nothing can't be run: No such file or directory"
-    "$root/tools/rewrite" --tpr "$tpr" tests/rewrites/natural/any_port.ttcn >/dev/full 2>"$room/said"
-    status=$?
-    : >"$room/printed"
-    tool_must "a script that can't be written" 3 says_alone "rewrite: the answer can't be written"
+    at_least 4 told "$room/rewrites_command" tests/rewrites/command_rules.py "$tpr"
 }
 
 # A second interpreter of the full language, what tools/rewrite makes of random programs, and what Titan makes of them.
