@@ -3,9 +3,9 @@
 
     tests/gate/python_types.py [FOLDER..]
 
-For each folder, or each of those named, a line `passed FOLDER`, or lines `FAILED: ..`. The modules of tests/ have short
-names, of which two folders may have the same: so each folder is looked at by itself, with those whose modules it uses.
-A folder of tests/ that has modules and isn't one of these fails.
+For each folder that has modules, or each of those named, a line `passed FOLDER`, or lines `FAILED: ..`. The modules of
+tests/ have short names, of which two folders may have the same: so each folder is looked at by itself, with those whose
+modules it uses.
 """
 from __future__ import annotations
 
@@ -17,22 +17,14 @@ from pathlib import Path
 
 ROOT = Path(__file__).resolve().parents[2]
 
-# Each folder, and those of tests/ whose modules it uses. All use tools/.
-FOLDERS = {
-    "tools": (),
-    "embedding": (),
-    "tests/checking": (),
-    "tests/documents": (),
-    "tests/embedding": (),
+# The folders of tests/ whose modules a folder uses. All use tools/.
+USES = {
     "tests/exploring": ("orders", "program", "tools"),
     "tests/forced": ("program",),
     "tests/gate": ("checking", "program"),
     "tests/lsp": ("tools", "program"),
-    "tests/orders": (),
     "tests/program": ("traces",),
-    "tests/rewrites": (),
     "tests/rewrites/chance": ("orders",),
-    "tests/rewrites/oracle": (),
     "tests/runs": ("program", "orders", "traces"),
     "tests/runs/many_components": ("orders",),
     "tests/tools": ("orders", "program"),
@@ -54,15 +46,15 @@ def files_of(folder: str) -> list[str]:
     return [*files, *(it for it in PACKAGES if it.startswith(f"{folder}/"))]
 
 
-def unlisted() -> list[str]:
-    """The folders below tests/ that have modules or commands, and aren't looked at."""
-    found = {str(it.parent.relative_to(ROOT)) for it in sorted((ROOT / "tests").rglob("*")) if is_python(it)}
-    return sorted(found - FOLDERS.keys())
+def folders() -> list[str]:
+    """Those that have modules or commands."""
+    found = {str(it.parent.relative_to(ROOT)) for it in (ROOT / "tests").rglob("*") if is_python(it)}
+    return ["tools", "embedding", *sorted(found)]
 
 
 def wrong_in(folder: str) -> str:
     """What mypy says of a folder; nothing where all fits."""
-    used = [str(ROOT / "tests" / it) for it in FOLDERS[folder]]
+    used = [str(ROOT / "tests" / it) for it in USES.get(folder, ())]
     environment = {**os.environ, "MYPYPATH": os.pathsep.join(used)}
     command = ["mypy", "--no-error-summary", *files_of(folder)]
     ended = subprocess.run(command, cwd=ROOT, env=environment, capture_output=True, text=True, check=False)
@@ -72,13 +64,9 @@ def wrong_in(folder: str) -> str:
 
 def main() -> int:
     words = argparse.ArgumentParser(description="Whether the types of tools/ and tests/ fit.")
-    words.add_argument("folders", nargs="*", metavar="FOLDER", help=f"of {', '.join(FOLDERS)}; all without one")
-    asked = words.parse_args().folders
+    words.add_argument("folders", nargs="*", metavar="FOLDER", help="all without one")
     status = 0
-    for folder in [] if asked else unlisted():
-        print(f"FAILED: nobody looks at the types of {folder}: FOLDERS in {Path(__file__).name} doesn't have it")
-        status = 1
-    for folder in asked or FOLDERS:
+    for folder in words.parse_args().folders or folders():
         said = wrong_in(folder)
         print(f"FAILED: the types of {folder}\n{said}" if said else f"passed the types of {folder}", flush=True)
         status = status or bool(said)
