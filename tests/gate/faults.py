@@ -4,9 +4,9 @@
     tests/gate/faults.py PROGRAM ORDERED [NAME..]
     tests/gate/faults.py PROGRAM ORDERED --some COUNT SEED TIMES
 
-The first form tries the faults of all parts, or of those named; the second of so many by chance, of those that took
-30 seconds at most in this run, by the file TIMES. Each is planted in a copy of the tree, in which the part is tried
-with `./test part NAME`. There are two kinds of faults:
+The first form tries the faults of all parts, or of those named; the second of so many by chance, beside each other, of
+those that took 30 seconds at most in this run, by the file TIMES. Each is planted in a copy of the tree, in which the
+part is tried with `./test part NAME`. There are two kinds of faults:
 
     says SED         what the program prints goes through `sed -e SED`
     text FILE SED    a file of the copy is changed so
@@ -24,6 +24,7 @@ import shutil
 import subprocess
 import sys
 import tempfile
+from concurrent.futures import ThreadPoolExecutor
 from typing import NamedTuple, Optional
 
 ROOT = os.path.dirname(os.path.dirname(os.path.dirname(os.path.realpath(__file__))))
@@ -66,12 +67,11 @@ def copy_of_tree(folder: str) -> str:
     return tree
 
 
-def write_program(path: str, program: str, sed: str) -> None:
-    """A program that says what this one says, but for the fault."""
+def write_program(path: str) -> None:
+    """A program that says what FAULTY_PROGRAM says, but for the fault."""
     with open(path, "w", encoding="utf-8") as file:
         file.write('#!/usr/bin/env bash\n"$FAULTY_PROGRAM" "$@" | sed -e "$FAULT"\nexit "${PIPESTATUS[0]}"\n')
     os.chmod(path, 0o755)
-    os.environ["FAULTY_PROGRAM"], os.environ["FAULT"] = program, sed
 
 
 def change(path: str, sed: str) -> bool:
@@ -88,16 +88,30 @@ def port() -> str:
     return os.path.abspath(os.environ.get("TP_PORT") or f"{ROOT}/out/port")
 
 
-def untold(fault: Fault, program: str, ordered: str) -> Optional[str]:
-    """Why the fault isn't told, None where it is."""
+def why_left_out(fault: Fault, ordered: str) -> Optional[str]:
+    if fault.part == OF_THE_BUILT and not os.access(BUILT, os.X_OK):
+        return "nothing is built"
+    if fault.part in OF_THE_LIBRARY and not os.path.exists(f"{port()}/lib/libtp_port.a"):
+        return "there is no library for C and C++"
+    if fault.part in OF_ORDERED and not os.access(ordered, os.X_OK):
+        return "there is no tpr_ordered"
+    return None
+
+
+def answer(fault: Fault, program: str, ordered: str) -> str:
+    """What is said of a fault, in one or two lines."""
+    if (why := why_left_out(fault, ordered)) is not None:
+        return f"left out the fault of {fault.part}: {why}"
+    isnt_told = f"FAILED: the fault that is planted for {fault.part} isn't told"
     with tempfile.TemporaryDirectory() as folder:
-        tree = copy_of_tree(folder)
+        tree, programs = copy_of_tree(folder), {"TPR": program}
         if fault.kind == "says":
-            write_program(f"{folder}/faulty", program, fault.sed)
-            program = f"{folder}/faulty"
+            write_program(f"{folder}/faulty")
+            programs = {"TPR": f"{folder}/faulty", "FAULTY_PROGRAM": program, "FAULT": fault.sed}
         elif not change(f"{tree}/{fault.file}", fault.sed):
-            return f"{fault.sed} changes nothing in {fault.file}"
-        programs = {"TPR": program, **({"TPR_ORDERED": ordered} if os.access(ordered, os.X_OK) else {})}
+            return f"{isnt_told}: {fault.sed} changes nothing in {fault.file}"
+        if os.access(ordered, os.X_OK):
+            programs["TPR_ORDERED"] = ordered
         if os.path.exists(f"{port()}/lib/libtp_port.a"):
             programs["TP_PORT"] = port()
         # Not by subprocess.run, which kills where it is interrupted: ./test ends what it has started.
@@ -112,19 +126,9 @@ def untold(fault: Fault, program: str, ordered: str) -> Optional[str]:
     lines = printed.decode("utf-8", "replace").splitlines()
     told = [line for line in lines if line.startswith("FAILED: ")]
     if done.returncode == 1 and told and lines[-1].startswith("examples: "):
-        print(f"told of {fault.part}: {len(told)} times, first {told[0][len('FAILED: '):][:200]}")
-        return None
-    return f"status {done.returncode}, and it said {(lines or ['nothing'])[-1]} {said[-300:]!r}"
-
-
-def why_left_out(fault: Fault, ordered: str) -> Optional[str]:
-    if fault.part == OF_THE_BUILT and not os.access(BUILT, os.X_OK):
-        return "nothing is built"
-    if fault.part in OF_THE_LIBRARY and not os.path.exists(f"{port()}/lib/libtp_port.a"):
-        return "there is no library for C and C++"
-    if fault.part in OF_ORDERED and not os.access(ordered, os.X_OK):
-        return "there is no tpr_ordered"
-    return None
+        first = told[0][len("FAILED: "):][:200]
+        return f"told of {fault.part}: {len(told)} times, first {first}\npassed {fault.part}"
+    return f"{isnt_told}: status {done.returncode}, and it said {(lines or ['nothing'])[-1]} {said[-300:]!r}"
 
 
 def some(faults: list[Fault], count: int, seed: str, times: str) -> list[Fault]:
@@ -145,25 +149,21 @@ def main() -> int:
     words.add_argument("names", metavar="NAME", nargs="*", help="of the parts; all without one")
     words.add_argument("--some", nargs=3, metavar=("COUNT", "SEED", "TIMES"), help="so many by chance")
     asked = words.parse_args()
-    faults = listed_faults()
+    faults, at_once = listed_faults(), 1
     if not os.access(asked.program, os.X_OK):
         print(f"faults: there is no program {asked.program}", file=sys.stderr)
         return 4
     if asked.some:
         count, seed, times = asked.some
-        faults = some(faults, int(count), seed, times)
+        faults, at_once = some(faults, int(count), seed, times), int(count)
         print(f"planted faults: seed {seed}: {', '.join(it.part for it in faults)}", flush=True)
     elif asked.names:
         faults = [it for it in faults if it.part in asked.names]
     failed = 0
-    for fault in faults:
-        if (why := why_left_out(fault, asked.ordered)) is not None:
-            print(f"left out the fault of {fault.part}: {why}", flush=True)
-        elif (wrong := untold(fault, asked.program, asked.ordered)) is not None:
-            failed += 1
-            print(f"FAILED: the fault that is planted for {fault.part} isn't told: {wrong}", flush=True)
-        else:
-            print(f"passed {fault.part}", flush=True)
+    with ThreadPoolExecutor(at_once) as pool:
+        for said in pool.map(lambda it: answer(it, asked.program, asked.ordered), faults):
+            failed += said.startswith("FAILED: ")
+            print(said, flush=True)
     return 1 if failed else 0
 
 
