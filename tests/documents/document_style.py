@@ -8,8 +8,8 @@ of a folder, or lines `FAILED: ..`, by these rules:
 
 - no document has a phrase of the table below: each stands beside what to write instead. Blocks of code may have it,
   since they show what a program prints;
-- no source has such a phrase: neither a comment, nor what a tool, `build`, `test`, `try` or a test prints. Only the
-  statements in `crates/*/specs/` are left out, since each change there costs a proof;
+- no source has such a phrase: neither a comment, nor what a tool, `build`, `test`, `try` or a test prints. Only comments
+  are looked at in the statements and proofs of `crates/` (`.antt`), whose names may be any;
 - no sentence of README.md has more than 30 words, or begins with Who, What, Of or That. A question may begin with What.
 
 Before that it checks that it finds each phrase, and each fault of a sentence, in texts of its own.
@@ -20,7 +20,7 @@ import argparse
 import os
 import re
 import sys
-from collections.abc import Container, Iterator
+from collections.abc import Callable, Container, Iterable, Iterator
 from pathlib import Path
 
 from document_names import SOURCES, files_below, find_documents, text_of
@@ -84,7 +84,8 @@ TRIED = (
     ("    What a program prints\n\n| Of | a table |\n", ""),
 )
 
-_MARKS_OF_COMMENTS = re.compile(r"^ *(?://[/!]?|\(\*|#+!?|\*)(?= |$)", re.MULTILINE)
+_MARKS_OF_COMMENTS = re.compile(r"^ *(?://[/!]?|\(\*|#+!?|\*|--)(?= |$)", re.MULTILINE)
+_STATEMENT = re.compile(r"^(?! *-- ).*$", re.MULTILINE)
 _QUOTED_END = re.compile(r"[\"'] *\n *[bfr]*[\"']")
 _FENCED = re.compile(r"^ *```.*?^ *```$", re.DOTALL | re.MULTILINE)
 _INDENTED = re.compile(r"^ {4}.*$", re.MULTILINE)
@@ -103,6 +104,11 @@ def prose_of(text: str) -> str:
 def prose_of_source(text: str) -> str:
     """A source in which a sentence runs on over the lines of a comment, or of a text in several pieces."""
     return _QUOTED_END.sub("", _MARKS_OF_COMMENTS.sub("", text))
+
+
+def prose_of_statements(text: str) -> str:
+    """The comments of a file of statements or proofs, each apart from the next."""
+    return prose_of_source(_STATEMENT.sub("|", text))
 
 
 def found_phrases(prose: str) -> Iterator[str]:
@@ -138,7 +144,8 @@ def is_found(phrase: str) -> bool:
     first, _, last = phrase.partition(" ")
     sources = (f"{mark} Here {first}\n    {mark} {last} it is\n" for mark in ("///", "//!", "#", " *"))
     printed = f'say(\n    f"here {first} "\n    "{last} it is"\n)\n'
-    texts = [document, *map(prose_of_source, (*sources, printed))]
+    statements = prose_of_statements(f"-- Here {first}\n  -- {last} it is\n\n{phrase}\n-- {first}\nit\n-- {last}\n")
+    texts = [document, *map(prose_of_source, (*sources, printed)), statements]
     return all(len([*found_phrases(text)]) == 1 for text in texts)
 
 
@@ -172,16 +179,27 @@ def is_document_well(path: str) -> bool:
 
 
 def is_source(path: str) -> bool:
-    """Whether the file is held to the style."""
+    """Whether the whole file is held to the style."""
     return path not in SHOWING_PHRASES and not path.endswith(".antt")
 
 
 def are_sources_well(place: str, documents: Container[str]) -> bool:
     """Whether the sources at and below this place have no phrase of the table."""
     paths = [path for path in files_below(place) if is_source(path) and path not in documents]
-    is_well = all([tell_faults(path, [*found_phrases(prose_of_source(text_of(path)))]) for path in paths])
+    return are_well(paths, prose_of_source, f"{place}, the style of its sources")
+
+
+def are_statements_well() -> bool:
+    """Whether no comment beside a statement or in a proof has a phrase of the table."""
+    found = (path for part in ("specs", "proofs") for path in Path("crates").glob(f"*/{part}/**/*.antt"))
+    return are_well(sorted(map(str, found)), prose_of_statements, "crates, the comments of its statements and proofs")
+
+
+def are_well(paths: Iterable[str], prose: Callable[[str], str], told: str) -> bool:
+    """Whether the prose of these files has no phrase of the table."""
+    is_well = all([tell_faults(path, [*found_phrases(prose(text_of(path)))]) for path in paths])
     if is_well:
-        print(f"passed {place}, the style of its sources")
+        print(f"passed {told}")
     return is_well
 
 
@@ -191,10 +209,10 @@ def main() -> int:
     os.chdir(ROOT)
     documents = find_documents()
     files = words.parse_args().files
-    are_well = [tell_finding(), *map(is_document_well, files or documents)]
+    told = [tell_finding(), *map(is_document_well, files or documents)]
     if not files:
-        are_well += [are_sources_well(place, documents) for place in SOURCES]
-    return 0 if all(are_well) else 1
+        told += [*(are_sources_well(place, documents) for place in SOURCES), are_statements_well()]
+    return 0 if all(told) else 1
 
 
 if __name__ == "__main__":

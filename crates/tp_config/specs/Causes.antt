@@ -38,7 +38,7 @@ CreateCause s m create_fault.Memory = ⊥
 abbrev pub CanCreate : Setup → Member → Type 0
 CanCreate s m = (¬ IsTaken s m) × (length s.components < 64)
 
--- why a create is refused: by the first cause that holds, or, where the component can be created, for want of memory
+-- why a create is refused: by the first cause that holds, or, if the component can be created, out of memory
 abbrev pub CreateRefused : Setup → Member → CreateFault → Type 0
 CreateRefused s m create_fault.Memory = CanCreate s m
 CreateRefused s m f = IsFirstCause (CreateCause s m) create_order f × ¬ CanCreate s m
@@ -67,7 +67,7 @@ ConnectCause s p q connect_fault.TwoPortsOfOne = HasOther s.connected p q ⊎ Ha
 ConnectCause s p q connect_fault.Directions = ¬ Directed s.types s.components p q
 ConnectCause s p q connect_fault.Memory = ⊥
 
--- why a connect is refused: by the first cause that holds, or, where the pair can be connected, for want of memory
+-- why a connect is refused: by the first cause that holds, or, if the pair can be connected, out of memory
 abbrev pub ConnectRefused : Setup → PortRef → PortRef → ConnectFault → Type 0
 ConnectRefused s p q connect_fault.Memory = CanConnect s p q
 ConnectRefused s p q f = IsFirstCause (ConnectCause s p q) connect_order f × ¬ CanConnect s p q
@@ -86,7 +86,7 @@ MapCause s p q map_fault.MapDirections =
     × (is_system s.components p ≡ true → MapDirected s.types s.components q p))
 MapCause s p q map_fault.Memory = ⊥
 
--- why a map is refused: by the first cause that holds, or, where the pair can be mapped, for want of memory
+-- why a map is refused: by the first cause that holds, or, if the pair can be mapped, out of memory
 abbrev pub MapRefused : Setup → PortRef → PortRef → MapFault → Type 0
 MapRefused s p q map_fault.Memory = CanMap s p q
 MapRefused s p q f = IsFirstCause (MapCause s p q) map_order f × ¬ CanMap s p q

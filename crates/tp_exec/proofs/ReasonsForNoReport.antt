@@ -9,7 +9,8 @@ use Rattle.tp_exec.specs.Faults.{IsThreadFault}
 use Rattle.tp_exec.specs.Reporting.{IsRefusal, IsRunFault}
 use Rattle.tp_exec.specs.Settlings.{IsOfARun}
 
--- threads don't say that a behaviour waits for what is there, or that no order gives the histories
+-- threads don't say that a behaviour waits although one of its branches is open, or that no order gives the
+-- histories
 pub by_threads : (made : Made) (fault : RunFault) → IsThreadFault fault → IsRunFault made fault
 by_threads made run_fault.NoThread h = tt
 by_threads made run_fault.Memory h = tt

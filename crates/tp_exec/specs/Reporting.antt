@@ -56,26 +56,26 @@ pub record IsReportedAs (s : Setup) (e : EndedComponent) (x : CompReport) : Type
 abbrev pub IsWithoutOrder : List EndedComponent → Type 0
 IsWithoutOrder ended = ¬ HasOneOrder (map (λ (e : EndedComponent). e.desk.log) ended)
 
--- why there is no report of what a run came to: a behaviour waits for what is there; or none does, and memory was
--- refused, or no one order gives the histories
+-- why there is no report of what a run came to: a behaviour waits although one of its branches is open; or none does,
+-- and memory was refused, or no one order gives the histories
 abbrev pub IsRefusal : List EndedComponent → RunFault → Type 0
 IsRefusal ended run_fault.NoThread = ⊥
 IsRefusal ended run_fault.Memory = All IsAtRest ended
 IsRefusal ended run_fault.Restless = ¬ All IsAtRest ended
 IsRefusal ended run_fault.NoOrder = All IsAtRest ended × IsWithoutOrder ended
 
--- there is what a run of the test case may have come to, by all that is proved of one, and a behaviour waits for what
--- is there
+-- there is what a run of the test case may have come to, by all that is proved of one, and a behaviour waits although
+-- one of its branches is open
 abbrev pub IsRestless : Made → Type 0
 IsRestless made = (ended : List EndedComponent) × IsOfARun made ended × (¬ All IsAtRest ended)
 
--- there is what a run of the test case may have come to, by all that is proved of one; no behaviour waits for what is
--- there, and no one order gives that
+-- there is what a run of the test case may have come to, by all that is proved of one; no behaviour waits although
+-- one of its branches is open, and no one order gives that
 abbrev pub IsDisordered : Made → Type 0
 IsDisordered made = (ended : List EndedComponent) × IsOfARun made ended × All IsAtRest ended × IsWithoutOrder ended
 
--- this is why a run of the test case has no report: that a behaviour waits for what is there is said only where one
--- does, and that no one order gives what the components did only where none does
+-- this is why a run of the test case has no report: it says that a behaviour waits although one of its branches is
+-- open only if one does, and that no one order gives what the components did only if none does
 abbrev pub IsRunFault : Made → RunFault → Type 0
 IsRunFault made run_fault.NoThread = Unit {0}
 IsRunFault made run_fault.Memory = Unit {0}

@@ -150,7 +150,7 @@ pub record IsSentAt (trace : IndexedTrace) (place : ℕ) (m : Mention) : Type 0 
   pub at : LineAt trace place line
   pub is : line.act ≡ act.Sent m
 
--- it comes there, to this component, by a route both ends of which have a section
+-- it comes there, to this component, by a route whose ends both have a section
 abbrev pub ComesAt : IndexedTrace → ℕ → ℕ → Mention → Type 0
 ComesAt trace component place m = IsLineOf trace (λ a. (a ≡ act.Came m) × IsJoined trace m.route) component place
 

@@ -49,6 +49,6 @@ pub record AreSendingRows (trace : IndexedTrace) (end : ℕ) (rows : List (Vec �
   pub each : (route : ℕ) (row : Vec ℕ Global) → route < length trace.joined.items
       → IsSendingsRow trace end route (slice_index_or rows route row).items
 
--- the message came, by a route both ends of which have a section
+-- the message came, by a route whose ends both have a section
 abbrev pub HasCome : IndexedTrace → Mention → Type 0
 HasCome trace m = (component : ℕ) × (place : ℕ) × ComesAt trace component place m

@@ -1,4 +1,4 @@
--- A fault that is told as want of memory is want of memory.
+-- A fault that is told as out of memory is out of memory.
 use Rattle.std.proofs.Common.{◌≡◌, refl}
 use Rattle.tp_refusal.specs.declared.refusal.Refusal.TheVariants as refusal
 use Rattle.tp_name.specs.declared.fault.ModuleRule.{ModuleRule}
@@ -7,7 +7,7 @@ use Rattle.tp_name.specs.declared.fault.ModuleFault.{ModuleFault}
 use Rattle.tp_name.specs.declared.fault.ModuleFault.TheVariants as module_fault
 use Rattle.tp_name.specs.Told.{fault_refusal, rule_refusal}
 
--- no rule is told as want of memory
+-- no rule is told as out of memory
 no_rule : (rule : ModuleRule) → rule_refusal rule ≡ refusal.Memory → ⊥
 no_rule module_rule.Unknown e = cc
 no_rule module_rule.Duplicate e = cc

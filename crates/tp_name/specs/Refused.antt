@@ -4,7 +4,7 @@ use Rattle.tp_name.specs.declared.fault.ModuleRule.{ModuleRule}
 use Rattle.tp_name.specs.declared.fault.ModuleFault.{ModuleFault}
 use Rattle.tp_name.specs.declared.fault.ModuleFault.TheVariants as module_fault
 
--- a check is refused so: for want of memory, or since what it looked at doesn't obey this rule
+-- a check is refused so: out of memory, or because what it looked at doesn't obey this rule
 abbrev pub IsRefusedBy : Type 0 → ModuleFault → Type 0
 IsRefusedBy rule fault = (fault ≡ module_fault.Memory (record {})) ⊎ (rule → ⊥)
 

@@ -27,7 +27,7 @@ rule_refusal module_rule.SamePort = refusal.SamePort
 rule_refusal module_rule.Already = refusal.Already
 rule_refusal module_rule.NotSystem = refusal.NotSystem
 
--- a fault is told by the refusal of its rule, and want of memory by its own
+-- a fault is told by the refusal of its rule, and out of memory by its own
 abbrev pub fault_refusal : ModuleFault → Refusal
 fault_refusal (module_fault.Refused rule line) = rule_refusal rule
 fault_refusal (module_fault.Memory m) = refusal.Memory

@@ -27,13 +27,13 @@ pub record IsReplayed {W : Type 0} (contents : W → Option (List ℕ)) (known :
   pub is : IfSome known (λ text. IsAnswerTo text answer)
   pub written : Writes contents old new answer
 
--- within the limit: the first bad line, and want of memory only where no line is bad
+-- within the limit: the first bad line, and out of memory only if no line is bad
 abbrev pub IsRefusedFor : List ℕ → QueueFault → Type 0
 IsRefusedFor text (queue_fault.BadLine n) = IsFirstBad (lines_of text) n
 IsRefusedFor text queue_fault.Memory = All IsGood (lines_of text)
 IsRefusedFor text _ = ⊥
 
--- of a text in memory: the limit comes first, then the first bad line, then want of memory, and then a failed write
+-- of a text in memory: the limit comes first, then the first bad line, then out of memory, and then a failed write
 abbrev pub IsFaultOf : List ℕ → QueueFault → Type 0
 IsFaultOf text (queue_fault.BadLine n) = IsFirstBad (lines_of text) n
 IsFaultOf text queue_fault.Read = ⊥

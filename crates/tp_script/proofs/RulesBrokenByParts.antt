@@ -17,7 +17,7 @@ handed_on r f is part broken =
     let p = err_from_is_err_and r is in
     rw (p.1, p.2) (breaks_part part f broken)
 
--- the same of a fault for want of memory
+-- the same of a fault out of memory
 pub no_memory : {T : Type 0} (R : Type 0) (r : Result T ModuleFault) (f : ModuleFault) → IsErrAnd r (λ y. y ≡ f) → f ≡ module_fault.Memory (record {}) → IfErr r (IsRefusedBy R)
 no_memory R r f is e =
     let p = err_from_is_err_and r is in

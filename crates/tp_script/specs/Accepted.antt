@@ -12,7 +12,7 @@ abbrev pub IsWantOfMemory : TestCaseFault → Type 0
 IsWantOfMemory (Refused rule line) = ⊥
 IsWantOfMemory (Memory m) = Unit {0}
 
--- a text that is read as a module that obeys the rules is refused for want of memory alone
+-- a text that is read as a module that obeys the rules is refused only because memory ran out
 abbrev pub ScriptsAreAccepted : Type 0
 ScriptsAreAccepted =
     (text : List ℕ) (parsed : Module) (fault : TestCaseFault) → IsModuleOf text parsed → WellFormed parsed

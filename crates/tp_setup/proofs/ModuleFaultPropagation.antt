@@ -31,7 +31,7 @@ pub at_map : (at : ℕ) (P Q : ModuleRule → Type 0) (f : ModuleFault) → ((ru
 at_map at P Q (module_fault.Refused rule line) pass (e, h) = (e, pass rule h)
 at_map at P Q (module_fault.Memory m) pass h = tt
 
--- want of memory tells nothing
+-- out of memory tells nothing
 pub tells_memory : (P : ModuleRule → ℕ → Type 0) (f : ModuleFault) → f ≡ module_fault.Memory (record {}) → Tells P f
 tells_memory P f e = rw e tt
 

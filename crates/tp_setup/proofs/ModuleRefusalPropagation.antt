@@ -17,7 +17,7 @@ pub breaks_part : (R P : Type 0) (f : ModuleFault) → (R → P) → IsRefusedBy
 breaks_part R P f part (inl e) = inl e
 breaks_part R P f part (inr h) = inr (λ r. h (part r))
 
--- a `?` hands on a fault that breaks a part of the rule, and one for want of memory
+-- a `?` hands on a fault that breaks a part of the rule, and one out of memory
 pub handed_on : {T R P : Type 0} (r : Result T ModuleFault) (f : ModuleFault) → IsErrAnd r (λ y. y ≡ f) → IsRefusedBy P f → (R → P) → IfErr r (IsRefusedBy R)
 handed_on {R} {P} r f is broken part =
     let p = err_from_is_err_and r is in

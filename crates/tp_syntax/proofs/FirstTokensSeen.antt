@@ -43,7 +43,7 @@ pub handed_seen : {A : Type 0} (hidden : ℕ) (r : Result A Stuck) (f : Stuck) (
     → MatchResult r P (IsStuckInHidden hidden)
 handed_seen hidden r f P made stuck = handed_as (IsStuckInHidden hidden) r f P made stuck
 
--- stuck for want of memory: so many tokens stand as are asked for
+-- stuck because memory ran out: so many tokens stand as are asked for
 pub memory_stands : (stand : ℕ) (p : Parser) (e : Stuck) → IsForMemory e → StandAtLeast stand p e
 memory_stands stand p (Next n) m = absurd m
 memory_stands stand p (Passed n) m = absurd m
@@ -55,7 +55,7 @@ ahead_stands stand p left (Next n) passed h = omega arith
 ahead_stands stand p left (Passed n) passed h = omega arith
 ahead_stands stand p left Memory passed h = tt
 
--- stuck for want of memory
+-- stuck because memory ran out
 pub memory_hidden : (hidden : ℕ) (e : Stuck) → IsForMemory e → IsStuckInHidden hidden e
 memory_hidden hidden (Next n) m = absurd m
 memory_hidden hidden (Passed n) m = absurd m

@@ -19,7 +19,7 @@ unseen_stands stand hidden p (Next n) room h = omega arith
 unseen_stands stand hidden p (Passed n) room h = omega arith
 unseen_stands stand hidden p Memory room h = tt
 
--- where nothing is hidden, the parser is stuck for want of memory alone
+-- if nothing is hidden, the parser is stuck only because memory ran out
 pub memory_alone : (stand : ℕ) (p : Parser) (e : Stuck) → IsStuckInHidden 0 e → StandAtLeast stand p e
 memory_alone stand p (Next n) h = absurd (omega arith)
 memory_alone stand p (Passed n) h = absurd (omega arith)

@@ -224,7 +224,7 @@ range_unseen hidden (Some z) ts (p ∷ ps) right other could = number_unseen hid
 pub too_great : (n : ℕ) → 9223372036854775808 ≤ n → is_64_bit (pos n) ≡ true → ⊥
 too_great n h is = grind (arith, nat_tests)
 
--- stuck where nothing is hidden is stuck for want of memory alone
+-- a parser that is stuck though nothing is hidden is stuck only because memory ran out
 pub nothing_hidden : (hidden : ℕ) (e : Stuck) → IsStuckInHidden 0 e → IsStuckInHidden hidden e
 nothing_hidden hidden (Next n) h = absurd (omega arith)
 nothing_hidden hidden (Passed n) h = absurd (omega arith)

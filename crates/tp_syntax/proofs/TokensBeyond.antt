@@ -13,7 +13,7 @@ beyond_stands stand more p q (Next n) passed at = omega arith
 beyond_stands stand more p q (Passed n) passed at = omega arith
 beyond_stands stand more p q Memory passed at = tt
 
--- stuck at the next token, or for want of memory, behind what was passed
+-- stuck at the next token, or because memory ran out, after what was passed
 pub behind_stands : (stand : ℕ) (p q : Parser) (e : Stuck) → stand + length q.rest.now ≤ length p.rest.now → IsStuckBehind 0 q e → StandAtLeast stand p e
 behind_stands stand p q (Next n) passed at = omega arith
 behind_stands stand p q (Passed n) passed at = omega arith

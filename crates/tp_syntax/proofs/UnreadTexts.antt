@@ -72,7 +72,7 @@ pub whole_front : (ts front : List PlacedLexeme) (beyond : Option ℕ) → AreTo
 whole_front ts front beyond (inl all) none = (all.0, all.2)
 whole_front ts front beyond (inr c) none = absurd (cc (none, c.front_is.1))
 
--- whether the parser is stuck for want of memory
+-- whether the parser is stuck because memory ran out
 pub memory_or_not : (e : Stuck) → IsForMemory e ⊎ (IsForMemory e → ⊥)
 memory_or_not (stuck.Next n) = inr (λ h. h)
 memory_or_not (stuck.Passed n) = inr (λ h. h)

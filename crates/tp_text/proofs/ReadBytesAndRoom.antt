@@ -36,7 +36,7 @@ doubled_room limit size more few some (inl (inr full)) is =
     (inr (suc full.0, ap (λ n. n * 2) full.1 ∙ mul_assoc 8192 (2 ^ full.0) 2 ∙ ap (λ n. 8192 * n) (sym (pow-suc 2 full.0)))) is
 doubled_room limit size more few some (inr long) is = absurd (omega arith)
 
--- the room after growing, or after want of memory
+-- the room after growing, or after memory ran out
 pub either_room : (limit : ℕ) (is_grown : Bool) (more size : ℕ) → IsRoom limit more → IsRoom limit size → IsRoom limit (if is_grown then more else size)
 either_room limit true more size grown kept = grown
 either_room limit false more size grown kept = kept

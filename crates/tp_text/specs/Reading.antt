@@ -12,8 +12,8 @@ IsCapacity n = (n ≡ 0) ⊎ ((k : ℕ) × (n ≡ 8192 * 2 ^ k))
 abbrev pub IsRoom : ℕ → ℕ → Type 0
 IsRoom limit n = IsCapacity n ⊎ (n ≡ limit + 1)
 
--- so many bytes are taken where reading ends with this fault, or with none: one more than the limit exactly where there
--- are too many, and want of memory comes only where the room is full
+-- so many bytes are taken if reading ends with this fault, or with none: one more than the limit exactly if there are
+-- too many, and out of memory comes only if the room is full
 abbrev pub EndsAt : ℕ → Option ReadFault → ℕ → Type 0
 EndsAt limit None n = n ≤ limit
 EndsAt limit (Some read_fault.Read) n = n ≤ limit

@@ -23,7 +23,7 @@ IsWithinLimits (symbol s) = Unit {0}
 abbrev pub AreWithinLimits : List PlacedLexeme → Type 0
 AreWithinLimits ts = AllByRecursion (λ t. IsWithinLimits t.token) ts
 
--- a piece that is no token, or a token within the limits
+-- a piece that isn't a valid token, or a token within the limits
 abbrev pub IsFoundWithinLimits : Option Lexeme → Type 0
 IsFoundWithinLimits None = Unit {0}
 IsFoundWithinLimits (Some l) = IsWithinLimits l
@@ -79,7 +79,8 @@ abbrev pub IsMemory : ScriptFault → Type 0
 IsMemory (Refused r n) = ⊥
 IsMemory (Memory m) = Unit {0}
 
--- a text that isn't too long and has tokens, each within the limits, is refused for want of memory alone
+-- a text that isn't too long and has tokens, each within the limits, is refused only because memory
+-- ran out
 abbrev pub GoodTextsAreAccepted : Type 0
 GoodTextsAreAccepted =
     (text : List ℕ) (ts : List PlacedLexeme) (fault : ScriptFault) → AreTokens text ts → AreWithinLimits ts

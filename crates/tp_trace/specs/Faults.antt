@@ -20,7 +20,7 @@ pub record TakesPlace (line : List ℕ) (place : TracePosition) (old new : List 
   pub noted : new ≡ old ++ names_of (told ∷ [])
   pub behind : after ≡ place_after told
 
--- within the limit the first bad line; want of memory says nothing of the text
+-- within the limit the first bad line; out of memory says nothing of the text
 abbrev pub IsFaultOf : List ℕ → TraceFault → Type 0
 IsFaultOf text (trace_fault.BadLine n) = (length text ≤ 268435456) × IsFirstBad (lines_of text) n
 IsFaultOf text trace_fault.Limit = 268435456 < length text

@@ -1,5 +1,5 @@
--- What the threads left and what was settled is of a run; in its report nothing happened before itself, and that a
--- behaviour waits for what is there is said only where one does.
+-- What the threads left and what was settled is of a run; in its report nothing happened before itself, and it says
+-- that a behaviour waits although one of its branches is open only if one does.
 use Rattle.std.proofs.Common.{subst}
 use Rattle.std.proofs.lemmas.Result.{err_from_is_err_and}
 use Rattle.tp_config.specs.Setup.{Setup}

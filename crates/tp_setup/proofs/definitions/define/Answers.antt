@@ -1,4 +1,4 @@
--- What is made of definitions that obey the rules is refused for want of memory alone.
+-- What is made of definitions that obey the rules is refused only because memory ran out.
 use Rattle.tp_setup.specs.Rules.{HasUniqueNames}
 use Rattle.tp_setup.specs.Sorted.{HasSoundDefinitions}
 use Rattle.tp_setup.proofs.SoundSortedDefinitions.{sorted_sound}
