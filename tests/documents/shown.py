@@ -149,6 +149,31 @@ def lost(source: str, quote: str) -> Optional[str]:
     return None if quote and f"\n{quote}" in f"\n{text_of(source)}\n" else "it doesn't stand there"
 
 
+# Where somebody looks who pipes a report into `judge`, and what is to stand there.
+ON_REPORTS = (
+    ("docs/TRACES.md, its beginning", r"\A.*?^## ", "`judge` prints `unlawful Lost` for it"),
+    ("docs/TRACES.md, Lost", r"^### Lost$.*?^### ", "write `tpr trace`, not `tpr run`"),
+    ("docs/tpr.1, judge", r"^\.It Cm judge$.*?^\.It ", "isn't a trace: .Cm judge prints .Ql unlawful Lost for it"),
+)
+
+
+def report_for_a_trace(program: Program) -> Iterator[Case]:
+    """`tpr run X | tpr judge` calls the messages of a report lost. The documents say so where one looks, and what
+    tools/explain says of the same pipe names `tpr trace`."""
+    report = program.ran("run", text_of(f"{EXAMPLE}.ttcn"))[1]
+    status, said = program.ran("judge", report)
+    is_lost = (status, said.partition("\n")[0]) == (2, "unlawful Lost line 2")
+    yield "a report that is judged as a trace", None if is_lost else f"judge came to {status}, {said}"
+    for name, part, text in ON_REPORTS:
+        found = re.search(part, text_of(name.partition(",")[0]), re.MULTILINE | re.DOTALL)
+        has = found is not None and text in " ".join(found[0].split())
+        yield f"{name}, a report that is judged", None if has else f"it doesn't say: {text}"
+    explain = [str(ROOT / "tools" / "explain"), "--tpr", program.path, "/dev/stdin"]
+    told = subprocess.run(explain, input=report.encode("latin-1"), stdout=subprocess.PIPE, check=False).stdout
+    has = b"write instead: `tpr trace SCRIPT`, if `tpr judge` is to read it" in told
+    yield "tools/explain of a piped report", None if has else f"it says {told.decode()}"
+
+
 # Each group, with how many cases it has at least.
 GROUPS: tuple[tuple[Callable[[Program], Iterator[Case]], int], ...] = (
     (refusal_scripts, 26),
@@ -156,6 +181,7 @@ GROUPS: tuple[tuple[Callable[[Program], Iterator[Case]], int], ...] = (
     (first_example, 4),
     (script_of_the_profile, 1),
     (quoted_contracts, 9),
+    (report_for_a_trace, 5),
 )
 
 
