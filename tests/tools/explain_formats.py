@@ -13,10 +13,10 @@ import importlib.util
 import json
 import os
 import re
-import shlex
 import shutil
 import sys
-import tempfile
+from collections.abc import Callable, Iterable
+from functools import partial
 from pathlib import Path
 from typing import Any, NamedTuple
 from urllib.parse import unquote, urlsplit
@@ -25,7 +25,9 @@ sys.dont_write_bytecode = True
 
 from rule_cases import must
 from sarif_schema import SCHEMA
-from tool_calls import ROOT, Ended, Group, case, example, onto_a_full_device, run, try_groups
+from tool_calls import (
+    ROOT, Ended, Group, case, example, file_of, must_be, onto_a_full_device, program_of, room, run, try_groups,
+)  # fmt: skip
 
 PROGRAM = sys.argv[1]
 EXPLAIN = ROOT / "tools" / "explain"
@@ -91,8 +93,7 @@ class Room(NamedTuple):
     folder: Path
 
     def write(self, name: str, text: str) -> str:
-        (self.folder / name).write_bytes(text.encode())
-        return name
+        return file_of(self.folder / name, text).name
 
     def explain(self, *words: str, program: str = PROGRAM) -> Ended:
         return run(EXPLAIN, "--tpr", program, *words, folder=self.folder)
@@ -106,13 +107,14 @@ class Room(NamedTuple):
         return self.explain("--format", form, right, *dict.fromkeys(it.file for it in WANTED)).must_say_nothing(1)
 
 
-def must_be(found: Any, wanted: Any) -> None:
-    must(found == wanted, f"wanted {str(wanted)[:900]}\nfound {str(found)[:900]}")
+def must_be_sentences(found: Iterable[str]) -> None:
+    """They begin as is wanted."""
+    must_be([one[: len(it.sentence)] for it, one in zip(WANTED, found)], [it.sentence for it in WANTED])
 
 
-def without_end(wanted: Wanted, sentence: str) -> str:
-    """The beginning of a sentence, as far as it is wanted."""
-    return sentence[: len(wanted.sentence)]
+def columns(wanted: Wanted) -> dict[str, int]:
+    begin = len(wanted.before) + 1
+    return {"startColumn": begin, "endColumn": begin + len(wanted.piece)}
 
 
 # Each form of the same faults
@@ -158,7 +160,7 @@ def of_a_compiler(room: Room) -> None:
         places = [(it.file, it.line, len(it.before.encode()) + 1) for it in WANTED]
         must_be([(it[0], int(it[1]), int(it[2])) for it in errors], places)
         must(all(f"[{it.code}]" in error[4] for it, error in zip(WANTED, errors)), f"other codes: {errors}")
-        must_be([without_end(it, error[4]) for it, error in zip(WANTED, errors)], [it.sentence for it in WANTED])
+        must_be_sentences(error[4] for error in errors)
         notes = [it[5] for it in found if it and it[4] == "note"]
         must("the port type" in notes and any("no replacement: " in it for it in notes), f"other notes: {notes}")
     vim = shutil.which("vim") or shutil.which("nvim")
@@ -187,7 +189,7 @@ def places_in_vim(room: Room, vim: str) -> Any:
         "call writefile([json_encode(found)], 'found')",
         "qall!",
     )
-    (room.folder / "places.vim").write_text("\n".join(lines) + "\n", encoding="utf-8")
+    room.write("places.vim", "\n".join(lines) + "\n")
     quiet = {"HOME": str(room.folder), "LC_ALL": "C.UTF-8"}
     words = ("-u", "NONE", "-n", "-es", "-c", "set encoding=utf-8", "-S", "places.vim")
     run(vim, *words, folder=room.folder, more=quiet)
@@ -203,16 +205,11 @@ def of_github(room: Room) -> None:
         found = [COMMAND.fullmatch(line) for line in room.all("github").text.splitlines()]
         rows = [dict(pair.split("=", 1) for pair in it[2].split(",")) for it in found if it]
         told = [{name: unquote(text) for name, text in row.items()} for row in rows]
-        must_be(
-            [(it["file"], it.get("line", "1"), it.get("col", "1"), it.get("endColumn", "1")) for it in told],
-            [
-                (it.file, f"{it.line}", f"{len(it.before) + 1}", f"{len(it.before) + 1 + len(it.piece)}")
-                for it in WANTED
-            ],
-        )
+        places = [(it["file"], *(int(it.get(name, 1)) for name in ("line", "col", "endColumn"))) for it in told]
+        must_be(places, [(it.file, it.line, *columns(it).values()) for it in WANTED])
         must_be([it["title"] for it in told], [f"tpr {it.code}" for it in WANTED])
         sentences = [unquote(it[3]) for it in found if it]
-        must_be([without_end(it, one) for it, one in zip(WANTED, sentences)], [it.sentence for it in WANTED])
+        must_be_sentences(sentences)
         must(any("\nno replacement: " in it for it in sentences), f"no advice in {sentences}")
 
 
@@ -221,7 +218,7 @@ def of_gitlab(room: Room) -> None:
         found = json.loads(room.all("codeclimate").text)
         rows = [(it["location"]["path"], it["location"]["lines"]["begin"], it["check_name"]) for it in found]
         must_be(rows, [(it.file, it.line, f"tpr {it.code}") for it in WANTED])
-        must_be([without_end(it, row["description"]) for it, row in zip(WANTED, found)], [it.sentence for it in WANTED])
+        must_be_sentences(row["description"] for row in found)
         must_be({(it["type"], it["severity"], *it["categories"]) for it in found}, {("issue", "major", "Bug Risk")})
         must_be(len({it["fingerprint"] for it in found}), len(WANTED))
     with case("for GitLab: a line more above leaves the fingerprints"):
@@ -253,11 +250,6 @@ def of_sarif(room: Room) -> None:
         far = json.loads(run(EXPLAIN, *words, folder=inner).text)["runs"][0]["results"][0]
         uri = urlsplit(far["locations"][0]["physicalLocation"]["artifactLocation"]["uri"])
         must_be([uri.scheme, unquote(uri.path)], ["file", str(room.folder / NAMED)])
-
-
-def columns(wanted: Wanted) -> dict[str, int]:
-    begin = len(wanted.before) + 1
-    return {"startColumn": begin, "endColumn": begin + len(wanted.piece)}
 
 
 def by_schema(room: Room) -> None:
@@ -305,69 +297,22 @@ TYPES = """module M {
   type port P message { inout integer; }
   type component C { port P p; }
 """
-TOGETHER = (
-    (
-        "names that are given twice, and not what they would lead to",
-        "  type port P message { inout boolean; }\n  type component C { port P p; }\n"
-        "  testcase t() runs on C { q.clear; }\n}\n",
-        [(12, 4), (12, 5)],
-    ),
-    (
-        "types that aren't there, of several definitions",
-        "  type record R { A a, integer b }\n  type port Q message { in B; }\n"
-        "  function f() runs on D { q.clear; }\n  testcase t() runs on C { q.clear; }\n}\n",
-        [(11, 4), (11, 5), (11, 6)],
-    ),
-    (
-        "a type that isn't there, and the directions; not what depends on that type",
-        "  type record R { A a }\n  type port Q message { in A; out R; }\n  type port S message { in integer; }\n"
-        "  type component D { port Q q; port S s; }\n  function f() runs on D {\n    var A v;\n    var R w;\n"
-        "    q.send(integer:1);\n    q.receive(A:{1}) -> value v;\n    q.receive(R:{1});\n    q.send(R:{1});\n"
-        "    q.receive(A:?) -> value w;\n    s.send(R:{1});\n    q.send(R:{1, 2});\n    p.send(boolean:true);\n  }\n"
-        "  testcase t() runs on C {\n    var D a := D.create;\n    connect(self:p, a:q);\n    a.start(f());\n"
-        "    all component.done;\n  }\n}\n",
-        [(11, 4), (11, 5), (14, 11), (14, 16), (13, 17), (11, 18), (20, 22)],
-    ),
-    (
-        "the setup, the starts, and the bodies",
-        "  function f() runs on C {\n    q.clear;\n    setverdict(error);\n  }\n"
-        "  testcase t() runs on C {\n    var C a := C.create;\n    connect(self:q, a:p);\n    connect(self:p, a:r);\n"
-        "    a.start(g());\n    p.send(boolean:true);\n    all component.done;\n  }\n}\n",
-        [(11, 10), (11, 5), (13, 6), (11, 11), (11, 12), (14, 13)],
-    ),
-    (
-        "a component that can't be created, and nothing after it",
-        "  testcase t() runs on C {\n    var D a := D.create;\n    connect(self:p, a:p);\n    a.start(f());\n"
-        "    q.clear;\n    all component.done;\n  }\n}\n",
-        [(11, 5)],
-    ),
-    (
-        "components that are never started, and no end",
-        "  testcase t() runs on C {\n    var C a := C.create;\n    var C b := C.create;\n    q.clear;\n  }\n}\n",
-        [(18, 5), (18, 6), (17, 4), (11, 7)],
-    ),
-    (
-        "variables, and another body",
-        "  function f() runs on C {\n    var A v;\n    var B w;\n    p.send(v);\n  }\n"
-        "  testcase t() runs on C { q.clear; }\n}\n",
-        [(11, 9), (11, 5), (11, 6)],
-    ),
-    (
-        "branches, and what they hold; not a loop with a name that is taken",
-        "  testcase t() runs on C {\n    alt {\n      [] q.receive { q.clear; }\n      [else] { q.halt; }\n    }\n"
-        "    for (var integer p := 0; p < 2; p := p + 1) { q.stop; }\n  }\n}\n",
-        [(11, 6), (11, 6), (11, 7), (12, 9)],
-    ),
-)
+
+
+def marked_in(text: str) -> list[tuple[int, int]]:
+    """The numbers that comments give of the faults in their lines, with these lines. That of the program is `first`."""
+    lines = enumerate(text.splitlines(), 1)
+    marks = [(mark, line) for line, it in lines for mark in it.partition(" // ")[2].split(", ") if mark]
+    marks.sort(key=lambda it: (not it[0].endswith(" first"), it[1]))
+    return [(int(mark.split()[0]), line) for mark, line in marks]
 
 
 def together(room: Room) -> None:
-    for name, text, wanted in TOGETHER:
-        with case(f"told at once: {name}"):
-            room.write("one.ttcn", TYPES + text)
-            found = json.loads(room.explain("--format", "json", "one.ttcn").must_say_nothing(1).text)
-            first, *others = wanted
-            must_be([(it["number"], it["line"]) for it in found], [first, *sorted(others, key=lambda it: it[1])])
+    """Scripts that have their faults as comments."""
+    for script in sorted((ROOT / "tests" / "tools" / "together").iterdir()):
+        with case(f"told at once: {script.stem.replace('_', ' ')}"):
+            found = json.loads(room.explain("--format", "json", str(script)).must_say_nothing(1).text)
+            must_be([(it["number"], it["line"]) for it in found], marked_in(script.read_text(encoding="utf-8")))
     with case("told at once: 100 broken rules of a script, and no more"):
         room.write("one.ttcn", f"{TYPES}  testcase t() runs on C {{\n{'    q.clear;' * 150}\n  }}\n}}\n")
         must_be(len(json.loads(room.explain("--format", "json", "one.ttcn").text)), 100)
@@ -398,19 +343,17 @@ def valid_scripts(room: Room) -> None:
 
 def other_answers(room: Room) -> None:
     right = room.write("right.ttcn", KITCHEN)
-    program = room.folder / "program"
     for answer, status in (("fault 50 Memory", 3), ("hello", 1)):
-        program.write_text(f"#!/bin/sh\ncat >/dev/null\necho {shlex.quote(answer)}\n", encoding="utf-8")
-        program.chmod(0o755)
+        program = program_of(room.folder / "program", "cat >/dev/null", f"echo {answer}")
         for form in FORMS:
             with case(f"a program that prints {answer}, as {form}"):
-                room.explain("--format", form, right, program=str(program)).must_show(answer, status)
+                room.explain("--format", form, right, program=program).must_show(answer, status)
     with case("a program that isn't there"):
         room.explain("--format", "json", right, program="nowhere").must_say("explain: ", 1)
     with case("another fault than that of explain's own reading"):
-        program.write_text("#!/bin/sh\ncat >/dev/null\necho refused 14 Direction line 3\n", encoding="utf-8")
+        program = program_of(room.folder / "program", "cat >/dev/null", "echo refused 14 Direction line 3")
         room.write("one.ttcn", BROKEN)
-        found = json.loads(room.explain("--format", "json", "one.ttcn", program=str(program)).text)
+        found = json.loads(room.explain("--format", "json", "one.ttcn", program=program).text)
         must_be([(it["number"], it["line"]) for it in found], [(14, 3)])
     with case("a script of more than 1 MiB"):
         room.write("one.ttcn", " " * (1 << 21))
@@ -437,13 +380,11 @@ def files_of_all_kinds(room: Room) -> None:
         for form in FORMS:
             room.explain("--format", form, "one.ttcn").must_say_nothing(1)
     with case("a folder"):
-        inner = room.folder / "scripts"
-        inner.mkdir()
-        (inner / "one.ttcn").write_text(LETTER, encoding="utf-8")
+        (room.folder / "scripts").mkdir()
+        file_of(room.folder / "scripts" / "one.ttcn", LETTER)
         room.explain("--format", "gcc", "scripts").must_show("^scripts/one.ttcn:1:1: error: ", 1)
     with case("a script of tools/rewrite, and where its lines come from"):
-        written = "module M {\n  type component C { }\n  testcase t() runs on C { q.clear; } // 7\n}\n"
-        room.write("one.ttcn", written)
+        room.write("one.ttcn", "module M {\n  type component C { }\n  testcase t() runs on C { q.clear; } // 7\n}\n")
         room.write("one.ttcn.map", "3 7:5 login.ttcn\n")
         room.explain("--format", "gcc", "one.ttcn").must_show("note: comes from login.ttcn:7:5$", 1)
 
@@ -465,14 +406,11 @@ GROUPS = (
 )  # fmt: skip
 
 
-def in_a_room(group: Any) -> Any:
-    def attempt() -> None:
-        with tempfile.TemporaryDirectory() as folder:
-            group(Room(Path(folder)))
-
-    return attempt
+def in_a_room(group: Callable[[Room], None]) -> None:
+    with room() as folder:
+        group(Room(folder))
 
 
 if __name__ == "__main__":
     del sys.argv[1:]
-    sys.exit(try_groups(Group(in_a_room(it), least, it.__name__) for it, least in GROUPS))
+    sys.exit(try_groups(Group(partial(in_a_room, it), least, it.__name__) for it, least in GROUPS))

@@ -10,8 +10,7 @@ from suite_runs import Suites, answer, must_be_table
 from tool_calls import case, example, rules_must_hold
 
 # Answers as `tpr verdicts` does, by the first word of the script's comment.
-PROGRAM = """#!/bin/sh
-if [ "$1" = queue ]; then exit 0; fi
+PROGRAM = """if [ "$1" = queue ]; then exit 0; fi
 if [ "$1" = run ]; then exec cat {report}; fi
 case $(head -n 1 "${{2:-/dev/stdin}}") in
     *races*) printf 'pass or fail\\nstates 9\\npass: mtc a mtc\\nfail: a mtc mtc\\n'; exit 2 ;;
@@ -27,8 +26,7 @@ LARGE = "the verdict may depend on the schedule: undecided, seen pass"
 
 def of_the_schedule(room: Path, tpr: str) -> None:
     it = Suites(room, "of_the_schedule", tpr)
-    it.write("program", PROGRAM.format(report=answer("login_is_answered.expected")))
-    it.file("program").chmod(0o755)
+    it.program("program", PROGRAM.format(report=answer("login_is_answered.expected")))
     for name in ("broken", "large", "races", "steady"):
         it.write(f"{name}.ttcn", f"// {name}\n")
     program = str(it.file("program"))

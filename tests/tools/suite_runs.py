@@ -9,7 +9,7 @@ import subprocess
 from pathlib import Path
 
 from rule_cases import must
-from tool_calls import ROOT, Ended, difference, example, python, run, shown
+from tool_calls import ROOT, Ended, difference, example, program_of, python, run, shown
 
 SUITE = ROOT / "tools" / "suite"
 TIMES = "the runs took T, judging them T"
@@ -43,6 +43,10 @@ class Suites:
         """A script, or what is wanted of one."""
         self.file(name).parent.mkdir(parents=True, exist_ok=True)
         self.file(name).write_text(text, encoding="utf-8")
+
+    def program(self, name: str, text: str) -> None:
+        """A program for sh."""
+        program_of(self.file(name), text)
 
     def copy(self, name: str, place: str) -> None:
         """An example, into a place in the folder."""

@@ -6,10 +6,12 @@ lines that begin with `FAILED: NAME: ` if it raises.
 from __future__ import annotations
 
 import difflib
+import json
 import os
 import re
 import subprocess
 import sys
+import tempfile
 from collections.abc import Callable, Iterable, Iterator, Mapping
 from contextlib import contextmanager
 from dataclasses import dataclass, field
@@ -52,6 +54,11 @@ def difference(wanted: Text, found: Text) -> str:
     left, right = (bytes_of(it).decode("utf-8", "backslashreplace").splitlines() for it in (wanted, found))
     lines = difflib.unified_diff(left, right, "wanted", "found", lineterm="")
     return "\n".join(lines) or "they differ in their line feeds"
+
+
+def must_be(found: Any, wanted: Any) -> None:
+    told, seen = (json.dumps(it, default=str)[:900] for it in (wanted, found))
+    must(found == wanted, f"wanted {told}\nfound {seen}")
 
 
 class Ended(NamedTuple):
@@ -275,6 +282,13 @@ def try_groups_of(asked: Asked, groups: Iterable[tuple[Callable[[Asked], None], 
 
 
 # Files
+
+
+@contextmanager
+def room() -> Iterator[Path]:
+    """A folder that goes with the block."""
+    with tempfile.TemporaryDirectory() as folder:
+        yield Path(folder)
 
 
 def file_of(path: Path, text: str) -> Path:
