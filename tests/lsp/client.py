@@ -8,11 +8,12 @@ import subprocess
 import sys
 import threading
 from pathlib import Path
-from types import TracebackType
 from typing import Any, Callable, Optional
 
 ROOT = Path(__file__).resolve().parents[2]
 MOST_SECONDS = 60
+URI = "file:///nowhere/script.ttcn"
+PUBLISHED = "textDocument/publishDiagnostics"
 ALL = {
     "workspace": {"codeLens": {"refreshSupport": True}, "inlayHint": {"refreshSupport": True}},
     "window": {"showDocument": {"support": True}},
@@ -26,24 +27,27 @@ def frame(message: Any) -> bytes:
 
 
 class Client:
+    """A server, and the script that is open in it, by the number of its version."""
+
     def __init__(self, program: str, *words: str, is_initialized: bool = True, can: Any = None):
         command = [sys.executable, "-B", str(ROOT / "tools" / "lsp"), "--tpr", program, "--delay", "20", *words]
         pipe = subprocess.PIPE
         self.process = subprocess.Popen(command, stdin=pipe, stdout=pipe, stderr=pipe, env={**os.environ, "TPR": ""})
         self.incoming: queue.Queue[Any] = queue.Queue()
         self.kept: list[Any] = []
-        self.requests = 0
+        self.requests = self.version = 0
         threading.Thread(target=self._read, daemon=True).start()
         if is_initialized:
             self.ask("initialize", {"capabilities": ALL if can is None else can})
             self.tell("initialized", {})
 
     def _read(self) -> None:
-        assert self.process.stdout is not None
-        while line := self.process.stdout.readline():
+        stream = self.process.stdout
+        assert stream is not None
+        while line := stream.readline():
             length = int(line.removeprefix(b"Content-Length: "))
-            self.process.stdout.readline()
-            self.incoming.put(json.loads(self.process.stdout.read(length)))
+            stream.readline()
+            self.incoming.put(json.loads(stream.read(length)))
         self.incoming.put(None)
 
     def write(self, data: bytes) -> None:
@@ -65,13 +69,11 @@ class Client:
         for number, message in enumerate(self.kept):
             if wanted(message):
                 return self.kept.pop(number)
-        while True:
-            message = self.incoming.get(timeout=MOST_SECONDS)
-            if message is None:
-                raise EOFError("the server has ended")
+        while message := self.incoming.get(timeout=MOST_SECONDS):
             if wanted(message):
                 return message
             self.kept.append(message)
+        raise EOFError("the server has ended")
 
     def answer(self, number: Optional[int]) -> Any:
         return self.next(lambda it: it.get("id", "") == number and "method" not in it)
@@ -82,22 +84,32 @@ class Client:
         return answer["result"] if "result" in answer else answer["error"]
 
     def notice(self, method: str) -> Any:
-        return self.next(lambda it: it.get("method") == method)
+        return self.next(lambda it: it.get("method") == method).get("params")
 
-    def open(self, text: str, uri: str = "file:///nowhere/script.ttcn") -> None:
-        self.tell(
-            "textDocument/didOpen", {"textDocument": {"uri": uri, "version": 1, "languageId": "ttcn", "text": text}}
-        )
+    # The script
 
-    def change(self, changes: list[Any], version: int, uri: str = "file:///nowhere/script.ttcn") -> None:
-        self.tell(
-            "textDocument/didChange", {"textDocument": {"uri": uri, "version": version}, "contentChanges": changes}
-        )
+    def open(self, text: str, uri: str = URI) -> None:
+        self.version = 1
+        item = {"uri": uri, "version": 1, "languageId": "ttcn", "text": text}
+        self.tell("textDocument/didOpen", {"textDocument": item})
 
-    def diagnostics(self, version: int = 1) -> list[Any]:
-        """Those of a version."""
-        found = self.next(lambda it: "Diagnostics" in it.get("method", "") and it["params"].get("version") == version)
+    def change(self, text: str, span: Any = None) -> None:
+        """Another text, or another piece of it."""
+        self.version += 1
+        change = {"text": text} if span is None else {"text": text, "range": span}
+        params = {"textDocument": {"uri": URI, "version": self.version}, "contentChanges": [change]}
+        self.tell("textDocument/didChange", params)
+
+    def diagnostics(self, text: Optional[str] = None) -> list[Any]:
+        """Those of the script as it is, or of another text that it has now."""
+        if text is not None:
+            self.change(text)
+        found = self.next(lambda it: it.get("method") == PUBLISHED and it["params"].get("version") == self.version)
         return list(found["params"]["diagnostics"])
+
+    def of(self, request: str, **more: Any) -> Any:
+        """What is answered of the script."""
+        return self.ask(f"textDocument/{request}", {"textDocument": {"uri": URI}, **more})
 
     def end(self, is_shut_down: bool = True) -> int:
         """Ends the server; its status."""
@@ -108,17 +120,9 @@ class Client:
         self.process.stdin.close()
         return self.process.wait(MOST_SECONDS)
 
-    def __enter__(self) -> "Client":
+    def __enter__(self) -> Client:
         return self
 
-    def __exit__(self, kind: Optional[type[BaseException]], _: object, __: Optional[TracebackType]) -> None:
-        if self.process.poll() is None:
+    def __exit__(self, *_: object) -> None:
+        with self.process:  # which closes its streams
             self.process.terminate()
-            self.process.wait(MOST_SECONDS)
-        for stream in (self.process.stdin, self.process.stdout, self.process.stderr):
-            if stream is not None:
-                stream.close()
-
-
-def at(line: int, character: int, uri: str = "file:///nowhere/script.ttcn") -> Any:
-    return {"textDocument": {"uri": uri}, "position": {"line": line, "character": character}}
