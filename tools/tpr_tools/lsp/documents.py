@@ -73,6 +73,16 @@ class Document:
             job.cancel()
         self.jobs.clear()
 
+    def has_ready(self, wants: str) -> bool:
+        if wants == "runs" or self.is_accepted is None:
+            return False
+        if wants == "lenses":
+            return not self.is_accepted or bool(self.verdict)
+        return self.hints is not None or "ways" not in self.jobs
+
+    def result(self, wants: str) -> list[Json]:
+        return self.lenses() if wants == "lenses" else self.hints or []
+
     def is_in_file(self) -> bool:
         """Whether the file has the same bytes."""
         try:

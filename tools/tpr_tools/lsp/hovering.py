@@ -3,7 +3,7 @@ from __future__ import annotations
 
 from typing import Optional, Union
 
-from .diagnostics import Found
+from .documents import Document
 from .frames import Json
 from .outline import Declared, Definition, End, Outline
 from .positions import Lines
@@ -18,13 +18,13 @@ _KINDS = {
 }  # fmt: skip
 
 
-def hover_of(outline: Outline, lines: Lines, offset: int, found: list[Found]) -> Optional[Json]:
+def hover_of(document: Document, offset: int) -> Optional[Json]:
     """The diagnostics at the place, and what the name there is."""
-    line = lines.position(offset)["line"]
-    told = [it.hover() for it in found if it.span["start"]["line"] == line]
-    number = outline.word_at(offset)
+    line = document.lines.position(offset)["line"]
+    told = [it.hover() for it in document.found if it.span["start"]["line"] == line]
+    number = document.outline.word_at(offset)
     if number is not None:
-        told += _of_name(outline, lines, number)
+        told += _of_name(document.outline, document.lines, number)
     return {"contents": {"kind": "markdown", "value": "\n\n".join(told)}} if told else None
 
 
@@ -82,10 +82,10 @@ def _source(outline: Outline, lines: Lines, definition: Definition) -> str:
     return "\n".join(["```ttcn", *shown[:_MOST_LINES], *more, "```"])
 
 
-def definition_of(outline: Outline, lines: Lines, offset: int, uri: str) -> Optional[Json]:
-    number = outline.word_at(offset)
-    target = outline.target_of(number) if number is not None else None
-    return None if target is None else {"uri": uri, "range": _name(outline, lines, target)}
+def definition_of(document: Document, offset: int) -> Optional[Json]:
+    number = document.outline.word_at(offset)
+    target = document.outline.target_of(number) if number is not None else None
+    return None if target is None else {"uri": document.uri, "range": _name(document.outline, document.lines, target)}
 
 
 def _name(outline: Outline, lines: Lines, number: int) -> Json:

@@ -27,8 +27,19 @@ _CHECK_SECONDS = 5.0
 _LISTING_SECONDS = 60.0
 _RUN_SECONDS = 5.0
 _HOLD_SECONDS = 2.0  # for which a request waits for a program
+_CAPABILITIES = {
+    "positionEncoding": "utf-16",
+    "textDocumentSync": {"openClose": True, "change": 2, "save": {"includeText": False}},
+    "hoverProvider": True,
+    "definitionProvider": True,
+    "documentSymbolProvider": True,
+    "codeLensProvider": {"resolveProvider": False},
+    "inlayHintProvider": True,
+    "executeCommandProvider": {"commands": [SHOW_RUNS]},
+}
 # What is done when a program has ended.
 Then = Callable[[Document, Job], None]
+Number = Union[int, str]  # of a request
 
 
 class Server:
@@ -41,7 +52,7 @@ class Server:
         self.events: queue.Queue[Callable[[], None]] = queue.Queue()
         self.documents: dict[str, Document] = {}
         self.room = ""  # for the documents that show where runs diverge
-        self.cancelled: set[Union[int, str]] = set()
+        self.cancelled: set[Number] = set()
         self.status: Optional[int] = None
         self.is_initialized = self.is_shut_down = False
         self.can: Json = {}
@@ -121,13 +132,13 @@ class Server:
         if number is not None:
             self.cancelled.discard(number)
 
-    def _refuse(self, number: Union[int, str, None], refused: Refused) -> None:
+    def _refuse(self, number: Optional[Number], refused: Refused) -> None:
         if number is not None:
             self.client.refuse(number, refused)
         elif refused.code != frames.METHOD_NOT_FOUND and self.is_initialized:
             self._log(refused.text)
 
-    def _called(self, method: str, params: Json, number: Union[int, str, None]) -> Any:
+    def _called(self, method: str, params: Json, number: Optional[Number]) -> Any:
         """The result of a request; that of a notification is dropped."""
         if method == "exit":
             return self._end(None)
@@ -143,21 +154,16 @@ class Server:
 
     def _initialize(self, params: Json) -> Json:
         self.is_initialized = True
-        self.can = params.get("capabilities") if isinstance(params, dict) else {}
-        capabilities = {
-            "positionEncoding": "utf-16",
-            "textDocumentSync": {"openClose": True, "change": 2, "save": {"includeText": False}},
-            "hoverProvider": True,
-            "definitionProvider": True,
-            "documentSymbolProvider": True,
-            "codeLensProvider": {"resolveProvider": False},
-            "inlayHintProvider": True,
-            "executeCommandProvider": {"commands": [SHOW_RUNS]},
-        }
-        return {"capabilities": capabilities, "serverInfo": {"name": "tpr"}}
+        self.can = at(params, "capabilities")
+        return {"capabilities": _CAPABILITIES, "serverInfo": {"name": "tpr"}}
 
     def _client_can(self, *names: str) -> bool:
         return bool(at(self.can, *names))
+
+    def _refresh(self, what: str) -> None:
+        """Has the client ask again, if it can."""
+        if self._client_can("workspace", what, "refreshSupport"):
+            self.client.request(f"workspace/{what}/refresh")
 
     def _log(self, text: str) -> None:
         self.client.notify("window/logMessage", {"type": 2, "message": text})
@@ -176,12 +182,10 @@ class Server:
         document = self._document(params)
         text = document.lines.text
         for change in wanted(params, list, "contentChanges"):
-            piece = wanted(change, str, "text")
-            if at(change, "range") is None:
-                text = piece
-                continue
-            lines = Lines(text)
-            start, end = (_offset(lines, at(change, "range", it)) for it in ("start", "end"))
+            piece, start, end = wanted(change, str, "text"), 0, len(text)
+            if at(change, "range") is not None:
+                lines = Lines(text)
+                start, end = (_offset(lines, at(change, "range", it)) for it in ("start", "end"))
             text = text[:start] + piece + text[max(start, end) :]
         self._forget(document)
         document.change(at(params, "textDocument", "version"), text)
@@ -293,14 +297,13 @@ class Server:
 
     def _decided(self, document: Document, job: Job) -> None:
         document.verdict = verdict_told(job.printed, job.why)
-        if document.has_early_lens and self._client_can("workspace", "codeLens", "refreshSupport"):
-            self.client.request("workspace/codeLens/refresh")
+        if document.has_early_lens:
+            self._refresh("codeLens")
         self._answer_ready(document)
 
     def _ran(self, document: Document, job: Job) -> None:
         document.hints = [_hint(document.lines, line, label) for line, label in _listed(job)]
-        if self._client_can("workspace", "inlayHint", "refreshSupport"):
-            self.client.request("workspace/inlayHint/refresh")
+        self._refresh("inlayHint")
         self._answer_ready(document)
 
     def _explored(self, document: Document, job: Job) -> None:
@@ -320,15 +323,9 @@ class Server:
 
     # Requests
 
-    def hover(self, params: Json, _: object) -> Json:
+    def at_place(self, params: Json, _: object, answer: Callable[[Document, int], Json]) -> Json:
         document = self._document(params)
-        offset = _offset(document.lines, at(params, "position"))
-        return hover_of(document.outline, document.lines, offset, document.found)
-
-    def definition(self, params: Json, _: object) -> Json:
-        document = self._document(params)
-        offset = _offset(document.lines, at(params, "position"))
-        return definition_of(document.outline, document.lines, offset, document.uri)
+        return answer(document, _offset(document.lines, at(params, "position")))
 
     def symbols(self, params: Json, _: object) -> Json:
         document = self._document(params)
@@ -336,13 +333,7 @@ class Server:
         names = ("textDocument", "documentSymbol", "hierarchicalDocumentSymbolSupport")
         return found if self._client_can(*names) else flat(found, document.uri)
 
-    def lenses(self, params: Json, number: Union[int, str]) -> Any:
-        return self._held_or_ready(self._document(params), number, "lenses")
-
-    def hints(self, params: Json, number: Union[int, str]) -> Any:
-        return self._held_or_ready(self._document(params), number, "hints")
-
-    def execute(self, params: Json, number: Union[int, str]) -> Any:
+    def execute(self, params: Json, number: Number) -> Held:
         if wanted(params, str, "command") != SHOW_RUNS:
             raise Refused(frames.INVALID_PARAMS, f"the only command is `{SHOW_RUNS}`")
         uri = next(iter(wanted(params, list, "arguments")), None)
@@ -364,54 +355,46 @@ class Server:
     def shut_down(self, *_: object) -> None:
         self.is_shut_down = True
 
-    def nothing(self, *_: object) -> None:
-        """A notification that changes nothing here."""
-
     # Requests that wait
+
+    def now_or_later(self, params: Json, number: Number, wants: str) -> Any:
+        document = self._document(params)
+        if document.has_ready(wants):
+            return document.result(wants)
+        return self._hold(document, Held(number, wants, time.monotonic() + _HOLD_SECONDS))
 
     def _hold(self, document: Document, held: Held) -> Held:
         document.held.append(held)
         return held
 
-    def _held_or_ready(self, document: Document, number: Union[int, str], wants: str) -> Any:
-        if self._is_ready(document, wants):
-            return self._result(document, wants)
-        return self._hold(document, Held(number, wants, time.monotonic() + _HOLD_SECONDS))
-
-    def _is_ready(self, document: Document, wants: str) -> bool:
-        if wants == "runs" or document.is_accepted is None:
-            return False
-        if wants == "lenses":
-            return not document.is_accepted or bool(document.verdict)
-        return document.hints is not None or "ways" not in document.jobs
-
-    def _result(self, document: Document, wants: str) -> Json:
-        return document.lenses() if wants == "lenses" else document.hints or []
-
     def _answer_held(self, document: Document, held: Held) -> None:
         document.held.remove(held)
-        is_early = held.wants == "lenses" and not self._is_ready(document, "lenses")
+        is_early = held.wants == "lenses" and not document.has_ready("lenses")
         document.has_early_lens = document.has_early_lens or is_early
-        self.client.answer(held.number, self._result(document, held.wants))
+        self.client.answer(held.number, document.result(held.wants))
 
     def _answer_ready(self, document: Document) -> None:
-        for held in [it for it in document.held if self._is_ready(document, it.wants)]:
+        for held in [it for it in document.held if document.has_ready(it.wants)]:
             self._answer_held(document, held)
 
 
+def _nothing(*_: object) -> None:
+    """A notification that changes nothing here."""
+
+
 _METHODS: dict[str, Callable[..., Any]] = {
-    "initialized": Server.nothing,
-    "$/setTrace": Server.nothing,
+    "initialized": _nothing,
+    "$/setTrace": _nothing,
     "$/cancelRequest": Server.cancel,
     "textDocument/didOpen": Server.did_open,
     "textDocument/didChange": Server.did_change,
     "textDocument/didSave": Server.did_save,
     "textDocument/didClose": Server.did_close,
-    "textDocument/hover": Server.hover,
-    "textDocument/definition": Server.definition,
+    "textDocument/hover": partial(Server.at_place, answer=hover_of),
+    "textDocument/definition": partial(Server.at_place, answer=definition_of),
     "textDocument/documentSymbol": Server.symbols,
-    "textDocument/codeLens": Server.lenses,
-    "textDocument/inlayHint": Server.hints,
+    "textDocument/codeLens": partial(Server.now_or_later, wants="lenses"),
+    "textDocument/inlayHint": partial(Server.now_or_later, wants="hints"),
     "workspace/executeCommand": Server.execute,
     "shutdown": Server.shut_down,
 }
