@@ -5,7 +5,7 @@ from typing import Optional, Union
 
 from .documents import Document
 from .frames import Json
-from .outline import Declared, Definition, End, Outline
+from .outline import Declared, Definition, Outline
 from .positions import Lines
 
 _MOST_LINES = 12  # of a definition, and of the partners of a port
@@ -53,7 +53,7 @@ def _of_port(outline: Outline, number: int, port: Declared) -> list[str]:
     component = outline.owner_of(number)
     type_name = outline.words[owner.name] if owner else ""
     names = [component] if component else [name for name, it in outline.components.items() if it == type_name]
-    partners = [line for name in names for line in _partners(outline, End(name, word))]
+    partners = [line for name in names for line in _partners(outline, f"{name}.{word}")]
     if outline.case is not None and not partners:
         told.append("- is neither connected nor mapped")
     told += partners[:_MOST_LINES]
@@ -62,14 +62,10 @@ def _of_port(outline: Outline, number: int, port: Declared) -> list[str]:
     return ["\n".join([told[0], "", *told[1:]])]
 
 
-def _partners(outline: Outline, end: End) -> list[str]:
-    lines = []
-    for joined in outline.joined:
-        for one, other in ((joined.first, joined.second), (joined.second, joined.first)):
-            if one == end:
-                how = "connected" if joined.how == "connect" else "mapped"
-                lines.append(f"- `{one.component}.{one.port}` is {how} to `{other.component}.{other.port}`")
-    return lines
+def _partners(outline: Outline, port: str) -> list[str]:
+    told = {"connect": "connected", "map": "mapped"}
+    both = [ends for how, one, other in outline.joined for ends in ((how, one, other), (how, other, one))]
+    return [f"- `{one}` is {told[how]} to `{other}`" for how, one, other in both if one == port]
 
 
 def _source(outline: Outline, lines: Lines, definition: Definition) -> str:

@@ -38,21 +38,6 @@ class Definition:
     declared: list[Declared] = field(default_factory=list)
 
 
-class End(NamedTuple):
-    """A port of a component, by the names of both."""
-
-    component: str
-    port: str
-
-
-class Joined(NamedTuple):
-    """Two ports that are connected or mapped."""
-
-    how: str
-    first: End
-    second: End
-
-
 class Outline:
     """The words of a text, its definitions, and the connections of its test case."""
 
@@ -69,7 +54,7 @@ class Outline:
         for it in self.definitions:
             self.named.setdefault(self.words[it.name], it)
         self.case = next((it for it in self.definitions if it.kind == "testcase"), None)
-        self.joined = list(self._joined())
+        self.joined = list(self._joined())  # `connect` or `map`, and two ports such as `mtc.bell`
         self.components = self._components()
 
     def word(self, number: int) -> str:
@@ -105,25 +90,25 @@ class Outline:
     def _definition(self, first: int) -> Optional[Definition]:
         """The definition that begins with the word."""
         word, kind = self.words[first], self.word(first + 1)
+        name, has_body = first + 2, True
         if word == "type" and kind in _TYPES:
-            if self.word(first + 2) == "of":
-                return self._ended(Definition(f"{kind} of", first, first + 4, first + 4, first + 4))
-            return self._with_body(Definition(f"{kind} type" if kind in _TYPES[4:] else kind, first, first + 2, 0, 0))
-        if word in _BODIES:
-            return self._with_body(Definition(word, first, first + 1, 0, 0))
-        if word in _NAMED and self.word(first - 1) != "var" and self.word(first + 2)[:1].isalpha():
-            return self._ended(Definition(word, first, first + 2, first + 2, first + 2))
-        return None
-
-    def _ended(self, made: Definition) -> Optional[Definition]:
-        return made if self.word(made.name)[:1].isalpha() else None
-
-    def _with_body(self, made: Definition) -> Optional[Definition]:
-        """Finds the braces of its body. One that isn't closed ends with the text, or before the next definition."""
-        if not self.word(made.name)[:1].isalpha():
+            has_body = self.word(first + 2) != "of"
+            name = first + 2 if has_body else first + 4
+            word = kind if has_body and kind in _TYPES[:4] else f"{kind} {'type' if has_body else 'of'}"
+        elif word in _BODIES:
+            name = first + 1
+        elif word in _NAMED and self.word(first - 1) != "var":
+            has_body = False
+        else:
             return None
+        if not self.word(name)[:1].isalpha():
+            return None
+        made = Definition(word, first, name, name, name)
+        return self._with_body(made) if has_body else made
+
+    def _with_body(self, made: Definition) -> Definition:
+        """Finds the braces of its body. One that isn't closed ends with the text, or before the next definition."""
         depth = 0
-        made.head = made.last = made.name
         for number in range(made.name + 1, len(self.words)):
             word = self.words[number]
             if depth == 0 and word in (";", "}") or word in (*_BODIES, "type"):
@@ -168,15 +153,12 @@ class Outline:
 
     # The test case
 
-    def _joined(self) -> Iterator[Joined]:
-        if self.case is None:
-            return
-        for number in range(self.case.head, self.case.last):
-            if self.words[number] not in ("connect", "map"):
-                continue
+    def _joined(self) -> Iterator[tuple[str, str, str]]:
+        inside = range(self.case.head, self.case.last) if self.case is not None else ()
+        for number in (it for it in inside if self.words[it] in ("connect", "map")):
             if "".join(self.word(number + it) for it in (1, 3, 5, 7, 9)) == "(:,:)":
                 one, port, other, partner = (self.words[number + it] for it in (2, 4, 6, 8))
-                yield Joined(self.words[number], End(named(one), port), End(named(other), partner))
+                yield self.words[number], f"{named(one)}.{port}", f"{named(other)}.{partner}"
 
     def _components(self) -> dict[str, str]:
         """The component types, by the names of the components."""
