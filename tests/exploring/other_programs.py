@@ -86,7 +86,7 @@ def answers_that_are_none(asked: Exploring) -> None:
     for name, status, text, said in (
         ("an answer that is none", 0, "always pass\n", "verdicts ended with status 0: always pass"),
         ("another status", 2, "always pass\nstates 9\n", "verdicts ended with status 2: always pass states 9"),
-        ("a program without the mode", 4, "", "verdicts ended with status 4: "),
+        ("a program without the mode", 4, "", "verdicts ended with status 4, and printed nothing"),
         ("a program that can't be built", 1, "", "can't be built"),
     ):
         ended = answer_of(asked, status, text, PING_PONG)
@@ -151,9 +151,9 @@ def other_reports(asked: Exploring) -> None:
 
 def programs_that_break_off(asked: Exploring) -> None:
     for line, said in (
-        ('cat -- "$2" >/dev/null', "ended with status 0: "),
+        ('cat -- "$2" >/dev/null', "ended with status 0, and printed nothing"),
         ("echo a file; exit 7", "ended with status 7: a file"),
-        ("kill -9 $$", "was killed or took too long: "),
+        ("kill -9 $$", "was killed or took too long, and printed nothing"),
         ('printf "component mtc\\n\\n"', "ended with status 0: component mtc"),
     ):
         told = says_alone(f"explore: {asked.room / 'other'} {said}")

@@ -85,7 +85,8 @@ def _output_of(
 def broken(program: str, status: Optional[int], printed: str) -> Stop:
     """The end of the tool, where the program doesn't do what is asked of it."""
     ended = "was killed or took too long" if status is None else f"ended with status {status}"
-    return Stop(NOT_BUILT, f"{program} {ended}: {' '.join(printed[-200:].split())}")
+    told = " ".join(printed[-200:].split())
+    return Stop(NOT_BUILT, f"{program} {ended}{f': {told}' if told else ', and printed nothing'}")
 
 
 def verdicts_by(program: str, data: bytes) -> Union[Answer, tuple[int, str]]:
