@@ -11,6 +11,7 @@ import argparse
 import os
 import subprocess
 import sys
+from pathlib import Path
 
 sys.dont_write_bytecode = True
 ROOT = os.path.dirname(os.path.dirname(os.path.dirname(os.path.realpath(__file__))))
@@ -52,40 +53,7 @@ def report_of_many(components: int, rounds: int) -> str:
 
 # The least contrast of a text of the page and what it stands on (WCAG 2.1, 1.4.3, level AA).
 LEAST_CONTRAST = 4.5
-CONTRASTS = """(() => {
-  const numbers = (colour) => colour.match(/[0-9.]+/g).map(Number);
-  const light = (colour) => {
-    const [r, g, b] = numbers(colour).map((it) => it / 255).map(
-      (it) => it <= 0.03928 ? it / 12.92 : ((it + 0.055) / 1.055) ** 2.4);
-    return 0.2126 * r + 0.7152 * g + 0.0722 * b;
-  };
-  const ground = (element) => {
-    for (let it = element; it; it = it.parentElement) {
-      const colour = getComputedStyle(it).backgroundColor;
-      if ((numbers(colour)[3] ?? 1) > 0) return colour;
-    }
-    throw new Error("the page has no ground");
-  };
-  const found = [];
-  const walk = document.createTreeWalker(document.body, NodeFilter.SHOW_TEXT);
-  for (let text = walk.nextNode(); text; text = walk.nextNode()) {
-    const element = text.parentElement;
-    if (!text.data.trim() || !element.checkVisibility()) continue;
-    const [low, high] = [light(getComputedStyle(element).color), light(ground(element))].sort((a, b) => a - b);
-    found.push([(high + 0.05) / (low + 0.05), text.data.trim().slice(0, 40)]);
-  }
-  return found.sort((a, b) => a[0] - b[0]);
-})()"""
-SHOWN = "[...document.querySelectorAll('.row')].filter((row) => !row.hidden)"
-IN_SIGHT = ("((box) => 0 <= box.top && box.top < innerHeight)"
-            "(document.querySelector('.row[open] summary').getBoundingClientRect())")
-# Of which rows a cell begins, in the same line, before the one at its left has ended with some room behind it.
-TOUCHING = """rows.filter((row) => {
-  const cells = [...row.querySelectorAll('summary span')].map((it) => it.getBoundingClientRect());
-  const touch = (one, other) => one.left < other.left && one.right + 4 > other.left && one.top < other.bottom
-    && other.top < one.bottom;
-  return cells.some((one) => cells.some((other) => touch(one, other)));
-}).map((row) => row.dataset.state)"""
+LOOKS = (Path(__file__).parent / "looks.js").read_text(encoding="utf-8")
 RACES = "each/races.ttcn"
 
 
@@ -255,6 +223,7 @@ class Pages:
     def open_suite(self, name: str, place: str = "") -> str:
         file = os.path.join(self.suites, name, "index.html")
         self.open_file(file, ".row", place)
+        self.browser.value(LOOKS)
         return file
 
     def suite(self) -> None:
@@ -265,14 +234,14 @@ class Pages:
             self.is_seen(scheme)
         browser.look(1280, 800)
         browser.click_on("label.schedule")
-        self.case("a state is chosen", ask(f"{SHOWN}.map((row) => row.dataset.state).join()"), "schedule")
+        self.case("a state is chosen", ask("shownRows().map((row) => row.dataset.state).join()"), "schedule")
         self.case("and counted", ask("document.getElementById('told').textContent"), "1 of 10 shown")
         browser.key("Escape")
         browser.key("/")
         browser.write("ERROR waits")
-        self.case("a text is looked for", ask(f"{SHOWN}.length"), 2)
+        self.case("a text is looked for", ask("shownRows().length"), 2)
         browser.key("Escape")
-        self.case("all are shown again", ask(f"{SHOWN}.length"), 10)
+        self.case("all are shown again", ask("shownRows().length"), 10)
         self.opened_rows()
         for place in ("#nowhere", "#%"):
             self.open_suite("page", place)
@@ -286,8 +255,8 @@ class Pages:
             ask("rows.forEach((row) => { row.open = true; })")
             browser.look(width, 800, scheme)
             self.case(f"{scheme}, {width} wide: no wider", ask("document.documentElement.scrollWidth <= innerWidth"), True)
-            self.case(f"{scheme}, {width} wide: no cells touch", ask(TOUCHING), [])
-            worst = ask(CONTRASTS)[0]
+            self.case(f"{scheme}, {width} wide: no cells touch", ask("rowsOfTouchingCells()"), [])
+            worst = ask("contrastsOfTexts()")[0]
             self.case(f"{scheme}, {width} wide: contrast", worst[0] >= LEAST_CONTRAST or worst, True)
             browser.picture(os.path.join(self.folder, f"suite_{scheme}_{width}.png"))
         ask("rows.forEach((row) => { row.open = false; })")
@@ -299,7 +268,7 @@ class Pages:
         self.case("Enter opens a row", ask("rows.map((row) => row.open).indexOf(true)"), 0)
         self.open_suite("page", f"#{RACES}")
         self.case("a link opens its row", ask("document.querySelector('.row[open] .script').textContent"), RACES)
-        self.case("and brings it in sight", ask(IN_SIGHT), True)
+        self.case("and brings it in sight", ask("isOpenRowInSight()"), True)
         all_loaded = ("Promise.all([...document.querySelectorAll('.row[open] img')].map((image) => "
                       "{ image.loading = 'eager'; return image.decode().then(() => image.naturalWidth > 100); }))")
         self.case("its pictures are loaded", ask(all_loaded), [True] * 3)
@@ -329,7 +298,7 @@ class Pages:
         took = ask("(() => { const began = performance.now(); words.value = 'script_39'; filter(); "
                    "document.body.offsetHeight; return performance.now() - began; })()")
         self.case("they are filtered in half a second", took < 500 or took, True)
-        self.case("and ten are left", ask(f"{SHOWN}.length"), 10)
+        self.case("and ten are left", ask("shownRows().length"), 10)
 
 
 def main() -> int:
