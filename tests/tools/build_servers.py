@@ -14,7 +14,6 @@ import os
 import re
 import shutil
 import sys
-import tempfile
 from pathlib import Path
 from typing import Any, NamedTuple
 from xml.etree import ElementTree
@@ -22,7 +21,7 @@ from xml.etree import ElementTree
 sys.dont_write_bytecode = True
 
 from rule_cases import must
-from tool_calls import ROOT, Ended, Group, case, example, run, try_groups
+from tool_calls import ROOT, Ended, Group, case, example, file_of, must_be, room, run, try_groups
 
 PROGRAM = sys.argv[1]
 KITCHEN = example("closed_counter_serves_no_order.ttcn").read_text(encoding="utf-8")
@@ -81,24 +80,15 @@ def fragments() -> None:
     for server in SERVERS:
         with case(f"the fragment for {server.heading}"):
             commands = commands_of(server)
-            words = [it.split()[0] for it in commands]
-            must(words == ["tpr-explain", "tpr-suite"], f"its commands begin with {words}")
+            must_be([it.split()[0] for it in commands], ["tpr-explain", "tpr-suite"])
             if server.is_yaml and importlib.util.find_spec("yaml"):
-                found = [it for it in strings_in(loaded(fragment_of(server))) if it.startswith("tpr-")]
-                must(found == commands, f"as YAML it has the commands {found}")
-
-
-def loaded(text: str) -> Any:
-    yaml: Any = importlib.import_module("yaml")
-    return yaml.safe_load(text)
+                read: Any = importlib.import_module("yaml").safe_load(fragment_of(server))
+                must_be([it for it in strings_in(read) if it.startswith("tpr-")], commands)
 
 
 def strings_in(value: Any) -> list[str]:
-    if isinstance(value, dict):
-        return [text for it in value.values() for text in strings_in(it)]
-    if isinstance(value, list):
-        return [text for it in value for text in strings_in(it)]
-    return [value] if isinstance(value, str) else []
+    inner = value.values() if isinstance(value, dict) else value if isinstance(value, list) else ()
+    return [value] if isinstance(value, str) else [text for it in inner for text in strings_in(it)]
 
 
 def commands() -> None:
@@ -106,22 +96,21 @@ def commands() -> None:
         print("left out the reader of JUnit XML: there is no junitparser")
     for server in SERVERS:
         for suite in SUITES:
-            with case(f"{server.heading}: {suite.name}"), tempfile.TemporaryDirectory() as folder:
-                try_commands(server, suite, Path(folder))
+            with case(f"{server.heading}: {suite.name}"), room() as folder:
+                try_commands(server, suite, folder)
 
 
 def try_commands(server: Server, suite: Suite, folder: Path) -> None:
-    (folder / "bin").mkdir()
+    for name in ("bin", "scripts"):
+        (folder / name).mkdir()
     for name in ("suite", "explain"):
         (folder / "bin" / f"tpr-{name}").symlink_to(ROOT / "tools" / name)
-    (folder / "scripts").mkdir()
-    (folder / "scripts" / "one.ttcn").write_text(suite.script, encoding="utf-8")
+    file_of(folder / "scripts" / "one.ttcn", suite.script)
     more = {"TPR": PROGRAM, "PATH": f"{folder}/bin:{os.environ['PATH']}"}
-    ended = [run("sh", "-e", "-c", it, folder=folder, more=more) for it in commands_of(server)]
-    explained, last = ended
+    explained, last = (run("sh", "-e", "-c", it, folder=folder, more=more) for it in commands_of(server))
     last.must_end(suite.status)
     explained.must_end(1 if suite.faults and server.goes_on else 0)
-    must(faults_in(explained, folder) == suite.faults, f"{faults_in(explained, folder)} faults in {explained.text}")
+    must_be(faults_in(explained, folder), suite.faults)
     look_at_junit(folder / "results.xml", suite)
 
 
@@ -136,8 +125,7 @@ def faults_in(explained: Ended, folder: Path) -> int:
 
 def look_at_junit(file: Path, suite: Suite) -> None:
     (one,) = ElementTree.parse(file).getroot().iter("testcase")
-    kinds = [it.tag for it in one if it.tag in ("failure", "error")]
-    must(kinds == [suite.ended] * bool(suite.ended), f"the case of results.xml ended with {kinds}")
+    must_be([it.tag for it in one if it.tag in ("failure", "error")], [suite.ended] * bool(suite.ended))
     if suite.script == RACE:
         text = "".join(one.itertext())
         must(re.search("(?m)^pass: ", text) and re.search("(?m)^fail: ", text), f"no two orders in {text}")
@@ -146,10 +134,8 @@ def look_at_junit(file: Path, suite: Suite) -> None:
 
 
 def a_status_of_the_program() -> None:
-    with case("a status of 0 of tpr isn't pass"), tempfile.TemporaryDirectory() as folder:
-        script = Path(folder) / "one.ttcn"
-        script.write_text(SUITES[2].script, encoding="utf-8")
-        run(PROGRAM, "run", script).must_show("^result fail$", 0)
+    with case("a status of 0 of tpr isn't pass"), room() as folder:
+        run(PROGRAM, "run", file_of(folder / "one.ttcn", SUITES[2].script)).must_show("^result fail$", 0)
 
 
 if __name__ == "__main__":
