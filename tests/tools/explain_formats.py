@@ -239,6 +239,7 @@ def of_sarif(room: Room) -> None:
         regions = [{"startLine": it.line, **columns(it)} for it in WANTED[:-1]]
         must_be([it.get("region") for it in places], [*regions, None])
         must_be([it["ruleId"] for it in ran["results"]], [it.code for it in WANTED])
+        must_be_sentences(it["message"]["text"] for it in ran["results"])
         ids = [it["id"] for it in ran["tool"]["driver"]["rules"]]
         must_be(ids, list(dict.fromkeys(it.code for it in WANTED)))
         related = ran["results"][1]["relatedLocations"][0]

@@ -6,7 +6,7 @@ message that depends on a variable, or a queue that something empties, is not wa
 from __future__ import annotations
 
 import functools
-from typing import Iterator, NamedTuple, Union
+from typing import Iterator, NamedTuple, Optional, Union
 
 from ..script.case import Case, Player
 from ..script.checks import check_script
@@ -27,6 +27,20 @@ class Finding(NamedTuple):
     place: int
     sentence: str
     others: tuple[tuple[int, str], ...] = ()
+
+
+class _Template(NamedTuple):
+    """What a receiving operation takes: from which component, of which type, and by which test of the value. None
+    excludes nothing, as where a template depends on a loop variable."""
+
+    sender: Optional[str]
+    type: Optional[str]
+    test: Optional[Test]
+
+    def may_take(self, type_name: str, value: Plain, sender: str) -> bool:
+        if self.sender not in (None, sender) or self.type not in (None, type_name):
+            return False
+        return self.test is None or self.test(value, {})
 
 
 def warnings_of(text: Text) -> list[Finding]:
@@ -60,7 +74,7 @@ class _Player:
         self.operations = [*operations_of(player.statements())]
         self.variables = {case.word(it) for it in player.variables()}
         self.looked = 0  # how many receiving operations were looked at for a message
-        self.tests: dict[int, Test] = {}  # of their templates
+        self.read: dict[str, list[_Template]] = {}  # by their ports, as far as they were looked at
         self.receiving: dict[str, list[Receive]] = {}
         for it in self.operations:
             if isinstance(it, Receive):
@@ -113,8 +127,11 @@ class _Player:
             return
         tried = self.receiving.get(port, [])
         self.looked += len(tried)
-        value = self.case.forms.filled(message.value, self.case.word(message.type), {})
-        if self.looked > _MOST_LOOKED and tried or any(self.may_take(it, message, value, sender) for it in tried):
+        type_name = self.case.word(message.type)
+        value = self.case.forms.filled(message.value, type_name, {})
+        if self.looked > _MOST_LOOKED and tried:
+            return
+        if any(template.may_take(type_name, value, sender) for template in self.templates(port)):
             return
         told, name = self.case.forms.text_of(message, {}), self.player.name
         why = f"no template there matches `{told}`" if tried else "it has no receiving operation there"
@@ -130,20 +147,20 @@ class _Player:
         controls = [it for it in self.operations if isinstance(it, Control)]
         return any(it.port is None or self.case.word(it.port) == port for it in controls)
 
-    def may_take(self, operation: Receive, message: Message, value: Plain, sender: str) -> bool:
-        if operation.sender is not None and self.player.references[self.case.word(operation.sender)] != sender:
-            return False
+    def templates(self, port: str) -> Iterator[_Template]:
+        """Those of a port in their order, each read once, and only if those before it didn't suffice."""
+        read = self.read.setdefault(port, [])
+        yield from read
+        for operation in self.receiving.get(port, [])[len(read) :]:
+            read.append(self.template(operation))
+            yield read[-1]
+
+    def template(self, operation: Receive) -> _Template:
+        sender = None if operation.sender is None else self.player.references[self.case.word(operation.sender)]
         if operation.message is None:
-            return True
-        type_name = self.case.word(message.type)
-        if self.case.word(operation.message.type) != type_name:
-            return False
-        if _has_name(operation.message.value):
-            return True
-        place = operation.message.type
-        if place not in self.tests:
-            self.tests[place] = self.case.forms.test_of(operation.message.value, type_name)
-        return self.tests[place](value, {})
+            return _Template(sender, None, None)
+        type_name, value = self.case.word(operation.message.type), operation.message.value
+        return _Template(sender, type_name, None if _has_name(value) else self.case.forms.test_of(value, type_name))
 
 
 def _has_name(value: Value) -> bool:
