@@ -2,7 +2,6 @@
 from __future__ import annotations
 
 import difflib
-from types import TracebackType
 from typing import Iterable, Optional
 
 from ..words import counted
@@ -62,9 +61,7 @@ class Faults:
     def __enter__(self) -> None:
         pass
 
-    def __exit__(
-        self, _: Optional[type[BaseException]], fault: Optional[BaseException], __: Optional[TracebackType]
-    ) -> bool:
+    def __exit__(self, _: object, fault: Optional[BaseException], __: object) -> bool:
         if not self.are_kept or not isinstance(fault, RuleFault):
             return False
         self.keep(fault)
