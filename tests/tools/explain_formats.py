@@ -174,25 +174,9 @@ def of_a_compiler(room: Room) -> None:
 def places_in_vim(room: Room, vim: str) -> Any:
     """The file, the line and the text at the cursor, for each error of the list."""
     (room.folder / "errors").write_bytes(room.all("gcc").printed)
-    lines = (
-        "set nocompatible nofixeol hidden efm=%f:%l:%c:\\ %trror:\\ %m,%f:%l:%c:\\ %tote:\\ %m",
-        "cgetfile errors",
-        "let found = []",
-        "for number in range(1, len(getqflist()))",
-        "  let one = getqflist()[number - 1]",
-        "  if one.type ==# 'e' && bufname(one.bufnr) !=# 'missing.ttcn'",
-        "    execute 'cc' number",
-        "    let rest = strpart(getline('.'), col('.') - 1)",
-        r"    call add(found, [bufname('%'), line('.'), matchstr(rest, '\v^(\w+(\.\d+)?|.)')])",
-        "  endif",
-        "endfor",
-        "call writefile([json_encode(found)], 'found')",
-        "qall!",
-    )
-    room.write("places.vim", "\n".join(lines) + "\n")
     quiet = {"HOME": str(room.folder), "LC_ALL": "C.UTF-8"}
-    words = ("-u", "NONE", "-n", "-es", "-c", "set encoding=utf-8", "-S", "places.vim")
-    run(vim, *words, folder=room.folder, more=quiet)
+    script = str(ROOT / "tests" / "tools" / "places.vim")
+    run(vim, "-u", "NONE", "-n", "-es", "-c", "set encoding=utf-8", "-S", script, folder=room.folder, more=quiet)
     found = json.loads((room.folder / "found").read_text(encoding="utf-8"))
     return [[file, line, piece.strip()] for file, line, piece in found]
 
