@@ -1,6 +1,7 @@
 """The components of a script's test case: what each of them does, and where its messages go."""
 from __future__ import annotations
 
+import functools
 from dataclasses import dataclass
 from itertools import accumulate
 from typing import Optional
@@ -51,11 +52,17 @@ class Case:
         types = checked.setup.types
         order = [name for name in types if name != SYSTEM] + [name for name in types if name == SYSTEM]
         self.players = [self._player(checked, name, types[name]) for name in order]
-        # The line of each token: how many ends of lines stand before it.
-        offsets = [text.offset(place) for place in range(len(text.tokens))]
-        between = [text.letters.count("\n", *cut) for cut in zip([0, *offsets], offsets)]
-        self._lines = [count + 1 for count in accumulate(between)]
-        self._told = {line: self.origins.line(line) for line in set(self._lines)}
+
+    @functools.cached_property
+    def _lines(self) -> list[int]:
+        """The line of each token: how many ends of lines stand before it."""
+        offsets = [self.text.offset(place) for place in range(len(self.text.tokens))]
+        between = [self.text.letters.count("\n", *cut) for cut in zip([0, *offsets], offsets)]
+        return [count + 1 for count in accumulate(between)]
+
+    @functools.cached_property
+    def _told(self) -> dict[int, Line]:
+        return {line: self.origins.line(line) for line in set(self._lines)}
 
     def word(self, place: int) -> str:
         return self.names.word(place)
