@@ -155,8 +155,31 @@ def timed(program: str) -> None:
             written = [f"{stem}.{reading}.ttcn{ending}" for reading in ("any", "never") for ending in ("", ".map")]
             judged(f"what is written of {name}", files == written, f"{files}")
     refused = run(REWRITE, "--tpr", program, "--timers=both", f"{FOLDER}/listed/compatible.ttcn")
-    is_so = refused.status == 2 and refused.said.endswith("rewrite: this was refused with --timers=never\n")
-    judged("a reading that is refused", is_so, refused.said)
+    both = "rewrite: this was refused with --timers=never and --timers=any\n"
+    is_so = refused.status == 2 and refused.said.endswith(both) and refused.said.count("rewrite: ") == 1
+    judged("both readings are refused", is_so, refused.said)
+    one_reading(program)
+
+
+def one_reading(program: str) -> None:
+    """A script that one reading refuses: the other is written, and the line tells both."""
+    text = PRELUDE + """testcase t() runs on C { timer t_guard := 1.0; connect(self:p, self:q); t_guard.start; p.send(1);
+alt { [] q.receive(integer:1) { if (t_guard.running) { setverdict(pass); } } [] t_guard.timeout { setverdict(fail); } } }
+}
+"""
+    with tempfile.TemporaryDirectory() as folder:
+        file = f"{folder}/t.ttcn"
+        with open(file, "w", encoding="utf-8") as opened:
+            opened.write(text)
+        ended = run(REWRITE, "--tpr", program, "--timers=both", file, "-o", f"{folder}/out.ttcn")
+        files = sorted(os.listdir(folder))
+    wanted = "always pass if no timer expires; refused if timers may expire\n"
+    reasons = ended.said.splitlines()
+    has_reason = reasons[0].startswith(f"{file}:3:45: whether this timer still runs is open here")
+    is_told = has_reason and reasons[-1] == "rewrite: this was refused with --timers=any"
+    judged("one reading is refused", (ended.status, ended.printed) == (5, wanted), ended.printed + ended.said)
+    judged("which reading is refused, and why", is_told, ended.said)
+    judged("the other reading is written", files == ["out.never.ttcn", "out.never.ttcn.map", "t.ttcn"], f"{files}")
 
 
 def told_besides(program: str) -> None:

@@ -8,7 +8,7 @@ rewrites() {
     done <<'PARTS'
 table 174
 natural 89
-timed 7
+timed 10
 same 59
 broken 14
 listed 60

@@ -19,9 +19,12 @@ class NoAnswer(Exception):
     """What was printed isn't an answer of `tpr verdicts`."""
 
 
-def told_of_both(never: str, always: str, expiring: Rewritten) -> str:
-    """The verdicts by what `tpr verdicts` printed of the two scripts. For each that only a timeout brings, the one that
-    comes first on a way to it."""
+def told_of_both(never: Optional[str], always: Optional[str], expiring: Rewritten) -> str:
+    """The verdicts by what `tpr verdicts` printed of the two scripts, or that one of them was refused. For each that only a
+    timeout brings, the one that comes first on a way to it."""
+    if never is None or always is None:
+        one_line, other_line = (printed and first_line(_answer(printed)) or "refused" for printed in (never, always))
+        return f"{one_line} if no timer expires; {other_line} if timers may expire"
     one, other = _answer(never), _answer(always)
     found = [f"{first_line(one)} if no timer expires"]
     if other.decided and len(other.verdicts) == 1:
