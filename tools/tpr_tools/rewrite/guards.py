@@ -233,12 +233,12 @@ class Expander(Closed):
         if not open_ones:
             self.flush(path, event.at)
             found.add(Guard(event.at, None, bodies))
-        elif event.target is Any.ALL and len(open_ones) > 1:
-            refuse(event.at, "`all component.done` of several as a branch isn't carried over")
         else:
-            for number in open_ones:
-                self.ask_done(number, event.at, path)
-                found.add(Guard(event.at, None, bodies, component=number))
+            # Of several the first is waited for, and then the `alt` begins anew: the rest is asked for behind it.
+            is_last = len(open_ones) == 1
+            self.ask_done(open_ones[0], event.at, path)
+            again = [Body(tree.Block(event.at, [tree.Leave(event.at, Leaving.REPEAT)]), scope, False)]
+            found.add(Guard(event.at, None, bodies if is_last else again, component=open_ones[0]))
 
     def asked_done(self, event: tree.Find, path: Path, scope: Scope) -> list[int]:
         raise NotImplementedError

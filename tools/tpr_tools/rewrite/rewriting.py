@@ -53,7 +53,7 @@ def rewrite(
     files = [source.file for source in sources]
     run = Run(program, values, options, may_leave=True)
     lines = written(run, chosen, files)
-    if (run.open or run.has_left) and not program.faults:
+    if (run.open or run.is_behind or run.has_left) and not program.faults:
         run, lines = with_what_comes(run, chosen, files)
     if lines is not None and not program.faults:
         return Rewritten(lines, notes=sorted_places([*run.notes, *_backslashes(sources)]))
