@@ -23,12 +23,14 @@ import tempfile
 from collections import Counter
 from concurrent.futures import ThreadPoolExecutor
 from typing import NamedTuple
+from unittest.mock import patch
 
 sys.path.insert(0, os.path.dirname(os.path.realpath(__file__)))
 
 from asking import EXPLAIN, FOLDER, PRELUDE, REWRITE, ROOT, TOOLS, Ended, carried, failed, judged, run
 from tpr_tools.rewrite.rewriting import rewrite
 from tpr_tools.rewrite.run import Options, Reading
+from tpr_tools.rewrite.sorting import MOST_OF_TREE
 from tpr_tools.rewrite.tokens import Source
 
 SECONDS_OF_LARGE = 5.0
@@ -77,12 +79,15 @@ def table(program: str) -> None:
             with open(file, "w", encoding="utf-8") as opened:
                 opened.write(case.script)
             is_of_tool, options = case.kind == "checked", KINDS.get(case.kind, Options())
-            tool = run(REWRITE, "--tpr", program, file) if is_of_tool else carried(program, file, case.script, options)
+            # Each is as large then as a script whose ways are sorted.
+            least = 0 if case.kind == "sorted" else MOST_OF_TREE
+            with patch("tpr_tools.rewrite.run.MOST_OF_TREE", least):
+                tool = run(REWRITE, "--tpr", program, file) if is_of_tool else carried(program, file, case.script, options)
             look_at(case, file, tool)
 
 
 def look_at(case: Case, file: str, ended: Ended) -> None:
-    if case.kind in ("becomes", "queued", "never", "any"):
+    if case.kind in ("becomes", "queued", "never", "any", "sorted"):
         found = body_of(ended.printed)
         judged(case.name, ended.status == 0 and found == case.wanted, f"{ended.said}{found}")
     elif case.kind == "encoded":

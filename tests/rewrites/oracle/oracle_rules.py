@@ -15,6 +15,7 @@ import os
 import subprocess
 import sys
 from collections import Counter
+from unittest.mock import patch
 
 HERE = os.path.dirname(os.path.realpath(__file__))
 ROOT = os.path.dirname(os.path.dirname(os.path.dirname(HERE)))
@@ -30,7 +31,7 @@ from tpr_tools.rewrite.rewriting import rewrite
 from tpr_tools.rewrite.run import Options, Reading
 from tpr_tools.rewrite.tokens import Source
 
-FIRST, COUNT, TIMED = 1, 40, 8
+FIRST, COUNT, TIMED, COUNT_SORTED = 1, 40, 8, 60
 MOST_STATES = 50_000
 PRELUDE = """module M {
 type record R { integer a, charstring b }
@@ -63,8 +64,29 @@ def verdicts_of_carried(program: str, text: str, options: Options) -> tuple[str,
     found = rewrite([Source("random", text.encode())], options=options)
     if found.refused:
         return "", found.refused[0].text().split("\n")[0].split(": ", 1)[-1]
-    ended = subprocess.run([program, "verdicts"], input=found.text.encode(), capture_output=True, check=False)
-    return ended.stdout.decode().partition("\n")[0], ""
+    return verdicts_of(program, found.text), ""
+
+
+def verdicts_of(program: str, script: str) -> str:
+    ended = subprocess.run([program, "verdicts"], input=script.encode(), capture_output=True, check=False)
+    return ended.stdout.decode().partition("\n")[0]
+
+
+def sorted_at_once(program: str, seeds: range) -> int:
+    """Random programs as if each got large: ways that go on alike are written once. How many become another script by it."""
+    count = 0
+    for seed in seeds:
+        sources, options = [Source("random", program_of(seed).encode())], Options(encodes=seed % 3 == 0)
+        tree = rewrite(sources, options=options)
+        with patch("tpr_tools.rewrite.run.MOST_OF_TREE", 0):
+            found = rewrite(sources, options=options)
+        if found.refused or found.text == tree.text:
+            continue
+        count += 1
+        got, wanted = (verdicts_of(program, one.text) for one in (found, tree))
+        name = f"random program {seed}, sorted"
+        print(f"passed {name}" if got == wanted else f"FAILED: {name}: {got!r}, and as a tree {wanted!r}", flush=True)
+    return count
 
 
 def cases(program: str) -> None:
@@ -118,6 +140,8 @@ def main() -> None:
             print(f"FAILED: {name}: {why}", flush=True)
         else:
             reasons[f"{kind}: {why}"] += 1
+    count = sorted_at_once(given.program, range(given.first, given.first + (given.count or COUNT_SORTED)))
+    print(f"{count} random programs are sorted", file=sys.stderr)
     if given.count is None:
         cases(given.program)
         unseen()

@@ -11,6 +11,7 @@ from .labels import lost_label
 from .paths import Exit, Key, Path, Scope, Slot, State, joined
 from .refusing import Refusal, refuse, refuse_open, refuse_silently
 from .run import members_of
+from .sorting import Sorted
 from .templates import look_at_restricted
 from .tokens import Token
 from .tree import Declared, Expression, Leaving, Statement
@@ -386,6 +387,8 @@ class Follower(ListFollower):
         finished: list[Path] = []
         is_asked = not is_first_done
         before: Optional[State] = None
+        above = paths[0].fork if len(paths) == 1 else None
+        may_sort = len(paths) == 1
         while paths:
             if len(paths) == 1 and paths[0].exit is Exit.ON:
                 if before is not None and before == paths[0].state:
@@ -402,7 +405,11 @@ class Follower(ListFollower):
             is_asked = True
             # All ways are joined once for each turn, since there may be many.
             going_on = self._stepped(turned, step, scope, finished)
-            paths = joined(going_on, self.live(), self.has_verdict, self.leave_behind)
+            paths = joined(going_on, self.live(), self.has_verdict, self.leave_behind, self.run.sorts)
+            if may_sort:
+                ways = [*(Sorted(one, False) for one in finished), *(Sorted(one, True) for one in paths)]
+                ways = self.sorted(ways, above, loop.at)
+                finished, paths = ([way.path for way in ways if way.goes_on is so] for so in (False, True))
         self.frames.pop()
         return finished
 

@@ -13,8 +13,9 @@ from .evaluating import SENDER
 from .fitting import open_alternatives, type_at
 from .guards import Expander, Guard, is_repeat_alone, may_repeat
 from .labels import lost_label
-from .paths import Exit, Fork, Path, Scope
+from .paths import Exit, Fork, Path, Scope, Split, checkpoint
 from .refusing import refuse, refuse_open
+from .sorting import Sorted
 from .tokens import Token
 from .tree import Receiving
 from .types import Kind, Type
@@ -43,7 +44,43 @@ class Chooser(Expander):
     def _turn(
         self, statement: tree.Alt, branches: list[tree.Branch], path: Path, scope: Scope, count: int
     ) -> list[Path]:
-        """One waiting of an `alt`; `count` says how often it was repeated."""
+        """All that comes of an `alt`, turn by turn where ways are sorted; `count` says how often it was repeated."""
+        if not self.run.sorts:
+            return self._waited(statement, branches, path, scope, count)
+        above, finished, again = path.fork, list[Path](), [path]
+        while again:
+            turned = [found for one in again for found in self._apart(statement, branches, one, scope, count)]
+            for one in turned:
+                if one.exit is not Exit.REPEAT:
+                    finished.append(one)
+            again = [one for one in turned if one.exit is Exit.REPEAT]
+            for one in again:
+                one.exit = Exit.ON
+            self.frames.append(self.program.names_in(statement))
+            ways = [*(Sorted(one, False) for one in finished), *(Sorted(one, True) for one in again)]
+            ways = self.sorted(ways, above, statement.at)
+            self.frames.pop()
+            finished, again = ([way.path for way in ways if way.goes_on is so] for so in (False, True))
+            count += 1
+        return finished
+
+    def _apart(
+        self, statement: tree.Alt, branches: list[tree.Branch], path: Path, scope: Scope, count: int
+    ) -> list[Path]:
+        """One turn on one way, anew where a message of this turn must be told apart."""
+        begun, open_now = self.counted, (len(self.frames), len(self.results), self.depth)
+        point = checkpoint(0, begun, self.run.written, [path])
+        while True:
+            try:
+                return self._waited(statement, branches, path, scope, count)
+            except Split as split:
+                path = self._back([point], split)[1][0]
+                self._close(open_now)
+
+    def _waited(
+        self, statement: tree.Alt, branches: list[tree.Branch], path: Path, scope: Scope, count: int
+    ) -> list[Path]:
+        """One waiting of an `alt`, and what comes of it where ways aren't sorted."""
         most = MOST_TURNS if self.flows is None else MOST_KNOWN_TURNS
         if count > most:
             refuse_open(statement.at, f"this is repeated more than {most} times")
@@ -246,6 +283,7 @@ class Chooser(Expander):
             self.set_timer(*guard.timer, False, path, guard.at)
         elif guard.how is not None:
             if leaf.coming is not None and leaf.awaited is not None:
+                self._split_by_sender(leaf)
                 self.note_got(leaf.awaited, leaf.coming, path)
             self._redirect(leaf, path, scope)
             if guard.how is not Receiving.CHECK:
@@ -274,6 +312,8 @@ class Chooser(Expander):
         self, statement: tree.Alt, branches: list[tree.Branch], leaf: Leaf, path: Path, scope: Scope, count: int
     ) -> list[Path]:
         if path.exit is Exit.REPEAT:
+            if self.run.sorts:
+                return [path]
             path.exit = Exit.ON
             return self._turn(statement, branches, path, scope, count + 1)
         if path.exit is Exit.BREAK:
@@ -310,6 +350,7 @@ class Chooser(Expander):
         if not is_value(value) and leaf.got is not None:
             symbol = Symbol(leaf.guard.number, message.type.root, message.form, "")
             symbol.facts, symbol.coming = leaf.facts, tuple(leaf.coming or ())
+            self._split_at_once(Received(symbol), redirect.at)
             leaf.got.value = symbol
             value = Received(symbol)
         if redirect.value is not None:
@@ -317,6 +358,19 @@ class Chooser(Expander):
         for target, part in redirect.parts:
             steps, type = self._steps(part, message.type)
             self._store_message(target, self.part(value, steps), type, path, scope)
+
+    def _split_by_sender(self, leaf: Leaf) -> None:
+        """Where ways are sorted, each sender has a branch, so that it is certain how much was taken of each."""
+        senders = list(dict.fromkeys(one.sender.component for one in leaf.coming or ()))
+        if self.run.sorts and len(senders) > 1 and -1 not in senders and leaf.guard.how is not Receiving.CHECK:
+            symbol = Symbol(leaf.guard.number, None, Wild.ANY, "")
+            symbol.facts = leaf.facts
+            raise Split(symbol, SENDER, ComponentValue(senders[0]), leaf.guard.at)
+
+    def _split_at_once(self, received: Received, at: Token) -> None:
+        """Where ways are sorted, each value has a branch: ways with the same value agree, and with the same template don't."""
+        if self.run.sorts and 0 < len({one.form for one in received.symbol.coming}) <= self.most_values:
+            self.split(received, at)
 
     def _steps(self, part: tree.Expression, type: Type) -> tuple[tuple[int, ...], Type]:
         """A field of the received value, by its name or a way of names."""
@@ -358,6 +412,7 @@ class Chooser(Expander):
             symbol.coming = tuple(leaf.coming or ())
             numbers = [end.component for end in self.peers_of(leaf.guard.port, path)]
             symbol.peers = tuple(dict.fromkeys(numbers))
+            self._split_at_once(Received(symbol, SENDER), target.at)
             leaf.got.sent_by = symbol
             value = Received(symbol, SENDER)
         self.store(key, steps, value, path, target.at)

@@ -106,11 +106,27 @@ class Unstarted:
 
 
 @dataclass
+class Went:
+    """A way tells which one it is, by a number that the component sends to itself."""
+
+    at: Token
+    number: int
+
+
+@dataclass
+class Came:
+    """The ways with this number go on here."""
+
+    at: Token
+    number: int
+
+
+@dataclass
 class Way:
     """A branch; without an operation `[else]`."""
 
     at: Token
-    operation: Optional[Union[Got, GotDone, GotEnd, Ticked]]
+    operation: Optional[Union[Got, GotDone, GotEnd, Ticked, Came]]
     code: Code
 
 
@@ -134,5 +150,7 @@ class Verdict:
     word: str
 
 
-Emitted = Union[Sent, Got, GotDone, Told, Ways, Operated, Verdict, Failed, Ticked, Unstarted, GotEnd, EndTold]
+Emitted = Union[
+    Sent, Got, GotDone, Told, Ways, Operated, Verdict, Failed, Ticked, Unstarted, GotEnd, EndTold, Went, Came
+]
 Code = list[Emitted]

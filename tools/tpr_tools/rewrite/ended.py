@@ -7,7 +7,7 @@ from collections import Counter
 from dataclasses import dataclass, field
 from typing import Iterable, Optional
 
-from .emitted import Code, Failed, Got, GotDone, GotEnd, Sent, Way, Ways
+from .emitted import Came, Code, Failed, Got, GotDone, GotEnd, Sent, Way, Ways, Went
 from .following import Followed, Part
 from .paths import End, peers
 from .reaching import Reach, TooFar
@@ -49,14 +49,30 @@ class _Walk:
     part: Part
     sent: Sends = field(default_factory=Counter)
     done: frozenset[int] = frozenset()
+    # What is known at the end of each way with a number.
+    went: dict[int, list[_Walk]] = field(default_factory=dict)
+
+    def inner(self, way: Way) -> _Walk:
+        """What is known where a branch begins."""
+        if isinstance(way.operation, Came):
+            return self.all_of(self.went[way.operation.number])
+        done = self.done | ({way.operation.component} if isinstance(way.operation, GotDone) else set())
+        return _Walk(self.part, Counter(self.sent), done, self.went)
+
+    def all_of(self, several: list[_Walk]) -> _Walk:
+        """What is known on each of several ways."""
+        sent: Sends = Counter()
+        for one in several:
+            sent |= one.sent
+        return _Walk(self.part, sent, frozenset.intersection(*(one.done for one in several)), self.went)
 
 
 class EndedFinder:
     def __init__(self, followed: Followed):
         self.followed = followed
         self.parts = {part.number: part for part in followed.parts}
-        self.ends = {number: _ended(part.code) for number, part in self.parts.items()}
-        self.most = {number: _most_sends(followed, part) for number, part in self.parts.items()}
+        self.ends = {number: _ended(part.code, _Ended(Counter(), frozenset()), {}) for number, part in self.parts.items()}
+        self.most = {number: _most_of(followed, number, part.code, Counter(), {}) for number, part in self.parts.items()}
         self.found: dict[tuple[Token, str], LateSend] = {}
         self.asked = 0
 
@@ -65,27 +81,27 @@ class EndedFinder:
             self._walk(_Walk(part), part.code)
         return list(self.found.values())
 
-    def _walk(self, walk: _Walk, code: Code) -> None:
+    def _walk(self, walk: _Walk, code: Code) -> bool:
+        """Whether it goes on behind this."""
         for statement in code:
             if isinstance(statement, Sent):
                 self._look_at(walk, statement)
                 count_sent(walk.sent, self.followed, walk.part.number, statement)
             elif isinstance(statement, GotDone):
                 walk.done |= {statement.component}
+            elif isinstance(statement, Went):
+                walk.went.setdefault(statement.number, []).append(walk)
+                return False
             elif isinstance(statement, Ways):
                 self._walk_ways(walk, statement)
+        return True
 
     def _walk_ways(self, walk: _Walk, statement: Ways) -> None:
-        behind: list[_Walk] = []
-        for way in statement.branches:
-            inner = _Walk(walk.part, Counter(walk.sent), walk.done)
-            if isinstance(way.operation, GotDone):
-                inner.done |= {way.operation.component}
-            self._walk(inner, way.code)
-            behind.append(inner)
-        for inner in behind:
-            walk.sent |= inner.sent
-        walk.done = frozenset.intersection(*(inner.done for inner in behind)) if behind else walk.done
+        inner = [(walk.inner(way), way) for way in statement.branches]
+        behind = [one for one, way in inner if self._walk(one, way.code)]
+        if behind:
+            found = walk.all_of(behind)
+            walk.sent, walk.done = walk.sent | found.sent, found.done
 
     def _look_at(self, walk: _Walk, statement: Sent) -> None:
         for end in receivers(self.followed, walk.part.number, statement):
@@ -132,45 +148,58 @@ class EndedFinder:
         return is_sender and came < count
 
 
-def _most_sends(followed: Followed, part: Part) -> Sends:
-    return _most_of(followed, part.number, part.code)
-
-
-def _most_of(followed: Followed, sender: int, code: Code) -> Sends:
-    found: Sends = Counter()
-    for statement in code:
+def _most_of(followed: Followed, sender: int, code: Code, behind: Sends, came: dict[int, Sends]) -> Sends:
+    """The most that is sent on a way from here on, with what is sent behind it, and for each way with a number."""
+    found = Counter(behind)
+    for statement in reversed(code):
         if isinstance(statement, Sent):
             count_sent(found, followed, sender, statement)
+        elif isinstance(statement, Went):
+            found = Counter(came[statement.number])
         elif isinstance(statement, Ways):
             most: Sends = Counter()
             for way in statement.branches:
-                most |= _most_of(followed, sender, way.code)
-            found += most
+                inner = _most_of(followed, sender, way.code, found, came)
+                if isinstance(way.operation, Came):
+                    came[way.operation.number] = inner
+                most |= inner
+            found = most
     return found
 
 
-def _ended(code: Code) -> Optional[_Ended]:
-    """Of all ways that come to an end; None where none does."""
-    found = _Ended(Counter(), frozenset())
-    for statement in code:
+_Came = dict[int, Optional[_Ended]]
+
+
+def _ended(code: Code, behind: Optional[_Ended], came: _Came) -> Optional[_Ended]:
+    """Of all ways from here on that come to an end, with what is behind; None where none does."""
+    found = behind
+    for statement in reversed(code):
         if isinstance(statement, Failed):
-            return None
-        if isinstance(statement, (Got, GotDone)):
-            _take(found, statement)
+            found = None
+        elif isinstance(statement, Went):
+            found = came[statement.number]
         elif isinstance(statement, Ways):
-            inner = [one for one in map(_ended_way, statement.branches) if one is not None]
-            if not inner:
-                return None
-            found.takes += _least(one.takes for one in inner)
-            found.awaited |= frozenset.intersection(*(one.awaited for one in inner))
+            inner = [one for one in [_ended_way(way, found, came) for way in statement.branches] if one is not None]
+            awaited = frozenset.intersection(*(one.awaited for one in inner)) if inner else frozenset[int]()
+            found = _Ended(_least(one.takes for one in inner), awaited) if inner else None
+        elif found is not None and isinstance(statement, (Got, GotDone)):
+            found = _taken(found, statement)
     return found
 
 
-def _ended_way(way: Way) -> Optional[_Ended]:
+def _ended_way(way: Way, behind: Optional[_Ended], came: _Came) -> Optional[_Ended]:
     # Behind the end of the test case nothing is sent to it.
-    found = _ended(way.code) if not isinstance(way.operation, GotEnd) else None
+    found = _ended(way.code, behind, came) if not isinstance(way.operation, GotEnd) else None
+    if isinstance(way.operation, Came):
+        came[way.operation.number] = found
     if found is not None and isinstance(way.operation, (Got, GotDone)):
-        _take(found, way.operation)
+        return _taken(found, way.operation)
+    return found
+
+
+def _taken(behind: _Ended, operation: Got | GotDone) -> _Ended:
+    found = _Ended(Counter(behind.takes), behind.awaited)
+    _take(found, operation)
     return found
 
 

@@ -10,7 +10,7 @@ from __future__ import annotations
 from dataclasses import dataclass, field
 from typing import Callable, Iterable, Optional
 
-from .emitted import Code, Failed, Sent, Ways
+from .emitted import Came, Code, Failed, Sent, Way, Ways, Went
 from .fitting import type_at
 from .paths import End, Joined, peers
 from .types import Type
@@ -65,6 +65,8 @@ class _Sender:
     flows: Flows
     is_new: bool = False
     counts: dict[Route, Span] = field(default_factory=dict)
+    # The counts on each way with a number.
+    went: dict[int, list[dict[Route, Span]]] = field(default_factory=dict)
 
     def walk(self, code: Code) -> bool:
         """Whether it goes on behind this."""
@@ -72,6 +74,9 @@ class _Sender:
             if isinstance(statement, Sent):
                 self._send(statement)
             elif isinstance(statement, Failed):
+                return False
+            elif isinstance(statement, Went):
+                self.went.setdefault(statement.number, []).append(self.counts)
                 return False
             elif isinstance(statement, Ways):
                 self._walk_ways(statement)
@@ -81,10 +86,13 @@ class _Sender:
         before = self.counts
         behind: list[dict[Route, Span]] = []
         for way in statement.branches:
-            self.counts = dict(before)
+            self.counts = self._before(way, before)
             if self.walk(way.code):
                 behind.append(self.counts)
         self.counts = spans_of_all(behind) if behind else before
+
+    def _before(self, way: Way, before: dict[Route, Span]) -> dict[Route, Span]:
+        return spans_of_all(self.went[way.operation.number]) if isinstance(way.operation, Came) else dict(before)
 
     def _send(self, statement: Sent) -> None:
         own = End(self.number, statement.port)

@@ -2,13 +2,13 @@
 from __future__ import annotations
 
 from collections import Counter
-from dataclasses import dataclass
+from dataclasses import dataclass, field
 from typing import Iterator, Optional
 
 from . import tree
 from .components import SYSTEM, Behaviour
 from .flowing import Flows, flow_from
-from .emitted import Code, EndTold, Emitted, Got, GotDone, GotEnd, Operated, Sent, Ticked, Told, Verdict, Ways
+from .emitted import Came, Code, EndTold, Emitted, Got, GotDone, GotEnd, Operated, Sent, Ticked, Told, Verdict, Ways
 from .labels import lost_label
 from .paths import End, Exit, Joined, Path, Started, State, peers
 from .refusing import Refusal, refuse, refuse_open
@@ -49,8 +49,8 @@ class Followed:
     system: Optional[Type]
     # Components whose end every way of the test case waits for.
     done: frozenset[int] = frozenset()
-    # The least that the test case's own verdict is at its end.
-    least: str = "none"
+    # For each component, the least that the test case's own verdict is where it ends without a wait for that component.
+    least: dict[int, str] = field(default_factory=dict)
 
 
 class CaseBehaviour(Behaviour):
@@ -128,8 +128,13 @@ def _follow_once(run: Run, case: tree.TestCase) -> Followed:
     for way in ending:
         _tell_ends(behaviour, way, case.at)
     done = frozenset(started).intersection(*(way.state.done | way.state.awaited for way in ending))
-    least = min((way.state.verdict for way in ending), key=VERDICTS.index, default="error")
+    least = {number: _least_without(number, ending) for number in started}
     return Followed(case, parts, state.joins, system, done, least)
+
+
+def _least_without(number: int, ending: list[Path]) -> str:
+    ways = [way.state for way in ending if number not in way.state.done | way.state.awaited]
+    return min((state.verdict for state in ways), key=VERDICTS.index, default="error")
 
 
 def _component_type(run: Run, word: str, at: Token) -> Type:
@@ -273,7 +278,8 @@ def waits(code: Code) -> bool:
             return True
         if isinstance(statement, Ways):
             # A timeout and the end of the test case come for sure.
-            goes_on = any(isinstance(way.operation, (type(None), Ticked, GotEnd)) for way in statement.branches)
+            sure = (type(None), Ticked, GotEnd, Came)
+            goes_on = any(isinstance(way.operation, sure) for way in statement.branches)
             if not goes_on or any(waits(way.code) for way in statement.branches):
                 return True
     return False
@@ -322,7 +328,7 @@ def _reason_to_wait(followed: Followed, part: Part) -> str:
     if waits(part.code):
         return "the test case may end while this component still waits: that would end it, but here it is an error"
     words = [one.word for one in statements_of(part.code) if isinstance(one, Verdict)]
-    if any(VERDICTS.index(word) > VERDICTS.index(followed.least) for word in words):
+    if any(VERDICTS.index(word) > VERDICTS.index(followed.least[part.number]) for word in words):
         return "the test case may end before this component sets its verdict, but here that verdict always counts"
     if any(_may_fail(followed, part, one) for one in statements_of(part.code)):
         return "the test case may end before this component reaches a send that fails, but here that send always counts"

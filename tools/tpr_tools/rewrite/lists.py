@@ -10,9 +10,10 @@ from .evaluating import Evaluator
 from .hoisting import Communicates, Hoister, expressions_of, key_of, names_beside
 from .interleaving import Interleaving
 from .labels import Labels, has_labels
-from .paths import Checkpoint, Exit, Key, Path, Scope, Slot, Split, checkpoint, joined
+from .paths import Checkpoint, Exit, Fork, Key, Path, Scope, Slot, Split, checkpoint, joined
 from .refusing import Refusal
 from .run import PortOf, Run, members_of
+from .sorting import Asked, Sorted, sorted_ways
 from .tokens import Token
 from .tree import Expression, Statement
 from .types import Type
@@ -33,6 +34,7 @@ class ListFollower(Evaluator, Hoister):
         self.members = members_of(self.types, type, at, self.size_of)
         self.ports: dict[str, PortOf] = self.members.ports
         self.counted = 0
+        self.sorted_ways = 0
         self.plans: dict[int, Plan] = {}
         self.frames: list[tuple[list[Statement], int] | frozenset[str]] = []
         self.results: list[Optional[Type]] = []
@@ -64,14 +66,14 @@ class ListFollower(Evaluator, Hoister):
     def statements(self, listed: list[Statement], path: Path, scope: Scope) -> list[Path]:
         """All ways behind the list. Where a message must be told apart it goes back to where that came."""
         points: list[Checkpoint] = []
-        paths, index = [path], 0
+        paths, index, above = [path], 0, path.fork
         open_now = (len(self.frames), len(self.results), self.depth)
         labels = Labels(listed)
         while index < len(listed):
             labels.land(index, paths)
-            points.append(checkpoint(index, self.counted, paths))
+            points.append(checkpoint(index, self.counted, self.run.written, paths))
             try:
-                paths = self._one(listed, index, paths, scope)
+                paths = self._one(listed, index, paths, scope, above)
             except Split as split:
                 index, paths = self._back(points, split)
                 labels.forget()
@@ -94,7 +96,7 @@ class ListFollower(Evaluator, Hoister):
         self.plans = {key: plan for key, plan in self.plans.items() if key <= number}
         facts = list(split.symbol.facts.items())
         self.plans[number] = _extended(self.plans.get(number), facts, split)
-        self.counted = point.counted
+        self.counted, self.run.written = point.counted, point.statements
         return point.index, point.restored()
 
     def _close(self, open_then: tuple[int, int, int]) -> None:
@@ -103,7 +105,9 @@ class ListFollower(Evaluator, Hoister):
         frames, results, self.depth = open_then
         del self.frames[frames:], self.results[results:]
 
-    def _one(self, listed: list[Statement], index: int, paths: list[Path], scope: Scope) -> list[Path]:
+    def _one(
+        self, listed: list[Statement], index: int, paths: list[Path], scope: Scope, above: Optional[Fork]
+    ) -> list[Path]:
         found: list[Path] = []
         depth = len(self.frames)
         # What stands before may be come to again by a `goto`.
@@ -116,9 +120,21 @@ class ListFollower(Evaluator, Hoister):
         del self.frames[depth:]
         if len(found) > 1 or found[0].fork is not None:
             self.frames.append((listed, 0 if has_labels(listed) else index + 1))
-            found = joined(found, self.live(), self.has_verdict, self.leave_behind)
+            found = joined(found, self.live(), self.has_verdict, self.leave_behind, self.run.sorts)
+            found = [way.path for way in self.sorted([Sorted(one, True) for one in found], above, listed[index].at)]
             del self.frames[depth:]
         return found
+
+    def sorted(self, ways: list[Sorted], above: Optional[Fork], at: Token) -> list[Sorted]:
+        """The ways that come from one with this fork, sorted if they are to be."""
+        if not self.run.sorts:
+            return ways
+        asked = Asked(self.live(), self.has_verdict, self.leave_behind, self._next_number, self.run.write)
+        return sorted_ways(ways, above, at, asked)
+
+    def _next_number(self) -> int:
+        self.sorted_ways += 1
+        return self.sorted_ways
 
     def _guarded(self, statement: Statement, path: Path, scope: Scope) -> list[Path]:
         """What is refused is told, and the rest looked at as if it weren't there."""

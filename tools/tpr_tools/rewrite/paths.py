@@ -146,33 +146,48 @@ class Path:
 
 @dataclass
 class Checkpoint:
-    """The ways before a statement, and how much was written for each."""
+    """The ways before a statement, how much was written for each, and in all."""
 
     index: int
     counted: int
-    ways: list[tuple[Path, int]]
+    statements: int
+    ways: list[Path]
+    written: list[tuple[Code, int]]
 
     def restored(self) -> list[Path]:
-        for path, length in self.ways:
-            del path.code[length:]
-        return [path.copy() for path, _ in self.ways]
+        for code, length in self.written:
+            del code[length:]
+        return [path.copy() for path in self.ways]
 
 
-def checkpoint(index: int, counted: int, paths: list[Path]) -> Checkpoint:
-    return Checkpoint(index, counted, [(path.copy(), len(path.code)) for path in paths])
+def checkpoint(index: int, counted: int, statements: int, paths: list[Path]) -> Checkpoint:
+    codes = {id(code): code for path in paths for code in _codes_of(path)}
+    written = [(code, len(code)) for code in codes.values()]
+    return Checkpoint(index, counted, statements, [path.copy() for path in paths], written)
+
+
+def _codes_of(path: Path) -> list[Code]:
+    """What is written for the way, and where it goes on once it has joined others."""
+    found, fork = [path.code], path.fork
+    while fork is not None:
+        found.append(fork.code)
+        fork = fork.above
+    return found
 
 
 def joined(
-    paths: list[Path], live: frozenset[str], has_verdict: bool, leave: Callable[[Path, set[Key]], None]
+    paths: list[Path], live: frozenset[str], has_verdict: bool, leave: Callable[[Path, set[Key]], None],
+    counts: bool = False,
 ) -> list[Path]:
-    """The ways, where those of one `alt` that agree in all that is still asked for are one; each is left before."""
+    """The ways, where those of one `alt` that agree in all that is still asked for are one; each is left before. They agree in
+    what was taken too, if that counts."""
     while True:
         groups: dict[int, list[Path]] = {}
         for path in paths:
             groups.setdefault(id(path.fork), []).append(path)
         merged = {
             key: _merged(group, live, leave) for key, group in groups.items()
-            if _is_whole(group) and _agree(group, live, has_verdict)
+            if _is_whole(group) and _agree(group, live, has_verdict) and not (counts and _took_apart(group))
         }
         if not merged:
             return paths
@@ -193,8 +208,8 @@ def _merged(group: list[Path], live: frozenset[str], leave: Callable[[Path, set[
     fork = group[0].fork
     assert fork is not None
     for path in group:
-        leave(path, _live_keys(path.state, live))
-    return Path(fork.code, _common(group, live), fork.above)
+        leave(path, live_keys(path.state, live))
+    return Path(fork.code, common(group, live), fork.above)
 
 
 def _agree(group: list[Path], live: frozenset[str], has_verdict: bool) -> bool:
@@ -205,8 +220,12 @@ def _agree(group: list[Path], live: frozenset[str], has_verdict: bool) -> bool:
     return all(_told(path.state, live, has_verdict) == told for path in group[1:])
 
 
+def _took_apart(group: list[Path]) -> bool:
+    return any(path.state.got != group[0].state.got for path in group)
+
+
 def _told(state: State, live: frozenset[str], has_verdict: bool) -> tuple[object, ...]:
-    kept = _live_keys(state, live)
+    kept = live_keys(state, live)
     variables = {key: slot.value for key, slot in state.variables.items() if key in kept}
     # `True == 1` in Python, so the types are compared too.
     kinds = {key: type(value) for key, value in variables.items()}
@@ -214,7 +233,7 @@ def _told(state: State, live: frozenset[str], has_verdict: bool) -> tuple[object
     return (variables, kinds, state.setup(), verdict)
 
 
-def _live_keys(state: State, live: frozenset[str]) -> set[Key]:
+def live_keys(state: State, live: frozenset[str]) -> set[Key]:
     """The variables that are spoken of, and those that such a one stands for."""
     found: set[Key] = set()
     for key, slot in state.variables.items():
@@ -225,10 +244,10 @@ def _live_keys(state: State, live: frozenset[str]) -> set[Key]:
     return found
 
 
-def _common(group: list[Path], live: frozenset[str]) -> State:
+def common(group: list[Path], live: frozenset[str]) -> State:
     """What all know: variables that are asked for no more are forgotten, and of what was taken the least counts."""
     state = group[0].state.copy()
-    kept = _live_keys(state, live)
+    kept = live_keys(state, live)
     state.variables = {
         key: slot if key in kept else replace(slot, value=Mark.LOST)
         for key, slot in state.variables.items()

@@ -5,7 +5,7 @@ from __future__ import annotations
 from collections import Counter
 from typing import Optional
 
-from .emitted import Code, Failed, Got, GotDone, GotEnd, Sent, Ways
+from .emitted import Came, Code, Failed, Got, GotDone, GotEnd, Sent, Way, Ways, Went
 from .following import Followed
 from .paths import End, peers
 from .sending import Sends, What, count_sent, sum_of
@@ -30,6 +30,8 @@ class Reach:
         self.ended: set[int] = set()
         self.steps = 0
         self._supplies: dict[tuple[int, str, What], int] = {}
+        # The counts on each way with a number that is come to.
+        self._went: dict[int, list[tuple[_Takes, Sends]]] = {}
 
     def may_end(self, component: int) -> bool:
         """Whether it can have ended by then."""
@@ -45,6 +47,7 @@ class Reach:
     def _settle(self, number: int, code: Code) -> bool:
         """Whether more of it is new."""
         before, was_ended = Counter(self.sent[number]), number in self.ended
+        self._went.clear()
         if self._follow(number, code, Counter(), Counter()):
             self.ended.add(number)
         return self.sent[number] != before or was_ended is not (number in self.ended)
@@ -57,6 +60,9 @@ class Reach:
                 raise TooFar()
             if isinstance(statement, Failed) or not self._passes(number, statement, takes):
                 return False
+            if isinstance(statement, Went):
+                self._went.setdefault(statement.number, []).append((takes, sent))
+                return False
             if isinstance(statement, Sent):
                 count_sent(sent, self.followed, number, statement)
                 self.sent[number] |= sent
@@ -66,19 +72,26 @@ class Reach:
 
     def _follow_ways(self, number: int, statement: Ways, takes: _Takes, sent: Sends) -> bool:
         behind: list[tuple[_Takes, Sends]] = []
+        before = set(self._went)
         for way in statement.branches:
-            inner = (Counter(takes), Counter(sent))
-            if self._passes(number, way.operation, inner[0]) and self._follow(number, way.code, *inner):
+            inner = self._inner(way, takes, sent)
+            if inner and self._passes(number, way.operation, inner[0]) and self._follow(number, way.code, *inner):
                 behind.append(inner)
         if not behind:
-            return False
-        least = behind[0][0]
-        for one, more in behind:
-            least &= one
-            sent |= more
+            # Ways with a number go on in the `alt` behind this.
+            return bool(set(self._went) - before)
+        least, most = _all_of(behind)
         takes.clear()
         takes.update(least)
+        sent |= most
         return True
+
+    def _inner(self, way: Way, takes: _Takes, sent: Sends) -> Optional[tuple[_Takes, Sends]]:
+        """The counts where a branch begins; None where no way with its number is come to."""
+        if not isinstance(way.operation, Came):
+            return Counter(takes), Counter(sent)
+        came = self._went.pop(way.operation.number, None)
+        return _all_of(came) if came else None
 
     def _passes(self, number: int, operation: object, takes: _Takes) -> bool:
         """Whether what it waits for may be there."""
@@ -109,3 +122,12 @@ class Reach:
             found = sum(sum_of(self.sent[one.component], one.port, end, what) for one in ends if one.component in self.sent)
             self._supplies[key] = found
         return found
+
+
+def _all_of(several: list[tuple[_Takes, Sends]]) -> tuple[_Takes, Sends]:
+    """The least that is taken and the most that is sent on several ways."""
+    least, most = Counter(several[0][0]), Counter(several[0][1])
+    for takes, sent in several[1:]:
+        least &= takes
+        most |= sent
+    return least, most

@@ -98,9 +98,8 @@ def written(run: Run, chosen: TestCase, files: list[str]) -> Optional[Lines]:
 def with_what_comes(before: Run, chosen: TestCase, files: list[str]) -> tuple[Run, Optional[Lines]]:
     """Anew, with what can come to each port, where nothing comes from outside. What was refused for another reason than
     that it wasn't known stays refused, unless nothing comes to it."""
-    run = Run(before.program, before.parameters, before.options, flows=Flows())
     try:
-        lines = written(run, chosen, files)
+        run, lines = sorted_if_large(before, chosen, files)
     except NotClosed:
         return whole(before, chosen, files)
     if lines is not None:
@@ -113,6 +112,21 @@ def with_what_comes(before: Run, chosen: TestCase, files: list[str]) -> tuple[Ru
         if place not in before.open:
             run.refused.setdefault(place, told)
     return run, None
+
+
+def sorted_if_large(before: Run, chosen: TestCase, files: list[str]) -> tuple[Run, Optional[Lines]]:
+    """The tree of all ways, and if that gets large or deep, a script in which ways that go on alike are written once. If that
+    is refused for another reason than its size, it is the tree as far as it may grow."""
+    run = Run(before.program, before.parameters, before.options, flows=Flows(), may_sort=True)
+    lines = written(run, chosen, files)
+    if lines is not None or not (run.is_large or any(_LARGE.search(one.reason) for one in run.refused.values())):
+        return run, lines
+    found = Run(before.program, before.parameters, before.options, flows=Flows(), sorts=True)
+    lines = written(found, chosen, files)
+    if lines is None and run.is_large and not any(_LARGE.search(one.reason) for one in found.refused.values()):
+        found = Run(before.program, before.parameters, before.options, flows=Flows())
+        lines = written(found, chosen, files)
+    return found, lines
 
 
 def whole(before: Run, chosen: TestCase, files: list[str]) -> tuple[Run, Optional[Lines]]:
@@ -139,6 +153,7 @@ def _backslashes(sources: list[Source]) -> list[Refused]:
     return [refused_at(source.escaped, reason) for source in sources if source.escaped is not None][:1]
 
 
+_LARGE = re.compile(r"nested too deep|brackets open|statements would be written|takes more than|repeated more than")
 _SEEMING = re.compile(r"this has no value yet|isn't the chosen one")
 _FOLLOWS = re.compile(r"isn't known|is no |no value|returns nothing|without a `return`|there is no |no branch")
 

@@ -10,6 +10,7 @@ from . import tree
 from .flowing import Flows
 from .program import Program
 from .refusing import Refusal, refuse
+from .sorting import MOST_OF_TREE
 from .tokens import Refused, Token, refused_at
 from .tree import Expression
 from .types import Kind, Type, Types
@@ -78,6 +79,10 @@ class Run:
     told_seconds: int = 0
     # Whether anything was waited for: else what comes changes nothing.
     has_waited: bool = False
+    # Whether ways that go on alike are written once, and whether a script that gets large is left for that.
+    sorts: bool = False
+    may_sort: bool = False
+    is_large: bool = False
     # Whether much that follows is left for when it is known what can come, and whether it was.
     may_leave: bool = False
     has_left: bool = False
@@ -127,6 +132,9 @@ class Run:
 
     def write(self, at: Token) -> None:
         self.written += 1
+        if self.may_sort and self.written > MOST_OF_TREE:
+            self.is_large = True
+            raise TooMany()
         if self.written > self.options.statements:
             self._stop(at, self._too_many())
 

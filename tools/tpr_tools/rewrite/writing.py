@@ -9,8 +9,8 @@ from typing import Optional
 from .clocks import ClockWriter, count_starts, without_unasked
 from .components import MOST_COMPONENTS
 from .emitted import (
-    Code, Emitted, EndTold, Failed, Got, GotDone, GotEnd, Message, Operated, Sent, Ticked, Ticking, Told, Unstarted,
-    Verdict, Way, Ways, Who,
+    Came, Code, Emitted, EndTold, Failed, Got, GotDone, GotEnd, Message, Operated, Sent, Ticked, Ticking, Told, Unstarted,
+    Verdict, Way, Ways, Went, Who,
 )
 from .encoding import Encoder
 from .following import Followed, Part, statements_of, tells_of
@@ -81,10 +81,15 @@ class Shape:
     timers: dict[str, str] = field(default_factory=dict)
     # A port that is connected with nothing: what is sent there fails.
     nowhere: str = ""
+    # Two that are connected with each other, for the numbers by which ways are sorted.
+    numbers: tuple[str, ...] = ()
 
-    def extra_ports(self) -> list[str]:
+    def control_ports(self) -> list[str]:
         """Those that carry the control messages of this tool."""
         return [*self.controls.values(), *self.timers.values(), *filter(None, [self.nowhere])]
+
+    def extra_ports(self) -> list[str]:
+        return [*self.control_ports(), *self.numbers]
 
 
 class Writer:
@@ -99,6 +104,7 @@ class Writer:
         self.types = TypeWriter(run.program.types, self.encoder, run.tell, followed.case.at)
         self.clocks = ClockWriter(self.names, self.lines.add)
         self.control_type = ""
+        self.number_type = ""
         self.system_name = ""
         self.started: list[tuple[str, str, Token]] = []
 
@@ -110,6 +116,9 @@ class Writer:
             self._add_timers(part)
             if any(isinstance(one, Failed) for one in statements_of(part.code)):
                 self.shapes[part.number].nowhere = self.names.free("nowhere_control")
+            if any(isinstance(one, Went) for one in statements_of(part.code)):
+                names = (self.names.free("way_control_out"), self.names.free("way_control_in"))
+                self.shapes[part.number].numbers = names
         case = self.followed.case
         self._head()
         self.lines.add(f"module {self.module_name} {{")
@@ -205,9 +214,12 @@ class Writer:
         system = self._system_ports() if self.followed.system is not None else {}
         ports.update({port.type.root: port.type for port in system.values()})
         self.types.write(list(ports.values()), self._messages(), self.lines.add)
-        if any(shape.extra_ports() for shape in shapes):
+        if any(shape.control_ports() for shape in shapes):
             self.control_type = self.names.free("Control")
             self.lines.add(f"  type port {self.control_type} message {{ inout boolean; }}")
+        if any(shape.numbers for shape in shapes):
+            self.number_type = self.names.free("WayNumber")
+            self.lines.add(f"  type port {self.number_type} message {{ inout integer; }}")
         self.clocks.write_type(self.control_type)
         self._component_types(shapes, system)
 
@@ -240,7 +252,8 @@ class Writer:
         behaviour = shape.part.behaviour
         members = _listed(behaviour.ports)
         members += [(loop, behaviour.ports[port].type.root.name) for port, loop in shape.loops.items()]
-        members += [(control, self.control_type) for control in shape.extra_ports()]
+        members += [(control, self.control_type) for control in shape.control_ports()]
+        members += [(port, self.number_type) for port in shape.numbers]
         if len(members) > 64:
             refuse(shape.part.at, "a component would have more than 64 ports")
         self.lines.add(f"  type component {name} {{{_members(members)}}}")
@@ -317,6 +330,9 @@ class Writer:
                 if shape.part.number < number:
                     back = other.controls[shape.part.number]
                     self.lines.add(f"    connect({shape.name}:{control}, {other.name}:{back});")
+            if shape.numbers:
+                one, other_end = (f"{shape.name}:{port}" for port in shape.numbers)
+                self.lines.add(f"    connect({one}, {other_end});")
 
 
 def _listed(ports: dict[str, PortOf]) -> list[tuple[str, str]]:
@@ -380,6 +396,8 @@ class Block:
             return self._operated(statement)
         if isinstance(statement, Failed):
             return [f"{self.shape.nowhere}.send(boolean:false)"]
+        if isinstance(statement, Went):
+            return [f"{self.shape.numbers[0]}.send(integer:{statement.number})"]
         assert isinstance(statement, Verdict)
         return [f"setverdict({statement.word})"]
 
@@ -400,7 +418,9 @@ class Block:
         self.statements(way.code, depth + 1)
         self.lines.add(f"{space}}}")
 
-    def _waited(self, operation: Got | GotDone | GotEnd | Ticked) -> str:
+    def _waited(self, operation: Got | GotDone | GotEnd | Ticked | Came) -> str:
+        if isinstance(operation, Came):
+            return f"{self.shape.numbers[1]}.receive(integer:{operation.number})"
         if isinstance(operation, GotEnd):
             return f"{self.shape.controls[0]}.receive(boolean:false)"
         return self._timer(operation)[0] if isinstance(operation, Ticked) else self._got(operation)
