@@ -6,7 +6,7 @@ rewrites() {
     while read -r part least; do
         at_least "$least" told "$room/rewrites_$part" tests/rewrites/rewrite_rules.py "$tpr" "$part"
     done <<'PARTS'
-table 179
+table 182
 natural 89
 timed 10
 same 59
@@ -15,7 +15,7 @@ listed 60
 lines 2
 rows 219
 instead 165
-faults 110
+faults 112
 PARTS
     at_least 800 told "$room/rewrites_by_chance" tests/rewrites/chance/chance_rules.py
     at_least 29 told "$room/rewrites_unseen" tests/rewrites/unseen_rules.py "$tpr"

@@ -16,6 +16,8 @@ from .values import ComponentValue, DefaultValue, Form, Mark, PortValue, Referen
 
 SYSTEM = -1
 MOST_COMPONENTS = 64
+# What `checkstate` asks for, and whether that is a mapping, a connection or either.
+_JOINED = {"Mapped": (True,), "Connected": (False,), "Linked": (True, False)}
 
 
 class Behaviour(Chooser):
@@ -34,6 +36,20 @@ class Behaviour(Chooser):
     def peers_of(self, port: str, path: Path) -> list[End]:
         joins = path.state.joins if self.can_set_up else self.known_joins
         return peers(joins, End(self.own, port))
+
+    def has_state(self, node: tree.Call, port: Expression, path: Path, scope: Optional[Scope]) -> bool:
+        """`p.checkstate("Mapped")` of an own port (22.5.5). What is joined with it is known, what it was told isn't kept."""
+        word = self.evaluate(node.arguments[0].value, path, scope) if len(node.arguments) == 1 else None
+        value = self.evaluate(port, path, scope)
+        if not isinstance(value, PortValue) or not isinstance(word, str) or word not in _JOINED:
+            refuse(node.at, "`checkstate` asks for something that is known only in a run")
+        end = End(self.own, value.name)
+        joins = path.state.joins if self.can_set_up else self.known_joins
+        of_port = [join for join in joins if end in (join.one, join.other)]
+        is_late = any(self.own in join.running for join in of_port)
+        if is_late or len(of_port) > 1 and value.name in path.state.left:
+            refuse(node.at, "`checkstate` asks for something that is known only in a run")
+        return value.name not in path.state.left and any(join.is_map in _JOINED[word] for join in of_port)
 
     # Sending
 

@@ -362,6 +362,9 @@ class Evaluator(Asker):
         self.look_at_value(value, node.at)
         return inverted(node.sign, value, node.at)
 
+    def has_state(self, node: tree.Call, port: Expression, path: Path, scope: Optional[Scope]) -> bool:
+        raise NotImplementedError
+
     # Calls
 
     def _call(self, node: tree.Call, path: Path, scope: Optional[Scope]) -> Form:
@@ -377,6 +380,8 @@ class Evaluator(Asker):
             return self._by_template(word, node.arguments, node.at, path, scope)
         if word in self.program.functions:
             return self.called_value(node, path, scope)
+        if word == "checkstate" and isinstance(node.called, tree.FieldOf):
+            return self.has_state(node, node.called.value, path, scope)
         if isinstance(node.called, tree.Name) and self.find(word, scope, path) is not None:
             refuse(node.at, f"`{word}` is called through a variable")
         refuse(node.at, f"the function `{word}` isn't evaluated")
