@@ -27,5 +27,5 @@ PARTS
 # A second interpreter of the full language, what tools/rewrite makes of random programs, and what Titan makes of them.
 oracle() {
     at_least 150 told "$room/oracle" tests/rewrites/oracle/oracle_rules.py "$tpr"
-    told "$room/oracle_on_titan" tests/rewrites/oracle/on_titan.py 2001 60
+    told "$room/oracle_on_titan" tests/rewrites/oracle/on_titan.py "$tpr" 2001 60
 }

@@ -1,67 +1,108 @@
 #!/usr/bin/env python3
-"""Random programs on Eclipse Titan, and whether its verdicts are among those of the oracle.
+"""Random programs on Eclipse Titan, beside what tools/rewrite makes of them and the oracle.
 
-    tests/rewrites/oracle/on_titan.py FIRST COUNT [RUNS]
+    tests/rewrites/oracle/on_titan.py TPR FIRST COUNT [RUNS]
 
-It needs ttcn3_compiler, mctr_cli and g++. All programs become one executable. A test case that waits for good is
-ended by Titan after ten seconds, with the verdict error. Programs that stop or halt ports are left out:
-there Titan's queues differ from the standard's (docs/EMBEDDING.md).
+COUNT programs that tools/rewrite carries over are taken, from the seed FIRST on. What `tpr verdicts` prints of what is
+written must be what the oracle finds of the program, and each verdict of Titan's RUNS must be among these. It needs
+ttcn3_compiler, mctr_cli and g++; TTCN3_DIR names a Titan that isn't below /usr. Many programs become one module, and
+each module an executable. A test case that waits for good is ended by Titan after ten seconds, with the verdict error.
+Two kinds of programs are left out, where Titan isn't as the standard: those that stop or halt ports
+(docs/EMBEDDING.md), and those in which both operands ask for something, since Titan may ask for the right one first (7.1).
 """
 from __future__ import annotations
 
 import argparse
-import contextlib
 import itertools
+import os
 import re
 import shutil
 import subprocess
 import sys
 import tempfile
 import time
+from collections import Counter
+from concurrent.futures import ProcessPoolExecutor, ThreadPoolExecutor
+from functools import partial
 from pathlib import Path
+from typing import NamedTuple
 
-from behaviour import Endless
-from exploring import Explorer, TooMany
-from grammar import Reader
+HERE = os.path.dirname(os.path.realpath(__file__))
+sys.path[:0] = [HERE, os.environ.get("REWRITING", f"{HERE}/../../../tools")]
+
+from oracle_rules import look_at, verdicts_of_carried
 from random_themes import program_of
+from tpr_tools.rewrite.run import Options, Reading
 
-MOST_STATES = 50_000
+# So many programs are one module: g++ takes longer for a program of a larger one.
+MOST_IN_MODULE = 25
+_ASKS_ON_BOTH_SIDES = re.compile(r"f_ask\([^;]*\) - f_ask\(")
 _OWN = r"\b(C|c_k|mw_\w+|f_\w+|as_\w+|TC_random)\b"
-_LIBRARIES = ("-L/usr/lib/titan", "-lttcn3-parallel", "-lcrypto", "-lxml2", "-ldl", "-lpthread")
+TITAN = os.environ.get("TTCN3_DIR", "/usr")
+_LIBRARIES = (f"-L{TITAN}/lib/titan", "-lttcn3-parallel", "-lcrypto", "-lxml2", "-ldl", "-lpthread")
+
+
+class Look(NamedTuple):
+    """A program: `same`, `wrong`, or why it isn't compared; and the verdicts of what is written."""
+
+    seed: int
+    kind: str
+    why: str
+    verdicts: frozenset[str]
+
+
+def looked_at(tpr: str, seed: int) -> Look:
+    kind, why = look_at(tpr, seed, Reading.REFUSED)
+    if kind != "same":
+        return Look(seed, kind, why, frozenset())
+    told, _ = verdicts_of_carried(tpr, program_of(seed), Options(encodes=seed % 3 == 0))
+    return Look(seed, kind, why, frozenset(told.removeprefix("always ").split(" or ")))
+
+
+def carried(tpr: str, first: int, count: int) -> list[Look]:
+    """So many looks at programs that are carried over, and those at the others that were met on the way."""
+    found: list[Look] = []
+    seeds = (seed for seed in itertools.count(first) if seed % 7 and not _ASKS_ON_BOTH_SIDES.search(program_of(seed)))
+    with ProcessPoolExecutor() as pool:
+        while (missing := count - sum(look.kind in ("same", "wrong") for look in found)) > 0:
+            found += pool.map(partial(looked_at, tpr), itertools.islice(seeds, missing))
+    return found
 
 
 def modules_of(seeds: list[int]) -> dict[str, str]:
-    """Two modules, of the programs with optional fields and of those without, in which all names end with the seed."""
-    bodies: dict[str, str] = {}
+    """Modules of programs with optional fields, and of programs without; in each all names end with the seed."""
+    encoded = [seed for seed in seeds if seed % 3 == 0]
+    plain = [seed for seed in seeds if seed % 3]
+    parts = [some[at : at + MOST_IN_MODULE] for some in (plain, encoded) for at in range(0, len(some), MOST_IN_MODULE)]
+    return {f"Programs{number}": module_of(f"Programs{number}", part) for number, part in enumerate(parts)}
+
+
+def module_of(name: str, seeds: list[int]) -> str:
+    body = ""
     for seed in seeds:
-        name = "Encoded" if seed % 3 == 0 else "Plain"
         text = program_of(seed).partition("{\n")[2]
         types, port, rest = re.split(r"( *type port [^\n]*\n)", text)
-        head = f"module {name} {{\n{types}{port.rstrip()} with {{ extension \"internal\" }}\n"
-        bodies[name] = bodies.get(name, head) + re.sub(_OWN, rf"\g<0>_{seed}", rest.rstrip()[:-1])
-    for name, body in bodies.items():
-        cases = "\n".join(f"    execute(TC_random_{seed}(), 10.0);" for seed in seeds if f"TC_random_{seed}()" in body)
-        bodies[name] = f"{body}  control {{\n{cases}\n  }}\n}}\n"
-    return bodies
+        body = body or f"module {name} {{\n{types}{port.rstrip()} with {{ extension \"internal\" }}\n"
+        body += re.sub(_OWN, rf"\g<0>_{seed}", rest.rstrip()[:-1])
+    cases = "\n".join(f"    execute(TC_random_{seed}(), 10.0);" for seed in seeds)
+    return f"{body}  control {{\n{cases}\n  }}\n}}\n"
 
 
-def built(folder: Path, seeds: list[int]) -> None:
-    modules = modules_of(seeds)
-    for name, text in modules.items():
-        (folder / f"{name}.ttcn").write_text(text)
-    compile_all = ["ttcn3_compiler", *(f"{it}.ttcn" for it in modules)]
-    told = subprocess.run(compile_all, cwd=folder, capture_output=True, text=True, check=False)
+def built(folder: Path, name: str, text: str) -> None:
+    """The executable of a module, and its configuration, in a folder of its own."""
+    folder.mkdir()
+    (folder / f"{name}.ttcn").write_text(text)
+    told = subprocess.run(["ttcn3_compiler", f"{name}.ttcn"], cwd=folder, capture_output=True, text=True, check=False)
     if told.returncode:
         raise SystemExit(told.stderr)
-    command = ["g++", "-O0", "-w", "-DLINUX", "-I/usr/include/titan", "-o", "programs", *(f"{it}.cc" for it in modules)]
+    command = ["g++", "-O0", "-w", "-DLINUX", f"-I{TITAN}/include/titan", "-o", "programs", f"{name}.cc"]
     subprocess.run([*command, *_LIBRARIES], cwd=folder, check=True)
-    controls = "\n".join(f"{name}.control" for name in modules)
     logging = '[LOGGING]\nLogFile := "/dev/null"\nConsoleMask := TESTCASE\n'
-    (folder / "run.cfg").write_text(f"[EXECUTE]\n{controls}\n[MAIN_CONTROLLER]\nNumHCs := 1\n{logging}")
+    (folder / "run.cfg").write_text(f"[EXECUTE]\n{name}.control\n[MAIN_CONTROLLER]\nNumHCs := 1\n{logging}")
 
 
 def verdicts(folder: Path) -> dict[int, str]:
-    """The verdict of each program, in one run of all of them."""
+    """The verdict of each program of a module, in one run of all of them."""
     with open(folder / "said", "w+", encoding="utf-8") as said:
         controller = subprocess.Popen(["mctr_cli", "run.cfg"], cwd=folder, stdin=subprocess.DEVNULL, stdout=said, stderr=said)
         port = None
@@ -75,35 +116,43 @@ def verdicts(folder: Path) -> dict[int, str]:
     return {int(seed): verdict for seed, verdict in found}
 
 
+def seen_on_titan(seeds: list[int], runs: int) -> dict[int, set[str]]:
+    seen: dict[int, set[str]] = {seed: set() for seed in seeds}
+    modules = modules_of(seeds)
+    with tempfile.TemporaryDirectory() as room, ThreadPoolExecutor(os.cpu_count()) as pool:
+        folders = [Path(room, name) for name in modules]
+        list(pool.map(built, folders, modules, modules.values()))
+        for _ in range(runs):
+            for found in pool.map(verdicts, folders):
+                for seed, verdict in found.items():
+                    seen[seed].add(verdict)
+    return seen
+
+
 def main() -> int:
-    words = argparse.ArgumentParser(description="Random programs on Eclipse Titan, beside the oracle.")
-    words.add_argument("first", metavar="FIRST", type=int)
-    words.add_argument("count", metavar="COUNT", type=int)
-    words.add_argument("runs", metavar="RUNS", type=int, nargs="?", default=3)
+    words = argparse.ArgumentParser(description="Random programs that are carried over, on Titan, tpr and the oracle.")
+    words.add_argument("tpr", metavar="TPR", help="the program that is asked for verdicts")
+    words.add_argument("first", metavar="FIRST", type=int, help="the seed of the first program")
+    words.add_argument("count", metavar="COUNT", type=int, help="how many programs that are carried over are compared")
+    words.add_argument("runs", metavar="RUNS", type=int, nargs="?", default=3, help="how often each runs on Titan (3)")
     given = words.parse_args()
     missing = [tool for tool in ("ttcn3_compiler", "mctr_cli", "g++") if shutil.which(tool) is None]
     if missing:
         print(f"left out random programs on Titan: {missing[0]} isn't there")
         return 0
-    wanted: dict[int, set[str]] = {}
-    for seed in itertools.count(given.first):
-        if len(wanted) == given.count:
-            break
-        if seed % 7 == 0:
-            continue
-        with contextlib.suppress(TooMany, Endless):
-            wanted[seed] = Explorer(Reader(program_of(seed)).read()).all_verdicts(MOST_STATES)
-    seen: dict[int, set[str]] = {seed: set() for seed in wanted}
-    with tempfile.TemporaryDirectory() as room:
-        built(Path(room), list(wanted))
-        for _ in range(given.runs):
-            for seed, verdict in verdicts(Path(room)).items():
-                seen[seed].add(verdict)
-    is_right = {seed: bool(seen[seed]) and seen[seed] <= wanted[seed] for seed in wanted}
-    for seed, so in is_right.items():
-        told = f"Titan {' '.join(sorted(seen[seed]))}, the oracle {' '.join(sorted(wanted[seed]))}"
-        print(f"passed random program {seed}: {told}" if so else f"FAILED: random program {seed}: {told}")
-    return int(not all(is_right.values()))
+    looks = carried(given.tpr, given.first, given.count)
+    seen = seen_on_titan([look.seed for look in looks if look.kind == "same"], given.runs)
+    is_right = True
+    for look in looks:
+        told = f"Titan {' '.join(sorted(seen.get(look.seed, ())))}, carried over {' '.join(sorted(look.verdicts))}"
+        if look.kind == "wrong" or look.kind == "same" and not set() < seen[look.seed] <= look.verdicts:
+            is_right = False
+            print(f"FAILED: random program {look.seed}: {look.why or told}")
+        elif look.kind == "same":
+            print(f"passed random program {look.seed}: {told}")
+    for why, number in Counter(f"{look.kind}: {look.why}" for look in looks if look.why).most_common():
+        print(f"{number} others are {why}", file=sys.stderr)
+    return int(not is_right)
 
 
 if __name__ == "__main__":
