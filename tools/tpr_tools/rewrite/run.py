@@ -65,7 +65,7 @@ class Run:
     refused: dict[tuple[str, int, int], Refused] = field(default_factory=dict)
     # The places at which it may be carried over where it is known what can come.
     open: set[tuple[str, int, int]] = field(default_factory=set)
-    # Whether anything is refused behind a wait, where nothing may come to it.
+    # Whether an end from outside, or a send to what has ended, is refused behind a wait, where nothing may come to it.
     is_behind: bool = False
     # What can come, where that is looked at.
     flows: Optional[Flows] = None
@@ -100,7 +100,8 @@ class Run:
         self.refused.setdefault(place, told)
         if refusal.is_open:
             self.open.add(place)
-        self.is_behind = self.is_behind or self.has_waited
+        is_unsure = any(words in refusal.reason for words in ("from outside", "after the end of"))
+        self.is_behind = self.is_behind or self.has_waited and is_unsure
         if len(self.refused) >= MOST_REFUSALS:
             raise TooMany()
 
