@@ -175,7 +175,7 @@ def places_in_vim(room: Room, vim: str) -> Any:
     """The file, the line and the text at the cursor, for each error of the list."""
     (room.folder / "errors").write_bytes(room.all("gcc").printed)
     quiet = {"HOME": str(room.folder), "LC_ALL": "C.UTF-8"}
-    script = str(ROOT / "tests" / "tools" / "places.vim")
+    script = str(ROOT / "tests" / "tools" / "data" / "places.vim")
     run(vim, "-u", "NONE", "-n", "-es", "-c", "set encoding=utf-8", "-S", script, folder=room.folder, more=quiet)
     found = json.loads((room.folder / "found").read_text(encoding="utf-8"))
     return [[file, line, piece.strip()] for file, line, piece in found]
@@ -294,7 +294,7 @@ def marked_in(text: str) -> list[tuple[int, int]]:
 
 def together(room: Room) -> None:
     """Scripts that have their faults as comments."""
-    for script in sorted((ROOT / "tests" / "tools" / "together").iterdir()):
+    for script in sorted((ROOT / "tests" / "tools" / "data" / "together").iterdir()):
         with case(f"told at once: {script.stem.replace('_', ' ')}"):
             found = json.loads(room.explain("--format", "json", str(script)).must_say_nothing(1).text)
             must_be([(it["number"], it["line"]) for it in found], marked_in(script.read_text(encoding="utf-8")))

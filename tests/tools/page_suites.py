@@ -31,7 +31,7 @@ NAME_OF_SIGNS = "100%23 a b & 'c' \"d\" <script>alert(3)<i>#x?y=1.ttcn"
 
 
 def script(name: str) -> str:
-    return (ROOT / "tests" / "tools" / "paged" / f"{name}.ttcn").read_text(encoding="utf-8")
+    return (ROOT / "tests" / "tools" / "data" / "paged" / f"{name}.ttcn").read_text(encoding="utf-8")
 
 
 WAITS = script("waits").replace("SIGNS", SIGNS)

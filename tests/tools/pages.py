@@ -53,7 +53,7 @@ def report_of_many(components: int, rounds: int) -> str:
 
 # The least contrast of a text of the page and what it stands on (WCAG 2.1, 1.4.3, level AA).
 LEAST_CONTRAST = 4.5
-LOOKS = (Path(__file__).parent / "looks.js").read_text(encoding="utf-8")
+LOOKS = (Path(__file__).parent / "data" / "looks.js").read_text(encoding="utf-8")
 RACES = "each/races.ttcn"
 
 
