@@ -2,8 +2,6 @@
 use Rattle.std.proofs.Common.{ℕ, ◌<◌, List, ◌++◌, Option, length, refl, sym, subst, arith, string_bytes}
 use Rattle.std.proofs.lemmas.List.{length_push, length-append, length-map}
 use Rattle.std.proofs.lemmas.Option.{slice_get_within}
-use Rattle.std.specs.declared.alloc.Global.{Global}
-use Rattle.std.specs.declared.string.String.{String}
 use Rattle.tp_value.specs.declared.types.Ty.{Ty}
 use Rattle.tp_value.proofs.HasTypeEquations.{has_int}
 use Rattle.tp_config.specs.declared.port_type.PortType.{PortType}
@@ -61,7 +59,7 @@ module _ (scope : Scope) (variables : Variables) where
     reference_there x k (n.component_named name j no_turn no_variable h) =
         omega (
           arith,
-          slice_get_within (scope.parameters.now ++ scope.component_variables.now) j (string_bytes name) h.there,
+          slice_get_within (scope.parameters.now ++ scope.component_variables.now) j name h.there,
           length-append scope.parameters.now scope.component_variables.now,
         )
 
@@ -71,7 +69,7 @@ module _ (scope : Scope) (variables : Variables) where
       typed = λ zs fit. typed scope.types.now turns zs (fits_64_bits zs fit) m.ty t.value m.value h.fits;
     }
     sent_played sendable x y (b.counter name k h l) = record {
-      around = omega (arith, needed_turn k, slice_get_within turns k (string_bytes name) h.there);
+      around = omega (arith, needed_turn k, slice_get_within turns k name h.there);
       typed = λ zs fit. rw (filled_turn, has_int) (refl, fits_64_bits zs fit k);
     }
     sent_played sendable x y (b.held name k u absent h l) = (u, h.typed)
@@ -84,7 +82,7 @@ module _ (scope : Scope) (variables : Variables) where
 
     send_played : (x : Send) (y : SendOperation) → IsSend scope variables turns x y → CanSend stage (length turns) y
     send_played x y h = record {
-      port = port_there (string_bytes x.port) y.port h.port h.port_known;
+      port = port_there x.port y.port h.port h.port_known;
       sent = sent_played _ x.sent y.sent h.sent;
       to = receiver_played x.to y.to h.receiver;
     }
@@ -100,17 +98,17 @@ module _ (scope : Scope) (variables : Variables) where
     sender_played x y b.whoever = tt
     sender_played x y (b.this_one c k h) = reference_there c k h
 
-    value_played : (m : RecvMsg) (x : Option (String Global)) (y : Option ℕ) → IsValueTarget variables turns m x y → CanKeepValue stage m y
+    value_played : (m : RecvMsg) (x : Option (List ℕ)) (y : Option ℕ) → IsValueTarget variables turns m x y → CanKeepValue stage m y
     value_played m x y (b.no_target wanted) = tt
     value_played m x y (b.target u r name k absent h) = h.typed
 
-    sender_target_played : (x : Option (String Global)) (y : Option ℕ) → IsSenderTarget variables turns x y → CanKeepSender stage y
+    sender_target_played : (x : Option (List ℕ)) (y : Option ℕ) → IsSenderTarget variables turns x y → CanKeepSender stage y
     sender_target_played x y b.no_sender_target = tt
     sender_target_played x y (b.sender_target name k absent h) = h.typed
 
     receive_played : (x : Receive) (y : Receiving) → IsReceive scope variables turns x y → CanReceive stage (length turns) y
     receive_played x y h = record {
-      port = port_there (string_bytes x.port) y.port h.port h.port_known;
+      port = port_there x.port y.port h.port h.port_known;
       wanted = wanted_played _ x.template y.wanted h.wants;
       sender = sender_played x.sender y.sender h.from_known;
       value_to = value_played y.wanted x.redirect.value y.value_to h.value_known;
@@ -121,13 +119,13 @@ module _ (scope : Scope) (variables : Variables) where
     statement_played : {turns : List (List ℕ)} {x : Action} {y : ResolvedStatement} → IsStatement scope variables turns x y → CanPlay stage (length turns) y
     statement_played (b.send turns x y h) = rw play_send (send_played turns x y h)
     statement_played (b.receive turns x y h) = rw play_receive (receive_played turns x y h)
-    statement_played (b.control turns x k port other h) = rw play_control (port_there (string_bytes x.port) k port h)
+    statement_played (b.control turns x k port other h) = rw play_control (port_there x.port k port h)
     statement_played (b.all_ports turns x other) = rw play_all_ports tt
     statement_played (b.set_verdict turns x y other h) = rw play_set_verdict tt
     statement_played (b.alt turns xs ys h) = rw play_alt (branches_played h, tt)
     statement_played (b.alt_else turns xs ys e block h inner) = rw play_alt_else (branches_played h, block_played inner)
     statement_played (b.counted turns x block new h) =
-        rw play_for (subst (λ n. CanPlayAll stage n block) (length_push turns (string_bytes (out-Counted x).turns.name)) (block_played h))
+        rw play_for (subst (λ n. CanPlayAll stage n block) (length_push turns (out-Counted x).turns.name) (block_played h))
 
     pub block_played : {turns : List (List ℕ)} {xs : List StatementText} {ys : List ResolvedStatement} → IsBlock scope variables turns xs ys
         → CanPlayAll stage (length turns) ys

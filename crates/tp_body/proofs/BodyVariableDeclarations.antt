@@ -1,5 +1,5 @@
 -- The variables of a body: what their rule fixes, and what it says of each.
-use Rattle.std.proofs.Common.{◌⊎◌, inl, inr, ◌≡◌, ℕ, ◌<◌, List, [], ◌∷◌, ◌++◌, Some, length, take, slice_get, refl, sym, ap, ◌∙◌, subst, arith, string_bytes}
+use Rattle.std.proofs.Common.{◌⊎◌, inl, inr, ◌≡◌, ℕ, ◌<◌, List, [], ◌∷◌, ◌++◌, Some, length, take, slice_get, refl, sym, ap, ◌∙◌, subst, arith}
 use Rattle.std.proofs.Math.Seq.{take-length}
 use Rattle.std.proofs.lemmas.List.{length_push, take-append-le}
 use Rattle.std.proofs.lemmas.Option.{slice_get_within}
@@ -36,7 +36,7 @@ module _ (scope : Scope) where
   typed_variables (one_variable_more xs vs ws x held before few is_held new names types) =
       let p : AreTyped vs = typed_variables before in
       record {
-        as_many = omega (arith, p.as_many, ap length names, ap length types, length_push vs.names (string_bytes x.name), length_push vs.types held);
+        as_many = omega (arith, p.as_many, ap length names, ap length types, length_push vs.names x.name, length_push vs.types held);
       }
 
   variables_as : {xs ys : List Variable} {vs ws : Variables} → AreVariables scope xs vs → AreVariables scope ys ws → xs ≡ ys → vs ≡ ws
@@ -58,7 +58,7 @@ module _ (scope : Scope) where
     pub few : length vs.names < 4294967295
     pub held : VariableType
     pub is_held : IsVariableType scope x.type_name held
-    pub new : IsNew scope vs [] (string_bytes x.name)
+    pub new : IsNew scope vs [] x.name
 
   pub has_next : {xs : List Variable} {ws : Variables} → AreVariables scope xs ws → (i : ℕ) (x : Variable) → slice_get xs i ≡ Some x
       → (vs : Variables) × AreVariables scope (take i xs) vs × Next (take i xs) vs x

@@ -1,7 +1,5 @@
 -- What is told of a name that no variable has.
-use Rattle.std.proofs.Common.{◌⊎◌, inl, inr, ◌≡◌, ℕ, List, Some, Contains, refl, subst, string_bytes}
-use Rattle.std.specs.declared.alloc.Global.{Global}
-use Rattle.std.specs.declared.string.String.{String}
+use Rattle.std.proofs.Common.{◌⊎◌, inl, inr, ◌≡◌, ℕ, List, Some, Contains, refl, subst}
 use Rattle.tp_tree.specs.declared.tree.ComponentName.{ComponentName}
 use Rattle.tp_tree.specs.declared.tree.ComponentName.TheVariants as c
 use Rattle.tp_name.specs.declared.fault.ModuleRule.{ModuleRule}
@@ -22,7 +20,7 @@ use Rattle.tp_body.proofs.RuleFaultPropagation.{told_rule}
 
 -- what is no reference is a name
 pub only_named : (scope : Scope) (variables : Variables) (turns : List (List ℕ)) (x : ComponentName)
-    → ((k : ℕ) → IsReference scope variables turns x k → ⊥) → (n : String Global) × (x ≡ c.Named n)
+    → ((k : ℕ) → IsReference scope variables turns x k → ⊥) → (n : List ℕ) × (x ≡ c.Named n)
 only_named scope variables turns c.Mtc none = absurd (none 0 d.mtc)
 only_named scope variables turns c.SelfComponent none = absurd (none 1 d.itself)
 only_named scope variables turns (c.Named n) none = (n, refl)
@@ -37,16 +35,16 @@ module _ (scope : Scope) (variables : Variables) (turns : List (List ℕ)) (line
   no_variable_told name absent none (inr (other, nor, is)) = told_rule _ _ _ f is (b.unknown absent none other nor)
 
   -- what is told of a name behind `from` that is no reference
-  pub no_reference_told : (x : ComponentName) (n : String Global) → x ≡ c.Named n → ((k : ℕ) → IsReference scope variables turns x k → ⊥)
-      → (Contains variables.names (string_bytes n) × (f ≡ module_fault.Refused rule.WrongType line))
-      ⊎ ((Contains variables.names (string_bytes n) → ⊥) × (f ≡ module_fault.Refused rule.Unknown line))
+  pub no_reference_told : (x : ComponentName) (n : List ℕ) → x ≡ c.Named n → ((k : ℕ) → IsReference scope variables turns x k → ⊥)
+      → (Contains variables.names n × (f ≡ module_fault.Refused rule.WrongType line))
+      ⊎ ((Contains variables.names n → ⊥) × (f ≡ module_fault.Refused rule.Unknown line))
       → TellsAt line (FromBreaks scope variables turns (Some x)) f
   no_reference_told x n e none (inl h) = rw e (told_rule _ _ _ f h.1 (b.from_variable n h.0))
   no_reference_told x n e none (inr h) =
       rw e (told_rule _ _ _ f h.1 (b.from_nobody n h.0 (subst (λ y. (k : ℕ) → IsReference scope variables turns y k → ⊥) e none)))
 
   -- what is told of a component behind `to` that is none
-  pub nobody_told : (x : ComponentName) → ((n : String Global) → x ≡ c.Named n → IsAbsent turns (string_bytes n) → Contains variables.names (string_bytes n) → ⊥)
+  pub nobody_told : (x : ComponentName) → ((n : List ℕ) → x ≡ c.Named n → IsAbsent turns n → Contains variables.names n → ⊥)
       → ((k : ℕ) → IsReference scope variables turns x k → ⊥) → f ≡ module_fault.Refused rule.Unknown line
       → TellsAt line (ReceiverBreaks scope variables turns (Some (destination.Component x))) f
   nobody_told c.Mtc no_variable none is = absurd (none 0 d.mtc)
@@ -55,14 +53,14 @@ module _ (scope : Scope) (variables : Variables) (turns : List (List ℕ)) (line
 
 module _ (scope : Scope) (variables : Variables) (turns : List (List ℕ)) where
   -- a name behind `to` that a variable has
-  pub variable_told : (n : String Global) → IsAbsent turns (string_bytes n) → Contains variables.names (string_bytes n) → {r : ModuleRule}
-      → NamesNoComponent scope variables turns (string_bytes n) r
+  pub variable_told : (n : List ℕ) → IsAbsent turns n → Contains variables.names n → {r : ModuleRule}
+      → NamesNoComponent scope variables turns n r
       → ReceiverBreaks scope variables turns (Some (destination.Component (c.Named n))) r
-  variable_told n absent there (b.no_variable_either s (b.turn k p)) = absurd (absent_place turns (string_bytes n) k absent p)
+  variable_told n absent there (b.no_variable_either s (b.turn k p)) = absurd (absent_place turns n k absent p)
   variable_told n absent there (b.no_variable_either s (b.parameter no_turn none other)) =
-      absurd (absent_contained variables.names (string_bytes n) none there)
+      absurd (absent_contained variables.names n none there)
   variable_told n absent there (b.no_variable_either s (b.component no_turn none other)) =
-      absurd (absent_contained variables.names (string_bytes n) none there)
+      absurd (absent_contained variables.names n none there)
   variable_told n absent there (b.no_variable_either s (b.unknown no_turn none other nor)) =
-      absurd (absent_contained variables.names (string_bytes n) none there)
+      absurd (absent_contained variables.names n none there)
   variable_told n absent there (b.holds_message k u no_turn v) = b.to_message n k u no_turn v

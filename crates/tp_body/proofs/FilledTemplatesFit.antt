@@ -36,13 +36,13 @@ module _ (types : Types) (turns : List (List ℕ)) (zs : List ℤ) (fit : (k : �
     fitting u x r (text_template cs h) = rw (template_exact, fits_exact, filled_text, has_text) (refl, h)
     fitting u x r (turn_template n k p) = rw (template_exact, fits_exact, filled_turn, has_int) (refl, fit k)
     fitting u x r (any v) = rw (template_any, fits_any) tt
-    fitting u x r (one_of v ts rs h) = rw (template_one_of, fits_one_of) (members_fit v ts.items rs h)
-    fitting u x r (none_of v ts rs h) = rw (template_none_of, fits_none_of) (members_fit v ts.items rs h)
+    fitting u x r (one_of v ts rs h) = rw (template_one_of, fits_one_of) (members_fit v ts rs h)
+    fitting u x r (none_of v ts rs h) = rw (template_none_of, fits_none_of) (members_fit v ts rs h)
     fitting u x r (range low high h) = rw (template_range, fits_range) (refl, h)
     fitting u x r (pattern cs) = rw (template_pattern, fits_pattern) refl
-    fitting u x r (element_templates v element ts rs e h) = rw (template_list, fits_list, e) (elements_fit element ts.items rs h)
-    fitting u x r (place_templates v fs ts rs e h) = rw (template_record, fits_record, e) (fields_fit fs ts.items rs h)
-    fitting u x r (field_templates v fs ts rs e n h) = rw (template_record, fits_record, e) (named_fit ts.items fs rs h)
+    fitting u x r (element_templates v element ts rs e h) = rw (template_list, fits_list, e) (elements_fit element ts rs h)
+    fitting u x r (place_templates v fs ts rs e h) = rw (template_record, fits_record, e) (fields_fit fs ts rs h)
+    fitting u x r (field_templates v fs ts rs e n h) = rw (template_record, fits_record, e) (named_fit ts fs rs h)
 
     members_fit : (u : Ty) (ts : List TemplateText) (rs : List RecvTemplate) → AreMembers types turns u ts rs
         → AllHave (λ v t. Fits types t v) u (map (filled_template zs) rs)

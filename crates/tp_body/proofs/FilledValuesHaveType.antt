@@ -37,9 +37,9 @@ module _ (types : Types) (turns : List (List ℕ)) (zs : List ℤ) (fit : (k : �
     typed u x w (bool b) = rw (filled_bool, has_bool) refl
     typed u x w (text cs h) = rw (filled_text, has_text) (refl, h)
     typed u x w (turn n k p) = rw (filled_turn, has_int) (refl, fit k)
-    typed u x w (elements v element vs ws e h) = rw (filled_list, has_list, e) (all_typed element vs.items ws h)
-    typed u x w (places v fs vs ws e h) = rw (filled_record, has_record, e) (fields_typed fs vs.items ws h)
-    typed u x w (fields v fs vs ws e n h) = rw (filled_record, has_record, e) (named_typed vs.items fs ws h)
+    typed u x w (elements v element vs ws e h) = rw (filled_list, has_list, e) (all_typed element vs ws h)
+    typed u x w (places v fs vs ws e h) = rw (filled_record, has_record, e) (fields_typed fs vs ws h)
+    typed u x w (fields v fs vs ws e n h) = rw (filled_record, has_record, e) (named_typed vs fs ws h)
 
     all_typed : (u : Ty) (vs : List ValueText) (ws : List SendValue) → AreElements types turns u vs ws
         → AllHave (λ v t. HasType types t v) u (map (filled zs) ws)

@@ -1,7 +1,5 @@
 -- The lines of the definition of what a variable holds, as rules on names that are known by an equation.
-use Rattle.std.proofs.Common.{◌≡◌, ℕ, string_bytes, subst}
-use Rattle.std.specs.declared.alloc.Global.{Global}
-use Rattle.std.specs.declared.string.String.{String}
+use Rattle.std.proofs.Common.{List, ◌≡◌, ℕ, subst}
 use Rattle.tp_value.specs.declared.types.Ty.{Ty}
 use Rattle.tp_tree.specs.declared.message.TypeName.{TypeName}
 use Rattle.tp_tree.specs.declared.message.TypeName.TheVariants as t
@@ -17,8 +15,8 @@ module _ (scope : Scope) where
   pub held_message : (x : TypeName) (u : Ty) → IsType scope.types.now x u → IsVariableType scope x (kind.Message u)
   held_message x u h = b.message x u h
 
-  pub held_component : (x : TypeName) (n : String Global) (k : ℕ) → x ≡ t.Named n → ((u : Ty) → IsType scope.types.now x u → ⊥)
-      → IsPlace scope.component_types.now (string_bytes n) k → IsVariableType scope x kind.Component
+  pub held_component : (x : TypeName) (n : List ℕ) (k : ℕ) → x ≡ t.Named n → ((u : Ty) → IsType scope.types.now x u → ⊥)
+      → IsPlace scope.component_types.now n k → IsVariableType scope x kind.Component
   held_component x n k e none p = rw e (b.component n k (no_number scope.types.now n (subst (λ y. (u : Ty) → IsType scope.types.now y u → ⊥) e none)) p)
 
 pub ruleset cases = (held_message, held_component)

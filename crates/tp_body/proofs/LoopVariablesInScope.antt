@@ -1,5 +1,5 @@
 -- What stands for a text speaks of no loop variables but those around the text.
-use Rattle.std.proofs.Common.{◌≡◌, ℕ, ◌-◌, ◌≤◌, ℤ, Bool, List, [], ◌∷◌, ◌++◌, Option, None, Some, max, length, map, sym, ap, ◌∙◌, arith, string_bytes}
+use Rattle.std.proofs.Common.{◌≡◌, ℕ, ◌-◌, ◌≤◌, ℤ, Bool, List, [], ◌∷◌, ◌++◌, Option, None, Some, max, length, map, sym, ap, ◌∙◌, arith}
 use Rattle.std.proofs.lemmas.List.{length_push}
 use Rattle.std.proofs.lemmas.Option.{slice_get_within}
 use Rattle.tp_value.specs.declared.types.Ty.{Ty}
@@ -124,8 +124,8 @@ module _ (types : Types) (turns : List (List ℕ)) where
     pub value_closed : {u : Ty} {x : Value} {y : SendValue} → IsValue types turns u x y → needed y ≤ length turns
     value_closed (d.int z h) = omega (arith, needed_int z)
     value_closed (d.bool b) = omega (arith, needed_bool b)
-    value_closed (d.text cs h) = omega (arith, needed_text cs.items)
-    value_closed (d.turn n k h) = omega (arith, needed_turn k, slice_get_within turns k (string_bytes n) h.there)
+    value_closed (d.text cs h) = omega (arith, needed_text cs)
+    value_closed (d.turn n k h) = omega (arith, needed_turn k, slice_get_within turns k n h.there)
     value_closed (d.elements u element vs ws f h) = omega (arith, needed_list ws, elements_closed h)
     value_closed (d.places u fields vs ws f h) = omega (arith, needed_record ws, fields_closed h)
     value_closed (d.fields u fields vs ws f n h) = omega (arith, needed_record ws, named_closed h)
@@ -146,13 +146,13 @@ module _ (types : Types) (turns : List (List ℕ)) where
     pub template_closed : {u : Ty} {x : Template} {y : RecvTemplate} → IsTemplate types turns u x y → needed_by_template y ≤ length turns
     template_closed (d.int_template z h) = omega (arith, needed_by_exact (w.Int z), needed_int z)
     template_closed (d.bool_template b) = omega (arith, needed_by_exact (w.Bool b), needed_bool b)
-    template_closed (d.text_template cs h) = omega (arith, needed_by_exact (w.Text cs.items), needed_text cs.items)
-    template_closed (d.turn_template n k h) = omega (arith, needed_by_exact (w.Turn k), needed_turn k, slice_get_within turns k (string_bytes n) h.there)
+    template_closed (d.text_template cs h) = omega (arith, needed_by_exact (w.Text cs), needed_text cs)
+    template_closed (d.turn_template n k h) = omega (arith, needed_by_exact (w.Turn k), needed_turn k, slice_get_within turns k n h.there)
     template_closed (d.any u) = omega (arith, needed_by_any)
     template_closed (d.one_of u ts rs h) = omega (arith, needed_by_one_of rs, members_closed h)
     template_closed (d.none_of u ts rs h) = omega (arith, needed_by_none_of rs, members_closed h)
     template_closed (d.range low high h) = omega (arith, needed_by_range low high)
-    template_closed (d.pattern cs) = omega (arith, needed_by_pattern (map d.part_of cs.items))
+    template_closed (d.pattern cs) = omega (arith, needed_by_pattern (map d.part_of cs))
     template_closed (d.element_templates u element ts rs f h) = omega (arith, needed_by_list rs, element_templates_closed h)
     template_closed (d.place_templates u fields ts rs f h) = omega (arith, needed_by_record rs, field_templates_closed h)
     template_closed (d.field_templates u fields ts rs f n h) = omega (arith, needed_by_record rs, named_templates_closed h)
@@ -188,7 +188,7 @@ module _ (scope : Scope) (variables : Variables) where
   sent_closed : (turns : List (List ℕ)) (sendable : List Ty) {x : SentExpression} {y : Sent} → IsSent scope variables turns sendable x y
       → needed_by_sent y ≤ length turns
   sent_closed turns sendable (b.written x m h l) = value_closed scope.types.now turns h.fits
-  sent_closed turns sendable (b.counter n k h l) = omega (arith, needed_turn k, slice_get_within turns k (string_bytes n) h.there)
+  sent_closed turns sendable (b.counter n k h l) = omega (arith, needed_turn k, slice_get_within turns k n h.there)
   sent_closed turns sendable (b.held n k u a h l) = omega arith
 
   pub wanted_closed : (turns : List (List ℕ)) (receivable : List Ty) {x : Option MessageTemplate} {y : RecvMsg} → IsWanted scope turns receivable x y
@@ -210,7 +210,7 @@ module _ (scope : Scope) (variables : Variables) where
           arith,
           around_for (out-Counted x).turns.first (out-Counted x).turns.bound inside,
           block_closed h,
-          length_push turns (string_bytes (out-Counted x).turns.name),
+          length_push turns (out-Counted x).turns.name,
         )
 
     pub block_closed : {turns : List (List ℕ)} {xs : List StatementText} {ys : List ResolvedStatement} → IsBlock scope variables turns xs ys

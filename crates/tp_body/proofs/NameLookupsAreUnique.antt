@@ -1,5 +1,5 @@
 -- A name stands for one thing: the rules of look-ups fix what they give.
-use Rattle.std.proofs.Common.{Contains, String, Global, subst, get_or, ◌-◌, length-append, ◌⊎◌, inl, inr, ◌≡◌, ℕ, ◌<◌, ◌≤◌, List, ◌++◌, Option, Some, None, option_map, length, slice_get, refl, sym, ap, ◌∙◌, arith, string_bytes}
+use Rattle.std.proofs.Common.{Contains, subst, get_or, ◌-◌, length-append, ◌⊎◌, inl, inr, ◌≡◌, ℕ, ◌<◌, ◌≤◌, List, ◌++◌, Option, Some, None, option_map, length, slice_get, refl, sym, ap, ◌∙◌, arith}
 use Rattle.std.proofs.lemmas.Bool.{cases_lt}
 use Rattle.std.proofs.lemmas.Option.{same_Some, slice_get-get_or, slice_get_within, get_or_from_slice_get}
 use Rattle.std.proofs.lemmas.List.{get_or_append_left, get_or-append_right}
@@ -48,7 +48,7 @@ module _ (types : Types) where
   stands t.Integer = Some ty.Integer
   stands t.Boolean = Some ty.Boolean
   stands t.Charstring = Some ty.Charstring
-  stands (t.Named n) = option_map ty.Named (type_number types (string_bytes n))
+  stands (t.Named n) = option_map ty.Named (type_number types n)
 
   type_stands : {x : TypeName} {u : Ty} → IsType types x u → stands x ≡ Some u
   unfolding stands
@@ -60,16 +60,16 @@ module _ (types : Types) where
   pub type_fixed : (x : TypeName) (u v : Ty) → IsType types x u → IsType types x v → u ≡ v
   type_fixed x u v a b = same_Some u v (sym (type_stands a) ∙ type_stands b)
 
-  pub type_unnamed : (x : TypeName) (n : String Global) → x ≡ t.Named n → None ≡ type_number types (string_bytes n) → (u : Ty) → IsType types x u → ⊥
+  pub type_unnamed : (x : TypeName) (n : List ℕ) → x ≡ t.Named n → None ≡ type_number types n → (u : Ty) → IsType types x u → ⊥
   unfolding stands
   type_unnamed x n e none u h =
       let is : Some u ≡ None = sym (type_stands h) ∙ ap stands e ∙ ap (option_map ty.Named) (sym none) in
       cc
 
   -- a name that stands for no type has no number
-  pub no_number : (n : String Global) → ((u : Ty) → IsType types (t.Named n) u → ⊥) → type_number types (string_bytes n) ≡ None
-  no_number n none = by (type_number types (string_bytes n)) refl where
-    by : (o : Option ℕ) → type_number types (string_bytes n) ≡ o → o ≡ None
+  pub no_number : (n : List ℕ) → ((u : Ty) → IsType types (t.Named n) u → ⊥) → type_number types n ≡ None
+  no_number n none = by (type_number types n) refl where
+    by : (o : Option ℕ) → type_number types n ≡ o → o ≡ None
     by None e = refl
     by (Some k) e = absurd (none (ty.Named k) (d.type_named n k e))
 
@@ -116,8 +116,8 @@ module _ (scope : Scope) (variables : Variables) (turns : List (List ℕ)) where
   Stands c.Mtc = Unit {0}
   Stands c.SelfComponent = Unit {0}
   Stands (c.Named n) =
-      IsAbsent turns (string_bytes n) × IsAbsent variables.names (string_bytes n)
-      × ((k : ℕ) × IsPlace (scope.parameters.now ++ scope.component_variables.now) (string_bytes n) k)
+      IsAbsent turns n × IsAbsent variables.names n
+      × ((k : ℕ) × IsPlace (scope.parameters.now ++ scope.component_variables.now) n k)
 
   reference_stands : {x : ComponentName} {k : ℕ} → IsReference scope variables turns x k → Stands x
   unfolding Stands
@@ -125,8 +125,8 @@ module _ (scope : Scope) (variables : Variables) (turns : List (List ℕ)) where
   reference_stands d.itself = tt
   reference_stands (d.component_named n k a b p) = (a, b, (k, p))
 
-  pub reference_named : (x : ComponentName) (n : String Global) (k : ℕ) → x ≡ c.Named n → IsReference scope variables turns x k
-      → IsAbsent turns (string_bytes n) × IsAbsent variables.names (string_bytes n)
-      × ((j : ℕ) × IsPlace (scope.parameters.now ++ scope.component_variables.now) (string_bytes n) j)
+  pub reference_named : (x : ComponentName) (n : List ℕ) (k : ℕ) → x ≡ c.Named n → IsReference scope variables turns x k
+      → IsAbsent turns n × IsAbsent variables.names n
+      × ((j : ℕ) × IsPlace (scope.parameters.now ++ scope.component_variables.now) n j)
   unfolding Stands
   reference_named x n k e h = subst Stands e (reference_stands h)

@@ -1,7 +1,5 @@
 -- An operation that breaks a rule stands for nothing.
-use Rattle.std.proofs.Common.{inl, inr, ◌≡◌, ℕ, List, Option, Contains, refl, sym, subst, string_bytes}
-use Rattle.std.specs.declared.alloc.Global.{Global}
-use Rattle.std.specs.declared.string.String.{String}
+use Rattle.std.proofs.Common.{inl, inr, ◌≡◌, ℕ, List, Option, Contains, refl, sym, subst}
 use Rattle.tp_value.specs.declared.types.Ty.{Ty}
 use Rattle.tp_config.specs.declared.port_type.PortType.{PortType}
 use Rattle.tp_tree.specs.declared.message.Message.{Message}
@@ -52,11 +50,11 @@ module _ (scope : Scope) (variables : Variables) (turns : List (List ℕ)) where
       let same = variable_fixed variables name j h.0 (kind.Message u) kind.Component v h.2 in absurd (cc)
 
   -- what is wanted at the port of this name
-  wants : (x : Receive) (y : Receiving) (k : ℕ) (port : PortType) → IsPortNamed scope.component_type.now (string_bytes x.port) k port
+  wants : (x : Receive) (y : Receiving) (k : ℕ) (port : PortType) → IsPortNamed scope.component_type.now x.port k port
       → IsReceive scope variables turns x y → IsWanted scope turns (receivable_types scope.behaviour port) x.template y.wanted
   wants x y k port known h =
       subst (λ p. IsWanted scope turns (receivable_types scope.behaviour p) x.template y.wanted)
-      (port_fixed scope.component_type.now (string_bytes x.port) y.port k h.port port h.port_known known) h.wants
+      (port_fixed scope.component_type.now x.port y.port k h.port port h.port_known known) h.wants
 
   module _ (sound : IsSoundScope scope) where
     message_excludes : {sendable : List Ty} {x : Message} {r : ModuleRule} → MessageBreaks scope variables turns sendable x r
@@ -72,29 +70,29 @@ module _ (scope : Scope) (variables : Variables) (turns : List (List ℕ)) where
         → SentMeans scope variables turns sendable x → ⊥
     sent_excludes (b.written x r broken) h = message_excludes broken h
     sent_excludes (b.counter n k p unlisted) (inl h) = unlisted h.2
-    sent_excludes (b.counter n k p unlisted) (inr h) = absent_place turns (string_bytes n) k h.2 p
-    sent_excludes (b.no_message n r absent broken) (inl h) = absent_place turns (string_bytes n) h.0 absent h.1
+    sent_excludes (b.counter n k p unlisted) (inr h) = absent_place turns n k h.2 p
+    sent_excludes (b.no_message n r absent broken) (inl h) = absent_place turns n h.0 absent h.1
     sent_excludes (b.no_message n r absent broken) (inr h) = no_message_excludes broken (h.0, h.1, h.2, h.3)
-    sent_excludes (b.held n k u absent v unlisted) (inl h) = absent_place turns (string_bytes n) h.0 absent h.1
+    sent_excludes (b.held n k u absent v unlisted) (inl h) = absent_place turns n h.0 absent h.1
     sent_excludes {sendable} (b.held n k u absent v unlisted) (inr h) =
-        unlisted (subst (Contains sendable) (message_fixed variables (string_bytes n) h.0 k h.1 u h.3 v) h.4)
+        unlisted (subst (Contains sendable) (message_fixed variables n h.0 k h.1 u h.3 v) h.4)
 
     receiver_excludes : {x : Option Receivers} {r : ModuleRule} → ReceiverBreaks scope variables turns x r → ReceiverMeans scope variables turns x → ⊥
     receiver_excludes (b.to_message n k u absent v) (inl h) =
-        let p = reference_named scope variables turns (c.Named n) n h.0 refl h.1 in absent_place variables.names (string_bytes n) k p.1 v.named
+        let p = reference_named scope variables turns (c.Named n) n h.0 refl h.1 in absent_place variables.names n k p.1 v.named
     receiver_excludes (b.to_message n k u absent v) (inr h) =
         let same : n ≡ h.0 = cc in
-        no_component_excludes (b.holds_message k u absent v) (subst (λ s. HasComponent scope variables turns (string_bytes s)) (sym same) h.2)
+        no_component_excludes (b.holds_message k u absent v) (subst (λ s. HasComponent scope variables turns s) (sym same) h.2)
     receiver_excludes (b.to_nobody n no_variable none) (inl h) = none h.0 h.1
     receiver_excludes (b.to_nobody n no_variable none) (inr h) =
         let same : n ≡ h.0 = cc in
-        let p = subst (λ s. HasComponent scope variables turns (string_bytes s)) (sym same) h.2 in
-        no_variable p.1 (contained_at variables.names (string_bytes n) p.0 p.2.named.there)
+        let p = subst (λ s. HasComponent scope variables turns s) (sym same) h.2 in
+        no_variable p.1 (contained_at variables.names n p.0 p.2.named.there)
 
     pub send_excludes : {x : Send} {r : ModuleRule} → SendBreaks scope variables turns x r → (y : SendOperation) → IsSend scope variables turns x y → ⊥
-    send_excludes {x} (b.no_port none) y h = absent_place (declared_port_names scope.component_type.now) (string_bytes x.port) y.port none h.port_known.named
+    send_excludes {x} (b.no_port none) y h = absent_place (declared_port_names scope.component_type.now) x.port y.port none h.port_known.named
     send_excludes {x} (b.sent k port r known broken) y h =
-        let same = port_fixed scope.component_type.now (string_bytes x.port) y.port k h.port port h.port_known known in
+        let same = port_fixed scope.component_type.now x.port y.port k h.port port h.port_known known in
         sent_excludes broken (sent_means scope variables turns (sendable_types scope.behaviour port)
         (subst (λ p. IsSent scope variables turns (sendable_types scope.behaviour p) x.sent y.sent) same h.sent))
     send_excludes (b.receiver k port z r known stands broken) y h = receiver_excludes broken (receiver_means scope variables turns h.receiver)
@@ -110,23 +108,23 @@ module _ (scope : Scope) (variables : Variables) (turns : List (List ℕ)) where
 
     from_excludes : {x : Option ComponentName} {r : ModuleRule} → FromBreaks scope variables turns x r → FromMeans scope variables turns x → ⊥
     from_excludes (b.from_variable n there) h =
-        let p = reference_named scope variables turns (c.Named n) n h.0 refl h.1 in absent_contained variables.names (string_bytes n) p.1 there
+        let p = reference_named scope variables turns (c.Named n) n h.0 refl h.1 in absent_contained variables.names n p.1 there
     from_excludes (b.from_nobody n no_variable none) h = none h.0 h.1
 
-    value_target_excludes : {m : RecvMsg} {x : Option (String Global)} {r : ModuleRule} → ValueTargetBreaks scope variables turns m x r
+    value_target_excludes : {m : RecvMsg} {x : Option (List ℕ)} {r : ModuleRule} → ValueTargetBreaks scope variables turns m x r
         → ValueMeans scope variables turns m x → ⊥
     value_target_excludes (b.holds_no_message n r broken) h = no_message_excludes broken (h.2, h.0, h.4, h.5)
     value_target_excludes {m} (b.holds_other n k u absent v other) h =
-        let same = message_fixed variables (string_bytes n) h.2 k h.0 u h.5 v in
+        let same = message_fixed variables n h.2 k h.0 u h.5 v in
         other h.1 (subst (λ t. m ≡ wanted.Of t h.1) same h.3)
 
-    sender_target_excludes : {x : Option (String Global)} {r : ModuleRule} → SenderTargetBreaks scope variables turns x r
+    sender_target_excludes : {x : Option (List ℕ)} {r : ModuleRule} → SenderTargetBreaks scope variables turns x r
         → SenderMeans scope variables turns x → ⊥
     sender_target_excludes (b.holds_no_component n r broken) h = no_component_excludes broken h
 
     pub receive_excludes : {x : Receive} {r : ModuleRule} → ReceiveBreaks scope variables turns x r → (y : Receiving) → IsReceive scope variables turns x y
         → ⊥
-    receive_excludes {x} (b.at_no_port none) y h = absent_place (declared_port_names scope.component_type.now) (string_bytes x.port) y.port none h.port_known.named
+    receive_excludes {x} (b.at_no_port none) y h = absent_place (declared_port_names scope.component_type.now) x.port y.port none h.port_known.named
     receive_excludes {x} (b.wanted k port r known broken) y h =
         wanted_excludes broken (wanted_means scope variables turns (receivable_types scope.behaviour port) (wants x y k port known h))
     receive_excludes (b.from k port m r known stands broken) y h = from_excludes broken (from_means scope variables turns h.from_known)

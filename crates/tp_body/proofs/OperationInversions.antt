@@ -1,7 +1,5 @@
 -- What stands behind the parts of an operation that obeys its rule.
-use Rattle.std.proofs.Common.{◌⊎◌, inl, inr, ◌≡◌, ℕ, List, Option, Some, None, Contains, refl, sym, ap, subst, string_bytes}
-use Rattle.std.specs.declared.alloc.Global.{Global}
-use Rattle.std.specs.declared.string.String.{String}
+use Rattle.std.proofs.Common.{◌⊎◌, inl, inr, ◌≡◌, ℕ, List, Option, Some, None, Contains, refl, sym, ap, subst}
 use Rattle.tp_value.specs.declared.types.Ty.{Ty}
 use Rattle.tp_value.specs.declared.types.Ty.TheVariants as ty
 use Rattle.tp_value.specs.declared.verdict.Verdict.{Verdict}
@@ -43,8 +41,8 @@ module _ (scope : Scope) (variables : Variables) (turns : List (List ℕ)) where
     abbrev pub SentMeans : SentExpression → Type 0
     SentMeans (sent.Message x) = (m : SendMsg) × IsMessage scope.types.now turns x m × Contains sendable m.ty
     SentMeans (sent.Variable n) =
-        ((k : ℕ) × IsPlace turns (string_bytes n) k × Contains sendable ty.Integer)
-        ⊎ ((k : ℕ) × (u : Ty) × IsAbsent turns (string_bytes n) × IsVariable variables (string_bytes n) k (kind.Message u) × Contains sendable u)
+        ((k : ℕ) × IsPlace turns n k × Contains sendable ty.Integer)
+        ⊎ ((k : ℕ) × (u : Ty) × IsAbsent turns n × IsVariable variables n k (kind.Message u) × Contains sendable u)
 
     pub sent_means : {x : SentExpression} {y : Sent} → IsSent scope variables turns sendable x y → SentMeans x
     sent_means (b.written x m h l) = (m, h, l)
@@ -55,7 +53,7 @@ module _ (scope : Scope) (variables : Variables) (turns : List (List ℕ)) where
   ReceiverMeans None = Unit {0}
   ReceiverMeans (Some d.AllComponents) = Unit {0}
   ReceiverMeans (Some (d.Component x)) =
-      ((k : ℕ) × IsReference scope variables turns x k) ⊎ ((n : String Global) × (x ≡ c.Named n) × HasComponent (string_bytes n))
+      ((k : ℕ) × IsReference scope variables turns x k) ⊎ ((n : List ℕ) × (x ≡ c.Named n) × HasComponent n)
 
   pub receiver_means : {x : Option Receivers} {y : Receiver} → IsReceiver scope variables turns x y → ReceiverMeans x
   receiver_means b.nobody = tt
@@ -81,21 +79,21 @@ module _ (scope : Scope) (variables : Variables) (turns : List (List ℕ)) where
     wanted_means b.every_message = tt
     wanted_means (b.matching x u r f l h) = (u, r, f, l, h)
 
-  abbrev pub ValueMeans : RecvMsg → Option (String Global) → Type 0
+  abbrev pub ValueMeans : RecvMsg → Option (List ℕ) → Type 0
   ValueMeans m None = Unit {0}
   ValueMeans m (Some n) =
-      (u : Ty) × (r : RecvTemplate) × (k : ℕ) × (m ≡ wanted.Of u r) × IsAbsent turns (string_bytes n)
-      × IsVariable variables (string_bytes n) k (kind.Message u)
+      (u : Ty) × (r : RecvTemplate) × (k : ℕ) × (m ≡ wanted.Of u r) × IsAbsent turns n
+      × IsVariable variables n k (kind.Message u)
 
-  pub value_means : {m : RecvMsg} {x : Option (String Global)} {y : Option ℕ} → IsValueTarget variables turns m x y → ValueMeans m x
+  pub value_means : {m : RecvMsg} {x : Option (List ℕ)} {y : Option ℕ} → IsValueTarget variables turns m x y → ValueMeans m x
   value_means (b.no_target m) = tt
   value_means (b.target u r n k a v) = (u, r, k, refl, a, v)
 
-  abbrev pub SenderMeans : Option (String Global) → Type 0
+  abbrev pub SenderMeans : Option (List ℕ) → Type 0
   SenderMeans None = Unit {0}
-  SenderMeans (Some n) = HasComponent (string_bytes n)
+  SenderMeans (Some n) = HasComponent n
 
-  pub sender_means : {x : Option (String Global)} {y : Option ℕ} → IsSenderTarget variables turns x y → SenderMeans x
+  pub sender_means : {x : Option (List ℕ)} {y : Option ℕ} → IsSenderTarget variables turns x y → SenderMeans x
   sender_means b.no_sender_target = tt
   sender_means (b.sender_target n k a v) = (k, a, v)
 
@@ -128,14 +126,14 @@ module _ (scope : Scope) (variables : Variables) (turns : List (List ℕ)) (rece
       let same : v ≡ u = cc in
       same_type h x u refl (subst (IsType scope.types.now x.type_name) same f)
 
-  moves : {m : RecvMsg} {t : Option (String Global)} {k : Option ℕ} → IsValueTarget variables turns m t k → (n : RecvMsg)
+  moves : {m : RecvMsg} {t : Option (List ℕ)} {k : Option ℕ} → IsValueTarget variables turns m t k → (n : RecvMsg)
       → ((u : Ty) (r : RecvTemplate) → m ≡ wanted.Of u r → (s : RecvTemplate) × (n ≡ wanted.Of u s)) → IsValueTarget variables turns n t k
   moves (b.no_target m) n same = b.no_target n
   moves (b.target u r name k a v) n same =
       let p = same u r refl in
       subst (λ y. IsValueTarget variables turns y (Some name) (Some k)) (sym p.1) (b.target u p.0 name k a v)
 
-  pub target_moves : (x : Option MessageTemplate) (m n : RecvMsg) (t : Option (String Global)) (k : Option ℕ)
+  pub target_moves : (x : Option MessageTemplate) (m n : RecvMsg) (t : Option (List ℕ)) (k : Option ℕ)
       → IsWanted scope turns receivable x m → IsWanted scope turns receivable x n → IsValueTarget variables turns m t k
       → IsValueTarget variables turns n t k
   target_moves x m n t k a z h = moves h n (same_wanted a n z)

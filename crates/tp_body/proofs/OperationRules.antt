@@ -1,7 +1,5 @@
 -- The lines of the definitions of operations, as rules on texts that are known by an equation.
-use Rattle.std.proofs.Common.{◌≡◌, ℕ, List, Option, Some, None, Contains, string_bytes}
-use Rattle.std.specs.declared.alloc.Global.{Global}
-use Rattle.std.specs.declared.string.String.{String}
+use Rattle.std.proofs.Common.{◌≡◌, ℕ, List, Option, Some, None, Contains}
 use Rattle.tp_value.specs.declared.types.Ty.{Ty}
 use Rattle.tp_value.specs.declared.types.Ty.TheVariants as ty
 use Rattle.tp_value.specs.declared.verdict.Verdict.TheVariants as verdict
@@ -36,13 +34,13 @@ module _ (scope : Scope) (variables : Variables) (turns : List (List ℕ)) where
       → IsSent scope variables turns types x (s.Written m)
   sent_written types x t m e h l = rw e (b.written t m h l)
 
-  pub sent_counter : (types : List Ty) (x : SentExpression) (n : String Global) (k : ℕ) (m : SendMsg) → x ≡ sent.Variable n
+  pub sent_counter : (types : List Ty) (x : SentExpression) (n : List ℕ) (k : ℕ) (m : SendMsg) → x ≡ sent.Variable n
       → m ≡ record { ty = ty.Integer; value = w.Turn k }
-      → IsPlace turns (string_bytes n) k → Contains types ty.Integer → IsSent scope variables turns types x (s.Written m)
+      → IsPlace turns n k → Contains types ty.Integer → IsSent scope variables turns types x (s.Written m)
   sent_counter types x n k m e f p l = rw (e, f) (b.counter n k p l)
 
-  pub sent_held : (types : List Ty) (x : SentExpression) (n : String Global) (k : ℕ) (u : Ty) → x ≡ sent.Variable n → IsAbsent turns (string_bytes n)
-      → IsVariable variables (string_bytes n) k (kind.Message u) → Contains types u → IsSent scope variables turns types x (s.Variable k)
+  pub sent_held : (types : List Ty) (x : SentExpression) (n : List ℕ) (k : ℕ) (u : Ty) → x ≡ sent.Variable n → IsAbsent turns n
+      → IsVariable variables n k (kind.Message u) → Contains types u → IsSent scope variables turns types x (s.Variable k)
   sent_held types x n k u e a v l = rw e (b.held n k u a v l)
 
   pub receiver_nobody : (x : Option Receivers) → x ≡ None → IsReceiver scope variables turns x to.Nobody
@@ -55,8 +53,8 @@ module _ (scope : Scope) (variables : Variables) (turns : List (List ℕ)) where
       → IsReceiver scope variables turns (Some (d.Component x)) (to.Reference k)
   receiver_reference x k h = b.reference x k h
 
-  pub receiver_variable : (x : ComponentName) (n : String Global) (k : ℕ) → x ≡ c.Named n → IsAbsent turns (string_bytes n)
-      → IsVariable variables (string_bytes n) k kind.Component
+  pub receiver_variable : (x : ComponentName) (n : List ℕ) (k : ℕ) → x ≡ c.Named n → IsAbsent turns n
+      → IsVariable variables n k kind.Component
       → IsReceiver scope variables turns (Some (d.Component x)) (to.Variable k)
   receiver_variable x n k e a v = rw e (b.variable n k a v)
 
@@ -76,19 +74,19 @@ module _ (scope : Scope) (variables : Variables) (turns : List (List ℕ)) where
   sender_this x n k e h = rw e (b.this_one n k h)
 
 module _ (variables : Variables) (turns : List (List ℕ)) where
-  pub value_nowhere : (m : RecvMsg) (x : Option (String Global)) → x ≡ None → IsValueTarget variables turns m x None
+  pub value_nowhere : (m : RecvMsg) (x : Option (List ℕ)) → x ≡ None → IsValueTarget variables turns m x None
   value_nowhere m x e = rw e (b.no_target m)
 
-  pub value_target : (m : RecvMsg) (x : Option (String Global)) (u : Ty) (r : RecvTemplate) (n : String Global) (k : ℕ) → x ≡ Some n → m ≡ wanted.Of u r
-      → IsAbsent turns (string_bytes n)
-      → IsVariable variables (string_bytes n) k (kind.Message u) → IsValueTarget variables turns m x (Some k)
+  pub value_target : (m : RecvMsg) (x : Option (List ℕ)) (u : Ty) (r : RecvTemplate) (n : List ℕ) (k : ℕ) → x ≡ Some n → m ≡ wanted.Of u r
+      → IsAbsent turns n
+      → IsVariable variables n k (kind.Message u) → IsValueTarget variables turns m x (Some k)
   value_target m x u r n k e f a v = rw (e, f) (b.target u r n k a v)
 
-  pub sender_nowhere : (x : Option (String Global)) → x ≡ None → IsSenderTarget variables turns x None
+  pub sender_nowhere : (x : Option (List ℕ)) → x ≡ None → IsSenderTarget variables turns x None
   sender_nowhere x e = rw e b.no_sender_target
 
-  pub sender_target : (x : Option (String Global)) (n : String Global) (k : ℕ) → x ≡ Some n → IsAbsent turns (string_bytes n)
-      → IsVariable variables (string_bytes n) k kind.Component
+  pub sender_target : (x : Option (List ℕ)) (n : List ℕ) (k : ℕ) → x ≡ Some n → IsAbsent turns n
+      → IsVariable variables n k kind.Component
       → IsSenderTarget variables turns x (Some k)
   sender_target x n k e a v = rw e (b.sender_target n k a v)
 

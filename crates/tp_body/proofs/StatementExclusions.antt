@@ -1,7 +1,5 @@
 -- A statement that breaks a rule stands for nothing, and so does the body in which it stands.
-use Rattle.std.proofs.Common.{ℕ, List, [], Option, Some, None, ap, ◌∙◌, subst, string_bytes, take, arith}
-use Rattle.std.specs.declared.vec.Vec.{Vec}
-use Rattle.std.specs.declared.alloc.Global.{Global}
+use Rattle.std.proofs.Common.{ℕ, List, [], Option, Some, None, ap, ◌∙◌, subst, take, arith}
 use Rattle.std.proofs.lemmas.Option.{slice_get-get_or}
 use Rattle.tp_tree.specs.declared.tree.Variable.{Variable}
 use Rattle.tp_tree.specs.declared.tree.Statement.{Statement as StatementText}
@@ -30,8 +28,8 @@ use Rattle.tp_body.proofs.StatementInversions.{AfterMeans, Ruled, after_means, b
 
 module _ (scope : Scope) (variables : Variables) (sound : IsSoundScope scope) where
   -- the branches of an `alt` stand for something, with or without an `[else]`
-  ruled_branches : (turns : List (List ℕ)) (xs : Vec BranchText Global) (e : Option ElseBranch) → Ruled scope variables turns (o.Alt xs e)
-      → (ys : List ResolvedBranch) × AreBranches scope variables turns xs.items ys
+  ruled_branches : (turns : List (List ℕ)) (xs : List BranchText) (e : Option ElseBranch) → Ruled scope variables turns (o.Alt xs e)
+      → (ys : List ResolvedBranch) × AreBranches scope variables turns xs ys
   ruled_branches turns xs None h = h
   ruled_branches turns xs (Some e) h = h.0
 
@@ -45,7 +43,7 @@ module _ (scope : Scope) (variables : Variables) (sound : IsSoundScope scope) wh
     statement_ruled (b.control_in_sut turns line x is) h = let p = subst (Ruled scope variables turns) (out_control x) h in p.0 is
     statement_ruled (b.control_of_no_port turns line x other none) h =
         let p = subst (Ruled scope variables turns) (out_control x) h in
-        absent_place (declared_port_names scope.component_type.now) (string_bytes x.port) p.1.0 none p.1.2.named
+        absent_place (declared_port_names scope.component_type.now) x.port p.1.0 none p.1.2.named
     statement_ruled (b.all_ports_in_sut turns line x is) h = subst (Ruled scope variables turns) (out_all_ports x) h is
     statement_ruled (b.verdict_in_sut turns line x is) h = let p = subst (Ruled scope variables turns) (out_set_verdict x) h in p.0 is
     statement_ruled (b.error_verdict turns line other) h =

@@ -1,6 +1,5 @@
 -- What stands behind the parts of a statement that obeys its rule.
-use Rattle.std.proofs.Common.{◌⊎◌, inl, inr, ◌≡◌, ◌≢◌, ℕ, List, [], ◌∷◌, ◌++◌, Option, Some, None, sym, ap, ◌∙◌, subst, arith, string_bytes, length, slice_get, Vec}
-use Rattle.std.specs.declared.alloc.Global.{Global}
+use Rattle.std.proofs.Common.{◌⊎◌, inl, inr, ◌≡◌, ◌≢◌, ℕ, List, [], ◌∷◌, ◌++◌, Option, Some, None, sym, ap, ◌∙◌, subst, arith, length, slice_get}
 use Rattle.std.proofs.lemmas.Option.{slice_get_within}
 use Rattle.tp_value.specs.declared.verdict.Verdict.{Verdict}
 use Rattle.tp_config.specs.declared.port_type.PortType.{PortType}
@@ -46,7 +45,7 @@ out_all_ports x = ap out-Action (sym (a.rolls-AllPorts x)) ∙ out-roll-Action (
 pub out_set_verdict : (x : VerdictName) → out-Action (a.SetVerdict x) ≡ o.SetVerdict x
 out_set_verdict x = ap out-Action (sym (a.rolls-SetVerdict x)) ∙ out-roll-Action (o.SetVerdict x)
 
-pub out_alt : (xs : Vec BranchText Global) (e : Option ElseBranch) → out-Action (a.Alt xs e) ≡ o.Alt xs e
+pub out_alt : (xs : List BranchText) (e : Option ElseBranch) → out-Action (a.Alt xs e) ≡ o.Alt xs e
 out_alt xs e = ap out-Action (sym (a.rolls-Alt xs e)) ∙ out-roll-Action (o.Alt xs e)
 
 pub out_for : (x : Counted) → out-Action (a.For x) ≡ o.For x
@@ -55,7 +54,7 @@ out_for x = ap out-Action (sym (a.rolls-For x)) ∙ out-roll-Action (o.For x)
 pub out_nothing : out-BranchBody after.Nothing ≡ o.Nothing
 out_nothing = ap out-BranchBody (sym after.rolls-Nothing) ∙ out-roll-BranchBody o.Nothing
 
-pub out_block : (xs : Vec StatementText Global) → out-BranchBody (after.Block xs) ≡ o.Block xs
+pub out_block : (xs : List StatementText) → out-BranchBody (after.Block xs) ≡ o.Block xs
 out_block xs = ap out-BranchBody (sym (after.rolls-Block xs)) ∙ out-roll-BranchBody (o.Block xs)
 
 module _ (scope : Scope) (variables : Variables) where
@@ -64,16 +63,16 @@ module _ (scope : Scope) (variables : Variables) where
   Ruled turns (o.Send x) = (y : SendOperation) × IsSend scope variables turns x y
   Ruled turns (o.Receive x) = (y : Receiving) × IsReceive scope variables turns x y
   Ruled turns (o.Control x) =
-      (scope.behaviour ≢ behaviour_kind.SystemUnderTest) × ((k : ℕ) × (port : PortType) × IsPortNamed scope.component_type.now (string_bytes x.port) k port)
+      (scope.behaviour ≢ behaviour_kind.SystemUnderTest) × ((k : ℕ) × (port : PortType) × IsPortNamed scope.component_type.now x.port k port)
   Ruled turns (o.AllPorts x) = scope.behaviour ≢ behaviour_kind.SystemUnderTest
   Ruled turns (o.SetVerdict x) = (scope.behaviour ≢ behaviour_kind.SystemUnderTest) × ((y : Verdict) × IsVerdict x y)
-  Ruled turns (o.Alt xs None) = (ys : List ResolvedBranch) × AreBranches scope variables turns xs.items ys
+  Ruled turns (o.Alt xs None) = (ys : List ResolvedBranch) × AreBranches scope variables turns xs ys
   Ruled turns (o.Alt xs (Some e)) =
-      ((ys : List ResolvedBranch) × AreBranches scope variables turns xs.items ys)
-      × ((block : List ResolvedStatement) × IsBlock scope variables turns (out-ElseBranch e).block.items block)
+      ((ys : List ResolvedBranch) × AreBranches scope variables turns xs ys)
+      × ((block : List ResolvedStatement) × IsBlock scope variables turns (out-ElseBranch e).block block)
   Ruled turns (o.For x) =
-      IsNew scope variables turns (string_bytes (out-Counted x).turns.name)
-      × ((block : List ResolvedStatement) × IsBlock scope variables (turns ++ string_bytes (out-Counted x).turns.name ∷ []) (out-Counted x).block.items block)
+      IsNew scope variables turns (out-Counted x).turns.name
+      × ((block : List ResolvedStatement) × IsBlock scope variables (turns ++ (out-Counted x).turns.name ∷ []) (out-Counted x).block block)
 
   pub ruled : {turns : List (List ℕ)} {x : Action} {y : ResolvedStatement} → IsStatement scope variables turns x y → Ruled turns (out-Action x)
   ruled (d.send turns x y h) = subst (Ruled turns) (sym (out_send x)) (y, h)
@@ -88,7 +87,7 @@ module _ (scope : Scope) (variables : Variables) where
   -- what the rule says of what stands behind an operation, by its layer
   abbrev pub AfterMeans : List (List ℕ) → o.BranchBody-F Action BranchBody BranchText Counted ElseBranch StatementText → Type 0
   AfterMeans turns o.Nothing = Unit {0}
-  AfterMeans turns (o.Block xs) = (ys : List ResolvedStatement) × IsBlock scope variables turns xs.items ys
+  AfterMeans turns (o.Block xs) = (ys : List ResolvedStatement) × IsBlock scope variables turns xs ys
 
   pub after_means : {turns : List (List ℕ)} {x : BranchBody} {ys : List ResolvedStatement} → IsAfter scope variables turns x ys → AfterMeans turns (out-BranchBody x)
   after_means (d.nothing turns) = subst (AfterMeans turns) (sym out_nothing) tt

@@ -1,6 +1,5 @@
 -- The lines of the definition of statements, as rules on statements that are known by an equation.
-use Rattle.std.proofs.Common.{◌≡◌, ◌≢◌, ℕ, ◌+◌, ◌<◌, List, [], ◌∷◌, ◌++◌, Some, None, string_bytes, length, take, get_or, subst, Vec}
-use Rattle.std.specs.declared.alloc.Global.{Global}
+use Rattle.std.proofs.Common.{◌≡◌, ◌≢◌, ℕ, ◌+◌, ◌<◌, List, [], ◌∷◌, ◌++◌, Some, None, length, take, get_or, subst}
 use Rattle.tp_value.specs.declared.verdict.Verdict.{Verdict}
 use Rattle.tp_config.specs.declared.port_type.PortType.{PortType}
 use Rattle.tp_tree.specs.declared.tree.Send.{Send}
@@ -39,7 +38,7 @@ module _ (scope : Scope) (variables : Variables) (turns : List (List ℕ)) where
   statement_receive x t y e h = rw e (d.receive turns t y h)
 
   pub statement_control : (x : Control) (k : ℕ) (port : PortType) → scope.behaviour ≢ behaviour_kind.SystemUnderTest
-      → IsPortNamed scope.component_type.now (string_bytes x.port) k port
+      → IsPortNamed scope.component_type.now x.port k port
       → IsStatement scope variables turns (a.Control x) (b.Control k x.operation)
   statement_control x k port n h = d.control turns x k port n h
 
@@ -54,24 +53,24 @@ module _ (scope : Scope) (variables : Variables) (turns : List (List ℕ)) where
   pub statement_as : (x y : Action) (z : ResolvedStatement) → x ≡ y → IsStatement scope variables turns y z → IsStatement scope variables turns x z
   statement_as x y z e h = rw e h
 
-  pub statement_alt : (x : Action) (xs : Vec BranchText Global) (ys : List ResolvedBranch) → x ≡ a.Alt xs None → AreBranches scope variables turns xs.items ys
+  pub statement_alt : (x : Action) (xs : List BranchText) (ys : List ResolvedBranch) → x ≡ a.Alt xs None → AreBranches scope variables turns xs ys
       → IsStatement scope variables turns x (b.Alt ys None)
   statement_alt x xs ys e h = rw e (d.alt turns xs ys h)
 
-  pub statement_alt_else : (x : Action) (xs : Vec BranchText Global) (ys : List ResolvedBranch) (o : ElseBranch) (block : List ResolvedStatement) → x ≡ a.Alt xs (Some o)
-      → AreBranches scope variables turns xs.items ys
-      → IsBlock scope variables turns (out-ElseBranch o).block.items block → IsStatement scope variables turns x (b.Alt ys (Some block))
+  pub statement_alt_else : (x : Action) (xs : List BranchText) (ys : List ResolvedBranch) (o : ElseBranch) (block : List ResolvedStatement) → x ≡ a.Alt xs (Some o)
+      → AreBranches scope variables turns xs ys
+      → IsBlock scope variables turns (out-ElseBranch o).block block → IsStatement scope variables turns x (b.Alt ys (Some block))
   statement_alt_else x xs ys o block e h i = rw e (d.alt_else turns xs ys o block h i)
 
-  pub statement_for : (x : Action) (l : Counted) (block : List ResolvedStatement) → x ≡ a.For l → IsNew scope variables turns (string_bytes (out-Counted l).turns.name)
-      → IsBlock scope variables (turns ++ string_bytes (out-Counted l).turns.name ∷ []) (out-Counted l).block.items block
+  pub statement_for : (x : Action) (l : Counted) (block : List ResolvedStatement) → x ≡ a.For l → IsNew scope variables turns (out-Counted l).turns.name
+      → IsBlock scope variables (turns ++ (out-Counted l).turns.name ∷ []) (out-Counted l).block block
       → IsStatement scope variables turns x (b.For (out-Counted l).turns.first (out-Counted l).turns.bound block)
   statement_for x l block e n h = rw e (d.counted turns l block n h)
 
   pub after_nothing : (x : BranchBody) → x ≡ after.Nothing → IsAfter scope variables turns x []
   after_nothing x e = rw e (d.nothing turns)
 
-  pub after_block : (x : BranchBody) (xs : Vec StatementText Global) (ys : List ResolvedStatement) → x ≡ after.Block xs → IsBlock scope variables turns xs.items ys
+  pub after_block : (x : BranchBody) (xs : List StatementText) (ys : List ResolvedStatement) → x ≡ after.Block xs → IsBlock scope variables turns xs ys
       → IsAfter scope variables turns x ys
   after_block x xs ys e h = rw e (d.block turns xs ys h)
 

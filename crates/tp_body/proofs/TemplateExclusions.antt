@@ -1,5 +1,5 @@
 -- A template that breaks a rule stands for nothing.
-use Rattle.std.proofs.Common.{◌≡◌, ℕ, List, Option, None, Some, length, string_bytes, refl, subst}
+use Rattle.std.proofs.Common.{◌≡◌, ℕ, List, Option, None, Some, length, refl, subst}
 use Rattle.tp_value.specs.declared.types.Ty.{Ty}
 use Rattle.tp_value.specs.declared.types.Field.{Field}
 use Rattle.tp_value.specs.declared.types.TypeDef.{TypeDef}
@@ -79,7 +79,7 @@ module _ (types : Types) (variables : Variables) (turns : List (List ℕ))
     entries_exclude (b.names fs es bad) apart h = bad (names_part types turns es fs h)
     entries_exclude (b.entry fs es i k f x r have before there is_field same broken) apart h =
         let p : (y : RecvTemplate) × IsTemplate types turns f.ty x.template y =
-        entry_stands (λ x. string_bytes x.name) (λ f x. IsTemplate types turns f.ty x.template) es fs h.1 (named_templates_each types turns es fs h.0 h.2) apart
+        entry_stands (λ x. x.name) (λ f x. IsTemplate types turns f.ty x.template) es fs h.1 (named_templates_each types turns es fs h.0 h.2) apart
         i k x f there is_field same in
         opened_excludes broken (opened types turns f.ty x.template p.0 p.1)
 

@@ -1,7 +1,5 @@
 -- What a template is that stands for something: the lines of the definition of templates, read backwards.
-use Rattle.std.proofs.Common.{inl, inr, ◌≡◌, ℕ, ℤ, Bool, List, Option, None, Some, map, length, slice_get, string_bytes, Vec, refl, sym, ap, ◌∙◌, subst, arith}
-use Rattle.std.specs.declared.alloc.Global.{Global}
-use Rattle.std.specs.declared.string.String.{String}
+use Rattle.std.proofs.Common.{inl, inr, ◌≡◌, ℕ, ℤ, Bool, List, Option, None, Some, map, length, slice_get, refl, sym, ap, ◌∙◌, subst, arith}
 use Rattle.std.proofs.lemmas.List.{length_push}
 use Rattle.std.proofs.lemmas.Option.{none-some, slice_get_within}
 use Rattle.tp_value.specs.declared.types.Ty.{Ty}
@@ -25,19 +23,19 @@ use Rattle.tp_body.specs.Messages.{IsTemplate, int_template, bool_template, text
 use Rattle.tp_body.proofs.PlacedEntriesGrowth.{push_cases}
 use Rattle.tp_body.proofs.EachFieldHasEntry.{AreEntered, entered_more, have_entries}
 
-pub out_name : (n : String Global) → out-Template (t.Name n) ≡ o.Name n
+pub out_name : (n : List ℕ) → out-Template (t.Name n) ≡ o.Name n
 out_name n = ap out-Template (sym (t.rolls-Name n)) ∙ out-roll-Template (o.Name n)
 
-pub out_one_of : (ts : Vec Template Global) → out-Template (t.OneOf ts) ≡ o.OneOf ts
+pub out_one_of : (ts : List Template) → out-Template (t.OneOf ts) ≡ o.OneOf ts
 out_one_of ts = ap out-Template (sym (t.rolls-OneOf ts)) ∙ out-roll-Template (o.OneOf ts)
 
-pub out_none_of : (ts : Vec Template Global) → out-Template (t.Complement ts) ≡ o.Complement ts
+pub out_none_of : (ts : List Template) → out-Template (t.Complement ts) ≡ o.Complement ts
 out_none_of ts = ap out-Template (sym (t.rolls-Complement ts)) ∙ out-roll-Template (o.Complement ts)
 
-pub out_list : (ts : Vec Template Global) → out-Template (t.List ts) ≡ o.List ts
+pub out_list : (ts : List Template) → out-Template (t.List ts) ≡ o.List ts
 out_list ts = ap out-Template (sym (t.rolls-List ts)) ∙ out-roll-Template (o.List ts)
 
-pub out_record : (es : Vec TemplateField Global) → out-Template (t.Record es) ≡ o.Record es
+pub out_record : (es : List TemplateField) → out-Template (t.Record es) ≡ o.Record es
 out_record es = ap out-Template (sym (t.rolls-Record es)) ∙ out-roll-Template (o.Record es)
 
 pub out_int : (z : ℤ) → out-Template (t.Int z) ≡ o.Int z
@@ -46,7 +44,7 @@ out_int z = ap out-Template (sym (t.rolls-Int z)) ∙ out-roll-Template (o.Int z
 pub out_bool : (b : Bool) → out-Template (t.Bool b) ≡ o.Bool b
 out_bool b = ap out-Template (sym (t.rolls-Bool b)) ∙ out-roll-Template (o.Bool b)
 
-pub out_text : (cs : Vec ℕ Global) → out-Template (t.Text cs) ≡ o.Text cs
+pub out_text : (cs : List ℕ) → out-Template (t.Text cs) ≡ o.Text cs
 out_text cs = ap out-Template (sym (t.rolls-Text cs)) ∙ out-roll-Template (o.Text cs)
 
 pub out_none : out-Template t.AnyOrNone ≡ o.AnyOrNone
@@ -58,7 +56,7 @@ out_any = ap out-Template (sym t.rolls-Any) ∙ out-roll-Template o.Any
 pub out_range : (low high : Option ℤ) → out-Template (t.Range low high) ≡ o.Range low high
 out_range low high = ap out-Template (sym (t.rolls-Range low high)) ∙ out-roll-Template (o.Range low high)
 
-pub out_pattern : (cs : Vec ℕ Global) → out-Template (t.Pattern cs) ≡ o.Pattern cs
+pub out_pattern : (cs : List ℕ) → out-Template (t.Pattern cs) ≡ o.Pattern cs
 out_pattern cs = ap out-Template (sym (t.rolls-Pattern cs)) ∙ out-roll-Template (o.Pattern cs)
 
 module _ (types : Types) (turns : List (List ℕ)) where
@@ -78,16 +76,16 @@ module _ (types : Types) (turns : List (List ℕ)) where
   abbrev pub IsOpened : Ty → o.Template-F Template TemplateField → Type 0
   IsOpened u (o.Int z) = u ≡ ty.Integer
   IsOpened u (o.Bool b) = u ≡ ty.Boolean
-  IsOpened u (o.Text cs) = (u ≡ ty.Charstring) × ArePrintable cs.items
-  IsOpened u (o.Name n) = (k : ℕ) × (u ≡ ty.Integer) × IsPlace turns (string_bytes n) k
+  IsOpened u (o.Text cs) = (u ≡ ty.Charstring) × ArePrintable cs
+  IsOpened u (o.Name n) = (k : ℕ) × (u ≡ ty.Integer) × IsPlace turns n k
   IsOpened u o.Any = Unit {0}
   IsOpened u o.AnyOrNone = ⊥
-  IsOpened u (o.OneOf ts) = (rs : List RecvTemplate) × AreMembers types turns u ts.items rs
-  IsOpened u (o.Complement ts) = (rs : List RecvTemplate) × AreMembers types turns u ts.items rs
+  IsOpened u (o.OneOf ts) = (rs : List RecvTemplate) × AreMembers types turns u ts rs
+  IsOpened u (o.Complement ts) = (rs : List RecvTemplate) × AreMembers types turns u ts rs
   IsOpened u (o.Range low high) = (u ≡ ty.Integer) × AreOrdered low high
   IsOpened u (o.Pattern cs) = u ≡ ty.Charstring
-  IsOpened u (o.List ts) = IsBraced ts.items (named types u)
-  IsOpened u (o.Record es) = IsEntries es.items (named types u)
+  IsOpened u (o.List ts) = IsBraced ts (named types u)
+  IsOpened u (o.Record es) = IsEntries es (named types u)
 
   pub opened : (u : Ty) (x : Template) (y : RecvTemplate) → IsTemplate types turns u x y → IsOpened u (out-Template x)
   opened u x y (int_template z h) = subst (IsOpened ty.Integer) (sym (out_int z)) refl
@@ -99,9 +97,9 @@ module _ (types : Types) (turns : List (List ℕ)) where
   opened u x y (none_of v ts rs h) = subst (IsOpened v) (sym (out_none_of ts)) (rs, h)
   opened u x y (range low high h) = subst (IsOpened ty.Integer) (sym (out_range low high)) (refl, h)
   opened u x y (pattern cs) = subst (IsOpened ty.Charstring) (sym (out_pattern cs)) refl
-  opened u x y (element_templates v element ts rs e h) = subst (IsOpened v) (sym (out_list ts)) (subst (IsBraced ts.items) (sym e) (rs, h))
-  opened u x y (place_templates v fs ts rs e h) = subst (IsOpened v) (sym (out_list ts)) (subst (IsBraced ts.items) (sym e) (rs, h))
-  opened u x y (field_templates v fs es rs e n h) = subst (IsOpened v) (sym (out_record es)) (subst (IsEntries es.items) (sym e) (rs, n, h))
+  opened u x y (element_templates v element ts rs e h) = subst (IsOpened v) (sym (out_list ts)) (subst (IsBraced ts) (sym e) (rs, h))
+  opened u x y (place_templates v fs ts rs e h) = subst (IsOpened v) (sym (out_list ts)) (subst (IsBraced ts) (sym e) (rs, h))
+  opened u x y (field_templates v fs es rs e n h) = subst (IsOpened v) (sym (out_record es)) (subst (IsEntries es) (sym e) (rs, n, h))
 
   -- each of the members stands for something
   pub members_each : (u : Ty) (ts : List Template) (rs : List RecvTemplate) → AreMembers types turns u ts rs → (k : ℕ) (x : Template)
@@ -156,13 +154,13 @@ module _ (types : Types) (turns : List (List ℕ)) where
 
   -- each field has an entry
   pub named_templates_each : (es : List TemplateField) (fs : List Field) (rs : List RecvTemplate) → AreNamedTemplates types turns es fs rs
-      → AreEntered (λ x. string_bytes x.name) (λ f x. IsTemplate types turns f.ty x.template) es fs
+      → AreEntered (λ x. x.name) (λ f x. IsTemplate types turns f.ty x.template) es fs
   named_templates_each es fs rs (no_name_template zs) = λ k f there. absurd (none-some f there)
   named_templates_each es fs rs (one_name_template_more zs gs ys f j x y h e n one) =
-      entered_more (λ x. string_bytes x.name) (λ f x. IsTemplate types turns f.ty x.template) zs gs f j x y (named_templates_each zs gs ys h) e n one
+      entered_more (λ x. x.name) (λ f x. IsTemplate types turns f.ty x.template) zs gs f j x y (named_templates_each zs gs ys h) e n one
 
   -- so each name of a field has one
   pub names_part : (es : List TemplateField) (fs : List Field) → (rs : List RecvTemplate) × (length es ≡ length fs) × AreNamedTemplates types turns es fs rs
-      → HaveEntries fs (map (λ x. string_bytes x.name) es)
+      → HaveEntries fs (map (λ x. x.name) es)
   names_part es fs (rs, n, h) =
-      have_entries (λ x. string_bytes x.name) (λ f x. IsTemplate types turns f.ty x.template) es fs n (named_templates_each es fs rs h)
+      have_entries (λ x. x.name) (λ f x. IsTemplate types turns f.ty x.template) es fs n (named_templates_each es fs rs h)

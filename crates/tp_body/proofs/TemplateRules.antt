@@ -1,7 +1,5 @@
 -- The lines of the definition of templates, as rules on templates that are known by an equation.
-use Rattle.std.proofs.Common.{◌≡◌, ℕ, ◌+◌, ◌<◌, ℤ, Bool, List, [], ◌∷◌, ◌++◌, Option, Some, map, refl, ap, ◌∙◌, subst, string_bytes, length, take, get_or, FitsSigned, w64, Vec}
-use Rattle.std.specs.declared.alloc.Global.{Global}
-use Rattle.std.specs.declared.string.String.{String}
+use Rattle.std.proofs.Common.{◌≡◌, ℕ, ◌+◌, ◌<◌, ℤ, Bool, List, [], ◌∷◌, ◌++◌, Option, Some, map, refl, ap, ◌∙◌, subst, length, take, get_or, FitsSigned, w64}
 use Rattle.tp_value.specs.declared.types.Ty.{Ty}
 use Rattle.tp_value.specs.declared.types.Ty.TheVariants as ty
 use Rattle.tp_value.specs.declared.types.Field.{Field}
@@ -28,39 +26,39 @@ module _ (types : Types) (turns : List (List ℕ)) where
   pub template_bool : (u : Ty) (x : Template) (b : Bool) → x ≡ t.Bool b → u ≡ ty.Boolean → IsTemplate types turns u x (r.Exact (w.Bool b))
   template_bool u x b e f = rw (e, f) (d.bool_template b)
 
-  pub template_text : (u : Ty) (x : Template) (cs : Vec ℕ Global) → x ≡ t.Text cs → u ≡ ty.Charstring → ArePrintable cs.items
-      → IsTemplate types turns u x (r.Exact (w.Text cs.items))
+  pub template_text : (u : Ty) (x : Template) (cs : List ℕ) → x ≡ t.Text cs → u ≡ ty.Charstring → ArePrintable cs
+      → IsTemplate types turns u x (r.Exact (w.Text cs))
   template_text u x cs e f h = rw (e, f) (d.text_template cs h)
 
-  pub template_turn : (u : Ty) (x : Template) (n : String Global) (k : ℕ) → x ≡ t.Name n → u ≡ ty.Integer → IsPlace turns (string_bytes n) k
+  pub template_turn : (u : Ty) (x : Template) (n : List ℕ) (k : ℕ) → x ≡ t.Name n → u ≡ ty.Integer → IsPlace turns n k
       → IsTemplate types turns u x (r.Exact (w.Turn k))
   template_turn u x n k e f p = rw (e, f) (d.turn_template n k p)
 
   pub template_any : (u : Ty) (x : Template) → x ≡ t.Any → IsTemplate types turns u x r.Any
   template_any u x e = rw e (d.any u)
 
-  pub template_one_of : (u : Ty) (x : Template) (ts : Vec Template Global) (rs : List RecvTemplate) → x ≡ t.OneOf ts → AreMembers types turns u ts.items rs
+  pub template_one_of : (u : Ty) (x : Template) (ts : List Template) (rs : List RecvTemplate) → x ≡ t.OneOf ts → AreMembers types turns u ts rs
       → IsTemplate types turns u x (r.OneOf rs)
   template_one_of u x ts rs e h = rw e (d.one_of u ts rs h)
 
-  pub template_none_of : (u : Ty) (x : Template) (ts : Vec Template Global) (rs : List RecvTemplate) → x ≡ t.Complement ts
-      → AreMembers types turns u ts.items rs → IsTemplate types turns u x (r.NoneOf rs)
+  pub template_none_of : (u : Ty) (x : Template) (ts : List Template) (rs : List RecvTemplate) → x ≡ t.Complement ts
+      → AreMembers types turns u ts rs → IsTemplate types turns u x (r.NoneOf rs)
   template_none_of u x ts rs e h = rw e (d.none_of u ts rs h)
 
   pub template_range : (u : Ty) (x : Template) (low high : Option ℤ) → x ≡ t.Range low high → u ≡ ty.Integer → AreOrdered low high
       → IsTemplate types turns u x (r.Range low high)
   template_range u x low high e f h = rw (e, f) (d.range low high h)
 
-  pub template_pattern : (u : Ty) (x : Template) (cs : Vec ℕ Global) → x ≡ t.Pattern cs → u ≡ ty.Charstring
-      → IsTemplate types turns u x (r.Pattern (map part_of cs.items))
+  pub template_pattern : (u : Ty) (x : Template) (cs : List ℕ) → x ≡ t.Pattern cs → u ≡ ty.Charstring
+      → IsTemplate types turns u x (r.Pattern (map part_of cs))
   template_pattern u x cs e f = rw (e, f) (d.pattern cs)
 
-  pub template_list : (u : Ty) (x : Template) (ts : Vec Template Global) (y : RecvTemplate) → x ≡ t.List ts → IsListTemplate types turns u ts.items y
+  pub template_list : (u : Ty) (x : Template) (ts : List Template) (y : RecvTemplate) → x ≡ t.List ts → IsListTemplate types turns u ts y
       → IsTemplate types turns u x y
   template_list u x ts y e h = rw e (h.stands ts refl)
 
-  pub template_record : (u : Ty) (x : Template) (ts : Vec TemplateField Global) (y : RecvTemplate) → x ≡ t.Record ts
-      → IsRecordTemplate types turns u ts.items y → IsTemplate types turns u x y
+  pub template_record : (u : Ty) (x : Template) (ts : List TemplateField) (y : RecvTemplate) → x ≡ t.Record ts
+      → IsRecordTemplate types turns u ts y → IsTemplate types turns u x y
   template_record u x ts y e h = rw e (h.stands ts refl)
 
   pub list_elements : (u element : Ty) (xs : List Template) (rs : List RecvTemplate) → named types u ≡ Some (def.ListOf element)

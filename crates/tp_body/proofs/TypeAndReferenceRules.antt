@@ -1,5 +1,5 @@
 -- The lines of the definitions, as rules on values that are known by an equation.
-use Rattle.std.proofs.Common.{◌≡◌, ℕ, ◌+◌, List, ◌++◌, Some, sym, subst, string_bytes, String, Global}
+use Rattle.std.proofs.Common.{◌≡◌, ℕ, ◌+◌, List, ◌++◌, Some, sym, subst}
 use Rattle.tp_value.specs.declared.types.Ty.TheVariants as ty
 use Rattle.tp_value.specs.declared.types.Types.{Types}
 use Rattle.tp_value.specs.Types.{type_number}
@@ -23,7 +23,7 @@ module _ (types : Types) where
   pub type_charstring : (n : TypeName) → n ≡ t.Charstring → IsType types n ty.Charstring
   type_charstring n e = subst (λ x. IsType types x ty.Charstring) (sym e) d.charstring
 
-  pub type_named : (x : TypeName) (n : String Global) (k : ℕ) → x ≡ t.Named n → type_number types (string_bytes n) ≡ Some k → IsType types x (ty.Named k)
+  pub type_named : (x : TypeName) (n : List ℕ) (k : ℕ) → x ≡ t.Named n → type_number types n ≡ Some k → IsType types x (ty.Named k)
   type_named x n k e p = subst (λ x. IsType types x (ty.Named k)) (sym e) (d.type_named n k p)
 
 module _ (scope : Scope) (variables : Variables) (turns : List (List ℕ)) where
@@ -33,9 +33,9 @@ module _ (scope : Scope) (variables : Variables) (turns : List (List ℕ)) where
   pub reference_self : (x : ComponentName) → x ≡ c.SelfComponent → IsReference scope variables turns x 1
   reference_self x e = subst (λ x. IsReference scope variables turns x 1) (sym e) d.itself
 
-  pub reference_named : (x : ComponentName) (n : String Global) (k : ℕ) → x ≡ c.Named n → IsAbsent turns (string_bytes n)
-      → IsAbsent variables.names (string_bytes n)
-      → IsPlace (scope.parameters.now ++ scope.component_variables.now) (string_bytes n) k → IsReference scope variables turns x (2 + k)
+  pub reference_named : (x : ComponentName) (n : List ℕ) (k : ℕ) → x ≡ c.Named n → IsAbsent turns n
+      → IsAbsent variables.names n
+      → IsPlace (scope.parameters.now ++ scope.component_variables.now) n k → IsReference scope variables turns x (2 + k)
   reference_named x n k e a b p = subst (λ x. IsReference scope variables turns x (2 + k)) (sym e) (d.component_named n k a b p)
 
 pub ruleset cases = (type_integer, type_boolean, type_charstring, type_named, reference_mtc, reference_self, reference_named)

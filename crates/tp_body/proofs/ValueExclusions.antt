@@ -1,5 +1,5 @@
 -- A value that breaks a rule stands for nothing.
-use Rattle.std.proofs.Common.{◌≡◌, ℕ, List, Option, None, Some, length, string_bytes, refl, subst}
+use Rattle.std.proofs.Common.{◌≡◌, ℕ, List, Option, None, Some, length, refl, subst}
 use Rattle.tp_value.specs.declared.types.Ty.{Ty}
 use Rattle.tp_value.specs.declared.types.Ty.TheVariants as ty
 use Rattle.tp_value.specs.declared.types.Field.{Field}
@@ -50,14 +50,14 @@ module _ (types : Types) (variables : Variables) (turns : List (List ℕ))
     opened_excludes (b.text u cs r broken) h = text_excludes broken (subst (IsOpened types turns u) (out_text cs) h)
     opened_excludes (b.name u n r broken) h = name_excludes broken (subst (IsOpened types turns u) (out_name n) h)
     opened_excludes (b.no_braces u vs none) h =
-        subst (IsBraced types turns vs.items) none (subst (IsOpened types turns u) (out_list vs) h)
+        subst (IsBraced types turns vs) none (subst (IsOpened types turns u) (out_list vs) h)
     opened_excludes (b.elements u element vs r is broken) h =
-        elements_exclude broken (subst (IsBraced types turns vs.items) is (subst (IsOpened types turns u) (out_list vs) h))
+        elements_exclude broken (subst (IsBraced types turns vs) is (subst (IsOpened types turns u) (out_list vs) h))
     opened_excludes (b.places u fs vs r is broken) h =
-        fields_exclude broken (subst (IsBraced types turns vs.items) is (subst (IsOpened types turns u) (out_list vs) h))
-    opened_excludes (b.no_record u es none) h = no_entries u es.items none (subst (IsOpened types turns u) (out_record es) h)
+        fields_exclude broken (subst (IsBraced types turns vs) is (subst (IsOpened types turns u) (out_list vs) h))
+    opened_excludes (b.no_record u es none) h = no_entries u es none (subst (IsOpened types turns u) (out_record es) h)
     opened_excludes (b.fields u fs es r is broken) h =
-        entries_exclude broken (own u fs is) (subst (IsEntries types turns es.items) is (subst (IsOpened types turns u) (out_record es) h))
+        entries_exclude broken (own u fs is) (subst (IsEntries types turns es) is (subst (IsOpened types turns u) (out_record es) h))
 
     elements_exclude : {u : Ty} {vs : List Value} {r : ModuleRule} → ElementsBreak types variables turns u vs r
         → (ws : List SendValue) × AreElements types turns u vs ws → ⊥
@@ -77,7 +77,7 @@ module _ (types : Types) (variables : Variables) (turns : List (List ℕ))
     entries_exclude (b.names fs es bad) apart h = bad (names_part types turns es fs h)
     entries_exclude (b.entry fs es i k f x r have before there is_field same broken) apart h =
         let p : (y : SendValue) × IsValue types turns f.ty x.value y =
-        entry_stands (λ x. string_bytes x.name) (λ f x. IsValue types turns f.ty x.value) es fs h.1 (named_each types turns es fs h.0 h.2) apart i k x f there
+        entry_stands (λ x. x.name) (λ f x. IsValue types turns f.ty x.value) es fs h.1 (named_each types turns es fs h.0 h.2) apart i k x f there
         is_field same in
         opened_excludes broken (opened types turns f.ty x.value p.0 p.1)
 

@@ -1,7 +1,5 @@
 -- What a value is that stands for something: the lines of the definition of values, read backwards.
-use Rattle.std.proofs.Common.{inl, inr, ◌≡◌, ℕ, ℤ, Bool, List, Option, None, Some, map, length, slice_get, string_bytes, Vec, refl, sym, ap, ◌∙◌, subst, arith}
-use Rattle.std.specs.declared.alloc.Global.{Global}
-use Rattle.std.specs.declared.string.String.{String}
+use Rattle.std.proofs.Common.{inl, inr, ◌≡◌, ℕ, ℤ, Bool, List, Option, None, Some, map, length, slice_get, refl, sym, ap, ◌∙◌, subst, arith}
 use Rattle.std.proofs.lemmas.List.{length_push}
 use Rattle.std.proofs.lemmas.Option.{none-some, slice_get_within}
 use Rattle.tp_value.specs.declared.types.Ty.{Ty}
@@ -30,16 +28,16 @@ out_int z = ap out-Value (sym (v.rolls-Int z)) ∙ out-roll-Value (o.Int z)
 pub out_bool : (b : Bool) → out-Value (v.Bool b) ≡ o.Bool b
 out_bool b = ap out-Value (sym (v.rolls-Bool b)) ∙ out-roll-Value (o.Bool b)
 
-pub out_text : (cs : Vec ℕ Global) → out-Value (v.Text cs) ≡ o.Text cs
+pub out_text : (cs : List ℕ) → out-Value (v.Text cs) ≡ o.Text cs
 out_text cs = ap out-Value (sym (v.rolls-Text cs)) ∙ out-roll-Value (o.Text cs)
 
-pub out_name : (n : String Global) → out-Value (v.Name n) ≡ o.Name n
+pub out_name : (n : List ℕ) → out-Value (v.Name n) ≡ o.Name n
 out_name n = ap out-Value (sym (v.rolls-Name n)) ∙ out-roll-Value (o.Name n)
 
-pub out_list : (vs : Vec Value Global) → out-Value (v.List vs) ≡ o.List vs
+pub out_list : (vs : List Value) → out-Value (v.List vs) ≡ o.List vs
 out_list vs = ap out-Value (sym (v.rolls-List vs)) ∙ out-roll-Value (o.List vs)
 
-pub out_record : (es : Vec ValueField Global) → out-Value (v.Record es) ≡ o.Record es
+pub out_record : (es : List ValueField) → out-Value (v.Record es) ≡ o.Record es
 out_record es = ap out-Value (sym (v.rolls-Record es)) ∙ out-roll-Value (o.Record es)
 
 module _ (types : Types) (turns : List (List ℕ)) where
@@ -59,19 +57,19 @@ module _ (types : Types) (turns : List (List ℕ)) where
   abbrev pub IsOpened : Ty → o.Value-F Value ValueField → Type 0
   IsOpened u (o.Int z) = u ≡ ty.Integer
   IsOpened u (o.Bool b) = u ≡ ty.Boolean
-  IsOpened u (o.Text cs) = (u ≡ ty.Charstring) × ArePrintable cs.items
-  IsOpened u (o.Name n) = (k : ℕ) × (u ≡ ty.Integer) × IsPlace turns (string_bytes n) k
-  IsOpened u (o.List vs) = IsBraced vs.items (named types u)
-  IsOpened u (o.Record es) = IsEntries es.items (named types u)
+  IsOpened u (o.Text cs) = (u ≡ ty.Charstring) × ArePrintable cs
+  IsOpened u (o.Name n) = (k : ℕ) × (u ≡ ty.Integer) × IsPlace turns n k
+  IsOpened u (o.List vs) = IsBraced vs (named types u)
+  IsOpened u (o.Record es) = IsEntries es (named types u)
 
   pub opened : (u : Ty) (x : Value) (y : SendValue) → IsValue types turns u x y → IsOpened u (out-Value x)
   opened u x y (int z h) = subst (IsOpened ty.Integer) (sym (out_int z)) refl
   opened u x y (bool b) = subst (IsOpened ty.Boolean) (sym (out_bool b)) refl
   opened u x y (text cs h) = subst (IsOpened ty.Charstring) (sym (out_text cs)) (refl, h)
   opened u x y (turn n k p) = subst (IsOpened ty.Integer) (sym (out_name n)) (k, refl, p)
-  opened u x y (elements t element vs ws e h) = subst (IsOpened t) (sym (out_list vs)) (subst (IsBraced vs.items) (sym e) (ws, h))
-  opened u x y (places t fs vs ws e h) = subst (IsOpened t) (sym (out_list vs)) (subst (IsBraced vs.items) (sym e) (ws, h))
-  opened u x y (fields t fs es ws e n h) = subst (IsOpened t) (sym (out_record es)) (subst (IsEntries es.items) (sym e) (ws, n, h))
+  opened u x y (elements t element vs ws e h) = subst (IsOpened t) (sym (out_list vs)) (subst (IsBraced vs) (sym e) (ws, h))
+  opened u x y (places t fs vs ws e h) = subst (IsOpened t) (sym (out_list vs)) (subst (IsBraced vs) (sym e) (ws, h))
+  opened u x y (fields t fs es ws e n h) = subst (IsOpened t) (sym (out_record es)) (subst (IsEntries es) (sym e) (ws, n, h))
 
   -- each of the elements stands for something
   pub elements_each : (u : Ty) (vs : List Value) (ws : List SendValue) → AreElements types turns u vs ws → (k : ℕ) (x : Value) → slice_get vs k ≡ Some x
@@ -105,12 +103,12 @@ module _ (types : Types) (turns : List (List ℕ)) where
 
   -- each field has an entry
   pub named_each : (es : List ValueField) (fs : List Field) (ws : List SendValue) → AreNamed types turns es fs ws
-      → AreEntered (λ x. string_bytes x.name) (λ f x. IsValue types turns f.ty x.value) es fs
+      → AreEntered (λ x. x.name) (λ f x. IsValue types turns f.ty x.value) es fs
   named_each es fs ws (no_name zs) = λ k f there. absurd (none-some f there)
   named_each es fs ws (one_name_more zs gs ys f j x y h e n one) =
-      entered_more (λ x. string_bytes x.name) (λ f x. IsValue types turns f.ty x.value) zs gs f j x y (named_each zs gs ys h) e n one
+      entered_more (λ x. x.name) (λ f x. IsValue types turns f.ty x.value) zs gs f j x y (named_each zs gs ys h) e n one
 
   -- so each name of a field has one
   pub names_part : (es : List ValueField) (fs : List Field) → (ws : List SendValue) × (length es ≡ length fs) × AreNamed types turns es fs ws
-      → HaveEntries fs (map (λ x. string_bytes x.name) es)
-  names_part es fs (ws, n, h) = have_entries (λ x. string_bytes x.name) (λ f x. IsValue types turns f.ty x.value) es fs n (named_each es fs ws h)
+      → HaveEntries fs (map (λ x. x.name) es)
+  names_part es fs (ws, n, h) = have_entries (λ x. x.name) (λ f x. IsValue types turns f.ty x.value) es fs n (named_each es fs ws h)

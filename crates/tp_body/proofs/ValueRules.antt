@@ -1,7 +1,5 @@
 -- The lines of the definition of values, as rules on values that are known by an equation.
-use Rattle.std.proofs.Common.{◌≡◌, ℕ, ◌+◌, ◌<◌, ℤ, Bool, List, [], ◌∷◌, ◌++◌, Some, sym, ap, ◌∙◌, subst, string_bytes, length, take, get_or, FitsSigned, w64, Vec}
-use Rattle.std.specs.declared.alloc.Global.{Global}
-use Rattle.std.specs.declared.string.String.{String}
+use Rattle.std.proofs.Common.{◌≡◌, ℕ, ◌+◌, ◌<◌, ℤ, Bool, List, [], ◌∷◌, ◌++◌, Some, sym, ap, ◌∙◌, subst, length, take, get_or, FitsSigned, w64}
 use Rattle.std.proofs.lemmas.List.{take_more}
 use Rattle.tp_value.specs.declared.types.Ty.{Ty}
 use Rattle.tp_value.specs.declared.types.Ty.TheVariants as ty
@@ -30,26 +28,26 @@ module _ (types : Types) (turns : List (List ℕ)) where
   pub value_bool : (u : Ty) (x : Value) (b : Bool) → x ≡ v.Bool b → u ≡ ty.Boolean → IsValue types turns u x (w.Bool b)
   value_bool u x b e f = rw (e, f) (d.bool b)
 
-  pub value_text : (u : Ty) (x : Value) (cs : Vec ℕ Global) → x ≡ v.Text cs → u ≡ ty.Charstring → ArePrintable cs.items
-      → IsValue types turns u x (w.Text cs.items)
+  pub value_text : (u : Ty) (x : Value) (cs : List ℕ) → x ≡ v.Text cs → u ≡ ty.Charstring → ArePrintable cs
+      → IsValue types turns u x (w.Text cs)
   value_text u x cs e f h = rw (e, f) (d.text cs h)
 
-  pub value_turn : (u : Ty) (x : Value) (n : String Global) (k : ℕ) → x ≡ v.Name n → u ≡ ty.Integer → IsPlace turns (string_bytes n) k
+  pub value_turn : (u : Ty) (x : Value) (n : List ℕ) (k : ℕ) → x ≡ v.Name n → u ≡ ty.Integer → IsPlace turns n k
       → IsValue types turns u x (w.Turn k)
   value_turn u x n k e f p = rw (e, f) (d.turn n k p)
 
-  pub value_elements : (u element : Ty) (x : Value) (vs : Vec Value Global) (ws : List SendValue) → x ≡ v.List vs → named types u ≡ Some (def.ListOf element)
-      → AreElements types turns element vs.items ws → IsValue types turns u x (w.List ws)
+  pub value_elements : (u element : Ty) (x : Value) (vs : List Value) (ws : List SendValue) → x ≡ v.List vs → named types u ≡ Some (def.ListOf element)
+      → AreElements types turns element vs ws → IsValue types turns u x (w.List ws)
   value_elements u element x vs ws e f h = rw e (d.elements u element vs ws f h)
 
-  pub value_places : (u : Ty) (fields : List Field) (x : Value) (vs : Vec Value Global) (ws : List SendValue) → x ≡ v.List vs
+  pub value_places : (u : Ty) (fields : List Field) (x : Value) (vs : List Value) (ws : List SendValue) → x ≡ v.List vs
       → named types u ≡ Some (def.Record fields)
-      → AreFields types turns fields vs.items ws → IsValue types turns u x (w.Record ws)
+      → AreFields types turns fields vs ws → IsValue types turns u x (w.Record ws)
   value_places u fields x vs ws e f h = rw e (d.places u fields vs ws f h)
 
-  pub value_fields : (u : Ty) (fields : List Field) (x : Value) (vs : Vec ValueField Global) (ws : List SendValue) → x ≡ v.Record vs
+  pub value_fields : (u : Ty) (fields : List Field) (x : Value) (vs : List ValueField) (ws : List SendValue) → x ≡ v.Record vs
       → named types u ≡ Some (def.Record fields)
-      → length vs.items ≡ length fields → AreNamed types turns vs.items fields ws → IsValue types turns u x (w.Record ws)
+      → length vs ≡ length fields → AreNamed types turns vs fields ws → IsValue types turns u x (w.Record ws)
   value_fields u fields x vs ws e f n h = rw e (d.fields u fields vs ws f n h)
 
   pub elements_more : (u : Ty) (xs : List Value) (i : ℕ) (x : Value) (ws : List SendValue) (z : SendValue) → i < length xs → x ≡ get_or xs i x

@@ -1,9 +1,6 @@
 -- What the statements of the text stand for, a case for each line of the grammar. A statement in which a fault
 -- stands stands for nothing.
-use Rattle.std.specs.Prelude.{◌≡◌, ◌≢◌, ◌<◌, ℕ, List, length, [], ◌∷◌, ◌++◌, Option, None, Some, Contains, string_bytes, slice_get}
-use Rattle.std.specs.declared.vec.Vec.{Vec}
-use Rattle.std.specs.declared.alloc.Global.{Global}
-use Rattle.std.specs.declared.string.String.{String}
+use Rattle.std.specs.Prelude.{◌≡◌, ◌≢◌, ◌<◌, ℕ, List, length, [], ◌∷◌, ◌++◌, Option, None, Some, Contains, slice_get}
 use Rattle.tp_value.specs.declared.types.Ty.{Ty}
 use Rattle.tp_value.specs.declared.types.Ty.TheVariants as ty
 use Rattle.tp_value.specs.declared.verdict.Verdict.{Verdict}
@@ -65,12 +62,12 @@ pub data IsSent (scope : Scope) (variables : Variables) (turns : List (List ℕ)
   written : (x : Message) (m : SendMsg) → IsMessage scope.types.now turns x m → Contains sendable m.ty
       → IsSent scope variables turns sendable (sent.Message x) (s.Written m)
   -- what a loop variable holds, as an integer
-  counter : (n : String Global) (k : ℕ) → IsPlace turns (string_bytes n) k → Contains sendable ty.Integer
+  counter : (n : List ℕ) (k : ℕ) → IsPlace turns n k → Contains sendable ty.Integer
       → IsSent scope variables turns sendable (sent.Variable n)
       (s.Written (record { ty = ty.Integer; value = send_value.Turn k }))
   -- what a variable holds, under its type
-  held : (n : String Global) (k : ℕ) (u : Ty) → IsAbsent turns (string_bytes n)
-      → IsVariable variables (string_bytes n) k (variable_type.Message u) → Contains sendable u
+  held : (n : List ℕ) (k : ℕ) (u : Ty) → IsAbsent turns n
+      → IsVariable variables n k (variable_type.Message u) → Contains sendable u
       → IsSent scope variables turns sendable (sent.Variable n) (s.Variable k)
 
 -- to whom is sent
@@ -79,8 +76,8 @@ pub data IsReceiver (scope : Scope) (variables : Variables) (turns : List (List 
   nobody : IsReceiver scope variables turns None to.Nobody
   reference : (x : ComponentName) (k : ℕ) → IsReference scope variables turns x k
       → IsReceiver scope variables turns (Some (destination.Component x)) (to.Reference k)
-  variable : (n : String Global) (k : ℕ) → IsAbsent turns (string_bytes n)
-      → IsVariable variables (string_bytes n) k variable_type.Component
+  variable : (n : List ℕ) (k : ℕ) → IsAbsent turns n
+      → IsVariable variables n k variable_type.Component
       → IsReceiver scope variables turns (Some (destination.Component (component_name.Named n))) (to.Variable k)
   all : IsReceiver scope variables turns (Some destination.AllComponents) to.All
 
@@ -88,7 +85,7 @@ pub data IsReceiver (scope : Scope) (variables : Variables) (turns : List (List 
 pub record IsSend (scope : Scope) (variables : Variables) (turns : List (List ℕ)) (x : Send) (y : SendOperation)
     : Type 0 where
   pub port : PortType
-  pub port_known : IsPortNamed scope.component_type.now (string_bytes x.port) y.port port
+  pub port_known : IsPortNamed scope.component_type.now x.port y.port port
   pub sent : IsSent scope variables turns (sendable_types scope.behaviour port) x.sent y.sent
   pub receiver : IsReceiver scope variables turns x.to y.to
 
@@ -109,25 +106,25 @@ pub data IsFrom (scope : Scope) (variables : Variables) (turns : List (List ℕ)
 
 -- the variable behind `value`: it has the type of the template
 pub data IsValueTarget (variables : Variables) (turns : List (List ℕ))
-    : RecvMsg → Option (String Global) → Option ℕ → Type 0 where
+    : RecvMsg → Option (List ℕ) → Option ℕ → Type 0 where
   no_target : (m : RecvMsg) → IsValueTarget variables turns m None None
-  target : (u : Ty) (r : RecvTemplate) (n : String Global) (k : ℕ) → IsAbsent turns (string_bytes n)
-      → IsVariable variables (string_bytes n) k (variable_type.Message u)
+  target : (u : Ty) (r : RecvTemplate) (n : List ℕ) (k : ℕ) → IsAbsent turns n
+      → IsVariable variables n k (variable_type.Message u)
       → IsValueTarget variables turns (recv_msg.Of u r) (Some n) (Some k)
 
 -- the variable behind `sender`: it holds components
 pub data IsSenderTarget (variables : Variables) (turns : List (List ℕ))
-    : Option (String Global) → Option ℕ → Type 0 where
+    : Option (List ℕ) → Option ℕ → Type 0 where
   no_sender_target : IsSenderTarget variables turns None None
-  sender_target : (n : String Global) (k : ℕ) → IsAbsent turns (string_bytes n)
-      → IsVariable variables (string_bytes n) k variable_type.Component
+  sender_target : (n : List ℕ) (k : ℕ) → IsAbsent turns n
+      → IsVariable variables n k variable_type.Component
       → IsSenderTarget variables turns (Some n) (Some k)
 
 -- a receiving operation: the port is known, and its type lists the type of what is wanted
 pub record IsReceive (scope : Scope) (variables : Variables) (turns : List (List ℕ)) (x : Receive) (y : Receiving)
     : Type 0 where
   pub port : PortType
-  pub port_known : IsPortNamed scope.component_type.now (string_bytes x.port) y.port port
+  pub port_known : IsPortNamed scope.component_type.now x.port y.port port
   pub same_kind : y.kind ≡ x.kind
   pub wants : IsWanted scope turns (receivable_types scope.behaviour port) x.template y.wanted
   pub from_known : IsFrom scope variables turns x.sender y.sender
@@ -150,7 +147,7 @@ mutual
         → IsStatement scope variables turns (action.Receive x) (statement.Receive y)
     -- not in the system under test
     control : (turns : List (List ℕ)) (x : Control) (k : ℕ) (port : PortType)
-        → scope.behaviour ≢ behaviour_kind.SystemUnderTest → IsPortNamed scope.component_type.now (string_bytes x.port) k port
+        → scope.behaviour ≢ behaviour_kind.SystemUnderTest → IsPortNamed scope.component_type.now x.port k port
         → IsStatement scope variables turns (action.Control x) (statement.Control k x.operation)
     all_ports : (turns : List (List ℕ)) (x : PortOperation) → scope.behaviour ≢ behaviour_kind.SystemUnderTest
         → IsStatement scope variables turns (action.AllPorts x) (statement.AllPorts x)
@@ -158,18 +155,18 @@ mutual
         → scope.behaviour ≢ behaviour_kind.SystemUnderTest
         → IsVerdict x y
         → IsStatement scope variables turns (action.SetVerdict x) (statement.SetVerdict y)
-    alt : (turns : List (List ℕ)) (xs : Vec BranchText Global) (ys : List ResolvedBranch)
-        → AreBranches scope variables turns xs.items ys
+    alt : (turns : List (List ℕ)) (xs : List BranchText) (ys : List ResolvedBranch)
+        → AreBranches scope variables turns xs ys
         → IsStatement scope variables turns (action.Alt xs None) (statement.Alt ys None)
-    alt_else : (turns : List (List ℕ)) (xs : Vec BranchText Global) (ys : List ResolvedBranch) (e : ElseBranch)
-        (otherwise : List ResolvedStatement) → AreBranches scope variables turns xs.items ys
-        → IsBlock scope variables turns (out-ElseBranch e).block.items otherwise
+    alt_else : (turns : List (List ℕ)) (xs : List BranchText) (ys : List ResolvedBranch) (e : ElseBranch)
+        (otherwise : List ResolvedStatement) → AreBranches scope variables turns xs ys
+        → IsBlock scope variables turns (out-ElseBranch e).block otherwise
         → IsStatement scope variables turns (action.Alt xs (Some e)) (statement.Alt ys (Some otherwise))
     -- inside of it there is one loop variable more
     counted : (turns : List (List ℕ)) (x : Counted) (block : List ResolvedStatement)
-        → IsNew scope variables turns (string_bytes (out-Counted x).turns.name)
-        → IsBlock scope variables (turns ++ string_bytes (out-Counted x).turns.name ∷ [])
-        (out-Counted x).block.items block
+        → IsNew scope variables turns (out-Counted x).turns.name
+        → IsBlock scope variables (turns ++ (out-Counted x).turns.name ∷ [])
+        (out-Counted x).block block
         → IsStatement scope variables turns (action.For x)
         (statement.For (out-Counted x).turns.first (out-Counted x).turns.bound block)
 
@@ -189,8 +186,8 @@ mutual
   -- what stands behind the operation of a branch: nothing, or a block
   pub data IsAfter (scope : Scope) (variables : Variables) : List (List ℕ) → BranchBody → List ResolvedStatement → Type 0 where
     nothing : (turns : List (List ℕ)) → IsAfter scope variables turns branch_body.Nothing []
-    block : (turns : List (List ℕ)) (xs : Vec StatementText Global) (ys : List ResolvedStatement)
-        → IsBlock scope variables turns xs.items ys
+    block : (turns : List (List ℕ)) (xs : List StatementText) (ys : List ResolvedStatement)
+        → IsBlock scope variables turns xs ys
         → IsAfter scope variables turns (branch_body.Block xs) ys
 
   pub data AreBranches (scope : Scope) (variables : Variables)
@@ -203,8 +200,8 @@ mutual
 -- the type of a variable: a type of messages, or a component type where no type of messages has the name
 pub data IsVariableType (scope : Scope) : TypeName → VariableType → Type 0 where
   message : (x : TypeName) (u : Ty) → IsType scope.types.now x u → IsVariableType scope x (variable_type.Message u)
-  component : (n : String Global) (k : ℕ) → type_number scope.types.now (string_bytes n) ≡ None
-      → IsPlace scope.component_types.now (string_bytes n) k
+  component : (n : List ℕ) (k : ℕ) → type_number scope.types.now n ≡ None
+      → IsPlace scope.component_types.now n k
       → IsVariableType scope (type_name.Named n) variable_type.Component
 
 -- the variables of a body, each with a new name: 4,294,967,295 at most
@@ -212,8 +209,8 @@ pub data AreVariables (scope : Scope) : List Variable → Variables → Type 0 w
   no_variable : (vs : Variables) → vs.names ≡ [] → vs.types ≡ [] → AreVariables scope [] vs
   one_variable_more : (xs : List Variable) (vs ws : Variables) (x : Variable) (held : VariableType)
       → AreVariables scope xs vs → length vs.names < 4294967295 → IsVariableType scope x.type_name held
-      → IsNew scope vs [] (string_bytes x.name)
-      → ws.names ≡ vs.names ++ string_bytes x.name ∷ [] → ws.types ≡ vs.types ++ held ∷ []
+      → IsNew scope vs [] x.name
+      → ws.names ≡ vs.names ++ x.name ∷ [] → ws.types ≡ vs.types ++ held ∷ []
       → AreVariables scope (xs ++ x ∷ []) ws
 
 -- a body: no parameter has the name of a port, the variables come first, and the statements may speak of them

@@ -1,8 +1,6 @@
 -- Which rule is broken by a body that stands for nothing, and at which line: that of its first fault in the order of
 -- the text, which stands at the line at which the statement, the branch or the variable begins, or the definition.
-use Rattle.std.specs.Prelude.{◌≡◌, ◌≢◌, ◌≤◌, ℕ, List, length, take, [], ◌∷◌, ◌++◌, Option, Some, Contains, slice_get, string_bytes}
-use Rattle.std.specs.declared.vec.Vec.{Vec}
-use Rattle.std.specs.declared.alloc.Global.{Global}
+use Rattle.std.specs.Prelude.{◌≡◌, ◌≢◌, ◌≤◌, ℕ, List, length, take, [], ◌∷◌, ◌++◌, Option, Some, Contains, slice_get}
 use Rattle.tp_tree.specs.declared.tree.Send.{Send}
 use Rattle.tp_tree.specs.declared.tree.Receive.{Receive}
 use Rattle.tp_event.specs.declared.operation.PortOperation.{PortOperation}
@@ -47,7 +45,7 @@ mutual
         → StatementBreaks scope variables turns line (action.Control x) rule.NotInSut line
     control_of_no_port : (turns : List (List ℕ)) (line : ℕ) (x : Control)
         → scope.behaviour ≢ behaviour_kind.SystemUnderTest
-        → IsAbsent (declared_port_names scope.component_type.now) (string_bytes x.port)
+        → IsAbsent (declared_port_names scope.component_type.now) x.port
         → StatementBreaks scope variables turns line (action.Control x) rule.Unknown line
     all_ports_in_sut : (turns : List (List ℕ)) (line : ℕ) (x : PortOperation)
         → scope.behaviour ≡ behaviour_kind.SystemUnderTest
@@ -58,21 +56,21 @@ mutual
         → StatementBreaks scope variables turns line (action.SetVerdict x) rule.NotInSut line
     error_verdict : (turns : List (List ℕ)) (line : ℕ) → scope.behaviour ≢ behaviour_kind.SystemUnderTest
         → StatementBreaks scope variables turns line (action.SetVerdict verdict_name.Error) rule.WrongType line
-    branches : (turns : List (List ℕ)) (line : ℕ) (xs : Vec BranchText Global) (e : Option ElseBranch)
-        (r : ModuleRule) (at : ℕ) → BranchesBreak scope variables turns xs.items r at
+    branches : (turns : List (List ℕ)) (line : ℕ) (xs : List BranchText) (e : Option ElseBranch)
+        (r : ModuleRule) (at : ℕ) → BranchesBreak scope variables turns xs r at
         → StatementBreaks scope variables turns line (action.Alt xs e) r at
-    otherwise : (turns : List (List ℕ)) (line : ℕ) (xs : Vec BranchText Global) (ys : List ResolvedBranch) (e : ElseBranch)
-        (r : ModuleRule) (at : ℕ) → AreBranches scope variables turns xs.items ys
-        → BlockBreaks scope variables turns (out-ElseBranch e).block.items r at
+    otherwise : (turns : List (List ℕ)) (line : ℕ) (xs : List BranchText) (ys : List ResolvedBranch) (e : ElseBranch)
+        (r : ModuleRule) (at : ℕ) → AreBranches scope variables turns xs ys
+        → BlockBreaks scope variables turns (out-ElseBranch e).block r at
         → StatementBreaks scope variables turns line (action.Alt xs (Some e)) r at
     -- the name of a loop variable isn't new (12), or the block breaks a rule, inside of which there is that variable too
     old_name : (turns : List (List ℕ)) (line : ℕ) (x : Counted)
-        → (IsNew scope variables turns (string_bytes (out-Counted x).turns.name) → ⊥)
+        → (IsNew scope variables turns (out-Counted x).turns.name → ⊥)
         → StatementBreaks scope variables turns line (action.For x) rule.Duplicate line
     counted : (turns : List (List ℕ)) (line : ℕ) (x : Counted) (r : ModuleRule) (at : ℕ)
-        → IsNew scope variables turns (string_bytes (out-Counted x).turns.name)
-        → BlockBreaks scope variables (turns ++ string_bytes (out-Counted x).turns.name ∷ [])
-        (out-Counted x).block.items r at
+        → IsNew scope variables turns (out-Counted x).turns.name
+        → BlockBreaks scope variables (turns ++ (out-Counted x).turns.name ∷ [])
+        (out-Counted x).block r at
         → StatementBreaks scope variables turns line (action.For x) r at
 
   -- the statements of a block: those before one stand for something
@@ -95,8 +93,8 @@ mutual
   -- what stands behind the operation of a branch
   pub data AfterBreaks (scope : Scope) (variables : Variables)
       : List (List ℕ) → BranchBody → ModuleRule → ℕ → Type 0 where
-    in_block : (turns : List (List ℕ)) (xs : Vec StatementText Global) (r : ModuleRule) (at : ℕ)
-        → BlockBreaks scope variables turns xs.items r at
+    in_block : (turns : List (List ℕ)) (xs : List StatementText) (r : ModuleRule) (at : ℕ)
+        → BlockBreaks scope variables turns xs r at
         → AfterBreaks scope variables turns (branch_body.Block xs) r at
 
   -- the branches of an `alt`: those before one stand for something
@@ -110,8 +108,8 @@ mutual
 pub data VariableBreaks (scope : Scope) (before : Variables) (x : Variable) : ModuleRule → Type 0 where
   no_type : ((held : VariableType) → IsVariableType scope x.type_name held → ⊥) → VariableBreaks scope before x rule.Unknown
   not_new : (held : VariableType) → IsVariableType scope x.type_name held
-      → (IsNew scope before [] (string_bytes x.name) → ⊥) → VariableBreaks scope before x rule.Duplicate
-  too_many : (held : VariableType) → IsVariableType scope x.type_name held → IsNew scope before [] (string_bytes x.name)
+      → (IsNew scope before [] x.name → ⊥) → VariableBreaks scope before x rule.Duplicate
+  too_many : (held : VariableType) → IsVariableType scope x.type_name held → IsNew scope before [] x.name
       → 4294967295 ≤ length before.names → VariableBreaks scope before x rule.Limit
 
 -- the variables of a body: those before one stand for something

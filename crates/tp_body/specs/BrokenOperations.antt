@@ -1,7 +1,5 @@
 -- Which rule is broken by a send or a receiving operation that stands for nothing: that of its first fault.
-use Rattle.std.specs.Prelude.{◌≢◌, ℕ, List, Contains, Option, Some, string_bytes}
-use Rattle.std.specs.declared.alloc.Global.{Global}
-use Rattle.std.specs.declared.string.String.{String}
+use Rattle.std.specs.Prelude.{◌≢◌, ℕ, List, Contains, Option, Some}
 use Rattle.tp_value.specs.declared.types.Ty.{Ty}
 use Rattle.tp_value.specs.declared.types.Ty.TheVariants as ty
 use Rattle.tp_config.specs.declared.port_type.PortType.{PortType}
@@ -74,36 +72,36 @@ pub data SentBreaks (scope : Scope) (variables : Variables) (turns : List (List 
   written : (x : Message) (r : ModuleRule) → MessageBreaks scope variables turns sendable x r
       → SentBreaks scope variables turns sendable (sent_text.Message x) r
   -- a loop variable holds an integer, which the port doesn't send (14)
-  counter : (n : String Global) (k : ℕ) → IsPlace turns (string_bytes n) k → (Contains sendable ty.Integer → ⊥)
+  counter : (n : List ℕ) (k : ℕ) → IsPlace turns n k → (Contains sendable ty.Integer → ⊥)
       → SentBreaks scope variables turns sendable (sent_text.Variable n) rule.Direction
-  no_message : (n : String Global) (r : ModuleRule) → IsAbsent turns (string_bytes n)
-      → NamesNoMessage scope variables turns (string_bytes n) r
+  no_message : (n : List ℕ) (r : ModuleRule) → IsAbsent turns n
+      → NamesNoMessage scope variables turns n r
       → SentBreaks scope variables turns sendable (sent_text.Variable n) r
   -- the port doesn't send what the variable holds (14)
-  held : (n : String Global) (k : ℕ) (u : Ty) → IsAbsent turns (string_bytes n)
-      → IsVariable variables (string_bytes n) k (variable_type.Message u) → (Contains sendable u → ⊥)
+  held : (n : List ℕ) (k : ℕ) (u : Ty) → IsAbsent turns n
+      → IsVariable variables n k (variable_type.Message u) → (Contains sendable u → ⊥)
       → SentBreaks scope variables turns sendable (sent_text.Variable n) rule.Direction
 
 -- the component behind `to`: its name is that of a variable of messages (13), or neither of a variable nor of another
 -- component that is known there (11)
 pub data ReceiverBreaks (scope : Scope) (variables : Variables) (turns : List (List ℕ))
     : Option Receivers → ModuleRule → Type 0 where
-  to_message : (n : String Global) (k : ℕ) (u : Ty) → IsAbsent turns (string_bytes n)
-      → IsVariable variables (string_bytes n) k (variable_type.Message u)
+  to_message : (n : List ℕ) (k : ℕ) (u : Ty) → IsAbsent turns n
+      → IsVariable variables n k (variable_type.Message u)
       → ReceiverBreaks scope variables turns (Some (destination.Component (component_name.Named n))) rule.WrongType
-  to_nobody : (n : String Global) → (IsAbsent turns (string_bytes n) → Contains variables.names (string_bytes n) → ⊥)
+  to_nobody : (n : List ℕ) → (IsAbsent turns n → Contains variables.names n → ⊥)
       → ((k : ℕ) → IsReference scope variables turns (component_name.Named n) k → ⊥)
       → ReceiverBreaks scope variables turns (Some (destination.Component (component_name.Named n))) rule.Unknown
 
 -- a send: the port is unknown (11), or what is sent breaks a rule, or where that is right the component behind `to`
 pub data SendBreaks (scope : Scope) (variables : Variables) (turns : List (List ℕ)) (x : Send)
     : ModuleRule → Type 0 where
-  no_port : IsAbsent (declared_port_names scope.component_type.now) (string_bytes x.port)
+  no_port : IsAbsent (declared_port_names scope.component_type.now) x.port
       → SendBreaks scope variables turns x rule.Unknown
-  sent : (k : ℕ) (port : PortType) (r : ModuleRule) → IsPortNamed scope.component_type.now (string_bytes x.port) k port
+  sent : (k : ℕ) (port : PortType) (r : ModuleRule) → IsPortNamed scope.component_type.now x.port k port
       → SentBreaks scope variables turns (sendable_types scope.behaviour port) x.sent r → SendBreaks scope variables turns x r
   receiver : (k : ℕ) (port : PortType) (y : Sent) (r : ModuleRule)
-      → IsPortNamed scope.component_type.now (string_bytes x.port) k port
+      → IsPortNamed scope.component_type.now x.port k port
       → IsSent scope variables turns (sendable_types scope.behaviour port) x.sent y
       → ReceiverBreaks scope variables turns x.to r → SendBreaks scope variables turns x r
 
@@ -122,49 +120,49 @@ pub data WantedBreaks (scope : Scope) (variables : Variables) (turns : List (Lis
 -- the component behind `from`: its name is that of a variable (13), or of nothing that is known there (11)
 pub data FromBreaks (scope : Scope) (variables : Variables) (turns : List (List ℕ))
     : Option ComponentName → ModuleRule → Type 0 where
-  from_variable : (n : String Global) → Contains variables.names (string_bytes n)
+  from_variable : (n : List ℕ) → Contains variables.names n
       → FromBreaks scope variables turns (Some (component_name.Named n)) rule.WrongType
-  from_nobody : (n : String Global) → (Contains variables.names (string_bytes n) → ⊥)
+  from_nobody : (n : List ℕ) → (Contains variables.names n → ⊥)
       → ((k : ℕ) → IsReference scope variables turns (component_name.Named n) k → ⊥)
       → FromBreaks scope variables turns (Some (component_name.Named n)) rule.Unknown
 
 -- the variable behind `value`: it is no variable of messages, or holds another type than the template's, or there is
 -- no template (13)
 pub data ValueTargetBreaks (scope : Scope) (variables : Variables) (turns : List (List ℕ)) (wanted : RecvMsg)
-    : Option (String Global) → ModuleRule → Type 0 where
-  holds_no_message : (n : String Global) (r : ModuleRule) → NamesNoMessage scope variables turns (string_bytes n) r
+    : Option (List ℕ) → ModuleRule → Type 0 where
+  holds_no_message : (n : List ℕ) (r : ModuleRule) → NamesNoMessage scope variables turns n r
       → ValueTargetBreaks scope variables turns wanted (Some n) r
-  holds_other : (n : String Global) (k : ℕ) (u : Ty) → IsAbsent turns (string_bytes n)
-      → IsVariable variables (string_bytes n) k (variable_type.Message u)
+  holds_other : (n : List ℕ) (k : ℕ) (u : Ty) → IsAbsent turns n
+      → IsVariable variables n k (variable_type.Message u)
       → ((t : RecvTemplate) → wanted ≢ recv_msg.Of u t)
       → ValueTargetBreaks scope variables turns wanted (Some n) rule.WrongType
 
 -- the variable behind `sender`: it is no variable of components
 pub data SenderTargetBreaks (scope : Scope) (variables : Variables) (turns : List (List ℕ))
-    : Option (String Global) → ModuleRule → Type 0 where
-  holds_no_component : (n : String Global) (r : ModuleRule)
-      → NamesNoComponent scope variables turns (string_bytes n) r
+    : Option (List ℕ) → ModuleRule → Type 0 where
+  holds_no_component : (n : List ℕ) (r : ModuleRule)
+      → NamesNoComponent scope variables turns n r
       → SenderTargetBreaks scope variables turns (Some n) r
 
 -- a receiving operation: the port is unknown (11), or one of its parts breaks a rule where those before it are right
 pub data ReceiveBreaks (scope : Scope) (variables : Variables) (turns : List (List ℕ)) (x : Receive)
     : ModuleRule → Type 0 where
-  at_no_port : IsAbsent (declared_port_names scope.component_type.now) (string_bytes x.port)
+  at_no_port : IsAbsent (declared_port_names scope.component_type.now) x.port
       → ReceiveBreaks scope variables turns x rule.Unknown
-  wanted : (k : ℕ) (port : PortType) (r : ModuleRule) → IsPortNamed scope.component_type.now (string_bytes x.port) k port
+  wanted : (k : ℕ) (port : PortType) (r : ModuleRule) → IsPortNamed scope.component_type.now x.port k port
       → WantedBreaks scope variables turns (receivable_types scope.behaviour port) x.template r
       → ReceiveBreaks scope variables turns x r
   from : (k : ℕ) (port : PortType) (m : RecvMsg) (r : ModuleRule)
-      → IsPortNamed scope.component_type.now (string_bytes x.port) k port
+      → IsPortNamed scope.component_type.now x.port k port
       → IsWanted scope turns (receivable_types scope.behaviour port) x.template m
       → FromBreaks scope variables turns x.sender r → ReceiveBreaks scope variables turns x r
   value_target : (k : ℕ) (port : PortType) (m : RecvMsg) (c : Option ℕ) (r : ModuleRule)
-      → IsPortNamed scope.component_type.now (string_bytes x.port) k port
+      → IsPortNamed scope.component_type.now x.port k port
       → IsWanted scope turns (receivable_types scope.behaviour port) x.template m
       → IsFrom scope variables turns x.sender c
       → ValueTargetBreaks scope variables turns m x.redirect.value r → ReceiveBreaks scope variables turns x r
   sender_target : (k : ℕ) (port : PortType) (m : RecvMsg) (c v : Option ℕ) (r : ModuleRule)
-      → IsPortNamed scope.component_type.now (string_bytes x.port) k port
+      → IsPortNamed scope.component_type.now x.port k port
       → IsWanted scope turns (receivable_types scope.behaviour port) x.template m
       → IsFrom scope variables turns x.sender c → IsValueTarget variables turns m x.redirect.value v
       → SenderTargetBreaks scope variables turns x.redirect.sender r → ReceiveBreaks scope variables turns x r

@@ -1,8 +1,5 @@
 -- Which rule is broken by a template that stands for nothing: that of its first fault in the order of the text.
-use Rattle.std.specs.Prelude.{◌≡◌, ◌≢◌, ℕ, ℤ, Bool, List, length, map, take, All, Option, Some, None, slice_get, string_bytes}
-use Rattle.std.specs.declared.vec.Vec.{Vec}
-use Rattle.std.specs.declared.alloc.Global.{Global}
-use Rattle.std.specs.declared.string.String.{String}
+use Rattle.std.specs.Prelude.{◌≡◌, ◌≢◌, ℕ, ℤ, Bool, List, length, map, take, All, Option, Some, None, slice_get}
 use Rattle.tp_value.specs.declared.types.Ty.{Ty}
 use Rattle.tp_value.specs.declared.types.Ty.TheVariants as ty
 use Rattle.tp_value.specs.declared.types.Field.{Field}
@@ -33,7 +30,7 @@ pub record IsTemplateEntry (types : Types) (turns : List (List ℕ)) (fields : L
   pub field : Field
   pub made : RecvTemplate
   pub declared : slice_get fields place ≡ Some field
-  pub same_name : string_bytes x.name ≡ field.name
+  pub same_name : x.name ≡ field.name
   pub fits : IsTemplate types turns field.ty x.template made
 
 -- a template of this type: it is of another type (13), or a part of it breaks a rule
@@ -44,24 +41,24 @@ mutual
         → TemplateBreaks types variables turns u (template.Int z) rule.WrongType
     no_boolean : (u : Ty) (b : Bool) → u ≢ ty.Boolean
         → TemplateBreaks types variables turns u (template.Bool b) rule.WrongType
-    text : (u : Ty) (cs : Vec ℕ Global) (r : ModuleRule) → TextBreaks u cs.items r
+    text : (u : Ty) (cs : List ℕ) (r : ModuleRule) → TextBreaks u cs r
         → TemplateBreaks types variables turns u (template.Text cs) r
-    name : (u : Ty) (n : String Global) (r : ModuleRule) → ValueNameBreaks variables turns u (string_bytes n) r
+    name : (u : Ty) (n : List ℕ) (r : ModuleRule) → ValueNameBreaks variables turns u n r
         → TemplateBreaks types variables turns u (template.Name n) r
     -- a `*` stands among the elements of a record of alone
     any_or_none : (u : Ty) → TemplateBreaks types variables turns u template.AnyOrNone rule.WrongType
-    one_of : (u : Ty) (ts : Vec Template Global) (r : ModuleRule) → MembersBreak types variables turns u ts.items r
+    one_of : (u : Ty) (ts : List Template) (r : ModuleRule) → MembersBreak types variables turns u ts r
         → TemplateBreaks types variables turns u (template.OneOf ts) r
-    none_of : (u : Ty) (ts : Vec Template Global) (r : ModuleRule) → MembersBreak types variables turns u ts.items r
+    none_of : (u : Ty) (ts : List Template) (r : ModuleRule) → MembersBreak types variables turns u ts r
         → TemplateBreaks types variables turns u (template.Complement ts) r
     range : (u : Ty) (low high : Option ℤ) (r : ModuleRule) → RangeBreaks u low high r
         → TemplateBreaks types variables turns u (template.Range low high) r
-    no_pattern : (u : Ty) (cs : Vec ℕ Global) → u ≢ ty.Charstring
+    no_pattern : (u : Ty) (cs : List ℕ) → u ≢ ty.Charstring
         → TemplateBreaks types variables turns u (template.Pattern cs) rule.WrongType
-    list : (u : Ty) (ts : Vec Template Global) (r : ModuleRule) → ListBreaks types variables turns u ts.items r
+    list : (u : Ty) (ts : List Template) (r : ModuleRule) → ListBreaks types variables turns u ts r
         → TemplateBreaks types variables turns u (template.List ts) r
-    record_of_names : (u : Ty) (ts : Vec TemplateField Global) (r : ModuleRule)
-        → RecordBreaks types variables turns u ts.items r → TemplateBreaks types variables turns u (template.Record ts) r
+    record_of_names : (u : Ty) (ts : List TemplateField) (r : ModuleRule)
+        → RecordBreaks types variables turns u ts r → TemplateBreaks types variables turns u (template.Record ts) r
 
   -- templates in parentheses: those before one stand for something
   pub data MembersBreak (types : Types) (variables : Variables) (turns : List (List ℕ))
@@ -117,9 +114,9 @@ mutual
   pub data EntryTemplatesBreak (types : Types) (variables : Variables) (turns : List (List ℕ))
       : List Field → List TemplateField → ModuleRule → Type 0 where
     names : (fields : List Field) (ts : List TemplateField)
-        → (HaveEntries fields (map (λ t. string_bytes t.name) ts) → ⊥)
+        → (HaveEntries fields (map (λ t. t.name) ts) → ⊥)
         → EntryTemplatesBreak types variables turns fields ts rule.WrongType
     entry : (fields : List Field) (ts : List TemplateField) (i k : ℕ) (f : Field) (x : TemplateField) (r : ModuleRule)
-        → HaveEntries fields (map (λ t. string_bytes t.name) ts) → All (IsTemplateEntry types turns fields) (take i ts)
-        → slice_get ts i ≡ Some x → slice_get fields k ≡ Some f → string_bytes x.name ≡ f.name
+        → HaveEntries fields (map (λ t. t.name) ts) → All (IsTemplateEntry types turns fields) (take i ts)
+        → slice_get ts i ≡ Some x → slice_get fields k ≡ Some f → x.name ≡ f.name
         → TemplateBreaks types variables turns f.ty x.template r → EntryTemplatesBreak types variables turns fields ts r

@@ -1,8 +1,5 @@
 -- Which rule is broken by a value that stands for nothing: that of its first fault in the order of the text.
-use Rattle.std.specs.Prelude.{◌≡◌, ◌≢◌, ℕ, ℤ, Bool, List, length, map, take, All, Contains, Some, None, slice_get, string_bytes}
-use Rattle.std.specs.declared.vec.Vec.{Vec}
-use Rattle.std.specs.declared.alloc.Global.{Global}
-use Rattle.std.specs.declared.string.String.{String}
+use Rattle.std.specs.Prelude.{◌≡◌, ◌≢◌, ℕ, ℤ, Bool, List, length, map, take, All, Contains, Some, None, slice_get}
 use Rattle.tp_value.specs.declared.types.Ty.{Ty}
 use Rattle.tp_value.specs.declared.types.Ty.TheVariants as ty
 use Rattle.tp_value.specs.declared.types.Field.{Field}
@@ -39,7 +36,7 @@ pub record IsEntry (types : Types) (turns : List (List ℕ)) (fields : List Fiel
   pub field : Field
   pub made : SendValue
   pub declared : slice_get fields place ≡ Some field
-  pub same_name : string_bytes x.name ≡ field.name
+  pub same_name : x.name ≡ field.name
   pub fits : IsValue types turns field.ty x.value made
 
 -- a value of this type: it is of another type (13), or a part of it breaks a rule
@@ -48,23 +45,23 @@ mutual
       : Ty → Value → ModuleRule → Type 0 where
     no_integer : (u : Ty) (z : ℤ) → u ≢ ty.Integer → ValueBreaks types variables turns u (value.Int z) rule.WrongType
     no_boolean : (u : Ty) (b : Bool) → u ≢ ty.Boolean → ValueBreaks types variables turns u (value.Bool b) rule.WrongType
-    text : (u : Ty) (cs : Vec ℕ Global) (r : ModuleRule) → TextBreaks u cs.items r
+    text : (u : Ty) (cs : List ℕ) (r : ModuleRule) → TextBreaks u cs r
         → ValueBreaks types variables turns u (value.Text cs) r
-    name : (u : Ty) (n : String Global) (r : ModuleRule) → ValueNameBreaks variables turns u (string_bytes n) r
+    name : (u : Ty) (n : List ℕ) (r : ModuleRule) → ValueNameBreaks variables turns u n r
         → ValueBreaks types variables turns u (value.Name n) r
-    no_braces : (u : Ty) (vs : Vec Value Global) → named types u ≡ None
+    no_braces : (u : Ty) (vs : List Value) → named types u ≡ None
         → ValueBreaks types variables turns u (value.List vs) rule.WrongType
-    elements : (u : Ty) (element : Ty) (vs : Vec Value Global) (r : ModuleRule)
-        → named types u ≡ Some (type_def.ListOf element) → ElementsBreak types variables turns element vs.items r
+    elements : (u : Ty) (element : Ty) (vs : List Value) (r : ModuleRule)
+        → named types u ≡ Some (type_def.ListOf element) → ElementsBreak types variables turns element vs r
         → ValueBreaks types variables turns u (value.List vs) r
-    places : (u : Ty) (fields : List Field) (vs : Vec Value Global) (r : ModuleRule)
-        → named types u ≡ Some (type_def.Record fields) → FieldsBreak types variables turns fields vs.items r
+    places : (u : Ty) (fields : List Field) (vs : List Value) (r : ModuleRule)
+        → named types u ≡ Some (type_def.Record fields) → FieldsBreak types variables turns fields vs r
         → ValueBreaks types variables turns u (value.List vs) r
-    no_record : (u : Ty) (vs : Vec ValueField Global)
+    no_record : (u : Ty) (vs : List ValueField)
         → ((fields : List Field) → named types u ≢ Some (type_def.Record fields))
         → ValueBreaks types variables turns u (value.Record vs) rule.WrongType
-    fields : (u : Ty) (fields : List Field) (vs : Vec ValueField Global) (r : ModuleRule)
-        → named types u ≡ Some (type_def.Record fields) → EntriesBreak types variables turns fields vs.items r
+    fields : (u : Ty) (fields : List Field) (vs : List ValueField) (r : ModuleRule)
+        → named types u ≡ Some (type_def.Record fields) → EntriesBreak types variables turns fields vs r
         → ValueBreaks types variables turns u (value.Record vs) r
 
   -- the elements of a record of: those before one stand for something
@@ -89,9 +86,9 @@ mutual
   pub data EntriesBreak (types : Types) (variables : Variables) (turns : List (List ℕ))
       : List Field → List ValueField → ModuleRule → Type 0 where
     names : (fields : List Field) (vs : List ValueField)
-        → (HaveEntries fields (map (λ v. string_bytes v.name) vs) → ⊥)
+        → (HaveEntries fields (map (λ v. v.name) vs) → ⊥)
         → EntriesBreak types variables turns fields vs rule.WrongType
     entry : (fields : List Field) (vs : List ValueField) (i k : ℕ) (f : Field) (x : ValueField) (r : ModuleRule)
-        → HaveEntries fields (map (λ v. string_bytes v.name) vs) → All (IsEntry types turns fields) (take i vs)
-        → slice_get vs i ≡ Some x → slice_get fields k ≡ Some f → string_bytes x.name ≡ f.name
+        → HaveEntries fields (map (λ v. v.name) vs) → All (IsEntry types turns fields) (take i vs)
+        → slice_get vs i ≡ Some x → slice_get fields k ≡ Some f → x.name ≡ f.name
         → ValueBreaks types variables turns f.ty x.value r → EntriesBreak types variables turns fields vs r

@@ -1,9 +1,6 @@
 -- What the values and templates of the text stand for. One in which a fault stands stands for nothing.
-use Rattle.std.specs.Prelude.{◌≡◌, ℕ, ℤ, Bool, List, [], ◌∷◌, ◌++◌, map, Option, Some, slice_get, string_bytes, FitsSigned, length, nat_eq, if◌then◌else◌}
+use Rattle.std.specs.Prelude.{◌≡◌, ℕ, ℤ, Bool, List, [], ◌∷◌, ◌++◌, map, Option, Some, slice_get, FitsSigned, length, nat_eq, if◌then◌else◌}
 use Rattle.std.specs.Int.{w64}
-use Rattle.std.specs.declared.vec.Vec.{Vec}
-use Rattle.std.specs.declared.alloc.Global.{Global}
-use Rattle.std.specs.declared.string.String.{String}
 use Rattle.tp_value.specs.declared.types.Ty.{Ty}
 use Rattle.tp_value.specs.declared.types.Ty.TheVariants as ty
 use Rattle.tp_value.specs.declared.types.Field.{Field}
@@ -34,23 +31,23 @@ mutual
   pub data IsValue (types : Types) (turns : List (List ℕ)) : Ty → Value → SendValue → Type 0 where
     int : (z : ℤ) → FitsSigned w64 z → IsValue types turns ty.Integer (value.Int z) (send_value.Int z)
     bool : (b : Bool) → IsValue types turns ty.Boolean (value.Bool b) (send_value.Bool b)
-    text : (cs : Vec ℕ Global) → ArePrintable cs.items → IsValue types turns ty.Charstring (value.Text cs)
-        (send_value.Text cs.items)
+    text : (cs : List ℕ) → ArePrintable cs → IsValue types turns ty.Charstring (value.Text cs)
+        (send_value.Text cs)
     -- a loop variable stands for an integer
-    turn : (n : String Global) (k : ℕ) → IsPlace turns (string_bytes n) k
+    turn : (n : List ℕ) (k : ℕ) → IsPlace turns n k
         → IsValue types turns ty.Integer (value.Name n) (send_value.Turn k)
     -- elements in braces, of a record of
-    elements : (u : Ty) (element : Ty) (vs : Vec Value Global) (ws : List SendValue)
-        → named types u ≡ Some (type_def.ListOf element) → AreElements types turns element vs.items ws
+    elements : (u : Ty) (element : Ty) (vs : List Value) (ws : List SendValue)
+        → named types u ≡ Some (type_def.ListOf element) → AreElements types turns element vs ws
         → IsValue types turns u (value.List vs) (send_value.List ws)
     -- fields in braces by their places, one for each declared field
-    places : (u : Ty) (fields : List Field) (vs : Vec Value Global) (ws : List SendValue)
-        → named types u ≡ Some (type_def.Record fields) → AreFields types turns fields vs.items ws
+    places : (u : Ty) (fields : List Field) (vs : List Value) (ws : List SendValue)
+        → named types u ≡ Some (type_def.Record fields) → AreFields types turns fields vs ws
         → IsValue types turns u (value.List vs) (send_value.Record ws)
     -- fields in braces by their names: as many as there are declared, and one for each of these
-    fields : (u : Ty) (fields : List Field) (vs : Vec ValueField Global) (ws : List SendValue)
-        → named types u ≡ Some (type_def.Record fields) → length vs.items ≡ length fields
-        → AreNamed types turns vs.items fields ws
+    fields : (u : Ty) (fields : List Field) (vs : List ValueField) (ws : List SendValue)
+        → named types u ≡ Some (type_def.Record fields) → length vs ≡ length fields
+        → AreNamed types turns vs fields ws
         → IsValue types turns u (value.Record vs) (send_value.Record ws)
 
   pub data AreElements (types : Types) (turns : List (List ℕ)) : Ty → List Value → List SendValue → Type 0 where
@@ -71,7 +68,7 @@ mutual
     no_name : (entries : List ValueField) → AreNamed types turns entries [] []
     one_name_more : (entries : List ValueField) (fs : List Field) (ws : List SendValue) (f : Field) (j : ℕ)
         (x : ValueField) (y : SendValue) → AreNamed types turns entries fs ws → slice_get entries j ≡ Some x
-        → string_bytes x.name ≡ f.name → IsValue types turns f.ty x.value y
+        → x.name ≡ f.name → IsValue types turns f.ty x.value y
         → AreNamed types turns entries (fs ++ f ∷ []) (ws ++ y ∷ [])
 
 -- a character of a pattern: `?` is 63 and `*` is 42
@@ -86,28 +83,28 @@ mutual
         (recv_template.Exact (send_value.Int z))
     bool_template : (b : Bool) → IsTemplate types turns ty.Boolean (template.Bool b)
         (recv_template.Exact (send_value.Bool b))
-    text_template : (cs : Vec ℕ Global) → ArePrintable cs.items
-        → IsTemplate types turns ty.Charstring (template.Text cs) (recv_template.Exact (send_value.Text cs.items))
-    turn_template : (n : String Global) (k : ℕ) → IsPlace turns (string_bytes n) k
+    text_template : (cs : List ℕ) → ArePrintable cs
+        → IsTemplate types turns ty.Charstring (template.Text cs) (recv_template.Exact (send_value.Text cs))
+    turn_template : (n : List ℕ) (k : ℕ) → IsPlace turns n k
         → IsTemplate types turns ty.Integer (template.Name n) (recv_template.Exact (send_value.Turn k))
     any : (u : Ty) → IsTemplate types turns u template.Any recv_template.Any
-    one_of : (u : Ty) (ts : Vec Template Global) (rs : List RecvTemplate) → AreMembers types turns u ts.items rs
+    one_of : (u : Ty) (ts : List Template) (rs : List RecvTemplate) → AreMembers types turns u ts rs
         → IsTemplate types turns u (template.OneOf ts) (recv_template.OneOf rs)
-    none_of : (u : Ty) (ts : Vec Template Global) (rs : List RecvTemplate) → AreMembers types turns u ts.items rs
+    none_of : (u : Ty) (ts : List Template) (rs : List RecvTemplate) → AreMembers types turns u ts rs
         → IsTemplate types turns u (template.Complement ts) (recv_template.NoneOf rs)
     range : (low high : Option ℤ) → AreOrdered low high
         → IsTemplate types turns ty.Integer (template.Range low high) (recv_template.Range low high)
-    pattern : (cs : Vec ℕ Global)
-        → IsTemplate types turns ty.Charstring (template.Pattern cs) (recv_template.Pattern (map part_of cs.items))
-    element_templates : (u : Ty) (element : Ty) (ts : Vec Template Global) (rs : List RecvTemplate)
-        → named types u ≡ Some (type_def.ListOf element) → AreElementTemplates types turns element ts.items rs
+    pattern : (cs : List ℕ)
+        → IsTemplate types turns ty.Charstring (template.Pattern cs) (recv_template.Pattern (map part_of cs))
+    element_templates : (u : Ty) (element : Ty) (ts : List Template) (rs : List RecvTemplate)
+        → named types u ≡ Some (type_def.ListOf element) → AreElementTemplates types turns element ts rs
         → IsTemplate types turns u (template.List ts) (recv_template.List rs)
-    place_templates : (u : Ty) (fields : List Field) (ts : Vec Template Global) (rs : List RecvTemplate)
-        → named types u ≡ Some (type_def.Record fields) → AreFieldTemplates types turns fields ts.items rs
+    place_templates : (u : Ty) (fields : List Field) (ts : List Template) (rs : List RecvTemplate)
+        → named types u ≡ Some (type_def.Record fields) → AreFieldTemplates types turns fields ts rs
         → IsTemplate types turns u (template.List ts) (recv_template.Record rs)
-    field_templates : (u : Ty) (fields : List Field) (ts : Vec TemplateField Global) (rs : List RecvTemplate)
-        → named types u ≡ Some (type_def.Record fields) → length ts.items ≡ length fields
-        → AreNamedTemplates types turns ts.items fields rs
+    field_templates : (u : Ty) (fields : List Field) (ts : List TemplateField) (rs : List RecvTemplate)
+        → named types u ≡ Some (type_def.Record fields) → length ts ≡ length fields
+        → AreNamedTemplates types turns ts fields rs
         → IsTemplate types turns u (template.Record ts) (recv_template.Record rs)
 
   -- templates in parentheses
@@ -143,18 +140,18 @@ mutual
     no_name_template : (entries : List TemplateField) → AreNamedTemplates types turns entries [] []
     one_name_template_more : (entries : List TemplateField) (fs : List Field) (rs : List RecvTemplate) (f : Field)
         (j : ℕ) (x : TemplateField) (y : RecvTemplate) → AreNamedTemplates types turns entries fs rs
-        → slice_get entries j ≡ Some x → string_bytes x.name ≡ f.name → IsTemplate types turns f.ty x.template y
+        → slice_get entries j ≡ Some x → x.name ≡ f.name → IsTemplate types turns f.ty x.template y
         → AreNamedTemplates types turns entries (fs ++ f ∷ []) (rs ++ y ∷ [])
 
 -- templates in braces stand for this, as a template of these elements or fields
 pub record IsListTemplate (types : Types) (turns : List (List ℕ)) (u : Ty) (ts : List Template) (r : RecvTemplate)
     : Type 0 where
-  pub stands : (v : Vec Template Global) → v.items ≡ ts → IsTemplate types turns u (template.List v) r
+  pub stands : (v : List Template) → v ≡ ts → IsTemplate types turns u (template.List v) r
 
 -- the same where they are given under the names of fields
 pub record IsRecordTemplate (types : Types) (turns : List (List ℕ)) (u : Ty) (ts : List TemplateField)
     (r : RecvTemplate) : Type 0 where
-  pub stands : (v : Vec TemplateField Global) → v.items ≡ ts → IsTemplate types turns u (template.Record v) r
+  pub stands : (v : List TemplateField) → v ≡ ts → IsTemplate types turns u (template.Record v) r
 
 -- a message: its type is known, and the value fits it
 pub record IsMessage (types : Types) (turns : List (List ℕ)) (x : Message) (m : SendMsg) : Type 0 where

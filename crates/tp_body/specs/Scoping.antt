@@ -1,7 +1,5 @@
 -- What the names of a body stand for.
 use Rattle.std.specs.Prelude.{◌≡◌, ℕ, ◌+◌, ◌≤◌, List, length, map, Some, slice_get, string_bytes, ◌++◌}
-use Rattle.std.specs.declared.string.String.{String}
-use Rattle.std.specs.declared.alloc.Global.{Global}
 use Rattle.tp_value.specs.declared.types.Ty.{Ty}
 use Rattle.tp_value.specs.declared.types.Ty.TheVariants as ty
 use Rattle.tp_value.specs.declared.types.Types.{Types}
@@ -53,7 +51,7 @@ pub data IsType (types : Types) : TypeName → Ty → Type 0 where
   integer : IsType types type_name.Integer ty.Integer
   boolean : IsType types type_name.Boolean ty.Boolean
   charstring : IsType types type_name.Charstring ty.Charstring
-  type_named : (n : String Global) (k : ℕ) → type_number types (string_bytes n) ≡ Some k
+  type_named : (n : List ℕ) (k : ℕ) → type_number types n ≡ Some k
       → IsType types (type_name.Named n) (ty.Named k)
 
 -- the variable of this name stands at this place and holds this
@@ -67,9 +65,9 @@ pub record IsVariable (variables : Variables) (name : List ℕ) (place : ℕ) (h
 pub data IsReference (scope : Scope) (variables : Variables) (turns : List (List ℕ)) : ComponentName → ℕ → Type 0 where
   mtc : IsReference scope variables turns component_name.Mtc 0
   itself : IsReference scope variables turns component_name.SelfComponent 1
-  component_named : (n : String Global) (k : ℕ) → IsAbsent turns (string_bytes n)
-      → IsAbsent variables.names (string_bytes n)
-      → IsPlace (scope.parameters.now ++ scope.component_variables.now) (string_bytes n) k
+  component_named : (n : List ℕ) (k : ℕ) → IsAbsent turns n
+      → IsAbsent variables.names n
+      → IsPlace (scope.parameters.now ++ scope.component_variables.now) n k
       → IsReference scope variables turns (component_name.Named n) (2 + k)
 
 -- a new name for a variable or a loop variable: no port, parameter, variable or loop variable has it, and in the

@@ -49,7 +49,7 @@ pub fn resolve_value(
             Ok(SendValue::Bool(*truth))
         }
         Value::Text(text) => {
-            let text = resolve_text(alloc, context, ty, text)?;
+            let text = resolve_text(alloc, context, ty, text.as_slice())?;
             Ok(SendValue::Text(text))
         }
         Value::Name(name) => {
@@ -58,11 +58,11 @@ pub fn resolve_value(
         }
         Value::List(values) => match context.scope.types.definition(ty) {
             Some(TypeDef::ListOf(element)) => {
-                let made = resolve_elements(alloc, context, *element, values)?;
+                let made = resolve_elements(alloc, context, *element, values.as_slice())?;
                 Ok(SendValue::List(made))
             }
             Some(TypeDef::Record(fields)) => {
-                let made = resolve_fields(alloc, context, fields.as_slice(), values)?;
+                let made = resolve_fields(alloc, context, fields.as_slice(), values.as_slice())?;
                 Ok(SendValue::Record(made))
             }
             None => Err(context.wrong_type()),
@@ -71,7 +71,7 @@ pub fn resolve_value(
             let Some(TypeDef::Record(fields)) = context.scope.types.definition(ty) else {
                 return Err(context.wrong_type());
             };
-            let made = resolve_named(alloc, context, fields.as_slice(), entries)?;
+            let made = resolve_named(alloc, context, fields.as_slice(), entries.as_slice())?;
             Ok(SendValue::Record(made))
         }
     }

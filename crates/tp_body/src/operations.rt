@@ -21,6 +21,7 @@ use tp_play::body::{
     Receiver, Receiving, RecvMsg, SendMsg, SendOperation, SendValue, Sent, VariableType,
 };
 use tp_tree::message::{Message, MessageTemplate};
+use tp_tree::name::Name;
 use tp_tree::tree;
 use tp_tree::tree::{ComponentName, Receivers, VerdictName};
 use tp_value::types::Ty;
@@ -285,7 +286,7 @@ fn resolve_sender(
 fn resolve_value_target(
     context: &Context,
     wanted: &RecvMsg,
-    target: &Option<String>,
+    target: &Option<Name>,
 ) -> Result<Option<usize>, ModuleFault>
     ensures stands { IfOk result (IsValueTarget
         context.now.variables.now (texts context.now.turns.now) wanted.now target.now) }
@@ -310,7 +311,7 @@ fn resolve_value_target(
 #[tactic(auto, using(crate::proofs::OperationRules::cases))]
 fn resolve_sender_target(
     context: &Context,
-    target: &Option<String>,
+    target: &Option<Name>,
 ) -> Result<Option<usize>, ModuleFault>
     ensures stands { IfOk result (IsSenderTarget
         context.now.variables.now (texts context.now.turns.now) target.now) }

@@ -1,5 +1,5 @@
 //! The fields that the entries of a record stand for.
-ghost use Rattle.std.specs.Prelude.{◌≡◌, ◌<◌, ◌↔◌, ◌⊎◌, ℕ, List, [], true, IfErr, IfNone, IfOk, IfSome, IsTrue, OnOk, length, map, slice_get, slice_set, string_bytes};
+ghost use Rattle.std.specs.Prelude.{◌≡◌, ◌<◌, ◌↔◌, ◌⊎◌, ℕ, List, [], true, IfErr, IfNone, IfOk, IfSome, IsTrue, OnOk, length, map, slice_get, slice_set};
 ghost use Rattle.std.specs.Bool.{OnFalse};
 ghost use Rattle.tp_name.specs.Named.{IsAbsent};
 ghost use Rattle.tp_name.specs.Refused.{TellsAt};
@@ -23,7 +23,7 @@ pub trait NamedField {
 }
 
 impl NamedField for ValueField {
-    ghost name = { λ entry. string_bytes entry.name };
+    ghost name = { λ entry. entry.name };
 
     fn name(&self) -> &str {
         self.name.as_str()
@@ -31,7 +31,7 @@ impl NamedField for ValueField {
 }
 
 impl NamedField for TemplateField {
-    ghost name = { λ entry. string_bytes entry.name };
+    ghost name = { λ entry. entry.name };
 
     fn name(&self) -> &str {
         self.name.as_str()

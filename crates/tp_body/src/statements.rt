@@ -122,11 +122,11 @@ fn resolve_statement<'m>(
         Action::AllPorts(operation) => resolve_all_ports(context, *operation),
         Action::SetVerdict(name) => resolve_set_verdict(context, *name),
         Action::Alt(branches, otherwise) => {
-            let made = resolve_branches(alloc, context, branches)?;
+            let made = resolve_branches(alloc, context, branches.as_slice())?;
             let Some(otherwise) = otherwise else {
                 return Ok(ResolvedStatement::Alt(made, None));
             };
-            let block = resolve_block(alloc, context, &otherwise.block)?;
+            let block = resolve_block(alloc, context, otherwise.block.as_slice())?;
             Ok(ResolvedStatement::Alt(made, Some(block)))
         }
         Action::For(looped) => resolve_for(alloc, context, looped),
@@ -157,7 +157,7 @@ fn resolve_for<'m>(
         turns: &inside,
         ..*context
     };
-    let block = resolve_block(alloc, &around, &looped.block)?;
+    let block = resolve_block(alloc, &around, looped.block.as_slice())?;
     Ok(counted_for(&looped.turns, block))
 }
 
@@ -203,7 +203,7 @@ fn resolve_after<'m>(
 {
     match body {
         BranchBody::Nothing => Ok(Items::new(alloc)),
-        BranchBody::Block(statements) => resolve_block(alloc, context, statements),
+        BranchBody::Block(statements) => resolve_block(alloc, context, statements.as_slice()),
     }
 }
 

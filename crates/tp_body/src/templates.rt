@@ -94,7 +94,7 @@ pub fn resolve_template(
             Ok(RecvTemplate::Exact(SendValue::Bool(*truth)))
         }
         Template::Text(text) => {
-            let text = resolve_text(alloc, context, ty, text)?;
+            let text = resolve_text(alloc, context, ty, text.as_slice())?;
             Ok(RecvTemplate::Exact(SendValue::Text(text)))
         }
         Template::Name(name) => {
@@ -104,21 +104,21 @@ pub fn resolve_template(
         Template::Any => Ok(RecvTemplate::Any),
         Template::AnyOrNone => Err(context.wrong_type()),
         Template::OneOf(members) => {
-            let made = resolve_members(alloc, context, ty, members)?;
+            let made = resolve_members(alloc, context, ty, members.as_slice())?;
             Ok(RecvTemplate::OneOf(made))
         }
         Template::Complement(members) => {
-            let made = resolve_members(alloc, context, ty, members)?;
+            let made = resolve_members(alloc, context, ty, members.as_slice())?;
             Ok(RecvTemplate::NoneOf(made))
         }
         Template::Range(lower, upper) => resolve_range(context, ty, *lower, *upper),
         Template::Pattern(text) => {
             context.check_type(ty, Ty::Charstring)?;
-            let made = parts(alloc, text)?;
+            let made = parts(alloc, text.as_slice())?;
             Ok(RecvTemplate::Pattern(made))
         }
-        Template::List(members) => resolve_list(alloc, context, ty, members),
-        Template::Record(entries) => resolve_record(alloc, context, ty, entries),
+        Template::List(members) => resolve_list(alloc, context, ty, members.as_slice()),
+        Template::Record(entries) => resolve_record(alloc, context, ty, entries.as_slice()),
     }
 }
 

@@ -1,7 +1,5 @@
 -- What a component of a module's test case does is fixed by the module.
-use Rattle.std.proofs.Common.{◌≡◌, ◌⊎◌, inl, inr, ℕ, ◌+◌, ◌<◌, List, [], ◌∷◌, ◌++◌, Option, None, Some, Contains, length, map, slice_get, option_map, string_bytes, refl, sym, ap, ◌∙◌, subst, arith}
-use Rattle.std.specs.declared.string.String.{String}
-use Rattle.std.specs.declared.alloc.Global.{Global}
+use Rattle.std.proofs.Common.{◌≡◌, ◌⊎◌, inl, inr, ℕ, ◌+◌, ◌<◌, List, [], ◌∷◌, ◌++◌, Option, None, Some, Contains, length, map, slice_get, option_map, refl, sym, ap, ◌∙◌, subst, arith}
 use Rattle.std.proofs.lemmas.Grind.{same_number_lists}
 use Rattle.std.proofs.lemmas.List.{length-map}
 use Rattle.std.proofs.lemmas.Slice.Zip.{AllZip-long}
@@ -78,14 +76,14 @@ module _ (m : Module) (apart : AreDistinct (definition_names m)) (known : Known)
     function : Function
     number : interface_number case ≡ Some k
     there : Contains (functions m) function
-    named : string_bytes function.name ≡ sut
+    named : function.name ≡ sut
     body : IsFunctionBody known function does.body
     references : AreReferences k [] (length known.components) does.references
     is : o ≡ Some does
 
   record AtNobody (k : ℕ) (o : Option Behaviour) : Type 0 where
     number : interface_number case ≡ Some k
-    absent : Contains (map (λ (f : Function). string_bytes f.name) (functions m)) sut → ⊥
+    absent : Contains (map (λ (f : Function). f.name) (functions m)) sut → ⊥
     is : o ≡ None
 
   abbrev At : Starts → ℕ → Option Behaviour → Type 0
@@ -100,21 +98,21 @@ module _ (m : Module) (apart : AreDistinct (definition_names m)) (known : Known)
   at starts k o (d.nobody n number absent) = inr (inr (inr (record { number = number; absent = absent; is = refl })))
 
   -- the test system interface stands behind the components that are made
-  behind_created : (k : ℕ) → interface_number case ≡ Some k → length (creations case.setups.items) + 1 ≡ k
+  behind_created : (k : ℕ) → interface_number case ≡ Some k → length (creations case.setups) + 1 ≡ k
   behind_created k e = by case.system e where
-    by : (o : Option (String Global)) → option_map (λ _. length (creations case.setups.items) + 1) o ≡ Some k → length (creations case.setups.items) + 1 ≡ k
+    by : (o : Option (List ℕ)) → option_map (λ _. length (creations case.setups) + 1) o ≡ Some k → length (creations case.setups) + 1 ≡ k
     by None f = absurd (cc)
-    by (Some s) f = same_Some (length (creations case.setups.items) + 1) k f
+    by (Some s) f = same_Some (length (creations case.setups) + 1) k f
 
   -- and these behind `mtc`
-  among_created : (starts : Starts) → AreStarts (functions m) case starts → (j place : ℕ) → slice_get starts.places.items j ≡ Some place → j < length (creations case.setups.items)
+  among_created : (starts : Starts) → AreStarts (functions m) case starts → (j place : ℕ) → slice_get starts.places.items j ≡ Some place → j < length (creations case.setups)
   among_created starts are j place e =
       let inside = slice_get_within starts.places.items j place e in
-      let long = AllZip-long (IsStartPlace (started_names case.starts.items)) (variables case.setups.items) starts.places.items are.all in
-      omega (arith, inside, long, length-map (creations case.setups.items) variable_name)
+      let long = AllZip-long (IsStartPlace (started_names case.starts)) (variables case.setups) starts.places.items are.all in
+      omega (arith, inside, long, length-map (creations case.setups) variable_name)
 
   body_same : (f : Function) (x y : Body) → IsFunctionBody known f x → IsFunctionBody known f y → x ≡ y
-  body_same f x y h k = scoped_body_fixed known _ _ _ f.variables.items f.statements.items own x y h k
+  body_same f x y h k = scoped_body_fixed known _ _ _ f.variables f.statements own x y h k
 
   does_same : (x y : Behaviour) (o p : Option Behaviour) → o ≡ Some x → p ≡ Some y → x.body ≡ y.body → x.references ≡ y.references → o ≡ p
   does_same x y o p e f body references =
@@ -123,7 +121,7 @@ module _ (m : Module) (apart : AreDistinct (definition_names m)) (known : Known)
   main_fixed : (k : ℕ) (o p : Option Behaviour) → AtMain k o → AtMain k p → o ≡ p
   main_fixed k o p h g =
       does_same h.does g.does o p h.is g.is
-      (scoped_body_fixed known _ _ _ case.variables.items case.statements.items own h.does.body g.does.body h.body g.body)
+      (scoped_body_fixed known _ _ _ case.variables case.statements own h.does.body g.does.body h.body g.body)
       (references_fixed 0 [] (length known.components) h.does.references g.does.references h.references g.references)
 
   system_fixed : (k : ℕ) (o p : Option Behaviour) → AtSystem k o → AtSystem k p → o ≡ p
@@ -136,20 +134,20 @@ module _ (m : Module) (apart : AreDistinct (definition_names m)) (known : Known)
   somebody : (k : ℕ) (o p : Option Behaviour) → AtSystem k o → AtNobody k p → ⊥
   somebody k o p h g =
       let i = place_in (functions m) h.function h.there in
-      g.absent (contains_at (map (λ (f : Function). string_bytes f.name) (functions m)) i.0 sut
-      (slice_get-map (λ (f : Function). string_bytes f.name) (functions m) i.0 ∙ ap (option_map (λ (f : Function). string_bytes f.name)) i.1 ∙ ap Some h.named))
+      g.absent (contains_at (map (λ (f : Function). f.name) (functions m)) i.0 sut
+      (slice_get-map (λ (f : Function). f.name) (functions m) i.0 ∙ ap (option_map (λ (f : Function). f.name)) i.1 ∙ ap Some h.named))
 
   -- what starts a component is fixed
   module _ (starts others : Starts) (are : AreStarts (functions m) case starts) (so : AreStarts (functions m) case others) where
     place_same : (j p q : ℕ) → slice_get starts.places.items j ≡ Some p → slice_get others.places.items j ≡ Some q → p ≡ q
     place_same j p q e f =
-        let v = zip_at (IsStartPlace (started_names case.starts.items)) (variables case.setups.items) starts.places.items j p are.all e in
-        let w = zip_at (IsStartPlace (started_names case.starts.items)) (variables case.setups.items) others.places.items j q so.all f in
+        let v = zip_at (IsStartPlace (started_names case.starts)) (variables case.setups) starts.places.items j p are.all e in
+        let w = zip_at (IsStartPlace (started_names case.starts)) (variables case.setups) others.places.items j q so.all f in
         let same : v.0 ≡ w.0 = same_Some v.0 w.0 (sym v.1 ∙ w.1) in
-        same_Some p q (sym (subst (λ n. IsStartPlace (started_names case.starts.items) n p) same v.2) ∙ w.2)
+        same_Some p q (sym (subst (λ n. IsStartPlace (started_names case.starts) n p) same v.2) ∙ w.2)
 
     abbrev Starting : ComponentStart → StartedComponent → Type 0
-    Starting = IsStartOf (functions m) (variables case.setups.items) (type_names_of case)
+    Starting = IsStartOf (functions m) (variables case.setups) (type_names_of case)
 
     -- the function and the arguments of a start
     record SameStart (x y : StartedComponent) (f g : Function) : Type 0 where
@@ -159,17 +157,17 @@ module _ (m : Module) (apart : AreDistinct (definition_names m)) (known : Known)
     start_same : (p : ℕ) (x y : StartedComponent) (f g : Function) → slice_get starts.starts.items p ≡ Some x → slice_get others.starts.items p ≡ Some y
         → slice_get (functions m) x.function ≡ Some f → slice_get (functions m) y.function ≡ Some g → SameStart x y f g
     start_same p x y f g e i known_f known_g =
-        let s = zip_at Starting case.starts.items starts.starts.items p x are.starts e in
-        let t = zip_at Starting case.starts.items others.starts.items p y so.starts i in
+        let s = zip_at Starting case.starts starts.starts.items p x are.starts e in
+        let t = zip_at Starting case.starts others.starts.items p y so.starts i in
         let same : s.0 ≡ t.0 = same_Some s.0 t.0 (sym s.1 ∙ t.1) in
         let here : Starting t.0 x = subst (λ z. Starting z x) same s.2 in
         let first : here.function ≡ f = same_Some here.function f (sym here.function_known ∙ known_f) in
         let second : t.2.function ≡ g = same_Some t.2.function g (sym t.2.function_known ∙ known_g) in
         record {
           function = one_function_named m f g apart (contains_at (functions m) x.function f known_f) (contains_at (functions m) y.function g known_g)
-              (ap (λ (h : Function). string_bytes h.name) (sym first) ∙ here.named ∙ sym t.2.named ∙ ap (λ (h : Function). string_bytes h.name) second);
-          arguments = ap numbers_of (zip_fixed (IsArgument (variables case.setups.items)) (argument_fixed (variables case.setups.items))
-              t.0.arguments.items x.arguments.items y.arguments.items here.arguments_known t.2.arguments_known);
+              (ap (λ (h : Function). h.name) (sym first) ∙ here.named ∙ sym t.2.named ∙ ap (λ (h : Function). h.name) second);
+          arguments = ap numbers_of (zip_fixed (IsArgument (variables case.setups)) (argument_fixed (variables case.setups))
+              t.0.arguments x.arguments.items y.arguments.items here.arguments_known t.2.arguments_known);
         }
 
     started_fixed : (k : ℕ) (o p : Option Behaviour) → AtStarted starts k o → AtStarted others k p → o ≡ p

@@ -1,5 +1,5 @@
 -- A body of the text stands for one body, in whichever scope of what it may speak of.
-use Rattle.std.proofs.Common.{◌≡◌, ℕ, List, [], ◌∷◌, ◌++◌, refl, ap, sym, subst, ◌∙◌, string_bytes}
+use Rattle.std.proofs.Common.{◌≡◌, ℕ, List, [], ◌∷◌, ◌++◌, refl, ap, sym, subst, ◌∙◌}
 use Rattle.std.proofs.lemmas.List.{same_from_push}
 use Rattle.tp_tree.specs.declared.message.TypeName.{TypeName}
 use Rattle.tp_tree.specs.declared.tree.Variable.{Variable}
@@ -42,7 +42,7 @@ module _ (scope : Scope) (own : OwnNames scope.types.now) where
     held : VariableType
     all : AreVariables scope xs front
     kind : IsVariableType scope x.type_name held
-    names : ws.names ≡ front.names ++ string_bytes x.name ∷ []
+    names : ws.names ≡ front.names ++ x.name ∷ []
     types : ws.types ≡ front.types ++ held ∷ []
 
   last_variable : (us : List Variable) (ws : Variables) → AreVariables scope us ws → (xs : List Variable) (x : Variable) → us ≡ xs ++ x ∷ [] → IsLast xs x ws
@@ -59,7 +59,7 @@ module _ (scope : Scope) (own : OwnNames scope.types.now) where
   variables_fixed _ _ us (bodies.one_variable_more xs vs ws x held all few kind is_new names types) k =
       let i = last_variable (xs ++ x ∷ []) us k xs x refl in
       let same = variables_fixed xs vs i.front all i.all in (
-        names ∙ ap (λ l. l ++ string_bytes x.name ∷ []) same.0 ∙ sym i.names,
+        names ∙ ap (λ l. l ++ x.name ∷ []) same.0 ∙ sym i.names,
         types ∙ ap (λ l. l ++ held ∷ []) same.1 ∙ ap (λ t. i.front.types ++ t ∷ []) (held_fixed x.type_name held i.held kind i.kind) ∙ sym i.types,
       )
 

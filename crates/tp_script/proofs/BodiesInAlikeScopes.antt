@@ -64,8 +64,8 @@ module _ (s t : Scope) (same : LookSame s t) where
     reference_seen p.itself = p.itself
     reference_seen (p.component_named n k absent other h) =
         p.component_named n k absent other
-        (subst (λ l. IsPlace (t.parameters.now ++ l) (string_bytes n) k) same.components
-        (subst (λ l. IsPlace (l ++ s.component_variables.now) (string_bytes n) k) same.parameters h))
+        (subst (λ l. IsPlace (t.parameters.now ++ l) n k) same.components
+        (subst (λ l. IsPlace (l ++ s.component_variables.now) n k) same.parameters h))
 
     new_seen : {turns : List (List ℕ)} {name : List ℕ} → IsNew s variables turns name → IsNew t variables turns name
     new_seen {turns} {name} h = record {
@@ -149,8 +149,8 @@ module _ (s t : Scope) (same : LookSame s t) where
   held_seen : {x : TypeName} {held : VariableType} → IsVariableType s x held → IsVariableType t x held
   held_seen (b.message x u h) = b.message x u (subst (λ types. IsType types x u) same.types h)
   held_seen (b.component n k free h) =
-      b.component n k (subst (λ types. type_number types (string_bytes n) ≡ None) same.types free)
-      (subst (λ l. IsPlace l (string_bytes n) k) same.component_types h)
+      b.component n k (subst (λ types. type_number types n ≡ None) same.types free)
+      (subst (λ l. IsPlace l n k) same.component_types h)
 
   variables_seen : {xs : List Variable} {vs : Variables} → AreVariables s xs vs → AreVariables t xs vs
   variables_seen (b.no_variable vs names types) = b.no_variable vs names types

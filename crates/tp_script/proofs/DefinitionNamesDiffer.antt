@@ -8,5 +8,5 @@ use Rattle.tp_script.specs.Scopes.{HaveOwnNames}
 pub apart : (m : Module) → IsWellDeclared m → AreDistinct (definition_names m)
 apart m rules = rules.names.definitions.distinct
 
-pub own_names : (m : Module) → IsWellDeclared m → HaveOwnNames m.definitions.items
+pub own_names : (m : Module) → IsWellDeclared m → HaveOwnNames m.definitions
 own_names m rules = rules.names.inner

@@ -1,9 +1,7 @@
 -- The test case of a module that obeys the rules can be executed.
-use Rattle.std.proofs.Common.{◌≡◌, ◌⊎◌, inl, inr, ℕ, zero, suc, ◌+◌, ◌<◌, ◌≤◌, true, true≢false, List, [], ◌∷◌, ◌++◌, Option, None, Some, All, Contains, length, map, get_or, slice_get, option_map, string_bytes, codes, refl, sym, ap, ◌∙◌, subst, arith, add-one}
+use Rattle.std.proofs.Common.{◌≡◌, ◌⊎◌, inl, inr, ℕ, zero, suc, ◌+◌, ◌<◌, ◌≤◌, true, true≢false, List, [], ◌∷◌, ◌++◌, Option, None, Some, All, Contains, length, map, get_or, slice_get, option_map, codes, refl, sym, ap, ◌∙◌, subst, arith, add-one}
 use Rattle.std.specs.List.{AllZip, cons_option}
 use Rattle.std.specs.Option.{option_map_or, option_to_list}
-use Rattle.std.specs.declared.alloc.Global.{Global}
-use Rattle.std.specs.declared.string.String.{String}
 use Rattle.std.proofs.Math.ListN.{get_or-eq_default}
 use Rattle.std.proofs.lemmas.Bool.{cases_lt}
 use Rattle.std.proofs.lemmas.List.{length-map, length-append}
@@ -139,7 +137,7 @@ last_at (x ∷ xs) y = last_at xs y
 -- there is one test system interface at most
 few_interfaces : (case : TestCase) → length (interface case) ≤ 1
 few_interfaces case = by case.system where
-  by : (o : Option (String Global)) → length (interface (record case { system = o })) ≤ 1
+  by : (o : Option (List ℕ)) → length (interface (record case { system = o })) ≤ 1
   by None = omega arith
   by (Some s) = omega arith
 
@@ -154,7 +152,7 @@ module _ (m : Module) (made : Made) (rules : IsWellDeclared m) (of : IsTestCaseO
   known = known_of m case config made.types
 
   abbrev count : ℕ
-  count = length (creations case.setups.items)
+  count = length (creations case.setups)
 
   abbrev IsKnown : ℕ → Type 0
   IsKnown c = c < length config.components
@@ -164,19 +162,19 @@ module _ (m : Module) (made : Made) (rules : IsWellDeclared m) (of : IsTestCaseO
 
   members : AllZip (IsMember (component_type_names m)) (component_list case) config.components
   members = subst (AllZip (IsMember (component_type_names m)) (component_list case))
-      (sym (makes_leaves (interface_number case) of.config.set_up.start case.setups.items config of.config.set_up.makes).1) of.config.set_up.components_are
+      (sym (makes_leaves (interface_number case) of.config.set_up.start case.setups config of.config.set_up.makes).1) of.config.set_up.components_are
 
   -- `mtc` and those that are made
   abbrev tested : List Declared
-  tested = main_component case ∷ map created (creations case.setups.items)
+  tested = main_component case ∷ map created (creations case.setups)
 
   pub all_of_them : length config.components ≡ count + 1 + length (interface case)
   all_of_them =
       let long = AllZip-long (IsMember (component_type_names m)) (component_list case) config.components members in
-      omega (arith, long, length-append tested (interface case), length-map (creations case.setups.items) created)
+      omega (arith, long, length-append tested (interface case), length-map (creations case.setups) created)
 
-  variable_count : length (variables case.setups.items) ≡ count
-  variable_count = length-map (creations case.setups.items) variable_name
+  variable_count : length (variables case.setups) ≡ count
+  variable_count = length-map (creations case.setups) variable_name
 
   -- a component can play what stands for a body that runs on its type, where there are as many references as the body's scope has
   can_play : (k : ℕ) (x : Declared) (plays : BehaviourKind) (runs_on : List ℕ) (parameters : List (List ℕ)) (vs : List Variable)
@@ -230,41 +228,41 @@ module _ (m : Module) (made : Made) (rules : IsWellDeclared m) (of : IsTestCaseO
       (omega (
         arith,
         all_of_them,
-        slice_get_within (type_names_of case) c.0 (string_bytes p.type_name) h.0,
-        length-map (creations case.setups.items) (λ (c : Creation). string_bytes c.type_name),
+        slice_get_within (type_names_of case) c.0 p.type_name h.0,
+        length-map (creations case.setups) (λ (c : Creation). c.type_name),
       ))
       (arguments_known ps cs h.1)
 
   -- a component that is made, by the place of its variable
-  made_at : (k : ℕ) (c : Creation) → slice_get (creations case.setups.items) k ≡ Some c → slice_get (component_list case) (k + 1) ≡ Some (created c)
+  made_at : (k : ℕ) (c : Creation) → slice_get (creations case.setups) k ≡ Some c → slice_get (component_list case) (k + 1) ≡ Some (created c)
   made_at k c e =
-      rw add-one (left_at (map created (creations case.setups.items)) (interface case) k (created c)
-      (slice_get-map created (creations case.setups.items) k ∙ ap (option_map created) e))
+      rw add-one (left_at (map created (creations case.setups)) (interface case) k (created c)
+      (slice_get-map created (creations case.setups) k ∙ ap (option_map created) e))
 
   type_name_at : (k : ℕ) (name : List ℕ) → slice_get (type_names_of case) (k + 1) ≡ Some name
-      → (c : Creation) × (slice_get (creations case.setups.items) k ≡ Some c) × (string_bytes c.type_name ≡ name)
-  type_name_at k name e = mapped_from (λ (c : Creation). string_bytes c.type_name) (creations case.setups.items) k name (rw add-one at e)
+      → (c : Creation) × (slice_get (creations case.setups) k ≡ Some c) × (c.type_name ≡ name)
+  type_name_at k name e = mapped_from (λ (c : Creation). c.type_name) (creations case.setups) k name (rw add-one at e)
 
   -- the test system interface, and its number
-  interface_at : (n : ℕ) (runs_on : List ℕ) → interface_number case ≡ Some n → option_map string_bytes case.system ≡ Some runs_on
+  interface_at : (n : ℕ) (runs_on : List ℕ) → interface_number case ≡ Some n → case.system ≡ Some runs_on
       → (x : Declared) × (slice_get (component_list case) n ≡ Some x) × (x.type_name ≡ runs_on)
   interface_at n runs_on number same = by case.system number same where
-    by : (o : Option (String Global)) → option_map (λ _. count + 1) o ≡ Some n → option_map string_bytes o ≡ Some runs_on
+    by : (o : Option (List ℕ)) → option_map (λ _. count + 1) o ≡ Some n → o ≡ Some runs_on
         → (x : Declared)
         × (slice_get
-        (tested ++ option_to_list (option_map (λ s. record { name = codes "system"; type_name = string_bytes s; role = role.System }) o)) n ≡ Some x)
+        (tested ++ option_to_list (option_map (λ s. record { name = codes "system"; type_name = s; role = role.System }) o)) n ≡ Some x)
         × (x.type_name ≡ runs_on)
     by None e f = by_none e
     by (Some s) e f =
-        let x : Declared = record { name = codes "system"; type_name = string_bytes s; role = role.System } in
-        let long : length tested ≡ n = omega (arith, length-map (creations case.setups.items) created, same_Some (count + 1) n e) in
-        (x, ap (slice_get (tested ++ x ∷ [])) (sym long) ∙ last_at tested x, same_Some (string_bytes s) runs_on f)
+        let x : Declared = record { name = codes "system"; type_name = s; role = role.System } in
+        let long : length tested ≡ n = omega (arith, length-map (creations case.setups) created, same_Some (count + 1) n e) in
+        (x, ap (slice_get (tested ++ x ∷ [])) (sym long) ∙ last_at tested x, same_Some s runs_on f)
 
   -- a function named `sut` has no parameters, and runs on the type behind `system`
-  plays_system : (f : Function) → Contains (functions m) f → string_bytes f.name ≡ sut
-      → (f.parameters.items ≡ []) × (option_map string_bytes case.system ≡ Some (string_bytes f.runs_on))
+  plays_system : (f : Function) → Contains (functions m) f → f.name ≡ sut
+      → (f.parameters ≡ []) × (case.system ≡ Some f.runs_on)
   plays_system f there named =
-      (function_sound (IsSound (type_names m) (port_type_names m) (component_type_names m) (option_map string_bytes case.system)) m.definitions.items f
+      (function_sound (IsSound (type_names m) (port_type_names m) (component_type_names m) case.system) m.definitions f
       (subst (HasSoundDefinitions m) same_case rules.definitions) there).plays_system named
 
   -- what a component does, it can do
@@ -273,7 +271,7 @@ module _ (m : Module) (made : Made) (rules : IsWellDeclared m) (of : IsTestCaseO
       subst (CanDo config made.types 0) (same_Some x w e)
       (record {
         playable =
-            can_play 0 (main_component case) _ (string_bytes case.runs_on) [] case.variables.items case.statements.items x.body x.references refl refl is
+            can_play 0 (main_component case) _ case.runs_on [] case.variables case.statements x.body x.references refl refl is
             (reference_length 0 [] x.references refs);
         known = are_known 0 [] x.references refs here (All-nil IsKnown);
       })
@@ -281,61 +279,61 @@ module _ (m : Module) (made : Made) (rules : IsWellDeclared m) (of : IsTestCaseO
       subst (CanDo config made.types (j + 1)) (same_Some y w e)
       (record {
         playable =
-            can_play (j + 1) (created creation.0) _ (string_bytes f.runs_on) (map (λ p. declared p.name) f.parameters.items) f.variables.items
-            f.statements.items y.body y.references
+            can_play (j + 1) (created creation.0) _ f.runs_on (map (λ p. declared p.name) f.parameters) f.variables
+            f.statements y.body y.references
             (made_at j creation.0 creation.1) creation.2 is long;
         known =
             are_known (j + 1) (map (λ c. c.0) x.arguments.items) y.references refs here
-            (arguments_known begun.2.function.parameters.items x.arguments.items begun.2.arguments_fit);
+            (arguments_known begun.2.function.parameters x.arguments.items begun.2.arguments_fit);
       })
     where
       begun :
-          (s : ComponentStart) × (slice_get case.starts.items place ≡ Some s) × IsStartOf (functions m) (variables case.setups.items) (type_names_of case) s x
+          (s : ComponentStart) × (slice_get case.starts place ≡ Some s) × IsStartOf (functions m) (variables case.setups) (type_names_of case) s x
       begun =
-          zip_at (IsStartOf (functions m) (variables case.setups.items) (type_names_of case)) case.starts.items of.starts.starts.items place x
+          zip_at (IsStartOf (functions m) (variables case.setups) (type_names_of case)) case.starts of.starts.starts.items place x
           of.starts_are.starts start
 
-      placed : (v : List ℕ) × (slice_get (variables case.setups.items) j ≡ Some v) × IsStartPlace (started_names case.starts.items) v place
-      placed = zip_at (IsStartPlace (started_names case.starts.items)) (variables case.setups.items) of.starts.places.items j place of.starts_are.all there
+      placed : (v : List ℕ) × (slice_get (variables case.setups) j ≡ Some v) × IsStartPlace (started_names case.starts) v place
+      placed = zip_at (IsStartPlace (started_names case.starts)) (variables case.setups) of.starts.places.items j place of.starts_are.all there
 
       -- the start is that of the component's own variable
-      same_variable : string_bytes begun.0.component ≡ placed.0
+      same_variable : begun.0.component ≡ placed.0
       same_variable =
-          same_Some (string_bytes begun.0.component) placed.0
-          (sym (slice_get-map (λ (s : ComponentStart). string_bytes s.component) case.starts.items place
-          ∙ ap (option_map (λ (s : ComponentStart). string_bytes s.component)) begun.1)
-          ∙ place_there (started_names case.starts.items) placed.0 place (sym placed.2))
+          same_Some begun.0.component placed.0
+          (sym (slice_get-map (λ (s : ComponentStart). s.component) case.starts place
+          ∙ ap (option_map (λ (s : ComponentStart). s.component)) begun.1)
+          ∙ place_there (started_names case.starts) placed.0 place (sym placed.2))
 
       own : begun.2.variable ≡ j
-      own = placed_once (variables case.setups.items) placed.0 begun.2.variable j
-          (subst (λ (c : TestCase). AreDistinct (variables c.setups.items)) same_case rules.variables.sound.distinct)
-          (ap (place_of_name (variables case.setups.items)) (sym same_variable) ∙ begun.2.variable_known) placed.1
+      own = placed_once (variables case.setups) placed.0 begun.2.variable j
+          (subst (λ (c : TestCase). AreDistinct (variables c.setups)) same_case rules.variables.sound.distinct)
+          (ap (place_of_name (variables case.setups)) (sym same_variable) ∙ begun.2.variable_known) placed.1
 
       same_function : begun.2.function ≡ f
       same_function = same_Some begun.2.function f (sym begun.2.function_known ∙ function)
 
-      creation : (c : Creation) × (slice_get (creations case.setups.items) j ≡ Some c) × (string_bytes c.type_name ≡ string_bytes f.runs_on)
-      creation = type_name_at j (string_bytes f.runs_on)
-          (ap (λ n. slice_get (type_names_of case) (n + 1)) (sym own) ∙ begun.2.runs_on ∙ ap (λ (g : Function). Some (string_bytes g.runs_on)) same_function)
+      creation : (c : Creation) × (slice_get (creations case.setups) j ≡ Some c) × (c.type_name ≡ f.runs_on)
+      creation = type_name_at j f.runs_on
+          (ap (λ n. slice_get (type_names_of case) (n + 1)) (sym own) ∙ begun.2.runs_on ∙ ap (λ (g : Function). Some g.runs_on) same_function)
 
-      long : length y.references ≡ length (map (λ p. declared p.name) f.parameters.items) + count + 2
+      long : length y.references ≡ length (map (λ p. declared p.name) f.parameters) + count + 2
       long = omega (
         arith,
         reference_length (j + 1) (map (λ c. c.0) x.arguments.items) y.references refs,
         length-map x.arguments.items (λ (c : CompId). c.0),
-        AllZip-long (HasParameterType (type_names_of case)) begun.2.function.parameters.items x.arguments.items begun.2.arguments_fit,
-        ap (λ (g : Function). length g.parameters.items) same_function,
-        length-map f.parameters.items (λ (p : Parameter). declared p.name),
+        AllZip-long (HasParameterType (type_names_of case)) begun.2.function.parameters x.arguments.items begun.2.arguments_fit,
+        ap (λ (g : Function). length g.parameters) same_function,
+        length-map f.parameters (λ (p : Parameter). declared p.name),
       )
   does_can k o w e here (d.system n f x number there named is refs) =
       let plays = plays_system f there named in
-      let at = interface_at n (string_bytes f.runs_on) number plays.1 in
-      let none : length (map (λ (p : Parameter). declared p.name) f.parameters.items) ≡ 0 =
-      length-map f.parameters.items (λ (p : Parameter). declared p.name) ∙ ap length plays.0 in
+      let at = interface_at n f.runs_on number plays.1 in
+      let none : length (map (λ (p : Parameter). declared p.name) f.parameters) ≡ 0 =
+      length-map f.parameters (λ (p : Parameter). declared p.name) ∙ ap length plays.0 in
       subst (CanDo config made.types n) (same_Some x w e)
       (record {
         playable =
-            can_play n at.0 _ (string_bytes f.runs_on) (map (λ p. declared p.name) f.parameters.items) f.variables.items f.statements.items x.body x.references
+            can_play n at.0 _ f.runs_on (map (λ p. declared p.name) f.parameters) f.variables f.statements x.body x.references
             at.1 at.2 is (omega (arith, none, reference_length n [] x.references refs));
         known = are_known n [] x.references refs here (All-nil IsKnown);
       })
@@ -344,7 +342,7 @@ module _ (m : Module) (made : Made) (rules : IsWellDeclared m) (of : IsTestCaseO
   -- all but the last are no test system interfaces
   tested_roles : (k : ℕ) (x : Declared) → slice_get tested k ≡ Some x → x.role ≡ role.Test
   tested_roles zero x e = ap (λ (x : Declared). x.role) (sym (same_Some (main_component case) x e))
-  tested_roles (suc k) x e = let c = mapped_from created (creations case.setups.items) k x e in ap (λ (x : Declared). x.role) (sym c.2)
+  tested_roles (suc k) x e = let c = mapped_from created (creations case.setups) k x e in ap (λ (x : Declared). x.role) (sym c.2)
 
   is_last : (k : ℕ) (y : Member) → slice_get config.components k ≡ Some y → is_system_member y ≡ true → k + 1 ≡ length config.components
   is_last k y here system = by (cases_lt k (length tested)) where
@@ -356,7 +354,7 @@ module _ (m : Module) (made : Made) (rules : IsWellDeclared m) (of : IsTestCaseO
         let role = x.2.role ∙ tested_roles k x.0 (from_left tested (interface case) k x.0 x.1 early) in
         absurd (true≢false (sym system ∙ ap is_system_role role))
     by (inr late) =
-        omega (arith, late, slice_get_within config.components k y here, all_of_them, few_interfaces case, length-map (creations case.setups.items) created)
+        omega (arith, late, slice_get_within config.components k y here, all_of_them, few_interfaces case, length-map (creations case.setups) created)
 
   pub ready : IsReady made
   ready = record {

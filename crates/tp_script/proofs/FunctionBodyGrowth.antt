@@ -47,7 +47,7 @@ kept_at {T} kind (y ∷ ys) (suc i) x t e is = by (kind y.defined) (kept_at kind
 module _ (known : Known) (xs : List Definition) (i : ℕ) (x : Definition) (f : Function) (lt : i < length xs) (is : x ≡ get_or xs i x)
     (found : Some f ≡ function_of x.defined) where
   -- the function has parameters with names of their own
-  pub own_parameters : HaveOwnNames xs → IsNumbered (map (λ p. declared p.name) f.parameters.items)
+  pub own_parameters : HaveOwnNames xs → IsNumbered (map (λ p. declared p.name) f.parameters)
   own_parameters own =
       subst (λ d. IsNumbered (inner_names d)) (function_defined x.defined f (sym found)) (subst (λ (d : Definition). IsNumbered (inner_names d.defined)) (sym is) (own i x lt))
 
@@ -60,6 +60,6 @@ module _ (known : Known) (xs : List Definition) (i : ℕ) (x : Definition) (f : 
 
   -- a function without a body refuses all
   pub one_refused : HaveOwnNames xs → (fault : ModuleFault)
-      → (IsNumbered (map (λ p. declared p.name) f.parameters.items) → IsRefusedBy ((body : Body) × IsFunctionBody known f body) fault)
+      → (IsNumbered (map (λ p. declared p.name) f.parameters) → IsRefusedBy ((body : Body) × IsFunctionBody known f body) fault)
       → IsRefusedBy ((bodies : List Body) × AllZip (IsFunctionBody known) (of_kind function_of xs) bodies) fault
   one_refused own fault broken = breaks_part one_of_all fault (broken (own_parameters own))

@@ -11,13 +11,6 @@ pub mod NamesFixedByPlace
 pub mod SoundBodyScopes
 pub mod DefinitionNamesDiffer
 pub mod RefusedBodiesInScopes
-pub mod ListsAlikeByPlace
-pub mod SameMessages
-pub mod SameTemplates
-pub mod SameStatements
-pub mod SameDefinitions
-pub mod SameSetups
-pub mod SameModules
 pub mod ModuleFaultsTold
 pub mod ValuesFixedByText
 pub mod TemplatesFixedByText

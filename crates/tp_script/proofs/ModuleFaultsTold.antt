@@ -1,5 +1,5 @@
 -- What is told of a part is told of the module.
-use Rattle.std.proofs.Common.{◌≡◌, ◌<◌, ◌≤◌, ◌⊎◌, inl, inr, ℕ, ◌+◌, List, Option, Some, Result, IfErr, length, map, sum, take, drop, get_or, string_bytes, sym, ap, subst, arith}
+use Rattle.std.proofs.Common.{◌≡◌, ◌<◌, ◌≤◌, ◌⊎◌, inl, inr, ℕ, ◌+◌, List, Option, Some, Result, IfErr, length, map, sum, take, drop, get_or, sym, ap, subst, arith}
 use Rattle.std.specs.List.{AllZip}
 use Rattle.std.proofs.lemmas.Bool.{cases_lt}
 use Rattle.std.proofs.lemmas.List.{length-map}
@@ -59,7 +59,7 @@ body_told known plays plays_so runs_on runs_so names named begins s xs ys statem
 module _ (known : Known) (xs : List Definition) (i : ℕ) (x : Definition) (f : Function) (lt : i < length xs) (is : x ≡ get_or xs i x)
     (found : Some f ≡ function_of x.defined) where
   -- the function runs on a component type that there is
-  pub can_run : CanAllRun known xs → CanRun known (string_bytes f.runs_on)
+  pub can_run : CanAllRun known xs → CanRun known f.runs_on
   can_run run =
       let here : AreComponentTypesKnown known.component_types x.defined =
       subst (λ (d : Definition). AreComponentTypesKnown known.component_types d.defined) (sym is) (run.there i x lt) in
@@ -100,22 +100,22 @@ module _ (m : Module) (p : Prepared) (of : IsPreparedOf m p) (rules : IsWellDecl
       omega (
         arith,
         ap length of.sorted.components.names_are,
-        length-map (component_types m) (λ (c : ComponentType). string_bytes c.name),
+        length-map (component_types m) (λ (c : ComponentType). c.name),
         AllZip-long (IsComponentType (type_names m) (port_types m)) (component_types m) of.config.types of.config.types_are,
         ap length (kinds_are m p of),
         length-map of.config.types ports_of,
       )
 
   -- all bodies run on component types that there are
-  pub all_run : CanAllRun (known_in p) m.definitions.items
+  pub all_run : CanAllRun (known_in p) m.definitions
   all_run = record {
     there = λ k d below.
-        subst (λ n. AreComponentTypesKnown n (get_or m.definitions.items k d).defined) (sym of.sorted.components.names_are)
+        subst (λ n. AreComponentTypesKnown n (get_or m.definitions k d).defined) (sym of.sorted.components.names_are)
         (rules.definitions k d below).component_types_known;
     typed = typed;
   }
 
-  pub main_runs : CanRun (known_in p) (string_bytes p.case.case.now.runs_on)
+  pub main_runs : CanRun (known_in p) p.case.case.now.runs_on
   main_runs =
       let same = one_case m rules.case p.case.case.now rules.one_test_case of.one_test_case in
       record {
@@ -125,12 +125,12 @@ module _ (m : Module) (p : Prepared) (of : IsPreparedOf m p) (rules : IsWellDecl
       }
 
   -- a body breaks a rule
-  pub bodies_told : (fault : ModuleFault) → Tells (BodiesBreak (known_in p) p.case.case.now p.case.line m.definitions.items) fault
+  pub bodies_told : (fault : ModuleFault) → Tells (BodiesBreak (known_in p) p.case.case.now p.case.line m.definitions) fault
       → Tells (ModuleBreaks m) fault
   bodies_told fault told =
-      tells_map (BodiesBreak (known_in p) p.case.case.now p.case.line m.definitions.items) (ModuleBreaks m) fault
+      tells_map (BodiesBreak (known_in p) p.case.case.now p.case.line m.definitions) (ModuleBreaks m) fault
       (λ rule line b. bodies p.case.case.now p.case.line p.config p.types rule line rules is_case
-      (subst (λ k. BodiesBreak k p.case.case.now p.case.line m.definitions.items rule line) (known_is m p of) b)) told
+      (subst (λ k. BodiesBreak k p.case.case.now p.case.line m.definitions rule line) (known_is m p of) b)) told
 
   module _ (made : Bodies) (main : IsMainBody (known_in p) p.case.case.now made.main)
       (others : AllZip (IsFunctionBody (known_in p)) (functions m) made.functions.items) where

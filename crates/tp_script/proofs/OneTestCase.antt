@@ -1,7 +1,9 @@
--- A module has one test case, and so has a text.
-use Rattle.std.proofs.Common.{◌≡◌, ℕ, List, Option, length, map, get_or, refl, sym, ap, ◌∙◌, subst, arith}
+-- A module has one test case, and so has a text; and a right text is accepted.
+use Rattle.std.proofs.Common.{◌≡◌, inl, inr, ℕ, List, Option, length, map, get_or, refl, sym, ap, ◌∙◌, subst, arith}
 use Rattle.std.proofs.lemmas.List.{same_lists}
 use Rattle.std.proofs.lemmas.Option.{same_Some, slice_get-get_or}
+use Rattle.tp_token.specs.declared.fault.ScriptFault.TheVariants as script_fault
+use Rattle.tp_token.proofs.AcceptedTokenTexts.{good_texts_are_accepted}
 use Rattle.tp_tree.specs.declared.tree.Module.{Module}
 use Rattle.tp_tree.specs.declared.tree.TestCase.{TestCase}
 use Rattle.tp_syntax.proofs.UniqueModules.{readings_are_unique}
@@ -21,13 +23,19 @@ use Rattle.tp_setup.proofs.UniqueComponentTypes.{names_made, ports_numbered}
 use Rattle.tp_setup.proofs.UniqueConfigurations.{makes_same}
 use Rattle.tp_play.specs.Behaviours.{Behaviour}
 use Rattle.tp_play.specs.TestCases.{Made}
-use Rattle.tp_script.specs.Accepted.{ScriptsHaveOneTestCase}
+use Rattle.tp_script.specs.Accepted.{ScriptsAreAccepted, ScriptsHaveOneTestCase}
 use Rattle.tp_script.specs.Behaviours.{Does}
-use Rattle.tp_script.specs.TestCases.{IsTestCaseOf, known_of}
+use Rattle.tp_script.specs.Scripts.{IsModuleOf}
+use Rattle.tp_script.specs.TestCases.{IsTestCaseOf, WellFormed, known_of}
+use Rattle.tp_script.specs.declared.fault.ScriptRule.TheVariants as script_rule
+use Rattle.tp_script.specs.declared.fault.TestCaseFault.TheVariants as test_case_fault
 use Rattle.tp_script.proofs.BehavioursFixedByModule.{does_fixed}
-use Rattle.tp_script.proofs.SameModules.{case_moves}
 use Rattle.tp_script.proofs.SoundBodyScopes.{own_names}
 use Rattle.tp_script.proofs.TypesFixedByModule.{kinds_fixed, one_case, types_fixed, zip_fixed}
+
+-- a text is read as one module
+one_reading : (text : List ℕ) (m n : Module) → IsModuleOf text m → IsModuleOf text n → m ≡ n
+one_reading text m n h k = readings_are_unique text m n h.read h.grammatical h.lines k.read k.grammatical k.lines
 
 abbrev member : List ℕ → ℕ → Role → Member
 member name kind role = record { name = name; kind = kind; role = role }
@@ -47,8 +55,8 @@ module _ (m : Module) (unique : HasUniqueNames m) where
   -- the setup statements of a test case make one configuration
   config_fixed : (case : TestCase) (a b : Setup) → IsConfigOf m case a → IsConfigOf m case b → a ≡ b
   config_fixed case a b h k =
-      makes_same (interface_number case) k.set_up.start own case.setups.items case.setups.items a b
-      (subst (λ s. Makes (interface_number case) s case.setups.items a) same h.set_up.makes) k.set_up.makes refl
+      makes_same (interface_number case) k.set_up.start own case.setups case.setups a b
+      (subst (λ s. Makes (interface_number case) s case.setups a) same h.set_up.makes) k.set_up.makes refl
     where
       types : h.set_up.start.types ≡ k.set_up.start.types
       types =
@@ -106,7 +114,15 @@ module _ (m : Module) (unique : HasUniqueNames m) where
 
 pub scripts_have_one_test_case : ScriptsHaveOneTestCase
 scripts_have_one_test_case text x y h k =
-    test_case_fixed k.parsed k.well_formed.declared.names x y
-    (case_moves h.parsed k.parsed x
-    (readings_are_unique text h.parsed k.parsed h.read.read h.read.grammatical k.read.read k.read.grammatical) h.test_case)
-    k.test_case
+    test_case_fixed k.parsed k.well_formed.declared.names x y (subst (λ m. IsTestCaseOf m x) (one_reading text h.parsed k.parsed h.read k.read) h.test_case) k.test_case
+
+-- ---- a right text is accepted
+
+pub scripts_are_accepted : ScriptsAreAccepted
+scripts_are_accepted text parsed (test_case_fault.Refused (script_rule.Text rule) line) is right (inl refused) =
+    let tokens = is.within in
+    good_texts_are_accepted text tokens.0 (script_fault.Refused rule line) tokens.1 tokens.2 tokens.3 refused
+scripts_are_accepted text parsed (test_case_fault.Refused (script_rule.Text rule) line) is right (inr unread) = unread.2 parsed is.read is.grammatical is.nested
+scripts_are_accepted text parsed (test_case_fault.Refused (script_rule.Module rule) line) is right told =
+    told.2 (subst WellFormed (one_reading text parsed told.0 is told.1) right)
+scripts_are_accepted text parsed (test_case_fault.Memory m) is right h = tt

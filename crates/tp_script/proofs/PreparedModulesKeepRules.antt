@@ -1,8 +1,6 @@
 -- What a module that obeys the rules has, is had by what was made of it.
-use Rattle.std.proofs.Common.{◌≡◌, ◌<◌, ◌≤◌, List, Option, None, Some, is_some, if◌then◌else◌, All, length, map, sum, get_or, string_bytes, sym, ap, ◌∙◌, subst, arith}
+use Rattle.std.proofs.Common.{ℕ, ◌≡◌, ◌<◌, ◌≤◌, List, Option, None, Some, is_some, if◌then◌else◌, All, length, map, sum, get_or, sym, ap, ◌∙◌, subst, arith}
 use Rattle.std.specs.List.{AllZip}
-use Rattle.std.specs.declared.alloc.Global.{Global}
-use Rattle.std.specs.declared.string.String.{String}
 use Rattle.std.proofs.lemmas.List.{length-map}
 use Rattle.std.proofs.lemmas.Option.{slice_get-get_or, slice_get_within}
 use Rattle.std.proofs.lemmas.Slice.Zip.{AllZip-long}
@@ -35,7 +33,7 @@ use Rattle.tp_script.proofs.OneTestCase.{test_case_fixed}
 module _ (m : Module) (p : Prepared) (of : IsPreparedOf m p) (rules : IsWellDeclared m) where
   abbrev speaks : TestCase → List (List PortDecl) → Types → Known
   speaks case ports types =
-      record { types = types; component_types = component_type_names m; ports = ports; components = variables case.setups.items }
+      record { types = types; component_types = component_type_names m; ports = ports; components = variables case.setups }
 
   -- what bodies may speak of is what was made
   same_known : (h : HasSoundBodies m) → known_of m h.case h.config h.types ≡ known_in p
@@ -60,7 +58,7 @@ module _ (m : Module) (p : Prepared) (of : IsPreparedOf m p) (rules : IsWellDecl
 
   few_at_most : (case : TestCase) → most_variables case ≤ 63
   few_at_most case = by case.system where
-    by : (o : Option (String Global)) → (if is_some o then 62 else 63) ≤ 63
+    by : (o : Option (List ℕ)) → (if is_some o then 62 else 63) ≤ 63
     by None = omega arith
     by (Some s) = omega arith
 
@@ -72,27 +70,27 @@ module _ (m : Module) (p : Prepared) (of : IsPreparedOf m p) (rules : IsWellDecl
         omega (
           arith,
           ap length of.variables_are,
-          length-map (creations p.case.case.now.setups.items) variable_name,
-          ap (λ (c : TestCase). length (creations c.setups.items)) same,
+          length-map (creations p.case.case.now.setups) variable_name,
+          ap (λ (c : TestCase). length (creations c.setups)) same,
           rules.variables.sound.few,
           few_at_most rules.case,
         );
     as_many =
-        AllZip-long (IsStartPlace (started_names p.case.case.now.starts.items)) (variables p.case.case.now.setups.items) p.starts.places.items of.starts.all
+        AllZip-long (IsStartPlace (started_names p.case.case.now.starts)) (variables p.case.case.now.setups) p.starts.places.items of.starts.all
         ∙ ap length (sym of.variables_are);
     started = started;
   } where
     started : All (λ place. place < length p.starts.starts.items) p.starts.places.items
     started k d below =
-        let names = started_names p.case.case.now.starts.items in
+        let names = started_names p.case.case.now.starts in
         let place = get_or p.starts.places.items k d in
-        let v = zip_at (IsStartPlace names) (variables p.case.case.now.setups.items) p.starts.places.items k place of.starts.all
+        let v = zip_at (IsStartPlace names) (variables p.case.case.now.setups) p.starts.places.items k place of.starts.all
         (slice_get-get_or p.starts.places.items k d below) in
         omega (
           arith,
           slice_get_within names place v.0 (place_there names v.0 place (sym v.2)),
-          length-map p.case.case.now.starts.items (λ (x : ComponentStart). string_bytes x.component),
-          AllZip-long (IsStartOf (functions m) (variables p.case.case.now.setups.items) (type_names_of p.case.case.now)) p.case.case.now.starts.items
+          length-map p.case.case.now.starts (λ (x : ComponentStart). x.component),
+          AllZip-long (IsStartOf (functions m) (variables p.case.case.now.setups) (type_names_of p.case.case.now)) p.case.case.now.starts
               p.starts.starts.items of.starts.starts,
         )
 

@@ -68,7 +68,7 @@ names_of_fields types (x ∷ xs) (f ∷ fs) h =
 -- a record type has the names of its definition
 own_fields : (types : List (List ℕ)) (x : Defined) (fields : List Field) → IsTypeDef types x (type_def.Record fields) → AreDistinct (inner_names x)
     → AreDistinct (field_names fields)
-own_fields types (definition.Record r) fields h apart = subst AreDistinct (names_of_fields types r.fields.items fields h) apart
+own_fields types (definition.Record r) fields h apart = subst AreDistinct (names_of_fields types r.fields fields h) apart
 own_fields types (definition.List l) fields h apart = absurd h
 own_fields types (definition.Port p) fields h apart = absurd h
 own_fields types (definition.Component c) fields h apart = absurd h
@@ -88,16 +88,16 @@ type_at types (ty.Named k) d e = by (slice_get types k) refl e where
   by (Some t) is made = (k, t, is, same_Some t.1 d made)
 
 -- no two fields of a record type of the module have one name
-pub own_names : (m : Module) (types : Types) → AreTypes m types → HaveOwnNames m.definitions.items → OwnNames types
+pub own_names : (m : Module) (types : Types) → AreTypes m types → HaveOwnNames m.definitions → OwnNames types
 own_names m types are own u fields e =
     let t = type_at types u (type_def.Record fields) e in
     let x = zip_at (IsNamedType (type_names m)) (type_definitions m) types t.0 t.1 are t.2 in
-    let y = behind type_of m.definitions.items x.0 (contains_at (type_definitions m) t.0 x.0 x.1) in
-    let numbered : IsNumbered (inner_names y.0.defined) = All-contains (λ (d : Definition). IsNumbered (inner_names d.defined)) m.definitions.items y.0 own y.1 in
+    let y = behind type_of m.definitions x.0 (contains_at (type_definitions m) t.0 x.0 x.1) in
+    let numbered : IsNumbered (inner_names y.0.defined) = All-contains (λ (d : Definition). IsNumbered (inner_names d.defined)) m.definitions y.0 own y.1 in
     own_fields (type_names m) x.0 fields (subst (IsTypeDef (type_names m) x.0) t.3 x.2.1)
     (subst (λ d. AreDistinct (inner_names d)) (type_itself y.0.defined x.0 y.2) numbered.distinct)
 
-module _ (m : Module) (p : Prepared) (of : IsPreparedOf m p) (own : HaveOwnNames m.definitions.items) where
+module _ (m : Module) (p : Prepared) (of : IsPreparedOf m p) (own : HaveOwnNames m.definitions) where
   few_ports : All (λ (ports : List PortDecl). length ports ≤ 64) p.config.types
   few_ports =
       subst (All (λ (ports : List PortDecl). length ports ≤ 64)) (sym (kinds_are m p of))

@@ -1,7 +1,5 @@
 -- Statements of the text stand for one list of statements, and so a body of the text for one body.
-use Rattle.std.proofs.Common.{◌≡◌, ℕ, ◌+◌, List, [], ◌∷◌, ◌++◌, Option, Some, None, refl, ap, sym, subst, ◌∙◌, string_bytes}
-use Rattle.std.specs.declared.alloc.Global.{Global}
-use Rattle.std.specs.declared.string.String.{String}
+use Rattle.std.proofs.Common.{◌≡◌, ℕ, ◌+◌, List, [], ◌∷◌, ◌++◌, Option, Some, None, refl, ap, sym, subst, ◌∙◌}
 use Rattle.std.proofs.lemmas.List.{same_from_push}
 use Rattle.std.proofs.lemmas.Option.{same_Some}
 use Rattle.tp_tree.specs.declared.message.TypeName.{TypeName}
@@ -24,7 +22,7 @@ use Rattle.tp_tree.specs.declared.tree.Branch.{Branch as BranchText}
 use Rattle.tp_tree.specs.declared.tree.ElseBranch.{out-ElseBranch}
 use Rattle.tp_tree.specs.declared.tree.Counted.{out-Counted}
 use Rattle.tp_tree.specs.declared.tree.Statement.{Statement as StatementText}
-use Rattle.tp_syntax.proofs.StatementContents.{Layer, BodyLayer}
+use Rattle.tp_syntax.proofs.StatementLayers.{Layer, BodyLayer}
 use Rattle.tp_value.specs.declared.types.Ty.{Ty}
 use Rattle.tp_value.specs.declared.types.Ty.TheVariants as ty
 use Rattle.tp_value.specs.declared.verdict.Verdict.{Verdict}
@@ -98,20 +96,20 @@ module _ (scope : Scope) (own : OwnNames scope.types.now) where
     sent_fixed : (turns : List (List ℕ)) (listed other : List Ty) (x : SentExpression) (w y : Sent) → IsSent scope variables turns listed x w → IsSent scope variables turns other x y → w ≡ y
     sent_fixed turns listed other _ _ _ (bodies.written x w h there) (bodies.written _ y k here) = ap s.Written (message_fixed turns x w y h k)
     sent_fixed turns listed other _ _ _ (bodies.counter n i place there) (bodies.counter _ j known here) =
-        ap (λ l. s.Written (message ty.Integer (send_value.Turn l))) (place_fixed turns (string_bytes n) i j place known)
+        ap (λ l. s.Written (message ty.Integer (send_value.Turn l))) (place_fixed turns n i j place known)
     sent_fixed turns listed other _ _ _ (bodies.counter n i place there) (bodies.held _ j u absent is here) = absurd (absent i place.there)
     sent_fixed turns listed other _ _ _ (bodies.held n i u absent is there) (bodies.counter _ j place here) = absurd (absent j place.there)
     sent_fixed turns listed other _ _ _ (bodies.held n i u absent is there) (bodies.held _ j w out known here) =
-        ap s.Variable (variable_fixed (string_bytes n) i j (variable_type.Message u) (variable_type.Message w) is known)
+        ap s.Variable (variable_fixed n i j (variable_type.Message u) (variable_type.Message w) is known)
 
     reference_fixed : (turns : List (List ℕ)) (x : ComponentName) (i j : ℕ) → IsReference scope variables turns x i → IsReference scope variables turns x j → i ≡ j
     reference_fixed turns _ _ _ scoping.mtc scoping.mtc = refl
     reference_fixed turns _ _ _ scoping.itself scoping.itself = refl
     reference_fixed turns _ _ _ (scoping.component_named n i one two place) (scoping.component_named _ j three four known) =
-        ap (λ k. 2 + k) (place_fixed (scope.parameters.now ++ scope.component_variables.now) (string_bytes n) i j place known)
+        ap (λ k. 2 + k) (place_fixed (scope.parameters.now ++ scope.component_variables.now) n i j place known)
 
     -- a name that is a variable's is no component's
-    no_reference : (turns : List (List ℕ)) (n : String Global) (i j : ℕ) (u : VariableType) → IsVariable variables (string_bytes n) i u
+    no_reference : (turns : List (List ℕ)) (n : List ℕ) (i j : ℕ) (u : VariableType) → IsVariable variables n i u
         → IsReference scope variables turns (component_name.Named n) j → ⊥
     no_reference turns n i _ u is (scoping.component_named _ j one absent place) = absent i is.named.there
 
@@ -122,11 +120,11 @@ module _ (scope : Scope) (own : OwnNames scope.types.now) where
     receiver_fixed turns _ _ _ (bodies.reference x i h) (bodies.variable n j absent is) = absurd (no_reference turns n j i variable_type.Component is h)
     receiver_fixed turns _ _ _ (bodies.variable n i absent is) (bodies.reference x j k) = absurd (no_reference turns n i j variable_type.Component is k)
     receiver_fixed turns _ _ _ (bodies.variable n i absent is) (bodies.variable _ j out known) =
-        ap to.Variable (variable_fixed (string_bytes n) i j variable_type.Component variable_type.Component is known)
+        ap to.Variable (variable_fixed n i j variable_type.Component variable_type.Component is known)
 
     send_fixed : (turns : List (List ℕ)) (x : Send) (w y : SendOperation) → IsSend scope variables turns x w → IsSend scope variables turns x y → w ≡ y
     send_fixed turns x w y h k =
-        ap (λ n. operation n w.sent w.to) (port_fixed (string_bytes x.port) w.port y.port h.port k.port h.port_known k.port_known)
+        ap (λ n. operation n w.sent w.to) (port_fixed x.port w.port y.port h.port k.port h.port_known k.port_known)
         ∙ ap (λ t. operation y.port t w.to) (sent_fixed turns _ _ x.sent w.sent y.sent h.sent k.sent)
         ∙ ap (operation y.port y.sent) (receiver_fixed turns x.to w.to y.to h.receiver k.receiver)
 
@@ -141,19 +139,19 @@ module _ (scope : Scope) (own : OwnNames scope.types.now) where
     from_fixed turns _ _ _ bodies.whoever bodies.whoever = refl
     from_fixed turns _ _ _ (bodies.this_one x i h) (bodies.this_one _ j k) = ap Some (reference_fixed turns x i j h k)
 
-    value_target_fixed : (turns : List (List ℕ)) (l m : RecvMsg) (x : Option (String Global)) (w y : Option ℕ) → IsValueTarget variables turns l x w → IsValueTarget variables turns m x y → w ≡ y
+    value_target_fixed : (turns : List (List ℕ)) (l m : RecvMsg) (x : Option (List ℕ)) (w y : Option ℕ) → IsValueTarget variables turns l x w → IsValueTarget variables turns m x y → w ≡ y
     value_target_fixed turns _ _ _ _ _ (bodies.no_target l) (bodies.no_target m) = refl
     value_target_fixed turns _ _ _ _ _ (bodies.target u r n i absent is) (bodies.target w q _ j out known) =
-        ap Some (variable_fixed (string_bytes n) i j (variable_type.Message u) (variable_type.Message w) is known)
+        ap Some (variable_fixed n i j (variable_type.Message u) (variable_type.Message w) is known)
 
-    sender_target_fixed : (turns : List (List ℕ)) (x : Option (String Global)) (w y : Option ℕ) → IsSenderTarget variables turns x w → IsSenderTarget variables turns x y → w ≡ y
+    sender_target_fixed : (turns : List (List ℕ)) (x : Option (List ℕ)) (w y : Option ℕ) → IsSenderTarget variables turns x w → IsSenderTarget variables turns x y → w ≡ y
     sender_target_fixed turns _ _ _ bodies.no_sender_target bodies.no_sender_target = refl
     sender_target_fixed turns _ _ _ (bodies.sender_target n i absent is) (bodies.sender_target _ j out known) =
-        ap Some (variable_fixed (string_bytes n) i j variable_type.Component variable_type.Component is known)
+        ap Some (variable_fixed n i j variable_type.Component variable_type.Component is known)
 
     receive_fixed : (turns : List (List ℕ)) (x : Receive) (w y : Receiving) → IsReceive scope variables turns x w → IsReceive scope variables turns x y → w ≡ y
     receive_fixed turns x w y h k =
-        ap (λ t. received w t w.wanted w.sender w.value_to w.sender_to) (port_fixed (string_bytes x.port) w.port y.port h.port k.port h.port_known k.port_known)
+        ap (λ t. received w t w.wanted w.sender w.value_to w.sender_to) (port_fixed x.port w.port y.port h.port k.port h.port_known k.port_known)
         ∙ ap (λ t. received w y.port t w.sender w.value_to w.sender_to) (wanted_fixed turns _ _ x.template w.wanted y.wanted h.wants k.wants)
         ∙ ap (λ t. received w y.port y.wanted t w.value_to w.sender_to) (from_fixed turns x.sender w.sender y.sender h.from_known k.from_known)
         ∙ ap (λ t. received w y.port y.wanted y.sender t w.sender_to)
@@ -173,15 +171,15 @@ module _ (scope : Scope) (own : OwnNames scope.types.now) where
     Reads turns (o.Send x) y = (z : SendOperation) × IsSend scope variables turns x z × (y ≡ statement.Send z)
     Reads turns (o.Receive x) y = (z : Receiving) × IsReceive scope variables turns x z × (y ≡ statement.Receive z)
     Reads turns (o.Control x) y =
-        (k : ℕ) × (port : PortType) × IsPortNamed scope.component_type.now (string_bytes x.port) k port × (y ≡ statement.Control k x.operation)
+        (k : ℕ) × (port : PortType) × IsPortNamed scope.component_type.now x.port k port × (y ≡ statement.Control k x.operation)
     Reads turns (o.AllPorts x) y = y ≡ statement.AllPorts x
     Reads turns (o.SetVerdict x) y = (z : Verdict) × IsVerdict x z × (y ≡ statement.SetVerdict z)
-    Reads turns (o.Alt xs None) y = (ys : List ResolvedBranch) × AreBranches scope variables turns xs.items ys × (y ≡ statement.Alt ys None)
+    Reads turns (o.Alt xs None) y = (ys : List ResolvedBranch) × AreBranches scope variables turns xs ys × (y ≡ statement.Alt ys None)
     Reads turns (o.Alt xs (Some e)) y =
-        (ys : List ResolvedBranch) × (zs : List ResolvedStatement) × AreBranches scope variables turns xs.items ys
-        × IsBlock scope variables turns (out-ElseBranch e).block.items zs × (y ≡ statement.Alt ys (Some zs))
+        (ys : List ResolvedBranch) × (zs : List ResolvedStatement) × AreBranches scope variables turns xs ys
+        × IsBlock scope variables turns (out-ElseBranch e).block zs × (y ≡ statement.Alt ys (Some zs))
     Reads turns (o.For x) y =
-        (zs : List ResolvedStatement) × IsBlock scope variables (turns ++ string_bytes (out-Counted x).turns.name ∷ []) (out-Counted x).block.items zs
+        (zs : List ResolvedStatement) × IsBlock scope variables (turns ++ (out-Counted x).turns.name ∷ []) (out-Counted x).block zs
         × (y ≡ statement.For (out-Counted x).turns.first (out-Counted x).turns.bound zs)
 
     reads : (turns : List (List ℕ)) (x : Action) (y : ResolvedStatement) → IsStatement scope variables turns x y → Reads turns (out-Action x) y
@@ -199,7 +197,7 @@ module _ (scope : Scope) (own : OwnNames scope.types.now) where
 
     abbrev ReadsAfter : List (List ℕ) → BodyLayer → List ResolvedStatement → Type 0
     ReadsAfter turns o.Nothing ys = ys ≡ []
-    ReadsAfter turns (o.Block xs) ys = IsBlock scope variables turns xs.items ys
+    ReadsAfter turns (o.Block xs) ys = IsBlock scope variables turns xs ys
 
     reads_after : (turns : List (List ℕ)) (x : BranchBody) (ys : List ResolvedStatement) → IsAfter scope variables turns x ys → ReadsAfter turns (out-BranchBody x) ys
     reads_after _ _ _ (bodies.nothing turns) = subst (λ l. ReadsAfter turns l []) (sym b.outs-Nothing) refl
@@ -243,22 +241,22 @@ module _ (scope : Scope) (own : OwnNames scope.types.now) where
           ap statement.Receive (receive_fixed turns x z r.0 h r.1) ∙ sym r.2
       statement_fixed _ _ _ y (bodies.control turns x i port not_sut named) k =
           let r = subst (λ l. Reads turns l y) (a.outs-Control x) (reads turns (a.Control x) y k) in
-          ap (λ n. statement.Control n x.operation) (port_fixed (string_bytes x.port) i r.0 port r.1 named r.2) ∙ sym r.3
+          ap (λ n. statement.Control n x.operation) (port_fixed x.port i r.0 port r.1 named r.2) ∙ sym r.3
       statement_fixed _ _ _ y (bodies.all_ports turns x not_sut) k = sym (subst (λ l. Reads turns l y) (a.outs-AllPorts x) (reads turns (a.AllPorts x) y k))
       statement_fixed _ _ _ y (bodies.set_verdict turns x z not_sut is) k =
           let r = subst (λ l. Reads turns l y) (a.outs-SetVerdict x) (reads turns (a.SetVerdict x) y k) in
           ap statement.SetVerdict (verdict_fixed x z r.0 is r.1) ∙ sym r.2
       statement_fixed _ _ _ y (bodies.alt turns xs ys all) k =
           let r = subst (λ l. Reads turns l y) (a.outs-Alt xs None) (reads turns (a.Alt xs None) y k) in
-          ap (λ t. statement.Alt t None) (branches_fixed turns xs.items ys r.0 all r.1) ∙ sym r.2
+          ap (λ t. statement.Alt t None) (branches_fixed turns xs ys r.0 all r.1) ∙ sym r.2
       statement_fixed _ _ _ y (bodies.alt_else turns xs ys e zs all block) k =
           let r = subst (λ l. Reads turns l y) (a.outs-Alt xs (Some e)) (reads turns (a.Alt xs (Some e)) y k) in
-          ap (λ t. statement.Alt t (Some zs)) (branches_fixed turns xs.items ys r.0 all r.2)
-          ∙ ap (λ t. statement.Alt r.0 (Some t)) (block_fixed turns (out-ElseBranch e).block.items zs r.1 block r.3) ∙ sym r.4
+          ap (λ t. statement.Alt t (Some zs)) (branches_fixed turns xs ys r.0 all r.2)
+          ∙ ap (λ t. statement.Alt r.0 (Some t)) (block_fixed turns (out-ElseBranch e).block zs r.1 block r.3) ∙ sym r.4
       statement_fixed _ _ _ y (bodies.counted turns x zs is_new all) k =
           let r = subst (λ l. Reads turns l y) (a.outs-For x) (reads turns (a.For x) y k) in
           ap (statement.For (out-Counted x).turns.first (out-Counted x).turns.bound)
-          (block_fixed (turns ++ string_bytes (out-Counted x).turns.name ∷ []) (out-Counted x).block.items zs r.0 all r.1)
+          (block_fixed (turns ++ (out-Counted x).turns.name ∷ []) (out-Counted x).block zs r.0 all r.1)
           ∙ sym r.2
 
       pub block_fixed : (turns : List (List ℕ)) (xs : List StatementText) (ws ys : List ResolvedStatement) → IsBlock scope variables turns xs ws → IsBlock scope variables turns xs ys → ws ≡ ys
@@ -276,7 +274,7 @@ module _ (scope : Scope) (own : OwnNames scope.types.now) where
       after_fixed : (turns : List (List ℕ)) (x : BranchBody) (ws ys : List ResolvedStatement) → IsAfter scope variables turns x ws → IsAfter scope variables turns x ys → ws ≡ ys
       after_fixed _ _ _ ys (bodies.nothing turns) k = sym (subst (λ l. ReadsAfter turns l ys) b.outs-Nothing (reads_after turns b.Nothing ys k))
       after_fixed _ _ _ ys (bodies.block turns xs ws all) k =
-          block_fixed turns xs.items ws ys all (subst (λ l. ReadsAfter turns l ys) (b.outs-Block xs) (reads_after turns (b.Block xs) ys k))
+          block_fixed turns xs ws ys all (subst (λ l. ReadsAfter turns l ys) (b.outs-Block xs) (reads_after turns (b.Block xs) ys k))
 
       branches_fixed : (turns : List (List ℕ)) (xs : List BranchText) (ws ys : List ResolvedBranch) → AreBranches scope variables turns xs ws → AreBranches scope variables turns xs ys → ws ≡ ys
       branches_fixed _ _ _ ys (bodies.no_branch turns) k = sym (no_branches turns [] ys k refl)

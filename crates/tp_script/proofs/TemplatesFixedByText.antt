@@ -1,7 +1,5 @@
 -- A template of the text stands for one template.
-use Rattle.std.proofs.Common.{◌≡◌, ◌⊎◌, inl, inr, ℕ, List, [], ◌∷◌, ◌++◌, Some, All, Contains, map, option_map, refl, ap, sym, subst, ◌∙◌, string_bytes}
-use Rattle.std.specs.declared.vec.Vec.{Vec}
-use Rattle.std.specs.declared.alloc.Global.{Global}
+use Rattle.std.proofs.Common.{◌≡◌, ◌⊎◌, inl, inr, ℕ, List, [], ◌∷◌, ◌++◌, Some, All, Contains, map, option_map, refl, ap, sym, subst, ◌∙◌}
 use Rattle.std.proofs.lemmas.List.{length-map, map_push, same_from_push}
 use Rattle.std.proofs.lemmas.List.Elements.{All-nil, All-push}
 use Rattle.std.proofs.lemmas.Option.{slice_get-map}
@@ -32,48 +30,48 @@ abbrev Layer : Type 0
 Layer = o.Template-F Template TemplateField
 
 abbrev entry_name : TemplateField → List ℕ
-entry_name x = string_bytes x.name
+entry_name x = x.name
 
 module _ (types : Types) (turns : List (List ℕ)) (own : OwnNames types) where
   -- some members, of which this is made
-  record ReadsMembers (u : Ty) (ts : Vec Template Global) (made : List RecvTemplate → RecvTemplate) (r : RecvTemplate) : Type 0 where
+  record ReadsMembers (u : Ty) (ts : List Template) (made : List RecvTemplate → RecvTemplate) (r : RecvTemplate) : Type 0 where
     rs : List RecvTemplate
-    all : AreMembers types turns u ts.items rs
+    all : AreMembers types turns u ts rs
     is : r ≡ made rs
 
-  record ReadsElements (u : Ty) (ts : Vec Template Global) (r : RecvTemplate) : Type 0 where
+  record ReadsElements (u : Ty) (ts : List Template) (r : RecvTemplate) : Type 0 where
     element : Ty
     rs : List RecvTemplate
     type_is : named types u ≡ Some (type_def.ListOf element)
-    all : AreElementTemplates types turns element ts.items rs
+    all : AreElementTemplates types turns element ts rs
     is : r ≡ recv_template.List rs
 
-  record ReadsPlaces (u : Ty) (ts : Vec Template Global) (r : RecvTemplate) : Type 0 where
+  record ReadsPlaces (u : Ty) (ts : List Template) (r : RecvTemplate) : Type 0 where
     fields : List Field
     rs : List RecvTemplate
     type_is : named types u ≡ Some (type_def.Record fields)
-    all : AreFieldTemplates types turns fields ts.items rs
+    all : AreFieldTemplates types turns fields ts rs
     is : r ≡ recv_template.Record rs
 
-  record ReadsNames (u : Ty) (ts : Vec TemplateField Global) (r : RecvTemplate) : Type 0 where
+  record ReadsNames (u : Ty) (ts : List TemplateField) (r : RecvTemplate) : Type 0 where
     fields : List Field
     rs : List RecvTemplate
     type_is : named types u ≡ Some (type_def.Record fields)
-    all : AreNamedTemplates types turns ts.items fields rs
+    all : AreNamedTemplates types turns ts fields rs
     is : r ≡ recv_template.Record rs
 
   -- what a layer of a template can stand for
   abbrev Reads : Ty → Layer → RecvTemplate → Type 0
   Reads u (o.Int z) r = r ≡ recv_template.Exact (send_value.Int z)
   Reads u (o.Bool b) r = r ≡ recv_template.Exact (send_value.Bool b)
-  Reads u (o.Text cs) r = r ≡ recv_template.Exact (send_value.Text cs.items)
-  Reads u (o.Name n) r = (k : ℕ) × IsPlace turns (string_bytes n) k × (r ≡ recv_template.Exact (send_value.Turn k))
+  Reads u (o.Text cs) r = r ≡ recv_template.Exact (send_value.Text cs)
+  Reads u (o.Name n) r = (k : ℕ) × IsPlace turns n k × (r ≡ recv_template.Exact (send_value.Turn k))
   Reads u o.Any r = r ≡ recv_template.Any
   Reads u o.AnyOrNone r = ⊥
   Reads u (o.OneOf ts) r = ReadsMembers u ts recv_template.OneOf r
   Reads u (o.Complement ts) r = ReadsMembers u ts recv_template.NoneOf r
   Reads u (o.Range low high) r = r ≡ recv_template.Range low high
-  Reads u (o.Pattern cs) r = r ≡ recv_template.Pattern (map part_of cs.items)
+  Reads u (o.Pattern cs) r = r ≡ recv_template.Pattern (map part_of cs)
   Reads u (o.List ts) r = ReadsElements u ts r ⊎ ReadsPlaces u ts r
   Reads u (o.Record ts) r = ReadsNames u ts r
 
@@ -81,7 +79,7 @@ module _ (types : Types) (turns : List (List ℕ)) (own : OwnNames types) where
   reads _ _ _ (m.int_template z fits) = subst (λ l. Reads ty.Integer l (recv_template.Exact (send_value.Int z))) (sym (t.outs-Int z)) refl
   reads _ _ _ (m.bool_template b) = subst (λ l. Reads ty.Boolean l (recv_template.Exact (send_value.Bool b))) (sym (t.outs-Bool b)) refl
   reads _ _ _ (m.text_template cs printable) =
-      subst (λ l. Reads ty.Charstring l (recv_template.Exact (send_value.Text cs.items))) (sym (t.outs-Text cs)) refl
+      subst (λ l. Reads ty.Charstring l (recv_template.Exact (send_value.Text cs))) (sym (t.outs-Text cs)) refl
   reads _ _ _ (m.turn_template n k place) =
       subst (λ l. Reads ty.Integer l (recv_template.Exact (send_value.Turn k))) (sym (t.outs-Name n)) (k, place, refl)
   reads _ _ _ (m.any u) = subst (λ l. Reads u l recv_template.Any) (sym t.outs-Any) refl
@@ -90,7 +88,7 @@ module _ (types : Types) (turns : List (List ℕ)) (own : OwnNames types) where
   reads _ _ _ (m.none_of u ts rs all) =
       subst (λ l. Reads u l (recv_template.NoneOf rs)) (sym (t.outs-Complement ts)) (record { rs = rs; all = all; is = refl })
   reads _ _ _ (m.range low high ordered) = subst (λ l. Reads ty.Integer l (recv_template.Range low high)) (sym (t.outs-Range low high)) refl
-  reads _ _ _ (m.pattern cs) = subst (λ l. Reads ty.Charstring l (recv_template.Pattern (map part_of cs.items))) (sym (t.outs-Pattern cs)) refl
+  reads _ _ _ (m.pattern cs) = subst (λ l. Reads ty.Charstring l (recv_template.Pattern (map part_of cs))) (sym (t.outs-Pattern cs)) refl
   reads _ _ _ (m.element_templates u element ts rs is all) =
       subst (λ l. Reads u l (recv_template.List rs)) (sym (t.outs-List ts)) (inl (record { element = element; rs = rs; type_is = is; all = all; is = refl }))
   reads _ _ _ (m.place_templates u fields ts rs is all) =
@@ -170,34 +168,34 @@ module _ (types : Types) (turns : List (List ℕ)) (own : OwnNames types) where
       (All-push (Contains (map entry_name es)) (field_names fs) f.name (entries_there es fs rs all)
       (contains_at (map entry_name es) j f.name (slice_get-map entry_name es j ∙ ap (option_map entry_name) there ∙ ap Some is)))
 
-  members_case : (u : Ty) (ts : Vec Template Global) (made : List RecvTemplate → RecvTemplate) (rs : List RecvTemplate) (y : RecvTemplate)
-      → ((zs : List RecvTemplate) → AreMembers types turns u ts.items zs → rs ≡ zs) → ReadsMembers u ts made y → made rs ≡ y
+  members_case : (u : Ty) (ts : List Template) (made : List RecvTemplate → RecvTemplate) (rs : List RecvTemplate) (y : RecvTemplate)
+      → ((zs : List RecvTemplate) → AreMembers types turns u ts zs → rs ≡ zs) → ReadsMembers u ts made y → made rs ≡ y
   members_case u ts made rs y fixed r = ap made (fixed r.rs r.all) ∙ sym r.is
 
-  elements_case : (u element : Ty) (ts : Vec Template Global) (rs : List RecvTemplate) (y : RecvTemplate) → named types u ≡ Some (type_def.ListOf element)
-      → ((zs : List RecvTemplate) → AreElementTemplates types turns element ts.items zs → rs ≡ zs) → ReadsElements u ts y ⊎ ReadsPlaces u ts y
+  elements_case : (u element : Ty) (ts : List Template) (rs : List RecvTemplate) (y : RecvTemplate) → named types u ≡ Some (type_def.ListOf element)
+      → ((zs : List RecvTemplate) → AreElementTemplates types turns element ts zs → rs ≡ zs) → ReadsElements u ts y ⊎ ReadsPlaces u ts y
       → recv_template.List rs ≡ y
   elements_case u element ts rs y is fixed (inl r) =
       let other = r.type_is in
       let same : r.element ≡ element = cc in
-      ap recv_template.List (fixed r.rs (subst (λ k. AreElementTemplates types turns k ts.items r.rs) same r.all)) ∙ sym r.is
+      ap recv_template.List (fixed r.rs (subst (λ k. AreElementTemplates types turns k ts r.rs) same r.all)) ∙ sym r.is
   elements_case u element ts rs y is fixed (inr r) = let other = r.type_is in absurd (cc)
 
-  places_case : (u : Ty) (fields : List Field) (ts : Vec Template Global) (rs : List RecvTemplate) (y : RecvTemplate) → named types u ≡ Some (type_def.Record fields)
-      → ((zs : List RecvTemplate) → AreFieldTemplates types turns fields ts.items zs → rs ≡ zs) → ReadsElements u ts y ⊎ ReadsPlaces u ts y
+  places_case : (u : Ty) (fields : List Field) (ts : List Template) (rs : List RecvTemplate) (y : RecvTemplate) → named types u ≡ Some (type_def.Record fields)
+      → ((zs : List RecvTemplate) → AreFieldTemplates types turns fields ts zs → rs ≡ zs) → ReadsElements u ts y ⊎ ReadsPlaces u ts y
       → recv_template.Record rs ≡ y
   places_case u fields ts rs y is fixed (inl r) = let other = r.type_is in absurd (cc)
   places_case u fields ts rs y is fixed (inr r) =
       let other = r.type_is in
       let same : r.fields ≡ fields = cc in
-      ap recv_template.Record (fixed r.rs (subst (λ k. AreFieldTemplates types turns k ts.items r.rs) same r.all)) ∙ sym r.is
+      ap recv_template.Record (fixed r.rs (subst (λ k. AreFieldTemplates types turns k ts r.rs) same r.all)) ∙ sym r.is
 
-  names_case : (u : Ty) (fields : List Field) (ts : Vec TemplateField Global) (rs : List RecvTemplate) (y : RecvTemplate) → named types u ≡ Some (type_def.Record fields)
-      → ((zs : List RecvTemplate) → AreNamedTemplates types turns ts.items fields zs → rs ≡ zs) → ReadsNames u ts y → recv_template.Record rs ≡ y
+  names_case : (u : Ty) (fields : List Field) (ts : List TemplateField) (rs : List RecvTemplate) (y : RecvTemplate) → named types u ≡ Some (type_def.Record fields)
+      → ((zs : List RecvTemplate) → AreNamedTemplates types turns ts fields zs → rs ≡ zs) → ReadsNames u ts y → recv_template.Record rs ≡ y
   names_case u fields ts rs y is fixed r =
       let other = r.type_is in
       let same : r.fields ≡ fields = cc in
-      ap recv_template.Record (fixed r.rs (subst (λ k. AreNamedTemplates types turns ts.items k r.rs) same r.all)) ∙ sym r.is
+      ap recv_template.Record (fixed r.rs (subst (λ k. AreNamedTemplates types turns ts k r.rs) same r.all)) ∙ sym r.is
 
   -- a list with one more, where both parts are fixed
   pushed : (rs front rest : List RecvTemplate) (r y : RecvTemplate) → rest ≡ front ++ y ∷ [] → rs ≡ front → r ≡ y → rs ++ r ∷ [] ≡ rest
@@ -220,26 +218,26 @@ module _ (types : Types) (turns : List (List ℕ)) (own : OwnNames types) where
     template_fixed _ _ _ y (m.text_template cs printable) k = sym (subst (λ l. Reads ty.Charstring l y) (t.outs-Text cs) (reads ty.Charstring (t.Text cs) y k))
     template_fixed _ _ _ y (m.turn_template n i place) k =
         let r = subst (λ l. Reads ty.Integer l y) (t.outs-Name n) (reads ty.Integer (t.Name n) y k) in
-        ap (λ j. recv_template.Exact (send_value.Turn j)) (place_fixed turns (string_bytes n) i r.0 place r.1) ∙ sym r.2
+        ap (λ j. recv_template.Exact (send_value.Turn j)) (place_fixed turns n i r.0 place r.1) ∙ sym r.2
     template_fixed _ _ _ y (m.any u) k = sym (subst (λ l. Reads u l y) t.outs-Any (reads u t.Any y k))
     template_fixed _ _ _ y (m.one_of u ts rs all) k =
-        members_case u ts recv_template.OneOf rs y (λ zs other. members_fixed u ts.items rs zs all other)
+        members_case u ts recv_template.OneOf rs y (λ zs other. members_fixed u ts rs zs all other)
         (subst (λ l. Reads u l y) (t.outs-OneOf ts) (reads u (t.OneOf ts) y k))
     template_fixed _ _ _ y (m.none_of u ts rs all) k =
-        members_case u ts recv_template.NoneOf rs y (λ zs other. members_fixed u ts.items rs zs all other)
+        members_case u ts recv_template.NoneOf rs y (λ zs other. members_fixed u ts rs zs all other)
         (subst (λ l. Reads u l y) (t.outs-Complement ts) (reads u (t.Complement ts) y k))
     template_fixed _ _ _ y (m.range low high ordered) k = sym (subst (λ l. Reads ty.Integer l y) (t.outs-Range low high) (reads ty.Integer (t.Range low high) y k))
     template_fixed _ _ _ y (m.pattern cs) k = sym (subst (λ l. Reads ty.Charstring l y) (t.outs-Pattern cs) (reads ty.Charstring (t.Pattern cs) y k))
     template_fixed _ _ _ y (m.element_templates u element ts rs is all) k =
-        elements_case u element ts rs y is (λ zs other. elements_fixed element ts.items rs zs all other)
+        elements_case u element ts rs y is (λ zs other. elements_fixed element ts rs zs all other)
         (subst (λ l. Reads u l y) (t.outs-List ts) (reads u (t.List ts) y k))
     template_fixed _ _ _ y (m.place_templates u fields ts rs is all) k =
-        places_case u fields ts rs y is (λ zs other. fields_fixed fields ts.items rs zs all other)
+        places_case u fields ts rs y is (λ zs other. fields_fixed fields ts rs zs all other)
         (subst (λ l. Reads u l y) (t.outs-List ts) (reads u (t.List ts) y k))
     template_fixed _ _ _ y (m.field_templates u fields ts rs is long all) k =
-        let apart = distinct_entries fields (map entry_name ts.items) (own u fields is)
-        (length-map ts.items entry_name ∙ long ∙ sym (length-map fields (λ (f : Field). f.name))) (entries_there ts.items fields rs all) in
-        names_case u fields ts rs y is (λ zs other. names_fixed ts.items apart fields rs zs all other)
+        let apart = distinct_entries fields (map entry_name ts) (own u fields is)
+        (length-map ts entry_name ∙ long ∙ sym (length-map fields (λ (f : Field). f.name))) (entries_there ts fields rs all) in
+        names_case u fields ts rs y is (λ zs other. names_fixed ts apart fields rs zs all other)
         (subst (λ l. Reads u l y) (t.outs-Record ts) (reads u (t.Record ts) y k))
 
     members_fixed : (u : Ty) (ts : List Template) (rs ys : List RecvTemplate) → AreMembers types turns u ts rs → AreMembers types turns u ts ys → rs ≡ ys

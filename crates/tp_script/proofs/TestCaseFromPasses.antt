@@ -1,8 +1,6 @@
 -- From what the passes make to the test case.
-use Rattle.std.proofs.Common.{◌≡◌, ℕ, zero, suc, ◌+◌, List, [], ◌∷◌, Option, None, Some, IsSome, is_some, if◌then◌else◌, Contains, length, map, slice_get, option_map, string_bytes, refl, sym, ap, ◌∙◌, subst, arith, add-one}
+use Rattle.std.proofs.Common.{◌≡◌, ℕ, zero, suc, ◌+◌, List, [], ◌∷◌, Option, None, Some, IsSome, is_some, if◌then◌else◌, Contains, length, map, slice_get, option_map, refl, sym, ap, ◌∙◌, subst, arith, add-one}
 use Rattle.std.specs.List.{AllZip}
-use Rattle.std.specs.declared.alloc.Global.{Global}
-use Rattle.std.specs.declared.string.String.{String}
 use Rattle.std.proofs.lemmas.List.{length-map, length-append}
 use Rattle.std.proofs.lemmas.Option.{slice_get-map, same_Some}
 use Rattle.std.proofs.lemmas.Slice.Zip.{AllZip-long}
@@ -72,7 +70,7 @@ contains_at (a ∷ xs) (suc k) x e = let r = contains_at xs k x e in (r.0 + 1, o
 
 interface_length : (case : TestCase) → length (interface case) ≡ (if is_some case.system then 1 else 0)
 interface_length case = by case.system where
-  by : (o : Option (String Global)) → length (interface (record case { system = o })) ≡ (if is_some o then 1 else 0)
+  by : (o : Option (List ℕ)) → length (interface (record case { system = o })) ≡ (if is_some o then 1 else 0)
   by None = refl
   by (Some s) = refl
 
@@ -87,29 +85,29 @@ module _ (m : Module) (p : Prepared) (of : IsPreparedOf m p) where
 
   pub kinds_are : p.config.types ≡ map ports_of of.config.types
   kinds_are =
-      (makes_keeps (interface_number p.case.case.now) of.config.set_up.start p.case.case.now.setups.items p.config of.config.set_up.makes).0
+      (makes_keeps (interface_number p.case.case.now) of.config.set_up.start p.case.case.now.setups p.config of.config.set_up.makes).0
       ∙ of.config.set_up.types_are
 
   pub kinds : AreKinds m p.config.types
   kinds = record { types = of.config.types; of_module = of.config.types_are; kinds_are = kinds_are }
 
-  places_count : length p.starts.places.items ≡ length (creations p.case.case.now.setups.items)
+  places_count : length p.starts.places.items ≡ length (creations p.case.case.now.setups)
   places_count =
-      AllZip-long (IsStartPlace (started_names p.case.case.now.starts.items)) (variables p.case.case.now.setups.items) p.starts.places.items of.starts.all
-      ∙ length-map (creations p.case.case.now.setups.items) variable_name
+      AllZip-long (IsStartPlace (started_names p.case.case.now.starts)) (variables p.case.case.now.setups) p.starts.places.items of.starts.all
+      ∙ length-map (creations p.case.case.now.setups) variable_name
 
   pub everyone : length p.config.components ≡ instance_count p
   everyone =
-      let kept = (makes_keeps (interface_number p.case.case.now) of.config.set_up.start p.case.case.now.setups.items p.config of.config.set_up.makes).1 in
+      let kept = (makes_keeps (interface_number p.case.case.now) of.config.set_up.start p.case.case.now.setups p.config of.config.set_up.makes).1 in
       let listed =
       AllZip-long (IsMember (component_type_names m)) (component_list p.case.case.now) of.config.set_up.start.components of.config.set_up.components_are in
-      let first = length-map (creations p.case.case.now.setups.items) created in
-      let both = length-append (main_component p.case.case.now ∷ map created (creations p.case.case.now.setups.items)) (interface p.case.case.now) in
+      let first = length-map (creations p.case.case.now.setups) created in
+      let both = length-append (main_component p.case.case.now ∷ map created (creations p.case.case.now.setups)) (interface p.case.case.now) in
       omega (arith, kept, listed, first, both, interface_length p.case.case.now, places_count)
 
   numbered : (n : ℕ) → IsSome p.case.case.now.system → n ≡ length p.starts.places.items + 1 → interface_number p.case.case.now ≡ Some n
   numbered n there is = by p.case.case.now.system there where
-    by : (o : Option (String Global)) → IsSome o → option_map (λ _. length (creations p.case.case.now.setups.items) + 1) o ≡ Some n
+    by : (o : Option (List ℕ)) → IsSome o → option_map (λ _. length (creations p.case.case.now.setups) + 1) o ≡ Some n
     by None h = absurd (cc)
     by (Some s) h = ap (λ k. Some (k + 1)) (sym places_count) ∙ ap Some (sym is)
 
@@ -126,7 +124,7 @@ module _ (m : Module) (p : Prepared) (of : IsPreparedOf m p) where
         (d.main (record { body = bodies.main; references = map (λ c. c.0) instance.references.items }) own refs)
     instance_does k x (instances.started j place s instance there start src refs) =
         let begun =
-        zip_at (IsStartOf (functions m) (variables p.case.case.now.setups.items) (type_names_of p.case.case.now)) p.case.case.now.starts.items
+        zip_at (IsStartOf (functions m) (variables p.case.case.now.setups) (type_names_of p.case.case.now)) p.case.case.now.starts
         p.starts.starts.items place s of.starts.starts start in
         let found = zip_from (IsFunctionBody (known_in p)) (functions m) bodies.functions.items s.function begun.2.function others begun.2.function_known in
         subst (Does (known_in p) (functions m) p.case.case.now p.starts (j + 1)) (sym (made_of instance found.0 (ap (body_in bodies) src ∙ found.1)))
@@ -135,7 +133,7 @@ module _ (m : Module) (p : Prepared) (of : IsPreparedOf m p) where
         found.2 refs)
     instance_does k x (instances.system n place instance there is placed src refs) =
         let named =
-        mapped_from (λ (f : Function). string_bytes f.name) (functions m) place sut
+        mapped_from (λ (f : Function). f.name) (functions m) place sut
         (ap (λ l. slice_get l place) (sym of.sorted.functions.names_are) ∙ place_there p.sorted.function_names sut place (sym placed)) in
         let found = zip_from (IsFunctionBody (known_in p)) (functions m) bodies.functions.items place named.0 others named.1 in
         subst (Does (known_in p) (functions m) p.case.case.now p.starts n) (sym (made_of instance found.0 (ap (body_in bodies) src ∙ found.1)))

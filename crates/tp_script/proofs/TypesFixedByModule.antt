@@ -1,5 +1,5 @@
 -- What bodies may speak of is fixed by the module: its types, and the ports of its component types.
-use Rattle.std.proofs.Common.{◌≡◌, ◌⊎◌, inl, inr, ℕ, zero, suc, ◌+◌, ◌<◌, ◌≤◌, List, [], ◌∷◌, Option, None, Some, Contains, length, map, get_or, slice_get, option_map, string_bytes, refl, sym, ap, ◌∙◌, subst, arith, add-one}
+use Rattle.std.proofs.Common.{◌≡◌, ◌⊎◌, inl, inr, ℕ, zero, suc, ◌+◌, ◌<◌, ◌≤◌, List, [], ◌∷◌, Option, None, Some, Contains, length, map, get_or, slice_get, option_map, refl, sym, ap, ◌∙◌, subst, arith, add-one}
 use Rattle.std.specs.List.{AllZip, cons_option}
 use Rattle.std.proofs.lemmas.Bool.{cases_lt}
 use Rattle.std.proofs.lemmas.Option.{slice_get-get_or, slice_get-map, slice_get_within, get_or_from_slice_get, same_Some}
@@ -95,30 +95,30 @@ kind_named kind name named xs s t apart here there e =
     (sym (named x.0.defined s x.2) ∙ e ∙ named y.0.defined t y.2) in
     same_Some s t (sym x.2 ∙ ap (λ (x : Definition). kind x.defined) same ∙ y.2)
 
-function_name : (x : Defined) (f : Function) → function_of x ≡ Some f → string_bytes f.name ≡ name_of x
+function_name : (x : Defined) (f : Function) → function_of x ≡ Some f → f.name ≡ name_of x
 function_name (definition.Record r) f e = absurd (cc)
 function_name (definition.List l) f e = absurd (cc)
 function_name (definition.Port p) f e = absurd (cc)
 function_name (definition.Component c) f e = absurd (cc)
-function_name (definition.Function g) f e = ap (λ (f : Function). string_bytes f.name) (sym (same_Some g f e))
+function_name (definition.Function g) f e = ap (λ (f : Function). f.name) (sym (same_Some g f e))
 function_name (definition.TestCase c) f e = absurd (cc)
 
-port_type_name : (x : Defined) (p : PortType) → port_type_of x ≡ Some p → string_bytes p.name ≡ name_of x
+port_type_name : (x : Defined) (p : PortType) → port_type_of x ≡ Some p → p.name ≡ name_of x
 port_type_name (definition.Record r) p e = absurd (cc)
 port_type_name (definition.List l) p e = absurd (cc)
-port_type_name (definition.Port q) p e = ap (λ (p : PortType). string_bytes p.name) (sym (same_Some q p e))
+port_type_name (definition.Port q) p e = ap (λ (p : PortType). p.name) (sym (same_Some q p e))
 port_type_name (definition.Component c) p e = absurd (cc)
 port_type_name (definition.Function f) p e = absurd (cc)
 port_type_name (definition.TestCase c) p e = absurd (cc)
 
 -- of one name there is one function
 pub one_function_named : (m : Module) (f g : Function) → AreDistinct (definition_names m) → Contains (functions m) f → Contains (functions m) g
-    → string_bytes f.name ≡ string_bytes g.name → f ≡ g
-one_function_named m f g = kind_named function_of (λ (f : Function). string_bytes f.name) function_name m.definitions.items f g
+    → f.name ≡ g.name → f ≡ g
+one_function_named m f g = kind_named function_of (λ (f : Function). f.name) function_name m.definitions f g
 
 one_port_type_named : (m : Module) (p q : PortType) → AreDistinct (definition_names m) → Contains (port_types m) p → Contains (port_types m) q
-    → string_bytes p.name ≡ string_bytes q.name → p ≡ q
-one_port_type_named m p q = kind_named port_type_of (λ (p : PortType). string_bytes p.name) port_type_name m.definitions.items p q
+    → p.name ≡ q.name → p ≡ q
+one_port_type_named m p q = kind_named port_type_of (λ (p : PortType). p.name) port_type_name m.definitions p q
 
 -- a module with one test case has this one
 pub one_case : (m : Module) (x y : TestCase) → test_cases m ≡ x ∷ [] → test_cases m ≡ y ∷ [] → x ≡ y
@@ -136,7 +136,7 @@ field_fixed types x a b h k =
 
 definition_fixed : (types : List (List ℕ)) (x : Defined) (a b : TypeDef) → IsTypeDef types x a → IsTypeDef types x b → a ≡ b
 definition_fixed types (definition.Record r) (type_def.Record xs) (type_def.Record ys) h k =
-    ap type_def.Record (zip_fixed (IsField types) (field_fixed types) r.fields.items xs ys h k)
+    ap type_def.Record (zip_fixed (IsField types) (field_fixed types) r.fields xs ys h k)
 definition_fixed types (definition.Record r) (type_def.Record xs) (type_def.ListOf t) h k = absurd k
 definition_fixed types (definition.Record r) (type_def.ListOf t) b h k = absurd h
 definition_fixed types (definition.List l) (type_def.Record xs) b h k = absurd h
@@ -185,7 +185,7 @@ module _ (m : Module) (apart : AreDistinct (definition_names m)) where
   ports_fixed (c ∷ cs) (a ∷ as_) [] h k = absurd k
   ports_fixed (c ∷ cs) (a ∷ as_) (b ∷ bs) h k =
       ap (λ p. p ∷ map ports_of as_)
-      (zip_fixed (IsPortDecl (type_names m) (port_types m)) port_fixed (port_list c.ports.items) (ports_of a) (ports_of b) h.0 k.0)
+      (zip_fixed (IsPortDecl (type_names m) (port_types m)) port_fixed (port_list c.ports) (ports_of a) (ports_of b) h.0 k.0)
       ∙ ap (λ l. ports_of b ∷ l) (ports_fixed cs as_ bs h.1 k.1)
 
   -- the component types of a module have these ports alone

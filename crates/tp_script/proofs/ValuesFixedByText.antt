@@ -1,7 +1,5 @@
 -- A value of the text stands for one value to be sent.
-use Rattle.std.proofs.Common.{◌≡◌, ◌⊎◌, inl, inr, ℕ, List, [], ◌∷◌, ◌++◌, Some, All, Contains, map, option_map, refl, ap, sym, subst, ◌∙◌, string_bytes}
-use Rattle.std.specs.declared.vec.Vec.{Vec}
-use Rattle.std.specs.declared.alloc.Global.{Global}
+use Rattle.std.proofs.Common.{◌≡◌, ◌⊎◌, inl, inr, ℕ, List, [], ◌∷◌, ◌++◌, Some, All, Contains, map, option_map, refl, ap, sym, subst, ◌∙◌}
 use Rattle.std.proofs.lemmas.List.{length-map, map_push, same_from_push}
 use Rattle.std.proofs.lemmas.List.Elements.{All-nil, All-push}
 use Rattle.std.proofs.lemmas.Option.{slice_get-map}
@@ -31,43 +29,43 @@ abbrev Layer : Type 0
 Layer = o.Value-F Value ValueField
 
 abbrev entry_name : ValueField → List ℕ
-entry_name x = string_bytes x.name
+entry_name x = x.name
 
 module _ (types : Types) (turns : List (List ℕ)) (own : OwnNames types) where
-  record ReadsElements (u : Ty) (vs : Vec Value Global) (w : SendValue) : Type 0 where
+  record ReadsElements (u : Ty) (vs : List Value) (w : SendValue) : Type 0 where
     element : Ty
     ws : List SendValue
     is : named types u ≡ Some (type_def.ListOf element)
-    all : AreElements types turns element vs.items ws
+    all : AreElements types turns element vs ws
     made : w ≡ send_value.List ws
 
-  record ReadsPlaces (u : Ty) (vs : Vec Value Global) (w : SendValue) : Type 0 where
+  record ReadsPlaces (u : Ty) (vs : List Value) (w : SendValue) : Type 0 where
     fields : List Field
     ws : List SendValue
     is : named types u ≡ Some (type_def.Record fields)
-    all : AreFields types turns fields vs.items ws
+    all : AreFields types turns fields vs ws
     made : w ≡ send_value.Record ws
 
-  record ReadsNames (u : Ty) (vs : Vec ValueField Global) (w : SendValue) : Type 0 where
+  record ReadsNames (u : Ty) (vs : List ValueField) (w : SendValue) : Type 0 where
     fields : List Field
     ws : List SendValue
     is : named types u ≡ Some (type_def.Record fields)
-    all : AreNamed types turns vs.items fields ws
+    all : AreNamed types turns vs fields ws
     made : w ≡ send_value.Record ws
 
   -- what a layer of a value can stand for
   abbrev Reads : Ty → Layer → SendValue → Type 0
   Reads u (o.Int z) w = w ≡ send_value.Int z
   Reads u (o.Bool b) w = w ≡ send_value.Bool b
-  Reads u (o.Text cs) w = w ≡ send_value.Text cs.items
-  Reads u (o.Name n) w = (k : ℕ) × IsPlace turns (string_bytes n) k × (w ≡ send_value.Turn k)
+  Reads u (o.Text cs) w = w ≡ send_value.Text cs
+  Reads u (o.Name n) w = (k : ℕ) × IsPlace turns n k × (w ≡ send_value.Turn k)
   Reads u (o.List vs) w = ReadsElements u vs w ⊎ ReadsPlaces u vs w
   Reads u (o.Record vs) w = ReadsNames u vs w
 
   reads : (u : Ty) (x : Value) (w : SendValue) → IsValue types turns u x w → Reads u (out-Value x) w
   reads _ _ _ (m.int z fits) = subst (λ l. Reads ty.Integer l (send_value.Int z)) (sym (v.outs-Int z)) refl
   reads _ _ _ (m.bool b) = subst (λ l. Reads ty.Boolean l (send_value.Bool b)) (sym (v.outs-Bool b)) refl
-  reads _ _ _ (m.text cs printable) = subst (λ l. Reads ty.Charstring l (send_value.Text cs.items)) (sym (v.outs-Text cs)) refl
+  reads _ _ _ (m.text cs printable) = subst (λ l. Reads ty.Charstring l (send_value.Text cs)) (sym (v.outs-Text cs)) refl
   reads _ _ _ (m.turn n k place) = subst (λ l. Reads ty.Integer l (send_value.Turn k)) (sym (v.outs-Name n)) (k, place, refl)
   reads _ _ _ (m.elements u element vs ws is all) =
       subst (λ l. Reads u l (send_value.List ws)) (sym (v.outs-List vs)) (inl (record { element = element; ws = ws; is = is; all = all; made = refl }))
@@ -137,28 +135,28 @@ module _ (types : Types) (turns : List (List ℕ)) (own : OwnNames types) where
       (All-push (Contains (map entry_name es)) (field_names fs) f.name (entries_there es fs ws all)
       (contains_at (map entry_name es) j f.name (slice_get-map entry_name es j ∙ ap (option_map entry_name) there ∙ ap Some is)))
 
-  elements_case : (u element : Ty) (vs : Vec Value Global) (ws : List SendValue) (y : SendValue) → named types u ≡ Some (type_def.ListOf element)
-      → ((zs : List SendValue) → AreElements types turns element vs.items zs → ws ≡ zs) → ReadsElements u vs y ⊎ ReadsPlaces u vs y → send_value.List ws ≡ y
+  elements_case : (u element : Ty) (vs : List Value) (ws : List SendValue) (y : SendValue) → named types u ≡ Some (type_def.ListOf element)
+      → ((zs : List SendValue) → AreElements types turns element vs zs → ws ≡ zs) → ReadsElements u vs y ⊎ ReadsPlaces u vs y → send_value.List ws ≡ y
   elements_case u element vs ws y is fixed (inl r) =
       let other = r.is in
       let same : r.element ≡ element = cc in
-      ap send_value.List (fixed r.ws (subst (λ t. AreElements types turns t vs.items r.ws) same r.all)) ∙ sym r.made
+      ap send_value.List (fixed r.ws (subst (λ t. AreElements types turns t vs r.ws) same r.all)) ∙ sym r.made
   elements_case u element vs ws y is fixed (inr r) = let other = r.is in absurd (cc)
 
-  places_case : (u : Ty) (fields : List Field) (vs : Vec Value Global) (ws : List SendValue) (y : SendValue) → named types u ≡ Some (type_def.Record fields)
-      → ((zs : List SendValue) → AreFields types turns fields vs.items zs → ws ≡ zs) → ReadsElements u vs y ⊎ ReadsPlaces u vs y → send_value.Record ws ≡ y
+  places_case : (u : Ty) (fields : List Field) (vs : List Value) (ws : List SendValue) (y : SendValue) → named types u ≡ Some (type_def.Record fields)
+      → ((zs : List SendValue) → AreFields types turns fields vs zs → ws ≡ zs) → ReadsElements u vs y ⊎ ReadsPlaces u vs y → send_value.Record ws ≡ y
   places_case u fields vs ws y is fixed (inl r) = let other = r.is in absurd (cc)
   places_case u fields vs ws y is fixed (inr r) =
       let other = r.is in
       let same : r.fields ≡ fields = cc in
-      ap send_value.Record (fixed r.ws (subst (λ t. AreFields types turns t vs.items r.ws) same r.all)) ∙ sym r.made
+      ap send_value.Record (fixed r.ws (subst (λ t. AreFields types turns t vs r.ws) same r.all)) ∙ sym r.made
 
-  names_case : (u : Ty) (fields : List Field) (vs : Vec ValueField Global) (ws : List SendValue) (y : SendValue) → named types u ≡ Some (type_def.Record fields)
-      → ((zs : List SendValue) → AreNamed types turns vs.items fields zs → ws ≡ zs) → ReadsNames u vs y → send_value.Record ws ≡ y
+  names_case : (u : Ty) (fields : List Field) (vs : List ValueField) (ws : List SendValue) (y : SendValue) → named types u ≡ Some (type_def.Record fields)
+      → ((zs : List SendValue) → AreNamed types turns vs fields zs → ws ≡ zs) → ReadsNames u vs y → send_value.Record ws ≡ y
   names_case u fields vs ws y is fixed r =
       let other = r.is in
       let same : r.fields ≡ fields = cc in
-      ap send_value.Record (fixed r.ws (subst (λ t. AreNamed types turns vs.items t r.ws) same r.all)) ∙ sym r.made
+      ap send_value.Record (fixed r.ws (subst (λ t. AreNamed types turns vs t r.ws) same r.all)) ∙ sym r.made
 
   -- a list with one more, where both parts are fixed
   pushed : (ws front rest : List SendValue) (w y : SendValue) → rest ≡ front ++ y ∷ [] → ws ≡ front → w ≡ y → ws ++ w ∷ [] ≡ rest
@@ -171,17 +169,17 @@ module _ (types : Types) (turns : List (List ℕ)) (own : OwnNames types) where
     value_fixed _ _ _ y (m.text cs printable) k = sym (subst (λ l. Reads ty.Charstring l y) (v.outs-Text cs) (reads ty.Charstring (v.Text cs) y k))
     value_fixed _ _ _ y (m.turn n i place) k =
         let r = subst (λ l. Reads ty.Integer l y) (v.outs-Name n) (reads ty.Integer (v.Name n) y k) in
-        ap send_value.Turn (place_fixed turns (string_bytes n) i r.0 place r.1) ∙ sym r.2
+        ap send_value.Turn (place_fixed turns n i r.0 place r.1) ∙ sym r.2
     value_fixed _ _ _ y (m.elements u element vs ws is all) k =
-        elements_case u element vs ws y is (λ zs other. elements_fixed element vs.items ws zs all other)
+        elements_case u element vs ws y is (λ zs other. elements_fixed element vs ws zs all other)
         (subst (λ l. Reads u l y) (v.outs-List vs) (reads u (v.List vs) y k))
     value_fixed _ _ _ y (m.places u fields vs ws is all) k =
-        places_case u fields vs ws y is (λ zs other. fields_fixed fields vs.items ws zs all other)
+        places_case u fields vs ws y is (λ zs other. fields_fixed fields vs ws zs all other)
         (subst (λ l. Reads u l y) (v.outs-List vs) (reads u (v.List vs) y k))
     value_fixed _ _ _ y (m.fields u fields vs ws is long all) k =
-        let apart = distinct_entries fields (map entry_name vs.items) (own u fields is)
-        (length-map vs.items entry_name ∙ long ∙ sym (length-map fields (λ (f : Field). f.name))) (entries_there vs.items fields ws all) in
-        names_case u fields vs ws y is (λ zs other. names_fixed vs.items apart fields ws zs all other)
+        let apart = distinct_entries fields (map entry_name vs) (own u fields is)
+        (length-map vs entry_name ∙ long ∙ sym (length-map fields (λ (f : Field). f.name))) (entries_there vs fields ws all) in
+        names_case u fields vs ws y is (λ zs other. names_fixed vs apart fields ws zs all other)
         (subst (λ l. Reads u l y) (v.outs-Record vs) (reads u (v.Record vs) y k))
 
     elements_fixed : (u : Ty) (xs : List Value) (ws ys : List SendValue) → AreElements types turns u xs ws → AreElements types turns u xs ys → ws ≡ ys

@@ -1,5 +1,5 @@
 -- What the components of a test case do.
-use Rattle.std.specs.Prelude.{◌≡◌, ◌<◌, ◌+◌, ℕ, Option, Some, None, List, [], ◌∷◌, ◌++◌, Contains, length, map, slice_get, string_bytes}
+use Rattle.std.specs.Prelude.{◌≡◌, ◌<◌, ◌+◌, ℕ, Option, Some, None, List, [], ◌∷◌, ◌++◌, Contains, length, map, slice_get}
 use Rattle.tp_tree.specs.declared.tree.Function.{Function}
 use Rattle.tp_tree.specs.declared.tree.TestCase.{TestCase}
 use Rattle.tp_setup.specs.declared.starts.StartedComponent.{StartedComponent}
@@ -35,10 +35,10 @@ pub data Does (known : Known) (functions : List Function) (case : TestCase) (sta
       → Does known functions case starts (k + 1) (Some d)
   -- the test system interface: the body of `sut`
   system : (n : ℕ) (f : Function) (d : Behaviour) → interface_number case ≡ Some n → Contains functions f
-      → string_bytes f.name ≡ sut → IsFunctionBody known f d.body
+      → f.name ≡ sut → IsFunctionBody known f d.body
       → AreReferences n [] (length known.components) d.references
       → Does known functions case starts n (Some d)
   -- or nothing, where no function has that name
   nobody : (n : ℕ) → interface_number case ≡ Some n
-      → (Contains (map (λ (f : Function). string_bytes f.name) functions) sut → ⊥)
+      → (Contains (map (λ (f : Function). f.name) functions) sut → ⊥)
       → Does known functions case starts n None

@@ -1,5 +1,5 @@
 -- Which rule a module breaks, and at which line: on its declarations, its bodies or its size.
-use Rattle.std.specs.Prelude.{◌≡◌, ◌<◌, ℕ, List, [], ◌∷◌, ◌++◌, Some, map, string_bytes}
+use Rattle.std.specs.Prelude.{◌≡◌, ◌<◌, ℕ, List, [], ◌∷◌, ◌++◌, Some, map}
 use Rattle.std.specs.List.{AllZip}
 use Rattle.tp_tree.specs.declared.tree.Module.{Module}
 use Rattle.tp_tree.specs.declared.tree.Definition.{Definition}
@@ -34,14 +34,14 @@ pub record BreaksIn (known : Known) (plays : BehaviourKind) (runs_on : List ℕ)
 -- the test case's own body does
 abbrev pub MainBreaks : Known → TestCase → ℕ → ModuleRule → ℕ → Type 0
 MainBreaks known case begins rule line =
-    BreaksIn known behaviour_kind.TestCase (string_bytes case.runs_on) [] begins case.variables.items
-    case.statements.items rule line
+    BreaksIn known behaviour_kind.TestCase case.runs_on [] begins case.variables
+    case.statements rule line
 
 -- the body of a function does
 abbrev pub FunctionBreaks : Known → Function → ℕ → ModuleRule → ℕ → Type 0
 FunctionBreaks known f begins rule line =
-    BreaksIn known (plays_of f) (string_bytes f.runs_on) (map (λ p. declared p.name) f.parameters.items) begins
-    f.variables.items f.statements.items rule line
+    BreaksIn known (plays_of f) f.runs_on (map (λ p. declared p.name) f.parameters) begins
+    f.variables f.statements rule line
 
 -- the body of one of the functions does, and those of the functions before it obey the rules
 pub record FunctionsBreak (known : Known) (list : List Definition) (rule : ModuleRule) (line : ℕ) : Type 0 where
@@ -66,7 +66,7 @@ pub data BodiesBreak (known : Known) (case : TestCase) (begins : ℕ) (definitio
 -- the test case of the module, which begins at this line, with its configuration and the module's types
 pub record IsCaseOf (m : Module) (case : TestCase) (begins : ℕ) (config : Setup) (types : Types) : Type 0 where
   pub one_test_case : test_cases m ≡ case ∷ []
-  pub begins_at : BeginsAmong m.definitions.items case begins
+  pub begins_at : BeginsAmong m.definitions case begins
   pub config_is : IsConfigOf m case config
   pub types_are : AreTypes m types
 
@@ -77,7 +77,7 @@ pub data ModuleBreaks (m : Module) : ModuleRule → ℕ → Type 0 where
   -- on bodies
   bodies : (case : TestCase) (begins : ℕ) (config : Setup) (types : Types) (rule : ModuleRule) (line : ℕ)
       → IsWellDeclared m → IsCaseOf m case begins config types
-      → BodiesBreak (known_of m case config types) case begins m.definitions.items rule line → ModuleBreaks m rule line
+      → BodiesBreak (known_of m case config types) case begins m.definitions rule line → ModuleBreaks m rule line
   -- on size: all components together have more than 100,000 statements to carry out (15)
   size : (case : TestCase) (begins : ℕ) (made : Made) → IsWellDeclared m → HasSoundBodies m
       → IsCaseOf m case begins made.config made.types → IsTestCaseOf m made → 100000 < size_of_test_case made

@@ -1,5 +1,5 @@
 -- What the bodies of a module may speak of.
-use Rattle.std.specs.Prelude.{◌≡◌, ◌≤◌, ℕ, List, [], Some, All, Contains, length, map, slice_get, string_bytes, if◌then◌else◌}
+use Rattle.std.specs.Prelude.{◌≡◌, ◌≤◌, ℕ, List, [], Some, All, Contains, length, map, slice_get, if◌then◌else◌}
 use Rattle.std.specs.List.{AllZip}
 use Rattle.std.specs.Str.{bytes_eq}
 use Rattle.tp_tree.specs.declared.tree.Definition.{Definition}
@@ -55,18 +55,18 @@ pub record IsBodyInScope (known : Known) (plays : BehaviourKind) (runs_on : List
 -- the test case's own body
 abbrev pub IsMainBody : Known → TestCase → Body → Type 0
 IsMainBody known case body =
-    IsBodyInScope known behaviour_kind.TestCase (string_bytes case.runs_on) [] case.variables.items case.statements.items
+    IsBodyInScope known behaviour_kind.TestCase case.runs_on [] case.variables case.statements
     body
 
 -- a function named `sut` plays the system under test
 abbrev pub plays_of : Function → BehaviourKind
-plays_of f = if bytes_eq (string_bytes f.name) sut then behaviour_kind.SystemUnderTest else behaviour_kind.Function
+plays_of f = if bytes_eq f.name sut then behaviour_kind.SystemUnderTest else behaviour_kind.Function
 
 -- the body of a function
 abbrev pub IsFunctionBody : Known → Function → Body → Type 0
 IsFunctionBody known f body =
-    IsBodyInScope known (plays_of f) (string_bytes f.runs_on) (map (λ p. declared p.name) f.parameters.items)
-    f.variables.items f.statements.items body
+    IsBodyInScope known (plays_of f) f.runs_on (map (λ p. declared p.name) f.parameters)
+    f.variables f.statements body
 
 -- the test case's own body and those of the functions stand for something, where bodies may speak of this
 pub record HasBodies (known : Known) (case : TestCase) (functions : List Function) : Type 0 where

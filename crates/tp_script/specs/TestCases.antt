@@ -26,7 +26,7 @@ known_of m case config types =
       types = types;
       component_types = component_type_names m;
       ports = config.types;
-      components = variables case.setups.items;
+      components = variables case.setups;
     }
 
 -- the ports of the component types of the module

@@ -1,5 +1,5 @@
 //! The fourth pass of the checks: the bodies.
-ghost use Rattle.std.specs.Prelude.{◌≡◌, IfErr, IfOk, List, map, string_bytes};
+ghost use Rattle.std.specs.Prelude.{◌≡◌, IfErr, IfOk, List, map};
 ghost use Rattle.std.specs.List.{AllZip};
 ghost use Rattle.tp_name.specs.Refused.{IsRefusedBy, Tells};
 ghost use Rattle.tp_name.specs.Tables.{IsNumbered};
@@ -38,7 +38,7 @@ fn resolve_main(alloc: Global, prepared: &Prepared) -> Result<Body, ModuleFault>
         → IfErr result (IsRefusedBy ((body : Body)
         × IsMainBody (known_in prepared.now) prepared.now.case.case.now body)) }
     ensures told { IsSoundKnown (known_in prepared.now)
-        → CanRun (known_in prepared.now) (string_bytes prepared.now.case.case.now.runs_on)
+        → CanRun (known_in prepared.now) prepared.now.case.case.now.runs_on
         → IfErr result (Tells (MainBreaks (known_in prepared.now) prepared.now.case.case.now
         prepared.now.case.line)) }
 {
@@ -53,7 +53,13 @@ fn resolve_main(alloc: Global, prepared: &Prepared) -> Result<Body, ModuleFault>
         &parameters,
         line,
     )?;
-    resolve_body(alloc, &scope, line, &case.variables, &case.statements)
+    resolve_body(
+        alloc,
+        &scope,
+        line,
+        case.variables.as_slice(),
+        case.statements.as_slice(),
+    )
 }
 
 fn resolve_function<'m>(
@@ -64,23 +70,23 @@ fn resolve_function<'m>(
 ) -> Result<Body, ModuleFault>
     ensures body { IfOk result (IsFunctionBody (known_in prepared.now) function.now) }
     ensures refused { IsSoundKnown (known_in prepared.now)
-        → IsNumbered (map (λ p. declared p.name) function.now.parameters.items)
+        → IsNumbered (map (λ p. declared p.name) function.now.parameters)
         → IfErr result (IsRefusedBy ((body : Body)
         × IsFunctionBody (known_in prepared.now) function.now body)) }
     ensures told { IsSoundKnown (known_in prepared.now)
-        → IsNumbered (map (λ p. declared p.name) function.now.parameters.items)
-        → CanRun (known_in prepared.now) (string_bytes function.now.runs_on) → IfErr result (
+        → IsNumbered (map (λ p. declared p.name) function.now.parameters)
+        → CanRun (known_in prepared.now) function.now.runs_on → IfErr result (
         Tells (FunctionBreaks (known_in prepared.now) function.now line)) }
 {
-    let parameters = parameter_names(alloc, &function.parameters)?;
+    let parameters = parameter_names(alloc, function.parameters.as_slice())?;
     let runs_on = function.runs_on.as_str();
     let scope = scope_of(&*prepared, runs_on, plays(function), &parameters, line)?;
     resolve_body(
         alloc,
         &scope,
         line,
-        &function.variables,
-        &function.statements,
+        function.variables.as_slice(),
+        function.statements.as_slice(),
     )
 }
 
@@ -125,16 +131,16 @@ pub fn resolve_bodies<'m>(
     ensures functions { IfOk result (λ b. AllZip (IsFunctionBody (known_in prepared.now))
         (functions parsed.now) b.functions.items) }
     ensures refused { IsSoundKnown (known_in prepared.now)
-        → HaveOwnNames parsed.now.definitions.items → IfErr result (IsRefusedBy (HasBodies
+        → HaveOwnNames parsed.now.definitions → IfErr result (IsRefusedBy (HasBodies
         (known_in prepared.now) prepared.now.case.case.now (functions parsed.now))) }
     ensures told { IsSoundKnown (known_in prepared.now)
-        → HaveOwnNames parsed.now.definitions.items
-        → CanRun (known_in prepared.now) (string_bytes prepared.now.case.case.now.runs_on)
-        → CanAllRun (known_in prepared.now) parsed.now.definitions.items → IfErr result (
+        → HaveOwnNames parsed.now.definitions
+        → CanRun (known_in prepared.now) prepared.now.case.case.now.runs_on
+        → CanAllRun (known_in prepared.now) parsed.now.definitions → IfErr result (
         Tells (BodiesBreak (known_in prepared.now) prepared.now.case.case.now
-        prepared.now.case.line parsed.now.definitions.items)) }
+        prepared.now.case.line parsed.now.definitions)) }
 {
     let main = resolve_main(alloc, prepared)?;
-    let functions = resolve_functions(alloc, &parsed.definitions, prepared)?;
+    let functions = resolve_functions(alloc, parsed.definitions.as_slice(), prepared)?;
     Ok(Bodies { main, functions })
 }

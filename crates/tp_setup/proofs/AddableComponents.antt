@@ -1,7 +1,6 @@
 -- What can be added to a configuration, and what the rules on component variables say of each.
-use Rattle.std.proofs.Common.{◌≡◌, ◌≤◌, ℕ, ◌+◌, inl, inr, Option, Some, option_map, codes, Global, List, [], ◌∷◌, ◌++◌, All, Contains, length, map, string_bytes, refl, sym, ap, ◌∙◌, subst, arith, append_assoc}
+use Rattle.std.proofs.Common.{◌≡◌, ◌≤◌, ℕ, ◌+◌, inl, inr, Option, Some, option_map, codes, List, [], ◌∷◌, ◌++◌, All, Contains, length, map, refl, sym, ap, ◌∙◌, subst, arith, append_assoc}
 use Rattle.std.specs.Option.{option_to_list}
-use Rattle.std.specs.declared.string.String.{String}
 use Rattle.tp_tree.specs.declared.tree.TestCase.{TestCase}
 use Rattle.tp_config.specs.declared.port_type.Role.TheVariants as role
 use Rattle.std.proofs.lemmas.List.{get_or_at, length-append, length-map, map-append}
@@ -45,10 +44,10 @@ create_broken types x s name kind f fault named h e =
     by (inr broken) = inr (λ can. broken (subst (λ n. CanCreate s (member n kind x.role)) (sym named) (can_create types x s kind can)))
 
 -- the test system interface, where there is a `system` clause
-pub interface_is : (case : TestCase) (s : String Global) → case.system ≡ Some s
-    → interface case ≡ record { name = codes "system"; type_name = string_bytes s; role = role.System } ∷ []
-interface_is case s e = ap (λ (o : Option (String Global)). option_to_list (option_map
-    (λ s. record { name = codes "system"; type_name = string_bytes s; role = role.System }) o)) e
+pub interface_is : (case : TestCase) (s : List ℕ) → case.system ≡ Some s
+    → interface case ≡ record { name = codes "system"; type_name = s; role = role.System } ∷ []
+interface_is case s e = ap (λ (o : Option (List ℕ)). option_to_list (option_map
+    (λ s. record { name = codes "system"; type_name = s; role = role.System }) o)) e
 
 pub only_one : {A : Type 0} (P : A → Type 0) (xs : List A) (x : A) → xs ≡ x ∷ [] → All P xs → P x
 only_one P xs x e each = (subst (All P) e each) 0 x (omega arith)
@@ -82,8 +81,8 @@ module _ (types ports : List (List ℕ)) (most : ℕ) (before more : List Creati
           distinct = distinct_first (names ++ variable_name c ∷ []) (map variable_name more) (subst AreDistinct split sound.distinct);
         };
         no_port = all_middle (λ (c : Creation). Contains ports (variable_name c) → ⊥) before more c sound.no_port;
-        known = all_middle (λ (c : Creation). Contains types (string_bytes c.type_name)) before more c sound.known;
-        same = all_middle (λ (c : Creation). string_bytes c.type_name ≡ string_bytes c.created) before more c sound.same;
+        known = all_middle (λ (c : Creation). Contains types c.type_name) before more c sound.known;
+        same = all_middle (λ (c : Creation). c.type_name ≡ c.created) before more c sound.same;
         few = omega (arith, count, sound.few);
       }
 
@@ -92,7 +91,7 @@ names_created [] = refl
 names_created (c ∷ xs) = ap (λ l. variable_name c ∷ l) (names_created xs)
 
 -- where all can be added, each can behind those before it
-pub can_one : (types : List (List ℕ)) (before more : List Creation) (c : Creation) (old now : Setup) → Contains types (string_bytes c.type_name)
+pub can_one : (types : List (List ℕ)) (before more : List Creation) (c : Creation) (old now : Setup) → Contains types c.type_name
     → CanAddAll types (map variable_name (before ++ c ∷ more)) old → AddsAll types (map created before) old now → CanAdd types (created c) now
 can_one types before more c old now known can added =
     let here : names_of_components now ≡ names_of_components old ++ map variable_name before = added.names_more ∙ ap (λ l. names_of_components old ++ l) (names_created before) in
@@ -127,5 +126,5 @@ create_part types ports names most before more all c old now split named added r
     let sound : HasSoundVariables types ports most (before ++ c ∷ more) = subst (HasSoundVariables types ports most) split r.0 in
     let can : CanAddAll types (map variable_name (before ++ c ∷ more)) old = subst (λ l. CanAddAll types (map variable_name l) old) split r.1 in (
       sound_one types ports most before more c names named (omega (arith, can.room, length-map (before ++ c ∷ more) variable_name)) sound,
-      can_one types before more c old now (all_middle (λ (c : Creation). Contains types (string_bytes c.type_name)) before more c sound.known) can added,
+      can_one types before more c old now (all_middle (λ (c : Creation). Contains types c.type_name) before more c sound.known) can added,
     )

@@ -1,5 +1,5 @@
 -- One more component.
-use Rattle.std.proofs.Common.{◌≡◌, ◌≤◌, ℕ, ◌+◌, ◌<◌, List, [], ◌∷◌, ◌++◌, None, Some, Contains, length, take, get_or, map, sym, ap, ◌∙◌, subst, append-nil, append_assoc, refl, string_bytes}
+use Rattle.std.proofs.Common.{◌≡◌, ◌≤◌, ℕ, ◌+◌, ◌<◌, List, [], ◌∷◌, ◌++◌, None, Some, Contains, length, take, get_or, map, sym, ap, ◌∙◌, subst, append-nil, append_assoc, refl}
 use Rattle.std.specs.Option.{option_to_list}
 use Rattle.std.specs.List.{AllZip}
 use Rattle.std.proofs.lemmas.List.{map_push, length-map}
@@ -21,16 +21,16 @@ module _ (xs : List SetupStatement) (i : ℕ) (x : SetupStatement) (lt : i < len
 
 pub sound_more : (types ports names more : List (List ℕ)) (most : ℕ) (xs : List Creation) (c : Creation) → HasSoundVariables types ports most xs
     → names ≡ map variable_name xs
-    → more ≡ names ++ variable_name c ∷ [] → AreDistinct more → (Contains ports (variable_name c) → ⊥) → Contains types (string_bytes c.type_name)
-    → string_bytes c.type_name ≡ string_bytes c.created
+    → more ≡ names ++ variable_name c ∷ [] → AreDistinct more → (Contains ports (variable_name c) → ⊥) → Contains types c.type_name
+    → c.type_name ≡ c.created
     → length more ≤ most → HasSoundVariables types ports most (xs ++ c ∷ [])
 sound_more types ports names more most xs c before named next distinct apart known same few =
     let all : more ≡ map variable_name (xs ++ c ∷ []) = next ∙ ap (λ l. l ++ variable_name c ∷ []) named ∙ sym (map_push variable_name xs c) in
     record {
       distinct = subst AreDistinct all distinct;
       no_port = all_push (λ (c : Creation). Contains ports (variable_name c) → ⊥) xs c before.no_port apart;
-      known = all_push (λ (c : Creation). Contains types (string_bytes c.type_name)) xs c before.known known;
-      same = all_push (λ (c : Creation). string_bytes c.type_name ≡ string_bytes c.created) xs c before.same same;
+      known = all_push (λ (c : Creation). Contains types c.type_name) xs c before.known known;
+      same = all_push (λ (c : Creation). c.type_name ≡ c.created) xs c before.same same;
       few = subst (λ n. n ≤ most) (ap length all ∙ length-map (xs ++ c ∷ []) variable_name) few;
     }
 

@@ -1,6 +1,5 @@
 -- A component that can't be made.
-use Rattle.std.proofs.Common.{◌≡◌, ◌⊎◌, inl, inr, ℕ, ◌+◌, ◌<◌, Option, Some, IfSome, is_some, Global, List, [], ◌++◌, Contains, length, take, drop, get_or, map, codes, string_bytes, refl, sym, ap, ◌∙◌, subst, arith, append-nil}
-use Rattle.std.specs.declared.string.String.{String}
+use Rattle.std.proofs.Common.{◌≡◌, ◌⊎◌, inl, inr, ℕ, ◌+◌, ◌<◌, Option, Some, IfSome, is_some, List, [], ◌++◌, Contains, length, take, drop, get_or, map, codes, refl, sym, ap, ◌∙◌, subst, arith, append-nil}
 use Rattle.std.proofs.lemmas.List.{length-append, length-map, length_push}
 use Rattle.std.proofs.lemmas.List.Elements.{Contains-append_cases}
 use Rattle.tp_tree.specs.declared.tree.Creation.{Creation}
@@ -100,11 +99,11 @@ stops_told types ports others names most xs i x c f lt is makes named sound told
 }
 
 -- a test system interface that can't be added
-pub interface_told : (types : List (List ℕ)) (case : TestCase) (s : Setup) (name : String Global) → case.system ≡ Some name → AwaitsInterface types case s
-    → (rule : ModuleRule) → AdditionBreaks types (record { name = codes "system"; type_name = string_bytes name; role = role.System }) s rule
+pub interface_told : (types : List (List ℕ)) (case : TestCase) (s : Setup) (name : List ℕ) → case.system ≡ Some name → AwaitsInterface types case s
+    → (rule : ModuleRule) → AdditionBreaks types (record { name = codes "system"; type_name = name; role = role.System }) s rule
     → InterfaceBreaks case s rule
 interface_told types case s name e w rule (addition_unknown absent) =
-    absurd (absent (subst (λ (o : Option (String Global)). IfSome o (λ n. Contains types (string_bytes n))) e w.known))
+    absurd (absent (subst (λ (o : Option (List ℕ)). IfSome o (λ n. Contains types n)) e w.known))
 interface_told types case s name e w rule (addition_taken (inl there)) = interface_named (ap is_some e) there
 interface_told types case s name e w rule (addition_taken (inr (f, there))) = absurd (w.tests there)
 interface_told types case s name e w rule (addition_many many) =

@@ -1,5 +1,5 @@
 -- A definition that breaks a rule.
-use Rattle.std.proofs.Common.{◌≡◌, ◌<◌, inl, inr, ℕ, ◌+◌, Option, List, All, Result, Ok, Err, IfErr, length, take, drop, get_or, string_bytes, refl, sym, subst, arith}
+use Rattle.std.proofs.Common.{◌≡◌, ◌<◌, inl, inr, ℕ, ◌+◌, Option, List, All, Result, Ok, Err, IfErr, length, take, drop, get_or, refl, sym, subst, arith}
 use Rattle.tp_tree.specs.declared.tree.ComponentType.{ComponentType}
 use Rattle.tp_tree.specs.declared.tree.Defined.{Defined}
 use Rattle.tp_tree.specs.declared.tree.Defined.TheVariants as d
@@ -26,11 +26,11 @@ module _ (types ports components : List (List ℕ)) (system : Option (List ℕ))
   pub component_type_told : (x : Defined) (c : ComponentType) (line : ℕ) (fault : ModuleFault) → x ≡ d.Component c → IsComponentFault ports c line fault
       → TellsAt line (DefinitionBreaks types ports components system x) fault
   component_type_told x c line fault e (inl isnt) =
-      rw isnt.1 (refl, unknown_port_type (λ h. isnt.0 (each_there ports (λ p. string_bytes p.type_name) c.ports.items (subst (ArePortTypesKnown ports) e h))))
+      rw isnt.1 (refl, unknown_port_type (λ h. isnt.0 (each_there ports (λ p. p.type_name) c.ports (subst (ArePortTypesKnown ports) e h))))
   component_type_told x c line fault e (inr many) =
       rw many.2 (
         refl,
-        many_ports (subst (ArePortTypesKnown ports) (sym e) (each_known ports (λ p. string_bytes p.type_name) c.ports.items many.0))
+        many_ports (subst (ArePortTypesKnown ports) (sym e) (each_known ports (λ p. p.type_name) c.ports many.0))
             (λ h. let few : HasFewPorts (d.Component c) = subst HasFewPorts e h in omega (arith, few, many.1)),
       )
 

@@ -1,5 +1,5 @@
 -- Names that are different and few: parts of a list of them.
-use Rattle.std.proofs.Common.{◌≡◌, ◌≢◌, ℕ, suc, ◌+◌, ◌<◌, ◌≤◌, List, [], ◌∷◌, ◌++◌, Option, None, Some, All, Contains, arith, length, take, drop, get_or, map, sym, ap, ◌∙◌, string_bytes, subst, refl, is_some, false, ◌||◌}
+use Rattle.std.proofs.Common.{◌≡◌, ◌≢◌, ℕ, suc, ◌+◌, ◌<◌, ◌≤◌, List, [], ◌∷◌, ◌++◌, Option, None, Some, All, Contains, arith, length, take, drop, get_or, map, sym, ap, ◌∙◌, subst, refl, is_some, false, ◌||◌}
 use Rattle.std.specs.List.{cons_option, list_any}
 use Rattle.std.proofs.lemmas.List.{get_or_append_left, get_or-map, length-append, length-map, take-append-drop}
 use Rattle.std.proofs.lemmas.List.Elements.{All-cons, All-head, All-map, All-nil, All-tail, filter_map-append}
@@ -129,28 +129,28 @@ type_named (defined.Component c) y e = absurd (cc)
 type_named (defined.Function f) y e = absurd (cc)
 type_named (defined.TestCase t) y e = absurd (cc)
 
-pub port_named : (x : Defined) (y : PortType) → port_type_of x ≡ Some y → string_bytes y.name ≡ name_of x
+pub port_named : (x : Defined) (y : PortType) → port_type_of x ≡ Some y → y.name ≡ name_of x
 port_named (defined.Record r) y e = absurd (cc)
 port_named (defined.List l) y e = absurd (cc)
-port_named (defined.Port p) y e = ap (λ (z : PortType). string_bytes z.name) (sym (same_Some p y e))
+port_named (defined.Port p) y e = ap (λ (z : PortType). z.name) (sym (same_Some p y e))
 port_named (defined.Component c) y e = absurd (cc)
 port_named (defined.Function f) y e = absurd (cc)
 port_named (defined.TestCase t) y e = absurd (cc)
 
-pub component_named : (x : Defined) (y : ComponentType) → component_type_of x ≡ Some y → string_bytes y.name ≡ name_of x
+pub component_named : (x : Defined) (y : ComponentType) → component_type_of x ≡ Some y → y.name ≡ name_of x
 component_named (defined.Record r) y e = absurd (cc)
 component_named (defined.List l) y e = absurd (cc)
 component_named (defined.Port p) y e = absurd (cc)
-component_named (defined.Component c) y e = ap (λ (z : ComponentType). string_bytes z.name) (sym (same_Some c y e))
+component_named (defined.Component c) y e = ap (λ (z : ComponentType). z.name) (sym (same_Some c y e))
 component_named (defined.Function f) y e = absurd (cc)
 component_named (defined.TestCase t) y e = absurd (cc)
 
-pub function_named : (x : Defined) (y : Function) → function_of x ≡ Some y → string_bytes y.name ≡ name_of x
+pub function_named : (x : Defined) (y : Function) → function_of x ≡ Some y → y.name ≡ name_of x
 function_named (defined.Record r) y e = absurd (cc)
 function_named (defined.List l) y e = absurd (cc)
 function_named (defined.Port p) y e = absurd (cc)
 function_named (defined.Component c) y e = absurd (cc)
-function_named (defined.Function f) y e = ap (λ (z : Function). string_bytes z.name) (sym (same_Some f y e))
+function_named (defined.Function f) y e = ap (λ (z : Function). z.name) (sym (same_Some f y e))
 function_named (defined.TestCase t) y e = absurd (cc)
 
 -- a name that is there can't be added

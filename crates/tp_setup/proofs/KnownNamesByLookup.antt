@@ -31,12 +31,12 @@ pub each_there : {A : Type 0} (names : List (List ℕ)) (f : A → List ℕ) (xs
 each_there names f xs each =
     list_all-from_AllPass (λ x. is_some (place_of_name names (f x))) xs (λ k d below. there names (f (get_or xs k d)) (each k d below))
 
-pub messages_known : (types : List (List ℕ)) (xs : List Direction) → has_known_messages types xs ≡ true → All (λ w. All (NamesType types) w.types.items) xs
+pub messages_known : (types : List (List ℕ)) (xs : List Direction) → has_known_messages types xs ≡ true → All (λ w. All (NamesType types) w.types) xs
 messages_known types xs e k d below =
-    AllPass-from_list_all (λ n. is_some (ty_of types n)) (get_or xs k d).types.items
-    (AllPass-from_list_all (λ w. list_all (λ n. is_some (ty_of types n)) w.types.items) xs e k d below)
+    AllPass-from_list_all (λ n. is_some (ty_of types n)) (get_or xs k d).types
+    (AllPass-from_list_all (λ w. list_all (λ n. is_some (ty_of types n)) w.types) xs e k d below)
 
-pub messages_there : (types : List (List ℕ)) (xs : List Direction) → All (λ w. All (NamesType types) w.types.items) xs → has_known_messages types xs ≡ true
+pub messages_there : (types : List (List ℕ)) (xs : List Direction) → All (λ w. All (NamesType types) w.types) xs → has_known_messages types xs ≡ true
 messages_there types xs each =
-    list_all-from_AllPass (λ w. list_all (λ n. is_some (ty_of types n)) w.types.items) xs
-    (λ k d below. list_all-from_AllPass (λ n. is_some (ty_of types n)) (get_or xs k d).types.items (each k d below))
+    list_all-from_AllPass (λ w. list_all (λ n. is_some (ty_of types n)) w.types) xs
+    (λ k d below. list_all-from_AllPass (λ n. is_some (ty_of types n)) (get_or xs k d).types (each k d below))

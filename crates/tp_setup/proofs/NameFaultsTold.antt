@@ -41,18 +41,18 @@ name_among g old names xs i x f lt is named numbered told =
 
 ports_declared : (ps : List PortDeclaration) → map declared (port_name_list ps) ≡ declared_ports ps
 ports_declared [] = refl
-ports_declared (p ∷ ps) = map-append declared p.names.items (port_name_list ps) ∙ ap (λ l. map declared p.names.items ++ l) (ports_declared ps)
+ports_declared (p ∷ ps) = map-append declared p.names (port_name_list ps) ∙ ap (λ l. map declared p.names ++ l) (ports_declared ps)
 
 -- one of a declaration's names, among all ports
 pub port_among : (old names : List (List ℕ)) (xs : List PortDeclaration) (i : ℕ) (x : PortDeclaration) (f : ModuleFault) → i < length xs
-    → x ≡ get_or xs i x → names ≡ old ++ declared_ports (take i xs) → Tells (DeclaringBreaks names x.names.items) f
+    → x ≡ get_or xs i x → names ≡ old ++ declared_ports (take i xs) → Tells (DeclaringBreaks names x.names) f
     → Tells (DeclaringBreaks old (port_name_list xs)) f
 port_among old names xs i x f lt is named told =
-    tells_map (DeclaringBreaks names x.names.items) (DeclaringBreaks old (port_name_list xs)) f (λ rule line b.
+    tells_map (DeclaringBreaks names x.names) (DeclaringBreaks old (port_name_list xs)) f (λ rule line b.
     let first : List DeclaredName = port_name_list (take i xs) in
     let rest : List DeclaredName = port_name_list (drop (i + 1) xs) in
-    let all : port_name_list xs ≡ first ++ (x.names.items ++ rest) =
-    ap port_name_list (split_here xs i x lt is) ∙ flat_map-append (λ (p : PortDeclaration). p.names.items) (take i xs) (x ∷ drop (i + 1) xs) in
+    let all : port_name_list xs ≡ first ++ (x.names ++ rest) =
+    ap port_name_list (split_here xs i x lt is) ∙ flat_map-append (λ (p : PortDeclaration). p.names) (take i xs) (x ∷ drop (i + 1) xs) in
     let here : names ++ map declared b.before ≡ old ++ map declared (first ++ b.before) =
     ap (λ l. l ++ map declared b.before) (named ∙ ap (λ l. old ++ l) (sym (ports_declared (take i xs))))
     ∙ append_assoc old (map declared first) (map declared b.before) ∙ ap (λ l. old ++ l) (sym (map-append declared first b.before)) in

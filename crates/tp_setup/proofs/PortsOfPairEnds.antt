@@ -1,5 +1,5 @@
 -- A setup statement names its ports, and what is refused of two ports.
-use Rattle.std.proofs.Common.{◌≡◌, ℕ, ◌<◌, ◌≤◌, ◌⊎◌, inl, inr, List, [], Option, None, Some, Contains, length, get_or, slice_get, string_bytes, sym, ap, ◌∙◌, subst, arith}
+use Rattle.std.proofs.Common.{◌≡◌, ℕ, ◌<◌, ◌≤◌, ◌⊎◌, inl, inr, List, [], Option, None, Some, Contains, length, get_or, slice_get, sym, ap, ◌∙◌, subst, arith}
 use Rattle.std.specs.Option.{option_map_or}
 use Rattle.std.proofs.lemmas.Bool.{cases_lt}
 use Rattle.std.proofs.Math.ListN.{get_or-eq_default}
@@ -48,10 +48,10 @@ module _ (s : Setup) (names : List (List ℕ)) (system : Option ℕ) where
   pub same_end : HaveOwnPorts s.types → (x : PairEnd) (p q : PortRef) → IsPortOfEnd s names system x p → IsPortOfEnd s names system x q → p ≡ q
   same_end own x p q first second =
       let comp : p.comp.0 ≡ q.comp.0 = same_Some p.comp.0 q.comp.0 (sym first.component_known ∙ second.component_known) in
-      let there : slice_get (port_names s q.comp) p.port ≡ Some (string_bytes x.port) =
-      subst (λ i. slice_get (port_names s (port_at i p.port).comp) p.port ≡ Some (string_bytes x.port)) comp first.port_known in
+      let there : slice_get (port_names s q.comp) p.port ≡ Some x.port =
+      subst (λ i. slice_get (port_names s (port_at i p.port).comp) p.port ≡ Some x.port) comp first.port_known in
       let port : p.port ≡ q.port =
-      once (port_names s q.comp) (string_bytes x.port) p.port q.port (own_names s.types s.components q.comp own) there second.port_known in
+      once (port_names s q.comp) x.port p.port q.port (own_names s.types s.components q.comp own) there second.port_known in
       ap (λ i. port_at i p.port) comp ∙ ap (port_at q.comp.0) port
 
   pub no_component : (x : PairEnd) → end_component_number names system x.component ≡ None → (p : PortRef) × IsPortOfEnd s names system x p → ⊥
@@ -59,11 +59,11 @@ module _ (s : Setup) (names : List (List ℕ)) (system : Option ℕ) where
 
   -- a port that is unknown
   pub no_port : (x : PairEnd) (comp : CompId) → end_component_number names system x.component ≡ Some comp.0
-      → (Contains (port_names s comp) (string_bytes x.port) → ⊥) → (p : PortRef) × IsPortOfEnd s names system x p → ⊥
+      → (Contains (port_names s comp) x.port → ⊥) → (p : PortRef) × IsPortOfEnd s names system x p → ⊥
   no_port x comp known unknown r =
       let same : r.0.comp.0 ≡ comp.0 = same_Some r.0.comp.0 comp.0 (sym r.1.component_known ∙ known) in
-      unknown (contains_at (port_names s comp) r.0.port (string_bytes x.port)
-      (subst (λ i. slice_get (port_names s (port_at i r.0.port).comp) r.0.port ≡ Some (string_bytes x.port)) same r.1.port_known))
+      unknown (contains_at (port_names s comp) r.0.port x.port
+      (subst (λ i. slice_get (port_names s (port_at i r.0.port).comp) r.0.port ≡ Some x.port) same r.1.port_known))
 
   module _ (own : HaveOwnPorts s.types) (x y : PairEnd) (p q : PortRef) (first : IsPortOfEnd s names system x p) (second : IsPortOfEnd s names system y q)
       (fault : ModuleFault) where

@@ -1,5 +1,5 @@
 -- What is told over the sorted names is told of the module.
-use Rattle.std.proofs.Common.{◌≡◌, ℕ, Some, option_map, List, map, string_bytes, sym, subst, Result, Ok, Err, IfOk}
+use Rattle.std.proofs.Common.{◌≡◌, ℕ, Some, List, map, sym, subst, Result, Ok, Err, IfOk}
 use Rattle.std.proofs.lemmas.List.Elements.{All-contains}
 use Rattle.std.proofs.lemmas.Option.{same_Some}
 use Rattle.tp_tree.specs.declared.tree.Defined.{Defined}
@@ -34,11 +34,11 @@ own_case names (defined.TestCase c) case e h = subst (λ (t : TestCase). AreComp
 
 -- the component types that the test case names are known
 pub case_known : (m : Module) (names : List (List ℕ)) (case : TestCase) (line : ℕ) → names ≡ component_type_names m
-    → BeginsAmong m.definitions.items case line → HasSoundDefinitions m case → AreComponentTypesKnown names (defined.TestCase case)
+    → BeginsAmong m.definitions case line → HasSoundDefinitions m case → AreComponentTypesKnown names (defined.TestCase case)
 case_known m names case line named b sound =
     let Sound : Definition → Type 0 =
-    λ x. IsSound (type_names m) (port_type_names m) (component_type_names m) (option_map string_bytes case.system) x.defined in
-    let one : Sound b.definition = All-contains Sound m.definitions.items b.definition sound b.there in
+    λ x. IsSound (type_names m) (port_type_names m) (component_type_names m) case.system x.defined in
+    let one : Sound b.definition = All-contains Sound m.definitions b.definition sound b.there in
     subst (λ n. AreComponentTypesKnown n (defined.TestCase case)) (sym named)
     (own_case (component_type_names m) b.definition.defined case b.is one.component_types_known)
 

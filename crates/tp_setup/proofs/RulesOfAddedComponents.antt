@@ -1,8 +1,7 @@
 -- What the rules on setup say of the components that are added one after the other.
-use Rattle.std.proofs.Common.{◌≡◌, ◌≤◌, ℕ, Bool, true, false, if◌then◌else◌, Option, None, Some, option_map, codes, Global, List, [], ◌∷◌, ◌++◌, All, Contains, is_some, length, map, slice_get, string_bytes, refl, sym, ap, ◌∙◌, subst, arith, append-nil, true≢false}
+use Rattle.std.proofs.Common.{◌≡◌, ◌≤◌, ℕ, Bool, true, false, if◌then◌else◌, Option, None, Some, option_map, codes, List, [], ◌∷◌, ◌++◌, All, Contains, is_some, length, map, slice_get, refl, sym, ap, ◌∙◌, subst, arith, append-nil, true≢false}
 use Rattle.std.specs.Option.{option_to_list}
 use Rattle.std.specs.List.{AllZip}
-use Rattle.std.specs.declared.string.String.{String}
 use Rattle.std.proofs.lemmas.List.{length-append, length-map, map-append}
 use Rattle.std.proofs.lemmas.List.Elements.{All-cons, All-map, All-nil, Contains-append_left, filter_map-append}
 use Rattle.std.proofs.lemmas.Option.{same_Some, slice_get-get_or}
@@ -35,9 +34,9 @@ most_small case = by (is_some case.system) where
 
 -- the variables of a test case that can be set up
 pub numbered_variables : (names ports : List (List ℕ)) (case : TestCase)
-    → HasSoundVariables names ports (most_variables case) (creations case.setups.items) → IsNumbered (variables case.setups.items)
+    → HasSoundVariables names ports (most_variables case) (creations case.setups) → IsNumbered (variables case.setups)
 numbered_variables names ports case sound = record {
-  few = omega (arith, sound.few, most_small case, length-map (creations case.setups.items) variable_name);
+  few = omega (arith, sound.few, most_small case, length-map (creations case.setups) variable_name);
   distinct = sound.distinct;
 }
 
@@ -68,8 +67,8 @@ no_system names xs ms each zipped (m, (k, below, is), system) =
     let test : m.role ≡ role.Test = at.2.role ∙ all_got (λ (x : Declared). x.role ≡ role.Test) xs k at.0 each at.1 in
     true≢false (sym system ∙ ap is_system_role test)
 
-abbrev face : String Global → Declared
-face s = record { name = codes "system"; type_name = string_bytes s; role = role.System }
+abbrev face : List ℕ → Declared
+face s = record { name = codes "system"; type_name = s; role = role.System }
 
 whole : List (List PortDecl) → List Member → List (PortRef × PortRef) → List (PortRef × PortRef) → Setup
 whole types components connected mapped = record { types = types; components = components; connected = connected; mapped = mapped }
@@ -79,13 +78,13 @@ module _ (names : List (List ℕ)) (made : List (List PortDecl)) (case : TestCas
   pub main_can : HavePorts names made → (s : Setup) → s ≡ empty_setup made → CanAdd names (main_component case) s
   main_can have s empty = rw empty (record {
     typed = have.typed;
-    known = kind_known names [] (map created (creations case.setups.items) ++ interface case) (main_component case) r.start.components r.components_are;
+    known = kind_known names [] (map created (creations case.setups) ++ interface case) (main_component case) r.start.components r.components_are;
     new_name = λ h. absurd (omega (arith, h.1));
     one_interface = λ e. absurd (cc);
     room = omega arith;
   })
 
-  pub names_split : (before rest : List SetupStatement) → case.setups.items ≡ before ++ rest
+  pub names_split : (before rest : List SetupStatement) → case.setups ≡ before ++ rest
       → component_list case ≡ ((main_component case ∷ map created (creations before)) ++ map created (creations rest)) ++ interface case
   names_split before rest split =
       ap (λ l. (main_component case ∷ l) ++ interface case)
@@ -93,44 +92,44 @@ module _ (names : List (List ℕ)) (made : List (List PortDecl)) (case : TestCas
       ∙ map-append created (creations before) (creations rest))
 
   -- the test components can be added behind `mtc`
-  pub all_can : HavePorts names made → (s : Setup) → length (creations case.setups.items) ≤ most_variables case
-      → AddsAll names (main_component case ∷ []) (empty_setup made) s → CanAddAll names (variables case.setups.items) s
+  pub all_can : HavePorts names made → (s : Setup) → length (creations case.setups) ≤ most_variables case
+      → AddsAll names (main_component case ∷ []) (empty_setup made) s → CanAddAll names (variables case.setups) s
   all_can have s few added =
       let all : map (λ (x : Declared). x.name) (component_list case)
-      ≡ (names_of_components s ++ variables case.setups.items) ++ map (λ (x : Declared). x.name) (interface case) =
-      map-append (λ (x : Declared). x.name) (main_component case ∷ map created (creations case.setups.items)) (interface case)
-      ∙ ap (λ l. (codes "mtc" ∷ l) ++ map (λ (x : Declared). x.name) (interface case)) (names_created (creations case.setups.items))
-      ∙ ap (λ l. (l ++ variables case.setups.items) ++ map (λ (x : Declared). x.name) (interface case)) (sym added.names_more) in
+      ≡ (names_of_components s ++ variables case.setups) ++ map (λ (x : Declared). x.name) (interface case) =
+      map-append (λ (x : Declared). x.name) (main_component case ∷ map created (creations case.setups)) (interface case)
+      ∙ ap (λ l. (codes "mtc" ∷ l) ++ map (λ (x : Declared). x.name) (interface case)) (names_created (creations case.setups))
+      ∙ ap (λ l. (l ++ variables case.setups) ++ map (λ (x : Declared). x.name) (interface case)) (sym added.names_more) in
       record {
         typed = have.typed ∙ ap length (sym added.types_stay);
-        distinct = distinct_first (names_of_components s ++ variables case.setups.items) (map (λ (x : Declared). x.name) (interface case)) (subst AreDistinct all r.apart);
+        distinct = distinct_first (names_of_components s ++ variables case.setups) (map (λ (x : Declared). x.name) (interface case)) (subst AreDistinct all r.apart);
         room = omega (
           arith,
           ap length added.names_more,
           length-map s.components (λ (m : Member). m.name),
-          length-map (creations case.setups.items) variable_name,
+          length-map (creations case.setups) variable_name,
           few,
           most_small case,
         );
       }
 
   -- the test system interface can be added behind the first of them
-  pub interface_can : HavePorts names made → (s : Setup) → length (creations case.setups.items) ≤ most_variables case → (before rest : List SetupStatement)
-      → case.setups.items ≡ before ++ rest → AddsAll names (main_component case ∷ map created (creations before)) (empty_setup made) s
+  pub interface_can : HavePorts names made → (s : Setup) → length (creations case.setups) ≤ most_variables case → (before rest : List SetupStatement)
+      → case.setups ≡ before ++ rest → AddsAll names (main_component case ∷ map created (creations before)) (empty_setup made) s
       → All (λ x. CanAdd names x s) (interface case)
   interface_can have s few before rest split added = by case.system refl where
-    by : (o : Option (String Global)) → case.system ≡ o → All (λ x. CanAdd names x s) (option_to_list (option_map face o))
+    by : (o : Option (List ℕ)) → case.system ≡ o → All (λ x. CanAdd names x s) (option_to_list (option_map face o))
     by None e = All-nil (λ x. CanAdd names x s)
     by (Some f) e =
         let A : List Declared = main_component case ∷ map created (creations before) in
         let B : List Declared = map created (creations rest) in
-        let last : interface case ≡ face f ∷ [] = ap (λ (o : Option (String Global)). option_to_list (option_map face o)) e in
+        let last : interface case ≡ face f ∷ [] = ap (λ (o : Option (List ℕ)). option_to_list (option_map face o)) e in
         let all : component_list case ≡ (A ++ B) ++ face f ∷ [] = names_split before rest split ∙ ap (λ l. (A ++ B) ++ l) last in
         let named : map (λ (x : Declared). x.name) (component_list case)
         ≡ (map (λ (x : Declared). x.name) A ++ map (λ (x : Declared). x.name) B) ++ codes "system" ∷ [] =
         ap (map (λ (x : Declared). x.name)) all ∙ map-append (λ (x : Declared). x.name) (A ++ B) (face f ∷ [])
         ∙ ap (λ l. l ++ codes "system" ∷ []) (map-append (λ (x : Declared). x.name) A B) in
-        let most : most_variables case ≡ 62 = ap (λ (o : Option (String Global)). if is_some o then 62 else 63) e in
+        let most : most_variables case ≡ 62 = ap (λ (o : Option (List ℕ)). if is_some o then 62 else 63) e in
         All-cons (λ x. CanAdd names x s) (face f) []
         (record {
           typed = have.typed ∙ ap length (sym added.types_stay);
@@ -168,16 +167,16 @@ module _ (names : List (List ℕ)) (made : List (List PortDecl)) (case : TestCas
 
   -- so the setup statements can be done in it
   pub all_made : (s : Setup) (system : Option ℕ) → AddsAll names (component_list case) (empty_setup made) s → system ≡ interface_number case
-      → (t : Setup) × Makes system s case.setups.items t
+      → (t : Setup) × Makes system s case.setups t
   all_made s system added number = (
     config,
-    subst (λ n. Makes n s case.setups.items config) (sym number)
-        (subst (λ z. Makes (interface_number case) z case.setups.items config) (start_same s added) r.makes),
+    subst (λ n. Makes n s case.setups config) (sym number)
+        (subst (λ z. Makes (interface_number case) z case.setups config) (start_same s added) r.makes),
   )
 
 -- the number of the test system interface is the number of components before it
 pub number_is : (names : List (List ℕ)) (case : TestCase) (old s : Setup) (system : Option ℕ) → old.components ≡ []
-    → AddsAll names (main_component case ∷ map created (creations case.setups.items)) old s
+    → AddsAll names (main_component case ∷ map created (creations case.setups)) old s
     → system ≡ option_map (λ _. length s.components) case.system → system ≡ interface_number case
 number_is names case old s system none added number =
     number ∙ ap (λ n. option_map (λ _. n) case.system)
@@ -185,15 +184,15 @@ number_is names case old s system none added number =
       arith,
       ap length added.names_more,
       length-map s.components (λ (m : Member). m.name),
-      length-append (names_of_components old) (map (λ (x : Declared). x.name) (main_component case ∷ map created (creations case.setups.items))),
+      length-append (names_of_components old) (map (λ (x : Declared). x.name) (main_component case ∷ map created (creations case.setups))),
       length-map old.components (λ (m : Member). m.name),
       ap length none,
-      length-map (map created (creations case.setups.items)) (λ (x : Declared). x.name),
-      length-map (creations case.setups.items) created,
+      length-map (map created (creations case.setups)) (λ (x : Declared). x.name),
+      length-map (creations case.setups) created,
     ))
 
 -- behind `mtc`, the components of the first of the setup statements
-pub has_first : (names : List (List ℕ)) (case : TestCase) (setups before : List SetupStatement) (old s : Setup) → setups ≡ case.setups.items
+pub has_first : (names : List (List ℕ)) (case : TestCase) (setups before : List SetupStatement) (old s : Setup) → setups ≡ case.setups
     → AddsAll names (main_component case ∷ []) (empty_setup old.types) old → HasStopped names setups before old s → HasFirst names case before s
 has_first names case setups before old s statements main stopped = record {
   rest = stopped.rest;
@@ -204,7 +203,7 @@ has_first names case setups before old s statements main stopped = record {
 
 -- a test case that can be set up has sound variables, whose components can be added behind `mtc`
 pub beside_can : (names ports : List (List ℕ)) (made : List (List PortDecl)) (case : TestCase) (s : Setup) (setups : List SetupStatement) (most : ℕ)
-    → setups ≡ case.setups.items → most ≡ most_variables case → HavePorts names made
+    → setups ≡ case.setups → most ≡ most_variables case → HavePorts names made
     → AddsAll names (main_component case ∷ []) (empty_setup made) s → CanSetUpBeside names ports made case
     → HasSoundVariables names ports most (creations setups) × CanAddAll names (variables setups) s
 beside_can names ports made case s setups most statements limit have main r =
@@ -219,21 +218,21 @@ main_added names main old new empty one =
 
 module _ (names : List (List ℕ)) (types : List ComponentType) (made : List (List PortDecl)) (case : TestCase) (r : CanSetUp names types made case) where
   pub interface_ready : HavePorts names made → (old s : Setup) → old ≡ empty_setup made
-      → AddsAll names (main_component case ∷ map created (creations case.setups.items)) old s → All (λ x. CanAdd names x s) (interface case)
+      → AddsAll names (main_component case ∷ map created (creations case.setups)) old s → All (λ x. CanAdd names x s) (interface case)
   interface_ready have old s empty added =
-      interface_can names made case r.config r.is_set_up have s r.variables.sound.few case.setups.items [] (sym (append-nil case.setups.items))
-      (subst (λ z. AddsAll names (main_component case ∷ map created (creations case.setups.items)) z s) empty added)
+      interface_can names made case r.config r.is_set_up have s r.variables.sound.few case.setups [] (sym (append-nil case.setups))
+      (subst (λ z. AddsAll names (main_component case ∷ map created (creations case.setups)) z s) empty added)
 
   -- all setup statements can be done where all components are there
-  pub all_ready : (old mid s : Setup) (system : Option ℕ) (setups : List SetupStatement) → old ≡ empty_setup made → setups ≡ case.setups.items
-      → AddsAll names (main_component case ∷ map created (creations case.setups.items)) old mid → AddsAll names (interface case) mid s
+  pub all_ready : (old mid s : Setup) (system : Option ℕ) (setups : List SetupStatement) → old ≡ empty_setup made → setups ≡ case.setups
+      → AddsAll names (main_component case ∷ map created (creations case.setups)) old mid → AddsAll names (interface case) mid s
       → system ≡ option_map (λ _. length mid.components) case.system
       → ((t : Setup) × Makes system s setups t) × IsNumbered (variables setups)
   all_ready old mid s system setups empty statements inner last number =
       rw statements (
         all_made names made case r.config r.is_set_up s system
             (subst (λ z. AddsAll names (component_list case) z s) empty
-            (adds_append names (main_component case ∷ map created (creations case.setups.items)) (interface case) old mid s inner last))
+            (adds_append names (main_component case ∷ map created (creations case.setups)) (interface case) old mid s inner last))
             (number_is names case old mid system (ap (λ (z : Setup). z.components) empty) inner number),
         numbered_variables names r.variables.ports case r.variables.sound,
       )

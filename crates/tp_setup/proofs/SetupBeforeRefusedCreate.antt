@@ -1,7 +1,6 @@
 -- Where making the components stopped, what stands before can be connected if all that the text says can be.
-use Rattle.std.proofs.Common.{◌≡◌, ◌≤◌, ℕ, zero, suc, ◌+◌, ◌<◌, Option, None, Some, option_map, Global, List, [], ◌∷◌, ◌++◌, length, map, slice_get, string_bytes, refl, sym, ap, ◌∙◌, subst, arith, append_assoc, take}
+use Rattle.std.proofs.Common.{◌≡◌, ◌≤◌, ℕ, zero, suc, ◌+◌, ◌<◌, Option, None, Some, option_map, List, [], ◌∷◌, ◌++◌, length, map, slice_get, refl, sym, ap, ◌∙◌, subst, arith, append_assoc, take}
 use Rattle.std.specs.List.{AllZip}
-use Rattle.std.specs.declared.string.String.{String}
 use Rattle.std.proofs.lemmas.List.{length-append, length-map, map-append, take_at}
 use Rattle.std.proofs.lemmas.List.Elements.{filter_map-append}
 use Rattle.std.proofs.lemmas.Option.{same_Some, slice_get_within}
@@ -82,7 +81,7 @@ module _ (front middle : List Member) (case : TestCase) (system : Option ℕ) (m
         let low : shift front middle (k + 1) ≡ k + 1 = shift_low front middle (k + 1) (omega (arith, there, small, few)) in
         (k + 1, ap (option_map (λ k. k + 1)) f, sym (same_Some (k + 1) n g) ∙ sym low)
 
-  by_system : (o : Option (String Global)) (n : ℕ) → option_map (λ _. count) o ≡ Some n
+  by_system : (o : Option (List ℕ)) (n : ℕ) → option_map (λ _. count) o ≡ Some n
       → (i : ℕ) × (option_map (λ _. length front) o ≡ Some i) × (n ≡ shift front middle i)
   by_system None n e = absurd (cc)
   by_system (Some s) n e =
@@ -90,13 +89,13 @@ module _ (front middle : List Member) (case : TestCase) (system : Option ℕ) (m
 
   found : (names : List (List ℕ)) (c : EndComponent) (n : ℕ) → length names ≤ most → end_component_number names (option_map (λ _. count) case.system) c ≡ Some n
       → Named names c n
-  found names (end_component.Named x) n small e = by_name names (string_bytes x) n small e
+  found names (end_component.Named x) n small e = by_name names x n small e
   found names end_component.Mtc n small e = (0, refl, sym (same_Some 0 n e) ∙ sym (shift_low front middle 0 (omega (arith, few))))
   found names end_component.SelfComponent n small e = (0, refl, sym (same_Some 0 n e) ∙ sym (shift_low front middle 0 (omega (arith, few))))
   found names end_component.System n small e = let r = by_system case.system n e in (r.0, number ∙ r.1, r.2)
 
 module _ (names : List (List ℕ)) (made : List (List PortDecl)) (case : TestCase) (config : Setup) (r : IsConfigBySetup names made case config)
-    (before rest : List SetupStatement) (split : case.setups.items ≡ before ++ rest) (first s : Setup) (system : Option ℕ)
+    (before rest : List SetupStatement) (split : case.setups ≡ before ++ rest) (first s : Setup) (system : Option ℕ)
     (added : AddsAll names (main_component case ∷ map created (creations before)) (empty_setup made) first) (last : AddsAll names (interface case) first s)
     (number : system ≡ option_map (λ _. length first.components) case.system) where
   abbrev Front : List Declared
@@ -127,7 +126,7 @@ module _ (names : List (List ℕ)) (made : List (List PortDecl)) (case : TestCas
       r.not_connected (last.connected_stay ∙ added.connected_stay) r.not_mapped (last.mapped_stay ∙ added.mapped_stay) in
       let size : length front ≡ length (creations before) + 1 =
       omega (arith, AllZip-long (IsMember names) Front front one.3, length-map (creations before) created) in
-      let many : length (creations case.setups.items) + 1 ≡ length front + length middle =
+      let many : length (creations case.setups) + 1 ≡ length front + length middle =
       omega (
         arith,
         size,
@@ -139,11 +138,11 @@ module _ (names : List (List ℕ)) (made : List (List PortDecl)) (case : TestCas
       ) in
       let firsts : length first.components ≡ length front =
       omega (arith, AllZip-long (IsMember names) Front first.components there, AllZip-long (IsMember names) Front front one.3) in
-      let done = makes_first (interface_number case) r.start (length before) case.setups.items config r.makes in
+      let done = makes_first (interface_number case) r.start (length before) case.setups config r.makes in
       let part : Makes (interface_number case) r.start before done.0 =
       subst (λ l. Makes (interface_number case) r.start l done.0) (ap (take (length before)) split ∙ take_at before rest (length before) refl) done.1 in
       let result = makes_there r.start.components (shift front middle) (shift_apart front middle) (length (creations before)) system (interface_number case)
-      (found front middle case system (length (creations before)) (length (creations case.setups.items) + 1) (omega (arith, size)) many
+      (found front middle case system (length (creations before)) (length (creations case.setups) + 1) (omega (arith, size)) many
       (number ∙ ap (λ n. option_map (λ _. n) case.system) firsts))
       s r.start same looks before done.0 (omega (arith, length-map (creations before) variable_name)) part in
       (result.0, result.3)
@@ -153,7 +152,7 @@ pub before_can : (names ports : List (List ℕ)) (case : TestCase) (before : Lis
     → HasFirst names case before first → AddsAll names (interface case) first s → system ≡ option_map (λ _. length first.components) case.system
     → CanSetUpBeside names ports first.types case → ((t : Setup) × Makes system s before t) × IsNumbered (variables before)
 before_can names ports case before first s system has last number r =
-    let all : variables case.setups.items ≡ variables before ++ variables has.rest =
+    let all : variables case.setups ≡ variables before ++ variables has.rest =
     ap variables has.all ∙ ap (map variable_name) (filter_map-append creation_of before has.rest)
     ∙ map-append variable_name (creations before) (creations has.rest) in (
       makes_before names first.types case r.config r.is_set_up before has.rest has.all first s system has.added last number,

@@ -1,5 +1,5 @@
 -- The first fault of the setup statements, told of the test case.
-use Rattle.std.proofs.Common.{◌≡◌, ◌⊎◌, inl, inr, ℕ, ◌+◌, Bool, true, false, if◌then◌else◌, Option, List, [], ◌∷◌, ◌++◌, Contains, length, map, codes, is_some, string_bytes, refl, sym, ap, ◌∙◌, subst, arith}
+use Rattle.std.proofs.Common.{◌≡◌, ◌⊎◌, inl, inr, ℕ, ◌+◌, Bool, true, false, if◌then◌else◌, Option, List, [], ◌∷◌, ◌++◌, Contains, length, map, codes, is_some, refl, sym, ap, ◌∙◌, subst, arith}
 use Rattle.std.specs.Option.{option_map}
 use Rattle.std.proofs.lemmas.List.{length-map, map-append}
 use Rattle.std.proofs.lemmas.List.Elements.{Contains-append_cases, Contains-append_left, Contains-append_right, Contains-push_cases, filter_map-append}
@@ -34,7 +34,7 @@ sizes_apart m n e f g = omega (arith, e, f, g)
 
 -- `mtc` can be added
 pub main_free : (names : List (List ℕ)) (made : List (List PortDecl)) (case : TestCase) (s : Setup) → HavePorts names made
-    → Contains names (string_bytes case.runs_on) → s ≡ empty_setup made → CanAdd names (main_component case) s
+    → Contains names case.runs_on → s ≡ empty_setup made → CanAdd names (main_component case) s
 main_free names made case s have known empty = rw empty (record {
   typed = have.typed;
   known = known;
@@ -56,11 +56,11 @@ named_one {A} f (x ∷ xs) name h = by (Contains-append_cases (f x ∷ []) (map 
   by (inr more) rest = let r = rest more in (r.0, Contains-append_right (x ∷ []) xs r.0 r.1, r.2)
 
 -- the component type of a known name has ports
-pub ports_there : (types : List ComponentType) (names : List (List ℕ)) (name : List ℕ) → names ≡ map (λ (c : ComponentType). string_bytes c.name) types
+pub ports_there : (types : List ComponentType) (names : List (List ℕ)) (name : List ℕ) → names ≡ map (λ (c : ComponentType). c.name) types
     → Contains names name → (ports : List (List ℕ)) × HasPorts types name ports
 ports_there types names name named known =
-    let r = named_one (λ (c : ComponentType). string_bytes c.name) types name (subst (λ l. Contains l name) named known) in
-    (declared_ports r.0.ports.items, record { component = r.0; there = r.1; named = r.2; ports_are = refl })
+    let r = named_one (λ (c : ComponentType). c.name) types name (subst (λ l. Contains l name) named known) in
+    (declared_ports r.0.ports, record { component = r.0; there = r.1; named = r.2; ports_are = refl })
 
 pub small_variables : (names ports : List (List ℕ)) (case : TestCase) (xs : List SetupStatement)
     → HasSoundVariables names ports (most_variables case) (creations xs) → IsNumbered (variables xs)
@@ -99,10 +99,10 @@ module _ (names ports : List (List ℕ)) (types : List (List PortDecl)) (case : 
   }
 
   -- it is refused for its name
-  pub interface_breaks : (after : List SetupStatement) → case.setups.items ≡ made ++ after → (rule : ModuleRule) → InterfaceBreaks case first rule
+  pub interface_breaks : (after : List SetupStatement) → case.setups ≡ made ++ after → (rule : ModuleRule) → InterfaceBreaks case first rule
       → SetupBreaks names ports types case line rule line
   interface_breaks after split rule (interface_named some there) = interface_taken some (subst (λ l. Contains l (codes "system")) (sym all) within) where
-    all : variables case.setups.items ≡ variables made ++ variables after
+    all : variables case.setups ≡ variables made ++ variables after
     all = ap variables split ∙ ap (map variable_name) (filter_map-append creation_of made after) ∙ map-append variable_name (creations made) (creations after)
 
     other : Contains [] (codes "system") ⊎ (codes "mtc" ≡ codes "system") → Contains (variables made) (codes "system")
@@ -139,7 +139,7 @@ module _ (names ports : List (List ℕ)) (types : List (List PortDecl)) (case : 
     }
 
     -- a `connect` or a `map` is refused
-    pub pairs_told : (after : List SetupStatement) (f : ModuleFault) → case.setups.items ≡ made ++ after → Tells (PairsBreak system s made) f
+    pub pairs_told : (after : List SetupStatement) (f : ModuleFault) → case.setups ≡ made ++ after → Tells (PairsBreak system s made) f
         → Tells (SetupBreaks names ports types case line) f
     pairs_told after f split told =
         tells_map (PairsBreak system s made) (SetupBreaks names ports types case line) f (λ rule at b.
@@ -148,7 +148,7 @@ module _ (names ports : List (List ℕ)) (types : List (List PortDecl)) (case : 
         (subst (λ n. PairBreaks b.config (variables b.before) n b.statement.action rule) numbered b.breaks))) told
 
     -- the statements before the `var` at which making the components stopped are carried out, and it is refused
-    pub stopped_told : (t : Setup) (f : ModuleFault) → StopsCreating names ports (codes "mtc" ∷ []) (most_variables case) case.setups.items made f
+    pub stopped_told : (t : Setup) (f : ModuleFault) → StopsCreating names ports (codes "mtc" ∷ []) (most_variables case) case.setups made f
         → Makes system s made t → Tells (SetupBreaks names ports types case line) f
     stopped_told t f stops makes =
         tells_from stops.statement.line (CreationBreaks names ports (codes "mtc" ∷ []) (variables made) (most_variables case) stops.creation)
@@ -157,7 +157,7 @@ module _ (names ports : List (List ℕ)) (types : List (List PortDecl)) (case : 
 
 -- over the ports that were found
 pub beside_told : (names ports : List (List ℕ)) (types : List ComponentType) (made : List (List PortDecl)) (case : TestCase) (line : ℕ)
-    → HasPorts types (string_bytes case.runs_on) ports → (f : ModuleFault) → Tells (SetupBreaks names ports made case line) f
+    → HasPorts types case.runs_on ports → (f : ModuleFault) → Tells (SetupBreaks names ports made case line) f
     → Tells (CaseSetupBreaks names types made case line) f
 beside_told names ports types made case line found f told =
     tells_map (SetupBreaks names ports made case line) (CaseSetupBreaks names types made case line) f

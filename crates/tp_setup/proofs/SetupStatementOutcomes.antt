@@ -28,26 +28,26 @@ adds_append types xs ys old mid new first second = record {
 
 -- `mtc` was added, and then the components of the setup statements
 pub adds_main : (names : List (List ℕ)) (case : TestCase) (old main new : Setup) → Adds names (main_component case) old main
-    → AddsAll names (map created (creations case.setups.items)) main new
-    → AddsAll names (main_component case ∷ map created (creations case.setups.items)) old new
+    → AddsAll names (map created (creations case.setups)) main new
+    → AddsAll names (main_component case ∷ map created (creations case.setups)) old new
 adds_main names case old main new one more =
-    adds_append names (main_component case ∷ []) (map created (creations case.setups.items)) old main new
+    adds_append names (main_component case ∷ []) (map created (creations case.setups)) old main new
     (adds_more names [] (main_component case) old old main (adds_none names old) one) more
 
 pub set_up_is : (names : List (List ℕ)) (types : List (List PortDecl)) (case : TestCase) (empty made start config : Setup) (system : Option ℕ)
     (setups : List SetupStatement)
-    → empty ≡ empty_setup types → AddsAll names (main_component case ∷ map created (creations case.setups.items)) empty made
-    → AddsAll names (interface case) made start → system ≡ option_map (λ _. length made.components) case.system → setups ≡ case.setups.items
+    → empty ≡ empty_setup types → AddsAll names (main_component case ∷ map created (creations case.setups)) empty made
+    → AddsAll names (interface case) made start → system ≡ option_map (λ _. length made.components) case.system → setups ≡ case.setups
     → Makes system start setups config
     → IsConfigBySetup names types case config
 set_up_is names types case empty made start config system setups is_empty first last number statements makes =
-    let inner : List Declared = main_component case ∷ map created (creations case.setups.items) in
+    let inner : List Declared = main_component case ∷ map created (creations case.setups) in
     let all : AddsAll names (inner ++ interface case) empty start = adds_append names inner (interface case) empty made start first last in
     let none : AllZip (IsMember names) [] empty.components = subst (λ (s : Setup). AllZip (IsMember names) [] s.components) (sym is_empty) tt in
     let some : AllZip (IsMember names) inner made.components = first.components [] none in
-    let count : length made.components ≡ length (creations case.setups.items) + 1 =
-    AllZip-long (IsMember names) inner made.components some ∙ omega (arith, length-map (creations case.setups.items) created) in
-    let numbered : system ≡ option_map (λ _. length (creations case.setups.items) + 1) case.system = number ∙ ap (λ n. option_map (λ _. n) case.system) count in
+    let count : length made.components ≡ length (creations case.setups) + 1 =
+    AllZip-long (IsMember names) inner made.components some ∙ omega (arith, length-map (creations case.setups) created) in
+    let numbered : system ≡ option_map (λ _. length (creations case.setups) + 1) case.system = number ∙ ap (λ n. option_map (λ _. n) case.system) count in
     record {
       start = start;
       types_are = all.types_stay ∙ ap (λ (s : Setup). s.types) is_empty;
@@ -56,5 +56,5 @@ set_up_is names types case empty made start config system setups is_empty first 
       apart = subst AreDistinct (all.names_more ∙ ap (λ (s : Setup). names_of_components s ++ map (λ (x : Declared). x.name) (inner ++ interface case)) is_empty)
           (all.apart (subst (λ (s : Setup). AreDistinct (names_of_components s)) (sym is_empty) (λ i j d below within. absurd (omega (arith, within)))));
       not_mapped = all.mapped_stay ∙ ap (λ (s : Setup). s.mapped) is_empty;
-      makes = subst (λ o. Makes o start case.setups.items config) numbered (subst (λ l. Makes system start l config) statements makes);
+      makes = subst (λ o. Makes o start case.setups config) numbered (subst (λ l. Makes system start l config) statements makes);
     }

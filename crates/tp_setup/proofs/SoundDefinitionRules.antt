@@ -1,5 +1,5 @@
 -- A definition that obeys the rules.
-use Rattle.std.proofs.Common.{◌≡◌, ◌≤◌, inl, inr, arith, subst, ℕ, true, List, [], Option, Some, All, Contains, IfSome, is_some, length, string_bytes}
+use Rattle.std.proofs.Common.{◌≡◌, ◌≤◌, inl, inr, arith, subst, ℕ, true, List, [], Option, Some, All, Contains, IfSome, is_some, length}
 use Rattle.std.specs.List.{list_all}
 use Rattle.tp_tree.specs.declared.tree.Definition.{Definition}
 use Rattle.tp_tree.specs.declared.tree.Defined.{Defined}
@@ -18,41 +18,41 @@ use Rattle.tp_setup.specs.Rules.{ArePortTypesKnown, AreTypesKnown, HasFewPorts, 
 use Rattle.tp_setup.proofs.KnownNamesByLookup.{each_known, each_there, messages_known, messages_there}
 
 module _ (types ports components : List (List ℕ)) (system : Option (List ℕ)) (x : Defined) where
-  pub sound_record : (r : RecordType) → x ≡ d.Record r → All (λ f. NamesType types f.type_name) r.fields.items → IsSound types ports components system x
+  pub sound_record : (r : RecordType) → x ≡ d.Record r → All (λ f. NamesType types f.type_name) r.fields → IsSound types ports components system x
   sound_record r e known = rw e (record { types_known = known; port_types_known = tt; component_types_known = tt; few_ports = tt; plays_system = tt })
 
   pub sound_list : (l : ListType) → x ≡ d.List l → is_some (ty_of types l.element) ≡ true → IsSound types ports components system x
   sound_list l e known = rw e (record { types_known = known; port_types_known = tt; component_types_known = tt; few_ports = tt; plays_system = tt })
 
-  pub sound_port : (p : PortType) → x ≡ d.Port p → has_known_messages types p.directions.items ≡ true → IsSound types ports components system x
+  pub sound_port : (p : PortType) → x ≡ d.Port p → has_known_messages types p.directions ≡ true → IsSound types ports components system x
   sound_port p e known =
-      rw e (record { types_known = messages_known types p.directions.items known; port_types_known = tt; component_types_known = tt; few_ports = tt; plays_system = tt })
+      rw e (record { types_known = messages_known types p.directions known; port_types_known = tt; component_types_known = tt; few_ports = tt; plays_system = tt })
 
-  pub sound_component : (c : ComponentType) → x ≡ d.Component c → list_all (λ p. is_some (place_of_name ports (string_bytes p.type_name))) c.ports.items ≡ true
-      → length (declared_ports c.ports.items) ≤ 64 → IsSound types ports components system x
+  pub sound_component : (c : ComponentType) → x ≡ d.Component c → list_all (λ p. is_some (place_of_name ports p.type_name)) c.ports ≡ true
+      → length (declared_ports c.ports) ≤ 64 → IsSound types ports components system x
   sound_component c e known few =
       rw e (record {
         types_known = tt;
-        port_types_known = each_known ports (λ p. string_bytes p.type_name) c.ports.items known;
+        port_types_known = each_known ports (λ p. p.type_name) c.ports known;
         component_types_known = tt;
         few_ports = few;
         plays_system = tt;
       })
 
-  pub sound_function : (f : Function) → x ≡ d.Function f → Contains components (string_bytes f.runs_on)
-      → list_all (λ p. is_some (place_of_name components (string_bytes p.type_name))) f.parameters.items ≡ true
-      → (string_bytes f.name ≡ sut → (f.parameters.items ≡ []) × (system ≡ Some (string_bytes f.runs_on))) → IsSound types ports components system x
+  pub sound_function : (f : Function) → x ≡ d.Function f → Contains components f.runs_on
+      → list_all (λ p. is_some (place_of_name components p.type_name)) f.parameters ≡ true
+      → (f.name ≡ sut → (f.parameters ≡ []) × (system ≡ Some f.runs_on)) → IsSound types ports components system x
   sound_function f e runs known plays =
       rw e (record {
         types_known = tt;
         port_types_known = tt;
-        component_types_known = (runs, each_known components (λ p. string_bytes p.type_name) f.parameters.items known);
+        component_types_known = (runs, each_known components (λ p. p.type_name) f.parameters known);
         few_ports = tt;
         plays_system = plays;
       })
 
-  pub sound_case : (c : TestCase) → x ≡ d.TestCase c → Contains components (string_bytes c.runs_on)
-      → IfSome c.system (λ s. Contains components (string_bytes s)) → IsSound types ports components system x
+  pub sound_case : (c : TestCase) → x ≡ d.TestCase c → Contains components c.runs_on
+      → IfSome c.system (λ s. Contains components s) → IsSound types ports components system x
   sound_case c e runs known =
       rw e (record { types_known = tt; port_types_known = tt; component_types_known = (runs, known); few_ports = tt; plays_system = tt })
 
@@ -60,13 +60,13 @@ module _ (types ports components : List (List ℕ)) (system : Option (List ℕ))
   pub unsound_component : (c : ComponentType) (line : ℕ) (fault : ModuleFault) → x ≡ d.Component c → IsComponentFault ports c line fault
       → IsSound types ports components system x → ⊥
   unsound_component c line fault e (inl isnt) h =
-      isnt.0 (each_there ports (λ p. string_bytes p.type_name) c.ports.items (subst (ArePortTypesKnown ports) e h.port_types_known))
+      isnt.0 (each_there ports (λ p. p.type_name) c.ports (subst (ArePortTypesKnown ports) e h.port_types_known))
   unsound_component c line fault e (inr many) h =
       let few : HasFewPorts (d.Component c) = subst HasFewPorts e h.few_ports in
       omega (arith, few, many.1)
 
-  pub unsound_port : (p : PortType) → x ≡ d.Port p → ¬ (has_known_messages types p.directions.items ≡ true) → IsSound types ports components system x → ⊥
-  unsound_port p e isnt h = isnt (messages_there types p.directions.items (subst (AreTypesKnown types) e h.types_known))
+  pub unsound_port : (p : PortType) → x ≡ d.Port p → ¬ (has_known_messages types p.directions ≡ true) → IsSound types ports components system x → ⊥
+  unsound_port p e isnt h = isnt (messages_there types p.directions (subst (AreTypesKnown types) e h.types_known))
 
 pub ruleset soundness = (sound_record, sound_list, sound_port, sound_component, sound_function, sound_case, unsound_port)
 

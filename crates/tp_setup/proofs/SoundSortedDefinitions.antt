@@ -1,5 +1,5 @@
 -- The definitions that were sorted out obey the rules of their kinds, where all obey the rules.
-use Rattle.std.proofs.Common.{◌≡◌, List, Option, Some, All, map, option_map, string_bytes, sym, ap, subst, refl}
+use Rattle.std.proofs.Common.{◌≡◌, List, Option, Some, All, map, sym, ap, subst, refl}
 use Rattle.std.specs.Prelude.{IsSome}
 use Rattle.std.proofs.lemmas.Option.{same_Some}
 use Rattle.tp_tree.specs.declared.tree.Module.{Module}
@@ -43,8 +43,8 @@ component_itself (d.TestCase t) y e = absurd (cc)
 
 pub sorted_sound : (m : Module) (s : Sorted) (case : TestCase) → AreSorted m s → HasUniqueNames m → HasSoundDefinitions m case → IsSortedSound s
 sorted_sound m s case sorted unique sound =
-    let system = option_map string_bytes case.system in
-    let all = m.definitions.items in
+    let system = case.system in
+    let all = m.definitions in
     let each : AreSound s system all =
     sound_all (type_names m) s.type_names (port_type_names m) s.port_names (component_type_names m) s.component_names system all
     (sym sorted.types.names_are) (sym sorted.ports.names_are) (sym sorted.components.names_are) sound in

@@ -1,5 +1,5 @@
 -- A start that breaks a rule, and what is left behind the last one.
-use Rattle.std.proofs.Common.{◌≡◌, ◌≢◌, ℕ, ◌+◌, ◌<◌, Some, List, [], ◌∷◌, All, Contains, length, take, drop, get_or, map, slice_get, string_bytes, refl, sym, ap, ◌∙◌, subst, arith}
+use Rattle.std.proofs.Common.{◌≡◌, ◌≢◌, ℕ, ◌+◌, ◌<◌, Some, List, [], ◌∷◌, All, Contains, length, take, drop, get_or, map, slice_get, refl, sym, ap, ◌∙◌, subst, arith}
 use Rattle.std.specs.List.{AllZip}
 use Rattle.std.proofs.lemmas.List.{length-map}
 use Rattle.std.proofs.lemmas.List.Elements.{All-cons, All-nil}
@@ -39,11 +39,11 @@ argument_among names types ps xs i p x made at f same lt isp isx known fits told
 
 -- the function that was found is that of the start
 pub start_function : (functions : List Function) (names : List (List ℕ)) (x : ComponentStart) (place : ℕ) (f : Function)
-    → names ≡ map (λ (f : Function). string_bytes f.name) functions → Some place ≡ place_of_name names (string_bytes x.function)
+    → names ≡ map (λ (f : Function). f.name) functions → Some place ≡ place_of_name names x.function
     → slice_get functions place ≡ Some f → IsStartFunction functions x f
 start_function functions names x place f named placed there = record {
   there = contains_at functions place f there;
-  named = named_at names (λ (f : Function). string_bytes f.name) functions (string_bytes x.function) place f named placed there;
+  named = named_at names (λ (f : Function). f.name) functions x.function place f named placed there;
 }
 
 -- a start breaks a rule behind those before it

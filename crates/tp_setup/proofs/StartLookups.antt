@@ -1,5 +1,5 @@
 -- What the rules on starts say of each start.
-use Rattle.std.proofs.Common.{◌≡◌, ℕ, ◌+◌, ◌<◌, List, [], ◌∷◌, ◌++◌, Option, None, Some, All, Contains, length, take, drop, get_or, map, option_map, slice_get, string_bytes, sym, ap, ◌∙◌, subst, arith, append_assoc}
+use Rattle.std.proofs.Common.{◌≡◌, ℕ, ◌+◌, ◌<◌, List, [], ◌∷◌, ◌++◌, Option, None, Some, All, Contains, length, take, drop, get_or, map, option_map, slice_get, sym, ap, ◌∙◌, subst, arith, append_assoc}
 use Rattle.std.specs.List.{AllZip}
 use Rattle.std.proofs.lemmas.List.{get_or-map, length-map, map-append, take-append-drop}
 use Rattle.std.proofs.lemmas.List.Elements.{filter_map-append}
@@ -45,41 +45,41 @@ all_got P xs k x each e = subst P (get_or_from_slice_get xs k x x e) (each k x (
 pub place_behind : (o : Option ℕ) (k n : ℕ) → o ≡ Some k → option_map (λ k. k + 1) o ≡ Some n → n ≡ k + 1
 place_behind o k n e f = sym (same_Some (k + 1) n (sym (ap (option_map (λ k. k + 1)) e) ∙ f))
 
-module _ (functions : List Function) (names : List (List ℕ)) (named : names ≡ map (λ (f : Function). string_bytes f.name) functions)
+module _ (functions : List Function) (names : List (List ℕ)) (named : names ≡ map (λ (f : Function). f.name) functions)
     (variables types : List (List ℕ)) (x : ComponentStart) where
-  stands : (made : StartedComponent) → IsStartOf functions variables types x made → slice_get names made.function ≡ Some (string_bytes x.function)
+  stands : (made : StartedComponent) → IsStartOf functions variables types x made → slice_get names made.function ≡ Some x.function
   stands made h =
-      ap (λ l. slice_get l made.function) named ∙ slice_get-map (λ (f : Function). string_bytes f.name) functions made.function
-      ∙ ap (option_map (λ (f : Function). string_bytes f.name)) h.function_known ∙ ap (λ (n : List ℕ). Some n) h.named
+      ap (λ l. slice_get l made.function) named ∙ slice_get-map (λ (f : Function). f.name) functions made.function
+      ∙ ap (option_map (λ (f : Function). f.name)) h.function_known ∙ ap (λ (n : List ℕ). Some n) h.named
 
   -- the function of a start is there
-  pub no_function : None ≡ place_of_name names (string_bytes x.function) → (made : StartedComponent) × IsStartOf functions variables types x made → ⊥
-  no_function none r = place_unknown names (string_bytes x.function) none (contains_at names r.0.function (string_bytes x.function) (stands r.0 r.1))
+  pub no_function : None ≡ place_of_name names x.function → (made : StartedComponent) × IsStartOf functions variables types x made → ⊥
+  no_function none r = place_unknown names x.function none (contains_at names r.0.function x.function (stands r.0 r.1))
 
   -- it is the one that stands at the place of its name
-  pub same_function : (place : ℕ) (one : Function) → AreDistinct names → Some place ≡ place_of_name names (string_bytes x.function)
+  pub same_function : (place : ℕ) (one : Function) → AreDistinct names → Some place ≡ place_of_name names x.function
       → slice_get functions place ≡ Some one → (made : StartedComponent) (h : IsStartOf functions variables types x made) → h.function ≡ one
   same_function place one apart placed there made h =
       let same : made.function ≡ place =
-      once names (string_bytes x.function) made.function place apart (stands made h) (place_there names (string_bytes x.function) place placed) in
+      once names x.function made.function place apart (stands made h) (place_there names x.function place placed) in
       same_Some h.function one (sym h.function_known ∙ ap (slice_get functions) same ∙ there)
 
   -- it runs on the type of the component
-  pub runs_there : (comp place : ℕ) (one : Function) → AreDistinct names → Some place ≡ place_of_name names (string_bytes x.function)
-      → slice_get functions place ≡ Some one → option_map (λ k. k + 1) (place_of_name variables (string_bytes x.component)) ≡ Some comp
-      → (made : StartedComponent) → IsStartOf functions variables types x made → slice_get types comp ≡ Some (string_bytes one.runs_on)
+  pub runs_there : (comp place : ℕ) (one : Function) → AreDistinct names → Some place ≡ place_of_name names x.function
+      → slice_get functions place ≡ Some one → option_map (λ k. k + 1) (place_of_name variables x.component) ≡ Some comp
+      → (made : StartedComponent) → IsStartOf functions variables types x made → slice_get types comp ≡ Some one.runs_on
   runs_there comp place one apart placed there behind made h =
-      ap (slice_get types) (place_behind (place_of_name variables (string_bytes x.component)) h.variable comp h.variable_known behind) ∙ h.runs_on
-      ∙ ap (λ (f : Function). Some (string_bytes f.runs_on)) (same_function place one apart placed there made h)
+      ap (slice_get types) (place_behind (place_of_name variables x.component) h.variable comp h.variable_known behind) ∙ h.runs_on
+      ∙ ap (λ (f : Function). Some f.runs_on) (same_function place one apart placed there made h)
 
   -- and is given what it takes
-  pub given_there : (place : ℕ) (one : Function) → AreDistinct names → Some place ≡ place_of_name names (string_bytes x.function)
+  pub given_there : (place : ℕ) (one : Function) → AreDistinct names → Some place ≡ place_of_name names x.function
       → slice_get functions place ≡ Some one → (made : StartedComponent) × IsStartOf functions variables types x made
-      → (made : List CompId) × AllZip (IsArgument variables) x.arguments.items made × AllZip (HasParameterType types) one.parameters.items made
+      → (made : List CompId) × AllZip (IsArgument variables) x.arguments made × AllZip (HasParameterType types) one.parameters made
   given_there place one apart placed there r = (
     r.0.arguments.items,
     r.1.arguments_known,
-    subst (λ (f : Function). AllZip (HasParameterType types) f.parameters.items r.0.arguments.items) (same_function place one apart placed there r.0 r.1)
+    subst (λ (f : Function). AllZip (HasParameterType types) f.parameters r.0.arguments.items) (same_function place one apart placed there r.0 r.1)
         r.1.arguments_fit,
   )
 

@@ -1,5 +1,5 @@
 -- The component types that a module defines are determined, as far as their ports go.
-use Rattle.std.proofs.Common.{◌≡◌, ℕ, List, [], ◌∷◌, ◌++◌, Some, map, string_bytes, refl, sym, ap, ◌∙◌, subst}
+use Rattle.std.proofs.Common.{◌≡◌, ℕ, List, [], ◌∷◌, ◌++◌, Some, map, refl, sym, ap, ◌∙◌, subst}
 use Rattle.std.specs.List.{AllZip, flat_map}
 use Rattle.std.proofs.lemmas.List.{map-append}
 use Rattle.std.proofs.lemmas.Option.{same_Some}
@@ -32,31 +32,31 @@ use Rattle.tp_setup.proofs.StartLookups.{same_named}
 use Rattle.tp_setup.proofs.DistinctNamesInParts.{all_among, numbered_among}
 use Rattle.tp_setup.proofs.UniqueZipsAndPlaces.{zip_same, zip_seen}
 
-own_port : (x : Defined) (p : PortType) → port_type_of x ≡ Some p → string_bytes p.name ≡ name_of x
+own_port : (x : Defined) (p : PortType) → port_type_of x ≡ Some p → p.name ≡ name_of x
 own_port (defined.Record r) p e = absurd (cc)
 own_port (defined.List l) p e = absurd (cc)
-own_port (defined.Port q) p e = ap (λ (p : PortType). string_bytes p.name) (sym (same_Some q p e))
+own_port (defined.Port q) p e = ap (λ (p : PortType). p.name) (sym (same_Some q p e))
 own_port (defined.Component c) p e = absurd (cc)
 own_port (defined.Function f) p e = absurd (cc)
 own_port (defined.TestCase c) p e = absurd (cc)
 
-own_ports : (x : Defined) (c : ComponentType) → component_type_of x ≡ Some c → inner_names x ≡ declared_ports c.ports.items
+own_ports : (x : Defined) (c : ComponentType) → component_type_of x ≡ Some c → inner_names x ≡ declared_ports c.ports
 own_ports (defined.Record r) c e = absurd (cc)
 own_ports (defined.List l) c e = absurd (cc)
 own_ports (defined.Port p) c e = absurd (cc)
-own_ports (defined.Component d) c e = ap (λ (c : ComponentType). declared_ports c.ports.items) (same_Some d c e)
+own_ports (defined.Component d) c e = ap (λ (c : ComponentType). declared_ports c.ports) (same_Some d c e)
 own_ports (defined.Function f) c e = absurd (cc)
 own_ports (defined.TestCase t) c e = absurd (cc)
 
 -- the port types have names of their own
 ports_apart : (m : Module) → HasUniqueNames m → AreDistinct (port_type_names m)
-ports_apart m unique = (numbered_among port_type_of (λ (p : PortType). string_bytes p.name) own_port m.definitions.items unique.definitions).distinct
+ports_apart m unique = (numbered_among port_type_of (λ (p : PortType). p.name) own_port m.definitions unique.definitions).distinct
 
 -- and so have the ports of each component type
 pub ports_numbered : (m : Module) → HasUniqueNames m → HaveDistinctPorts (component_types m)
 ports_numbered m unique =
-    all_among component_type_of (λ (c : ComponentType). IsNumbered (declared_ports c.ports.items)) (λ (x : Definition). IsNumbered (inner_names x.defined))
-    (λ x c e h. subst IsNumbered (own_ports x.defined c e) h) m.definitions.items unique.inner
+    all_among component_type_of (λ (c : ComponentType). IsNumbered (declared_ports c.ports)) (λ (x : Definition). IsNumbered (inner_names x.defined))
+    (λ x c e h. subst IsNumbered (own_ports x.defined c e) h) m.definitions unique.inner
 
 module _ (types : List (List ℕ)) (ports : List PortType) where
   lists : List Ty → List Ty → List ℕ → PortDecl
@@ -65,24 +65,24 @@ module _ (types : List (List ℕ)) (ports : List PortType) where
   types_same : (names : List TypeName) (xs ys : List Ty) → AllZip (IsTypeNamed types) names xs → AllZip (IsTypeNamed types) names ys → xs ≡ ys
   types_same = zip_same (IsTypeNamed types) (λ n x y e f. same_Some x y (sym e ∙ f))
 
-  port_same : AreDistinct (map (λ (p : PortType). string_bytes p.name) ports) → (x : List ℕ × List ℕ) (p q : PortDecl) → IsPortDecl types ports x p
+  port_same : AreDistinct (map (λ (p : PortType). p.name) ports) → (x : List ℕ × List ℕ) (p q : PortDecl) → IsPortDecl types ports x p
       → IsPortDecl types ports x q → p ≡ q
   unfolding lists
   port_same apart x p q first second =
       let one : first.lists.port_type ≡ second.lists.port_type =
-      same_named (λ (p : PortType). string_bytes p.name) ports x.1 first.lists.port_type second.lists.port_type apart first.lists.there second.lists.there
+      same_named (λ (p : PortType). p.name) ports x.1 first.lists.port_type second.lists.port_type apart first.lists.there second.lists.there
       first.lists.named second.lists.named in
       let ins : p.ins ≡ q.ins =
-      types_same (flat_map received_types second.lists.port_type.directions.items) p.ins q.ins
-      (subst (λ (t : PortType). AllZip (IsTypeNamed types) (flat_map received_types t.directions.items) p.ins) one first.lists.lists.0) second.lists.lists.0 in
+      types_same (flat_map received_types second.lists.port_type.directions) p.ins q.ins
+      (subst (λ (t : PortType). AllZip (IsTypeNamed types) (flat_map received_types t.directions) p.ins) one first.lists.lists.0) second.lists.lists.0 in
       let outs : p.outs ≡ q.outs =
-      types_same (flat_map sent_types second.lists.port_type.directions.items) p.outs q.outs
-      (subst (λ (t : PortType). AllZip (IsTypeNamed types) (flat_map sent_types t.directions.items) p.outs) one first.lists.lists.1) second.lists.lists.1 in
+      types_same (flat_map sent_types second.lists.port_type.directions) p.outs q.outs
+      (subst (λ (t : PortType). AllZip (IsTypeNamed types) (flat_map sent_types t.directions) p.outs) one first.lists.lists.1) second.lists.lists.1 in
       ap (λ l. lists l p.outs p.name) ins ∙ ap (λ l. lists q.ins l p.name) outs ∙ ap (lists q.ins q.outs) (first.name ∙ sym second.name)
 
-  component_same : AreDistinct (map (λ (p : PortType). string_bytes p.name) ports) → (c : ComponentType) (t u : CompType) → IsComponentType types ports c t
+  component_same : AreDistinct (map (λ (p : PortType). p.name) ports) → (c : ComponentType) (t u : CompType) → IsComponentType types ports c t
       → IsComponentType types ports c u → ports_of t ≡ ports_of u
-  component_same apart c t u first second = zip_same (IsPortDecl types ports) (port_same apart) (port_list c.ports.items) (ports_of t) (ports_of u) first second
+  component_same apart c t u first second = zip_same (IsPortDecl types ports) (port_same apart) (port_list c.ports) (ports_of t) (ports_of u) first second
 
   names_here : (xs : List (List ℕ × List ℕ)) (ports_made : List PortDecl) → AllZip (IsPortDecl types ports) xs ports_made
       → names_of_ports ports_made ≡ map (λ (x : List ℕ × List ℕ). x.0) xs
@@ -98,18 +98,18 @@ declared_first kind (n ∷ ns) = ap (λ l. declared n ∷ l) (declared_first kin
 listed_first : (ps : List PortDeclaration) → map (λ (x : List ℕ × List ℕ). x.0) (port_list ps) ≡ declared_ports ps
 listed_first [] = refl
 listed_first (p ∷ ps) =
-    map-append (λ (x : List ℕ × List ℕ). x.0) (map (λ n. (declared n, string_bytes p.type_name)) p.names.items) (port_list ps)
-    ∙ ap (λ l. l ++ map (λ (x : List ℕ × List ℕ). x.0) (port_list ps)) (declared_first (string_bytes p.type_name) p.names.items)
-    ∙ ap (λ l. map declared p.names.items ++ l) (listed_first ps)
+    map-append (λ (x : List ℕ × List ℕ). x.0) (map (λ n. (declared n, p.type_name)) p.names) (port_list ps)
+    ∙ ap (λ l. l ++ map (λ (x : List ℕ × List ℕ). x.0) (port_list ps)) (declared_first p.type_name p.names)
+    ∙ ap (λ l. map declared p.names ++ l) (listed_first ps)
 
 pub names_made : (types : List (List ℕ)) (ports : List PortType) (cs : List ComponentType) (made : List CompType)
-    → AllZip (IsComponentType types ports) cs made → map names_of_ports (map ports_of made) ≡ map (λ (c : ComponentType). declared_ports c.ports.items) cs
+    → AllZip (IsComponentType types ports) cs made → map names_of_ports (map ports_of made) ≡ map (λ (c : ComponentType). declared_ports c.ports) cs
 names_made types ports [] [] each = refl
 names_made types ports [] (t ∷ ts) each = absurd each
 names_made types ports (c ∷ cs) [] each = absurd each
 names_made types ports (c ∷ cs) (t ∷ ts) each =
-    ap (λ n. n ∷ map names_of_ports (map ports_of ts)) (names_here types ports (port_list c.ports.items) (ports_of t) each.0 ∙ listed_first c.ports.items)
-    ∙ ap (λ l. declared_ports c.ports.items ∷ l) (names_made types ports cs ts each.1)
+    ap (λ n. n ∷ map names_of_ports (map ports_of ts)) (names_here types ports (port_list c.ports) (ports_of t) each.0 ∙ listed_first c.ports)
+    ∙ ap (λ l. declared_ports c.ports ∷ l) (names_made types ports cs ts each.1)
 
 module _ (m : Module) (d : Definitions) (made : IsDefined m d) where
   -- the component types that were made have the ports that are declared

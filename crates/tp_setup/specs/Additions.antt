@@ -1,6 +1,6 @@
 -- What can't be added to a configuration, and where making the components stops.
 use Rattle.std.specs.Prelude.{◌≡◌, ◌<◌, ◌≤◌, ◌+◌, ◌⊎◌, ℕ, true, Some, IfSome, IsSome, List, ◌∷◌, ◌++◌}
-use Rattle.std.specs.Prelude.{Contains, codes, length, string_bytes}
+use Rattle.std.specs.Prelude.{Contains, codes, length}
 use Rattle.tp_tree.specs.declared.tree.Creation.{Creation}
 use Rattle.tp_tree.specs.declared.tree.SetupStatement.{SetupStatement}
 use Rattle.tp_tree.specs.declared.tree.TestCase.{TestCase}
@@ -38,7 +38,7 @@ pub data InterfaceBreaks (case : TestCase) (s : Setup) : ModuleRule → Type 0 w
 -- but for its name, the test system interface can be added
 pub record AwaitsInterface (types : List (List ℕ)) (case : TestCase) (s : Setup) : Type 0 where
   pub typed : length types ≡ length s.types
-  pub known : IfSome case.system (λ name. Contains types (string_bytes name))
+  pub known : IfSome case.system (λ name. Contains types name)
   pub tests : HasSystem s.components → ⊥
   pub room : IsSome case.system → length s.components < 64
 

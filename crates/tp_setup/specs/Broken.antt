@@ -23,7 +23,7 @@ pub record IsDefinedWell (m : Module) (case : TestCase) (line : ℕ) : Type 0 wh
   pub one_test_case : test_cases m ≡ case ∷ []
   pub names : HasUniqueNames m
   pub definitions : HasSoundDefinitions m case
-  pub begins : BeginsAmong m.definitions.items case line
+  pub begins : BeginsAmong m.definitions case line
 
 -- the third pass finds this, where the component types are these and have these names and ports
 pub data ThirdPassBreaks (names : List (List ℕ)) (types : List ComponentType) (made : List (List PortDecl))

@@ -1,5 +1,5 @@
 -- Which rule on definitions a module breaks, and at which line (ES 201 873-1, 6 and 16).
-use Rattle.std.specs.Prelude.{◌≡◌, ℕ, Option, option_map, List, ◌∷◌, ◌++◌, All, string_bytes}
+use Rattle.std.specs.Prelude.{◌≡◌, ℕ, Option, List, ◌∷◌, ◌++◌, All}
 use Rattle.tp_tree.specs.declared.tree.Module.{Module}
 use Rattle.tp_tree.specs.declared.tree.Definition.{Definition}
 use Rattle.tp_tree.specs.declared.tree.Defined.{Defined}
@@ -41,5 +41,5 @@ pub record DefinitionsBreak (types ports components : List (List ℕ)) (system :
 -- a definition of the module breaks this rule, where this is its test case
 abbrev pub DefinitionsOfBreak : Module → TestCase → ModuleRule → ℕ → Type 0
 DefinitionsOfBreak m case =
-    DefinitionsBreak (type_names m) (port_type_names m) (component_type_names m) (option_map string_bytes case.system)
-    m.definitions.items
+    DefinitionsBreak (type_names m) (port_type_names m) (component_type_names m) case.system
+    m.definitions

@@ -33,15 +33,15 @@ pub record DeclaringBreaks (old : List (List ℕ)) (list : List DeclaredName) (r
 
 -- the names of the ports, each where it is declared
 abbrev pub port_name_list : List PortDeclaration → List DeclaredName
-port_name_list ports = flat_map (λ (p : PortDeclaration). p.names.items) ports
+port_name_list ports = flat_map (λ (p : PortDeclaration). p.names) ports
 
 -- the fields, ports or parameters of a definition, each where it is declared
 abbrev pub inner_declared : Defined → List DeclaredName
-inner_declared (defined.Record r) = map (λ f. f.name) r.fields.items
+inner_declared (defined.Record r) = map (λ f. f.name) r.fields
 inner_declared (defined.List l) = []
 inner_declared (defined.Port p) = []
-inner_declared (defined.Component c) = port_name_list c.ports.items
-inner_declared (defined.Function f) = map (λ p. p.name) f.parameters.items
+inner_declared (defined.Component c) = port_name_list c.ports
+inner_declared (defined.Function f) = map (λ p. p.name) f.parameters
 inner_declared (defined.TestCase c) = []
 
 -- the names of these definitions
@@ -80,4 +80,4 @@ pub data NamesBreak (m : Module) : ModuleRule → ℕ → Type 0 where
   no_test_case : test_cases m ≡ [] → NamesBreak m Unknown m.line
   -- else a definition breaks one (12, 15)
   in_definition : (rule : ModuleRule) (line : ℕ) → test_cases m ≢ []
-      → DefinitionNamesBreak m.definitions.items rule line → NamesBreak m rule line
+      → DefinitionNamesBreak m.definitions rule line → NamesBreak m rule line

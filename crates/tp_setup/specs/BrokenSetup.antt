@@ -1,6 +1,6 @@
 -- Which rule on setup a test case breaks, and at which line (ES 201 873-1, 9.1 and 21.1).
 use Rattle.std.specs.Prelude.{◌≡◌, ◌≢◌, ◌≤◌, ◌+◌, ℕ, Option, Some, IsSome, List, [], ◌∷◌, ◌++◌}
-use Rattle.std.specs.Prelude.{Contains, codes, length, map, string_bytes}
+use Rattle.std.specs.Prelude.{Contains, codes, length, map}
 use Rattle.std.specs.Option.{option_map}
 use Rattle.std.specs.List.{AllZip}
 use Rattle.tp_tree.specs.declared.tree.ComponentType.{ComponentType}
@@ -32,14 +32,14 @@ pub data CreationBreaks (types ports others names : List (List ℕ)) (most : ℕ
   port : Contains ports (variable_name c) → CreationBreaks types ports others names most c Duplicate
   -- its name is new, and its type is unknown (11)
   unknown_type : (Contains names (variable_name c) → ⊥) → (Contains ports (variable_name c) → ⊥)
-      → (Contains types (string_bytes c.type_name) → ⊥) → CreationBreaks types ports others names most c Unknown
+      → (Contains types c.type_name → ⊥) → CreationBreaks types ports others names most c Unknown
   -- the type is known, and the other one is another (13)
   other_type : (Contains names (variable_name c) → ⊥) → (Contains ports (variable_name c) → ⊥)
-      → Contains types (string_bytes c.type_name) → string_bytes c.type_name ≢ string_bytes c.created
+      → Contains types c.type_name → c.type_name ≢ c.created
       → CreationBreaks types ports others names most c WrongType
   -- the types are the same, and there are too many components (15)
   many : (Contains names (variable_name c) → ⊥) → (Contains ports (variable_name c) → ⊥)
-      → Contains types (string_bytes c.type_name) → string_bytes c.type_name ≡ string_bytes c.created
+      → Contains types c.type_name → c.type_name ≡ c.created
       → most ≤ length names → CreationBreaks types ports others names most c Limit
   -- the variable obeys the rules, and another component has its name (12)
   component : IsSoundVariable types ports names most c → Contains others (variable_name c)
@@ -117,18 +117,18 @@ pub record CarriesOut (names ports : List (List ℕ)) (types : List (List PortDe
 pub data SetupBreaks (names ports : List (List ℕ)) (types : List (List PortDecl)) (case : TestCase) (begins : ℕ)
     : ModuleRule → ℕ → Type 0 where
   -- a component has the name of the test system interface (12)
-  interface_taken : IsSome case.system → Contains (variables case.setups.items) (codes "system")
+  interface_taken : IsSome case.system → Contains (variables case.setups) (codes "system")
       → SetupBreaks names ports types case begins Duplicate begins
   -- a `var` does behind statements that obey the rules
   a_var : (before : List SetupStatement) (x : SetupStatement) (after : List SetupStatement) (c : Creation)
-      (config : Setup) (rule : ModuleRule) → case.setups.items ≡ before ++ x ∷ after → creation_of x ≡ Some c
+      (config : Setup) (rule : ModuleRule) → case.setups ≡ before ++ x ∷ after → creation_of x ≡ Some c
       → CarriesOut names ports types case before before config
       → CreationBreaks names ports (codes "mtc" ∷ []) (variables before) (most_variables case) c rule
       → SetupBreaks names ports types case begins rule x.line
   -- a `connect` or a `map` does behind statements that obey the rules, where components of some statements more are
   -- there, whose variables obey the rules
   a_pair : (made after before : List SetupStatement) (x : SetupStatement) (more : List SetupStatement) (config : Setup)
-      (rule : ModuleRule) → case.setups.items ≡ made ++ after → made ≡ before ++ x ∷ more
+      (rule : ModuleRule) → case.setups ≡ made ++ after → made ≡ before ++ x ∷ more
       → CarriesOut names ports types case made before config
       → PairBreaks config (variables before) (interface_behind case made) x.action rule
       → SetupBreaks names ports types case begins rule x.line
@@ -137,5 +137,5 @@ pub data SetupBreaks (names ports : List (List ℕ)) (types : List (List PortDec
 pub record CaseSetupBreaks (names : List (List ℕ)) (types : List ComponentType) (made : List (List PortDecl))
     (case : TestCase) (begins : ℕ) (rule : ModuleRule) (line : ℕ) : Type 0 where
   pub ports : List (List ℕ)
-  pub has_ports : HasPorts types (string_bytes case.runs_on) ports
+  pub has_ports : HasPorts types case.runs_on ports
   pub breaks : SetupBreaks names ports made case begins rule line

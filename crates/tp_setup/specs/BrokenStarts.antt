@@ -1,6 +1,6 @@
 -- Which rule on the starts of the components a test case breaks, and at which line (ES 201 873-1, 21.3.2).
 use Rattle.std.specs.Prelude.{◌≡◌, ◌≢◌, ◌≤◌, ◌+◌, ℕ, Some, None, List, [], ◌∷◌, ◌++◌, All, Contains}
-use Rattle.std.specs.Prelude.{length, map, slice_get, string_bytes, take}
+use Rattle.std.specs.Prelude.{length, map, slice_get, take}
 use Rattle.std.specs.List.{AllZip}
 use Rattle.tp_tree.specs.declared.tree.ComponentName.{ComponentName}
 use Rattle.tp_tree.specs.declared.tree.ComponentStart.{ComponentStart}
@@ -25,7 +25,7 @@ pub data ArgumentBreaks (names types : List (List ℕ)) (p : Parameter) (x : Com
   -- it names no component (11)
   unknown_argument : component_named names x ≡ None → ArgumentBreaks names types p x Unknown
   -- it names one of another type than the parameter's (13)
-  other_argument : (k : ℕ) → component_named names x ≡ Some k → slice_get types k ≢ Some (string_bytes p.type_name)
+  other_argument : (k : ℕ) → component_named names x ≡ Some k → slice_get types k ≢ Some p.type_name
       → ArgumentBreaks names types p x WrongType
 
 -- the arguments of a start do
@@ -42,41 +42,41 @@ pub data ArgumentsBreak (names types : List (List ℕ)) (parameters : List Param
 -- the function of a start, where the functions are these
 pub record IsStartFunction (functions : List Function) (x : ComponentStart) (f : Function) : Type 0 where
   pub there : Contains functions f
-  pub named : string_bytes f.name ≡ string_bytes x.function
+  pub named : f.name ≡ x.function
 
 -- a start breaks this rule, where the functions are these, the component variables have these names, the components
 -- types of these names, and the components of these names are started before it
 pub data StartBreaks (functions : List Function) (names types started : List (List ℕ)) (x : ComponentStart)
     : ModuleRule → Type 0 where
   -- there is no such component variable (11)
-  unknown_variable : (Contains names (string_bytes x.component) → ⊥)
+  unknown_variable : (Contains names x.component → ⊥)
       → StartBreaks functions names types started x Unknown
   -- there is, and its component is started already (18)
-  started_twice : Contains names (string_bytes x.component) → Contains started (string_bytes x.component)
+  started_twice : Contains names x.component → Contains started x.component
       → StartBreaks functions names types started x NotStarted
   -- it isn't, and 4,294,967,295 others are (15)
-  many_starts : Contains names (string_bytes x.component) → (Contains started (string_bytes x.component) → ⊥)
+  many_starts : Contains names x.component → (Contains started x.component → ⊥)
       → 4294967295 ≤ length started → StartBreaks functions names types started x Limit
   -- it isn't, and there is no such function (11)
-  unknown_function : Contains names (string_bytes x.component) → (Contains started (string_bytes x.component) → ⊥)
-      → (Contains (map (λ (f : Function). string_bytes f.name) functions) (string_bytes x.function) → ⊥)
+  unknown_function : Contains names x.component → (Contains started x.component → ⊥)
+      → (Contains (map (λ (f : Function). f.name) functions) x.function → ⊥)
       → StartBreaks functions names types started x Unknown
   -- there is, and it plays the system under test (16)
-  starts_sut : (f : Function) → Contains names (string_bytes x.component)
-      → (Contains started (string_bytes x.component) → ⊥) → IsStartFunction functions x f
-      → string_bytes x.function ≡ sut
+  starts_sut : (f : Function) → Contains names x.component
+      → (Contains started x.component → ⊥) → IsStartFunction functions x f
+      → x.function ≡ sut
       → StartBreaks functions names types started x NotInSut
   -- it doesn't, and runs on another type than the component's (13)
-  other_type : (f : Function) (k : ℕ) → place_of_name names (string_bytes x.component) ≡ Some k
-      → (Contains started (string_bytes x.component) → ⊥) → IsStartFunction functions x f
-      → string_bytes x.function ≢ sut
-      → slice_get types (k + 1) ≢ Some (string_bytes f.runs_on) → StartBreaks functions names types started x WrongType
+  other_type : (f : Function) (k : ℕ) → place_of_name names x.component ≡ Some k
+      → (Contains started x.component → ⊥) → IsStartFunction functions x f
+      → x.function ≢ sut
+      → slice_get types (k + 1) ≢ Some f.runs_on → StartBreaks functions names types started x WrongType
   -- it runs on the component's type, and is given other arguments than it takes (11, 13)
-  other_arguments : (f : Function) (k : ℕ) (rule : ModuleRule) → place_of_name names (string_bytes x.component) ≡ Some k
-      → (Contains started (string_bytes x.component) → ⊥) → IsStartFunction functions x f
-      → string_bytes x.function ≢ sut
-      → slice_get types (k + 1) ≡ Some (string_bytes f.runs_on)
-      → ArgumentsBreak names types f.parameters.items x.arguments.items rule
+  other_arguments : (f : Function) (k : ℕ) (rule : ModuleRule) → place_of_name names x.component ≡ Some k
+      → (Contains started x.component → ⊥) → IsStartFunction functions x f
+      → x.function ≢ sut
+      → slice_get types (k + 1) ≡ Some f.runs_on
+      → ArgumentsBreak names types f.parameters x.arguments rule
       → StartBreaks functions names types started x rule
 
 -- these starts obey the rules, where the functions are these, the component variables have these names and the
@@ -114,20 +114,20 @@ pub record IsNeverStarted (started : List (List ℕ)) (setups : List SetupStatem
 -- line
 pub data AfterStartsBreaks (started : List (List ℕ)) (case : TestCase) (begins : ℕ) : ModuleRule → ℕ → Type 0 where
   -- a component is never started (18)
-  never_started : (line : ℕ) → IsNeverStarted started case.setups.items line
+  never_started : (line : ℕ) → IsNeverStarted started case.setups line
       → AfterStartsBreaks started case begins NotStarted line
   -- each is, there is one, and no `all component.done` (17)
-  no_done : All (Contains started) (variables case.setups.items) → creations case.setups.items ≢ []
+  no_done : All (Contains started) (variables case.setups) → creations case.setups ≢ []
       → case.all_done ≡ None → AfterStartsBreaks started case begins NoDone begins
 
 -- the test case breaks a rule on starts, where the functions are these and it begins at this line
 pub data StartsBreak (functions : List Function) (case : TestCase) (begins : ℕ) : ModuleRule → ℕ → Type 0 where
   -- a start does
   a_start : (rule : ModuleRule) (line : ℕ)
-      → StartBreaksAmong functions (variables case.setups.items) (type_names_of case) case.starts.items rule line
+      → StartBreaksAmong functions (variables case.setups) (type_names_of case) case.starts rule line
       → StartsBreak functions case begins rule line
   -- or else what is left to start or to wait for
   after_starts : (rule : ModuleRule) (line : ℕ)
-      → AreStarted functions (variables case.setups.items) (type_names_of case) case.starts.items
-      → AfterStartsBreaks (started_names case.starts.items) case begins rule line
+      → AreStarted functions (variables case.setups) (type_names_of case) case.starts
+      → AfterStartsBreaks (started_names case.starts) case begins rule line
       → StartsBreak functions case begins rule line

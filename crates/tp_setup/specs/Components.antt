@@ -1,6 +1,6 @@
 -- The components of a test case.
 use Rattle.std.specs.Prelude.{◌≡◌, ◌≤◌, ◌<◌, ◌+◌, true, ℕ, Option, Some, None, List, [], ◌∷◌, ◌++◌, All, Contains}
-use Rattle.std.specs.Prelude.{codes, length, map, option_to_list, string_bytes}
+use Rattle.std.specs.Prelude.{codes, length, map, option_to_list}
 use Rattle.std.specs.Option.{option_map}
 use Rattle.std.specs.List.{AllZip, filter_map}
 use Rattle.tp_tree.specs.declared.tree.ComponentType.{ComponentType}
@@ -31,7 +31,7 @@ abbrev pub creations : List SetupStatement → List Creation
 creations xs = filter_map creation_of xs
 
 abbrev pub variable_name : Creation → List ℕ
-variable_name c = string_bytes c.name
+variable_name c = c.name
 
 -- the component variables
 abbrev pub variables : List SetupStatement → List (List ℕ)
@@ -44,17 +44,17 @@ pub record Declared : Type 0 where
   pub role : Role
 
 abbrev pub created : Creation → Declared
-created c = record { name = variable_name c; type_name = string_bytes c.type_name; role = role.Test }
+created c = record { name = variable_name c; type_name = c.type_name; role = role.Test }
 
 -- `mtc`, of the type behind `runs on`
 abbrev pub main_component : TestCase → Declared
-main_component case = record { name = codes "mtc"; type_name = string_bytes case.runs_on; role = role.Test }
+main_component case = record { name = codes "mtc"; type_name = case.runs_on; role = role.Test }
 
 -- the test system interface, of the type behind `system`, if there is such a clause
 abbrev pub interface : TestCase → List Declared
 interface case =
     option_to_list (option_map
-    (λ s. record { name = codes "system"; type_name = string_bytes s; role = role.System }) case.system)
+    (λ s. record { name = codes "system"; type_name = s; role = role.System }) case.system)
 
 -- the number of a component, if there is one
 abbrev pub component_number : Option CompId → Option ℕ
@@ -62,7 +62,7 @@ component_number found = option_map (λ (c : CompId). c.0) found
 
 -- the components in their order: `mtc`, those that are made, and the test system interface
 abbrev pub component_list : TestCase → List Declared
-component_list case = (main_component case ∷ map created (creations case.setups.items)) ++ interface case
+component_list case = (main_component case ∷ map created (creations case.setups)) ++ interface case
 
 -- a component of the configuration is the one that is declared, where the component types have these names
 pub record IsMember (types : List (List ℕ)) (x : Declared) (m : Member) : Type 0 where
@@ -90,8 +90,8 @@ pub record CanAdd (types : List (List ℕ)) (x : Declared) (s : Setup) : Type 0 
 pub record HasPorts (types : List ComponentType) (name : List ℕ) (ports : List (List ℕ)) : Type 0 where
   pub component : ComponentType
   pub there : Contains types component
-  pub named : string_bytes component.name ≡ name
-  pub ports_are : ports ≡ declared_ports component.ports.items
+  pub named : component.name ≡ name
+  pub ports_are : ports ≡ declared_ports component.ports
 
 -- the rules on component variables, where the main component has ports of these names, and at most this many variables
 -- may be
@@ -101,9 +101,9 @@ pub record HasSoundVariables (types ports : List (List ℕ)) (most : ℕ) (xs : 
   -- none has the name of a port of the main component
   pub no_port : All (λ (c : Creation). Contains ports (variable_name c) → ⊥) xs
   -- the types are known
-  pub known : All (λ (c : Creation). Contains types (string_bytes c.type_name)) xs
+  pub known : All (λ (c : Creation). Contains types c.type_name) xs
   -- the two types of a `var` are the same
-  pub same : All (λ (c : Creation). string_bytes c.type_name ≡ string_bytes c.created) xs
+  pub same : All (λ (c : Creation). c.type_name ≡ c.created) xs
   -- there are at most 64 components, `mtc` and `system` counted
   pub few : length xs ≤ most
 
@@ -111,8 +111,8 @@ pub record HasSoundVariables (types ports : List (List ℕ)) (most : ℕ) (xs : 
 pub record IsSoundVariable (types ports names : List (List ℕ)) (most : ℕ) (c : Creation) : Type 0 where
   pub numbered : IsNumbered (names ++ variable_name c ∷ [])
   pub no_port : Contains ports (variable_name c) → ⊥
-  pub known : Contains types (string_bytes c.type_name)
-  pub same : string_bytes c.type_name ≡ string_bytes c.created
+  pub known : Contains types c.type_name
+  pub same : c.type_name ≡ c.created
   pub few : length (names ++ variable_name c ∷ []) ≤ most
 
 -- test components of these names can be added to the configuration, where its component types have these names
@@ -140,4 +140,4 @@ pub record HasStopped (types : List (List ℕ)) (setups before : List SetupState
 
 -- the ports of each component type have names of their own
 abbrev pub HaveDistinctPorts : List ComponentType → Type 0
-HaveDistinctPorts types = All (λ (c : ComponentType). IsNumbered (declared_ports c.ports.items)) types
+HaveDistinctPorts types = All (λ (c : ComponentType). IsNumbered (declared_ports c.ports)) types

@@ -1,6 +1,6 @@
 -- What the setup statements of a test case make (ES 201 873-1, 21.1).
 use Rattle.std.specs.Prelude.{◌≡◌, ℕ, ◌+◌, Option, Some, List, [], ◌∷◌, ◌++◌, if◌then◌else◌, All}
-use Rattle.std.specs.Prelude.{is_some, length, map, slice_get, string_bytes}
+use Rattle.std.specs.Prelude.{is_some, length, map, slice_get}
 use Rattle.std.specs.Option.{option_map}
 use Rattle.std.specs.List.{AllZip}
 use Rattle.tp_tree.specs.declared.tree.PairEnd.{PairEnd}
@@ -22,7 +22,7 @@ use Rattle.tp_setup.specs.Components.{component_list, created, creations, main_c
 -- the number of the component that a setup statement names, where the component variables before it have these names
 -- and the test system interface has this number, if there is a `system` clause
 abbrev pub end_component_number : List (List ℕ) → Option ℕ → EndComponent → Option ℕ
-end_component_number names system (end_component.Named n) = option_map (λ k. k + 1) (place_of_name names (string_bytes n))
+end_component_number names system (end_component.Named n) = option_map (λ k. k + 1) (place_of_name names n)
 end_component_number names system end_component.Mtc = Some 0
 end_component_number names system end_component.SelfComponent = Some 0
 end_component_number names system end_component.System = system
@@ -30,7 +30,7 @@ end_component_number names system end_component.System = system
 -- the port that a setup statement names
 pub record IsPortOfEnd (s : Setup) (names : List (List ℕ)) (system : Option ℕ) (x : PairEnd) (p : PortRef) : Type 0 where
   pub component_known : end_component_number names system x.component ≡ Some p.comp.0
-  pub port_known : slice_get (port_names s p.comp) p.port ≡ Some (string_bytes x.port)
+  pub port_known : slice_get (port_names s p.comp) p.port ≡ Some x.port
   pub is_port : IsPort s p
 
 pub record Connects (s : Setup) (names : List (List ℕ)) (system : Option ℕ) (x y : PairEnd) (t : Setup) : Type 0 where
@@ -63,7 +63,7 @@ pub data Makes (system : Option ℕ) (start : Setup) : List SetupStatement → S
 
 -- the number of the test system interface: it stands behind `mtc` and the components that are made
 abbrev pub interface_number : TestCase → Option ℕ
-interface_number case = option_map (λ _. length (creations case.setups.items) + 1) case.system
+interface_number case = option_map (λ _. length (creations case.setups) + 1) case.system
 
 -- how many component variables a test case may have: with `mtc` and `system` there are at most 64 components
 abbrev pub most_variables : TestCase → ℕ
@@ -80,14 +80,14 @@ pub record IsConfigBySetup (names : List (List ℕ)) (types : List (List PortDec
   pub apart : AreDistinct (map (λ (x : Declared). x.name) (component_list case))
   pub not_connected : start.connected ≡ []
   pub not_mapped : start.mapped ≡ []
-  pub makes : Makes (interface_number case) start case.setups.items config
+  pub makes : Makes (interface_number case) start case.setups config
 
 -- the component variables of the test case obey their rules
 pub record AreSoundVariables (names : List (List ℕ)) (types : List ComponentType) (case : TestCase) : Type 0 where
   pub ports : List (List ℕ)
   -- these are the ports of the component type behind `runs on`
-  pub has_ports : HasPorts types (string_bytes case.runs_on) ports
-  pub sound : HasSoundVariables names ports (most_variables case) (creations case.setups.items)
+  pub has_ports : HasPorts types case.runs_on ports
+  pub sound : HasSoundVariables names ports (most_variables case) (creations case.setups)
 
 -- the test case obeys the rules on setup, where the component types have these names and ports
 pub record CanSetUp (names : List (List ℕ)) (types : List ComponentType) (ports : List (List PortDecl))
@@ -111,17 +111,17 @@ pub record HavePorts (names : List (List ℕ)) (made : List (List PortDecl)) : T
 
 -- the test case obeys the rules on setup, where the ports of the main component have these names
 pub record CanSetUpBeside (names ports : List (List ℕ)) (made : List (List PortDecl)) (case : TestCase) : Type 0 where
-  pub sound : HasSoundVariables names ports (most_variables case) (creations case.setups.items)
+  pub sound : HasSoundVariables names ports (most_variables case) (creations case.setups)
   pub config : Setup
   pub is_set_up : IsConfigBySetup names made case config
 
 -- the configuration has `mtc` and the components of the first of the setup statements, and nothing else
 pub record HasFirst (names : List (List ℕ)) (case : TestCase) (before : List SetupStatement) (s : Setup) : Type 0 where
   pub rest : List SetupStatement
-  pub all : case.setups.items ≡ before ++ rest
+  pub all : case.setups ≡ before ++ rest
   pub added : AddsAll names (main_component case ∷ map created (creations before)) (empty_setup s.types) s
 
 -- these are the ports of the component types, as far as their names go, and no two ports of one have one name
 pub record AreOwnPorts (types : List ComponentType) (made : List (List PortDecl)) : Type 0 where
-  pub same : map names_of_ports made ≡ map (λ (c : ComponentType). declared_ports c.ports.items) types
+  pub same : map names_of_ports made ≡ map (λ (c : ComponentType). declared_ports c.ports) types
   pub numbered : HaveDistinctPorts types

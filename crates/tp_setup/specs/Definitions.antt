@@ -1,5 +1,5 @@
 -- The definitions of a module, as lists in the order of the text (ES 201 873-1, 8).
-use Rattle.std.specs.Prelude.{◌≡◌, ℕ, Option, Some, None, List, [], Contains, map, string_bytes}
+use Rattle.std.specs.Prelude.{◌≡◌, ℕ, Option, Some, None, List, [], Contains, map}
 use Rattle.std.specs.List.{filter_map, flat_map}
 use Rattle.tp_tree.specs.declared.tree.Module.{Module}
 use Rattle.tp_tree.specs.declared.tree.Definition.{Definition}
@@ -14,12 +14,12 @@ use Rattle.tp_tree.specs.declared.tree.PortDeclaration.{PortDeclaration}
 
 -- the name of a definition
 abbrev pub name_of : Defined → List ℕ
-name_of (defined.Record r) = string_bytes r.name
-name_of (defined.List l) = string_bytes l.name
-name_of (defined.Port p) = string_bytes p.name
-name_of (defined.Component c) = string_bytes c.name
-name_of (defined.Function f) = string_bytes f.name
-name_of (defined.TestCase c) = string_bytes c.name
+name_of (defined.Record r) = r.name
+name_of (defined.List l) = l.name
+name_of (defined.Port p) = p.name
+name_of (defined.Component c) = c.name
+name_of (defined.Function f) = f.name
+name_of (defined.TestCase c) = c.name
 
 -- the definitions of one kind, in the order of the text
 abbrev pub of_kind : {T : Type 0} → (Defined → Option T) → List Definition → List T
@@ -74,49 +74,49 @@ pub record BeginsAmong (definitions : List Definition) (case : TestCase) (line :
   pub line_is : line ≡ definition.line
 
 abbrev pub type_definitions : Module → List Defined
-type_definitions m = of_kind type_of m.definitions.items
+type_definitions m = of_kind type_of m.definitions
 
 abbrev pub port_types : Module → List PortType
-port_types m = of_kind port_type_of m.definitions.items
+port_types m = of_kind port_type_of m.definitions
 
 abbrev pub component_types : Module → List ComponentType
-component_types m = of_kind component_type_of m.definitions.items
+component_types m = of_kind component_type_of m.definitions
 
 abbrev pub functions : Module → List Function
-functions m = of_kind function_of m.definitions.items
+functions m = of_kind function_of m.definitions
 
 abbrev pub test_cases : Module → List TestCase
-test_cases m = of_kind case_of m.definitions.items
+test_cases m = of_kind case_of m.definitions
 
 -- the names of the definitions, and of those of each kind
 abbrev pub definition_names : Module → List (List ℕ)
-definition_names m = map (λ (x : Definition). name_of x.defined) m.definitions.items
+definition_names m = map (λ (x : Definition). name_of x.defined) m.definitions
 
 abbrev pub type_names : Module → List (List ℕ)
 type_names m = map name_of (type_definitions m)
 
 abbrev pub port_type_names : Module → List (List ℕ)
-port_type_names m = map (λ (p : PortType). string_bytes p.name) (port_types m)
+port_type_names m = map (λ (p : PortType). p.name) (port_types m)
 
 abbrev pub component_type_names : Module → List (List ℕ)
-component_type_names m = map (λ (c : ComponentType). string_bytes c.name) (component_types m)
+component_type_names m = map (λ (c : ComponentType). c.name) (component_types m)
 
 abbrev pub function_names : Module → List (List ℕ)
-function_names m = map (λ (f : Function). string_bytes f.name) (functions m)
+function_names m = map (λ (f : Function). f.name) (functions m)
 
 -- a name where it is declared
 abbrev pub declared : DeclaredName → List ℕ
-declared n = string_bytes n.name
+declared n = n.name
 
 -- the names of the ports that the declarations declare
 abbrev pub declared_ports : List PortDeclaration → List (List ℕ)
-declared_ports ports = flat_map (λ (p : PortDeclaration). map declared p.names.items) ports
+declared_ports ports = flat_map (λ (p : PortDeclaration). map declared p.names) ports
 
 -- the names of the fields, ports or parameters that a definition declares
 abbrev pub inner_names : Defined → List (List ℕ)
-inner_names (defined.Record r) = map (λ f. declared f.name) r.fields.items
+inner_names (defined.Record r) = map (λ f. declared f.name) r.fields
 inner_names (defined.List l) = []
 inner_names (defined.Port p) = []
-inner_names (defined.Component c) = declared_ports c.ports.items
-inner_names (defined.Function f) = map (λ p. declared p.name) f.parameters.items
+inner_names (defined.Component c) = declared_ports c.ports
+inner_names (defined.Function f) = map (λ p. declared p.name) f.parameters
 inner_names (defined.TestCase c) = []

@@ -27,13 +27,13 @@ pub record IsPreparedOf (m : Module) (p : Prepared) : Type 0 where
   -- the module has this test case, and no other
   pub one_test_case : test_cases m ≡ p.case.case.now ∷ []
   -- it begins at this line
-  pub begins : BeginsAmong m.definitions.items p.case.case.now p.case.line
+  pub begins : BeginsAmong m.definitions p.case.case.now p.case.line
   pub sorted : AreSorted m p.sorted
   -- the record and record-of types, and nothing else
   pub types : AreTypes m p.types
   -- the components as declared, with the connections and mappings of the setup statements alone
   pub config : IsConfigOf m p.case.case.now p.config
-  pub variables_are : p.variables ≡ variables p.case.case.now.setups.items
+  pub variables_are : p.variables ≡ variables p.case.case.now.setups
   pub starts : AreStarts (functions m) p.case.case.now p.starts
 
 -- the module obeys the rules on names, definitions, setup and starts

@@ -1,6 +1,6 @@
 -- The types and component types that definitions stand for (ES 201 873-1, 6.2).
 use Rattle.std.specs.Prelude.{◌≡◌, ℕ, Bool, true, false, if◌then◌else◌, Option, Some, List, [], ◌++◌, Contains}
-use Rattle.std.specs.Prelude.{map, option_map, string_bytes}
+use Rattle.std.specs.Prelude.{map, option_map}
 use Rattle.std.specs.List.{AllZip, flat_map}
 use Rattle.tp_tree.specs.declared.tree.Module.{Module}
 use Rattle.tp_tree.specs.declared.tree.Defined.{Defined}
@@ -33,7 +33,7 @@ abbrev pub ty_of : List (List ℕ) → TypeName → Option Ty
 ty_of types type_name.Integer = Some ty.Integer
 ty_of types type_name.Boolean = Some ty.Boolean
 ty_of types type_name.Charstring = Some ty.Charstring
-ty_of types (type_name.Named name) = option_map ty.Named (place_of_name types (string_bytes name))
+ty_of types (type_name.Named name) = option_map ty.Named (place_of_name types name)
 
 -- a type name names this type
 abbrev pub IsTypeNamed : List (List ℕ) → TypeName → Ty → Type 0
@@ -50,7 +50,7 @@ IsField types f field = (field.name ≡ declared f.name) × IsTypeNamed types f.
 
 -- a record type has its fields in declared order, a record-of type its elements' type
 abbrev pub IsTypeDef : List (List ℕ) → Defined → TypeDef → Type 0
-IsTypeDef types (defined.Record r) (type_def.Record fields) = AllZip (IsField types) r.fields.items fields
+IsTypeDef types (defined.Record r) (type_def.Record fields) = AllZip (IsField types) r.fields fields
 IsTypeDef types (defined.Record r) (type_def.ListOf element) = ⊥
 IsTypeDef types (defined.List l) (type_def.Record fields) = ⊥
 IsTypeDef types (defined.List l) (type_def.ListOf element) = IsTypeNamed types l.element element
@@ -76,16 +76,16 @@ goes_out way.InOut = true
 
 -- the message types of a direction that a port of the type receives, and those that it sends
 abbrev pub received_types : Direction → List TypeName
-received_types x = if goes_in x.way then x.types.items else []
+received_types x = if goes_in x.way then x.types else []
 
 abbrev pub sent_types : Direction → List TypeName
-sent_types x = if goes_out x.way then x.types.items else []
+sent_types x = if goes_out x.way then x.types else []
 
 -- what a port of the type receives, and what it sends
 abbrev pub IsPortType : List (List ℕ) → PortType → List Ty → List Ty → Type 0
 IsPortType types p ins outs =
-    AllZip (IsTypeNamed types) (flat_map received_types p.directions.items) ins
-    × AllZip (IsTypeNamed types) (flat_map sent_types p.directions.items) outs
+    AllZip (IsTypeNamed types) (flat_map received_types p.directions) ins
+    × AllZip (IsTypeNamed types) (flat_map sent_types p.directions) outs
 
 abbrev pub IsMade : List (List ℕ) → PortType → PortLists → Type 0
 IsMade types p made = IsPortType types p made.ins made.outs
@@ -97,13 +97,13 @@ port_decl made n = record { name = declared n; ins = made.ins; outs = made.outs 
 -- the ports that the declarations declare: their names and the names of their types, in declared order
 abbrev pub port_list : List PortDeclaration → List (List ℕ × List ℕ)
 port_list ports =
-    flat_map (λ (p : PortDeclaration). map (λ n. (declared n, string_bytes p.type_name)) p.names.items) ports
+    flat_map (λ (p : PortDeclaration). map (λ n. (declared n, p.type_name)) p.names) ports
 
 -- what a port type of this name receives and sends
 pub record IsMadeOf (types : List (List ℕ)) (ports : List PortType) (name : List ℕ) (made : PortLists) : Type 0 where
   pub port_type : PortType
   pub there : Contains ports port_type
-  pub named : string_bytes port_type.name ≡ name
+  pub named : port_type.name ≡ name
   pub lists : IsMade types port_type made
 
 -- a port has its own name, and receives and sends what the port type of the name does
@@ -114,7 +114,7 @@ pub record IsPortDecl (types : List (List ℕ)) (ports : List PortType) (x : Lis
 
 -- a component type has its ports in declared order
 abbrev pub IsComponentType : List (List ℕ) → List PortType → ComponentType → CompType → Type 0
-IsComponentType types ports c made = AllZip (IsPortDecl types ports) (port_list c.ports.items) (ports_of made)
+IsComponentType types ports c made = AllZip (IsPortDecl types ports) (port_list c.ports) (ports_of made)
 
 -- the types are the record and record-of types of the module
 abbrev pub AreTypes : Module → Types → Type 0

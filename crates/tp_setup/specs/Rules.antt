@@ -1,6 +1,6 @@
 -- The rules on names and definitions.
 use Rattle.std.specs.Prelude.{◌≡◌, ◌<◌, ◌≤◌, ◌⊎◌, ℕ, Bool, Option, Some, List, [], All, Contains}
-use Rattle.std.specs.Prelude.{◌∷◌, IfSome, IsSome, IsTrue, codes, is_some, length, map, string_bytes}
+use Rattle.std.specs.Prelude.{◌∷◌, IfSome, IsSome, IsTrue, codes, is_some, length, map}
 use Rattle.tp_tree.specs.declared.tree.Module.{Module}
 use Rattle.tp_tree.specs.declared.tree.Definition.{Definition}
 use Rattle.tp_tree.specs.declared.tree.Defined.{Defined}
@@ -26,7 +26,7 @@ pub record HasUniqueNames (m : Module) : Type 0 where
   pub definitions : IsNumbered (definition_names m)
   -- no two fields of a record type, ports of a component type or parameters of a function have one name, and they are
   -- fewer than 2 ^ 32
-  pub inner : All (λ (x : Definition). IsNumbered (inner_names x.defined)) m.definitions.items
+  pub inner : All (λ (x : Definition). IsNumbered (inner_names x.defined)) m.definitions
 
 -- there is one test case
 abbrev pub HasOneTestCase : Module → Type 0
@@ -44,9 +44,9 @@ NamesType types name = IsSome (ty_of types name)
 
 -- each name where the type of a field, of elements or of messages stands names a type
 abbrev pub AreTypesKnown : List (List ℕ) → Defined → Type 0
-AreTypesKnown types (defined.Record r) = All (λ f. NamesType types f.type_name) r.fields.items
+AreTypesKnown types (defined.Record r) = All (λ f. NamesType types f.type_name) r.fields
 AreTypesKnown types (defined.List l) = NamesType types l.element
-AreTypesKnown types (defined.Port p) = All (λ w. All (NamesType types) w.types.items) p.directions.items
+AreTypesKnown types (defined.Port p) = All (λ w. All (NamesType types) w.types) p.directions
 AreTypesKnown types (defined.Component c) = Unit {0}
 AreTypesKnown types (defined.Function f) = Unit {0}
 AreTypesKnown types (defined.TestCase c) = Unit {0}
@@ -56,7 +56,7 @@ abbrev pub ArePortTypesKnown : List (List ℕ) → Defined → Type 0
 ArePortTypesKnown ports (defined.Record r) = Unit {0}
 ArePortTypesKnown ports (defined.List l) = Unit {0}
 ArePortTypesKnown ports (defined.Port p) = Unit {0}
-ArePortTypesKnown ports (defined.Component c) = All (λ p. Contains ports (string_bytes p.type_name)) c.ports.items
+ArePortTypesKnown ports (defined.Component c) = All (λ p. Contains ports p.type_name) c.ports
 ArePortTypesKnown ports (defined.Function f) = Unit {0}
 ArePortTypesKnown ports (defined.TestCase c) = Unit {0}
 
@@ -67,40 +67,40 @@ AreComponentTypesKnown components (defined.List l) = Unit {0}
 AreComponentTypesKnown components (defined.Port p) = Unit {0}
 AreComponentTypesKnown components (defined.Component c) = Unit {0}
 AreComponentTypesKnown components (defined.Function f) =
-    Contains components (string_bytes f.runs_on)
-    × All (λ p. Contains components (string_bytes p.type_name)) f.parameters.items
+    Contains components f.runs_on
+    × All (λ p. Contains components p.type_name) f.parameters
 AreComponentTypesKnown components (defined.TestCase c) =
-    Contains components (string_bytes c.runs_on) × IfSome c.system (λ s. Contains components (string_bytes s))
+    Contains components c.runs_on × IfSome c.system (λ s. Contains components s)
 
 -- a component type has at most 64 ports
 abbrev pub HasFewPorts : Defined → Type 0
 HasFewPorts (defined.Record r) = Unit {0}
 HasFewPorts (defined.List l) = Unit {0}
 HasFewPorts (defined.Port p) = Unit {0}
-HasFewPorts (defined.Component c) = length (declared_ports c.ports.items) ≤ 64
+HasFewPorts (defined.Component c) = length (declared_ports c.ports) ≤ 64
 HasFewPorts (defined.Function f) = Unit {0}
 HasFewPorts (defined.TestCase c) = Unit {0}
 
 -- whether each message type of the directions is known
 abbrev pub has_known_messages : List (List ℕ) → List Direction → Bool
 has_known_messages types directions =
-    list_all (λ w. list_all (λ n. is_some (ty_of types n)) w.types.items) directions
+    list_all (λ w. list_all (λ n. is_some (ty_of types n)) w.types) directions
 
 -- whether the type of each port of a component type is among these names
 abbrev pub has_known_ports : List (List ℕ) → ComponentType → Bool
-has_known_ports ports c = list_all (λ p. is_some (place_of_name ports (string_bytes p.type_name))) c.ports.items
+has_known_ports ports c = list_all (λ p. is_some (place_of_name ports p.type_name)) c.ports
 
 -- whether the type of each parameter of a function is among these names
 abbrev pub has_known_parameters : List (List ℕ) → Function → Bool
 has_known_parameters components f =
-    list_all (λ p. is_some (place_of_name components (string_bytes p.type_name))) f.parameters.items
+    list_all (λ p. is_some (place_of_name components p.type_name)) f.parameters
 
 -- a component type is refused so, at its line: the type of a port is unknown; or each is known, and there are more
 -- than 64 ports
 abbrev pub IsComponentFault : List (List ℕ) → ComponentType → ℕ → ModuleFault → Type 0
 IsComponentFault ports c line fault =
     ((¬ IsTrue (has_known_ports ports c)) × (fault ≡ Refused Unknown line))
-    ⊎ (IsTrue (has_known_ports ports c) × (64 < length (declared_ports c.ports.items)) × (fault ≡ Refused Limit line))
+    ⊎ (IsTrue (has_known_ports ports c) × (64 < length (declared_ports c.ports)) × (fault ≡ Refused Limit line))
 
 -- the name of the function that plays the system under test
 abbrev pub sut : List ℕ
@@ -108,7 +108,7 @@ sut = codes "sut"
 
 -- a function has no parameters, and runs on the component type behind `system`
 abbrev pub CanPlaySystem : Option (List ℕ) → Function → Type 0
-CanPlaySystem system f = (f.parameters.items ≡ []) × (system ≡ Some (string_bytes f.runs_on))
+CanPlaySystem system f = (f.parameters ≡ []) × (system ≡ Some f.runs_on)
 
 -- a function named `sut` can play the system under test
 abbrev pub PlaysSystem : Option (List ℕ) → Defined → Type 0
@@ -116,7 +116,7 @@ PlaysSystem system (defined.Record r) = Unit {0}
 PlaysSystem system (defined.List l) = Unit {0}
 PlaysSystem system (defined.Port p) = Unit {0}
 PlaysSystem system (defined.Component c) = Unit {0}
-PlaysSystem system (defined.Function f) = string_bytes f.name ≡ sut → CanPlaySystem system f
+PlaysSystem system (defined.Function f) = f.name ≡ sut → CanPlaySystem system f
 PlaysSystem system (defined.TestCase c) = Unit {0}
 
 -- the rules on a function, where the component types have these names, and this name stands behind `system`
@@ -148,4 +148,4 @@ pub record IsSoundComponent (ports : List (List ℕ)) (c : ComponentType) : Type
   pub known : ArePortTypesKnown ports (defined.Component c)
   pub few : HasFewPorts (defined.Component c)
   -- no two ports have one name
-  pub distinct : AreDistinct (declared_ports c.ports.items)
+  pub distinct : AreDistinct (declared_ports c.ports)

@@ -1,5 +1,5 @@
 -- The definitions of a module, sorted by their kinds.
-use Rattle.std.specs.Prelude.{◌≡◌, ℕ, Option, option_map, List, All, map, string_bytes}
+use Rattle.std.specs.Prelude.{◌≡◌, ℕ, Option, List, All, map}
 use Rattle.tp_tree.specs.declared.tree.Module.{Module}
 use Rattle.tp_tree.specs.declared.tree.Definition.{Definition}
 use Rattle.tp_tree.specs.declared.tree.Defined.{Defined}
@@ -26,20 +26,20 @@ abbrev pub TypeDefinitions : List Definition → List (List ℕ) → List Define
 TypeDefinitions = AreOfKind type_of name_of
 
 abbrev pub PortTypes : List Definition → List (List ℕ) → List PortType → Type 0
-PortTypes = AreOfKind port_type_of (λ p. string_bytes p.name)
+PortTypes = AreOfKind port_type_of (λ p. p.name)
 
 abbrev pub ComponentTypes : List Definition → List (List ℕ) → List ComponentType → Type 0
-ComponentTypes = AreOfKind component_type_of (λ c. string_bytes c.name)
+ComponentTypes = AreOfKind component_type_of (λ c. c.name)
 
 abbrev pub Functions : List Definition → List (List ℕ) → List Function → Type 0
-Functions = AreOfKind function_of (λ f. string_bytes f.name)
+Functions = AreOfKind function_of (λ f. f.name)
 
 -- each kind of definition of the module stands where it belongs
 pub record AreSorted (m : Module) (s : Sorted) : Type 0 where
-  pub types : TypeDefinitions m.definitions.items s.type_names (map (λ x. x.now) s.types.items)
-  pub ports : PortTypes m.definitions.items s.port_names (map (λ x. x.now) s.port_types.items)
-  pub components : ComponentTypes m.definitions.items s.component_names (map (λ x. x.now) s.component_types.items)
-  pub functions : Functions m.definitions.items s.function_names (map (λ x. x.now) s.functions.items)
+  pub types : TypeDefinitions m.definitions s.type_names (map (λ x. x.now) s.types.items)
+  pub ports : PortTypes m.definitions s.port_names (map (λ x. x.now) s.port_types.items)
+  pub components : ComponentTypes m.definitions s.component_names (map (λ x. x.now) s.component_types.items)
+  pub functions : Functions m.definitions s.function_names (map (λ x. x.now) s.functions.items)
 
 -- the definitions of each kind that were sorted out
 abbrev pub types_in : Sorted → List Defined
@@ -74,24 +74,24 @@ pub record IsSortedSound (s : Sorted) : Type 0 where
 
 -- these are what the port types receive and send
 pub record HasMade (s : Sorted) (made : List PortLists) : Type 0 where
-  pub names : s.port_names ≡ map (λ (p : PortType). string_bytes p.name) (port_types_in s)
+  pub names : s.port_names ≡ map (λ (p : PortType). p.name) (port_types_in s)
   pub lists : AllZip (IsMade s.type_names) (port_types_in s) made
 
 -- each definition of the module obeys the rules on definitions, where this is its test case
 abbrev pub HasSoundDefinitions : Module → TestCase → Type 0
 HasSoundDefinitions m case =
     All (λ (x : Definition).
-    IsSound (type_names m) (port_type_names m) (component_type_names m) (option_map string_bytes case.system) x.defined)
-    m.definitions.items
+    IsSound (type_names m) (port_type_names m) (component_type_names m) case.system x.defined)
+    m.definitions
 
 -- the port types have their own names
 abbrev pub ArePortsNamed : Sorted → Type 0
-ArePortsNamed s = s.port_names ≡ map (λ (p : PortType). string_bytes p.name) (port_types_in s)
+ArePortsNamed s = s.port_names ≡ map (λ (p : PortType). p.name) (port_types_in s)
 
 -- the component types have their own names
 abbrev pub AreComponentsNamed : Sorted → Type 0
-AreComponentsNamed s = s.component_names ≡ map (λ (c : ComponentType). string_bytes c.name) (component_types_in s)
+AreComponentsNamed s = s.component_names ≡ map (λ (c : ComponentType). c.name) (component_types_in s)
 
 -- the functions have their own names
 abbrev pub AreFunctionsNamed : Sorted → Type 0
-AreFunctionsNamed s = s.function_names ≡ map (λ (f : Function). string_bytes f.name) (functions_in s)
+AreFunctionsNamed s = s.function_names ≡ map (λ (f : Function). f.name) (functions_in s)

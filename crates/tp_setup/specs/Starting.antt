@@ -1,6 +1,6 @@
 -- The starts of the components (ES 201 873-1, 21.3.2).
 use Rattle.std.specs.Prelude.{◌≡◌, ◌≢◌, ◌<◌, ◌+◌, ℕ, Option, Some, List, ◌∷◌, IsSome}
-use Rattle.std.specs.Prelude.{length, map, slice_get, string_bytes}
+use Rattle.std.specs.Prelude.{length, map, slice_get}
 use Rattle.std.specs.Option.{option_map}
 use Rattle.std.specs.List.{AllZip}
 use Rattle.tp_tree.specs.declared.tree.ComponentName.{ComponentName}
@@ -19,7 +19,7 @@ use Rattle.tp_setup.specs.Components.{creations, variables}
 
 -- the number of the component that an argument names, where the component variables have these names; `self` is `mtc`
 abbrev pub component_named : List (List ℕ) → ComponentName → Option ℕ
-component_named names (component_name.Named x) = option_map (λ k. k + 1) (place_of_name names (string_bytes x))
+component_named names (component_name.Named x) = option_map (λ k. k + 1) (place_of_name names x)
 component_named names component_name.Mtc = Some 0
 component_named names component_name.SelfComponent = Some 0
 
@@ -29,32 +29,32 @@ IsArgument names x comp = component_named names x ≡ Some comp.0
 
 -- the component has the type of the parameter, where the components have types of these names
 abbrev pub HasParameterType : List (List ℕ) → Parameter → CompId → Type 0
-HasParameterType types p comp = slice_get types comp.0 ≡ Some (string_bytes p.type_name)
+HasParameterType types p comp = slice_get types comp.0 ≡ Some p.type_name
 
 -- the names of the types of `mtc` and of the components that are made, in their order
 abbrev pub type_names_of : TestCase → List (List ℕ)
 type_names_of case =
-    string_bytes case.runs_on ∷ map (λ (c : Creation). string_bytes c.type_name) (creations case.setups.items)
+    case.runs_on ∷ map (λ (c : Creation). c.type_name) (creations case.setups)
 
 -- a start obeys its rules and starts this, where the functions are these, the component variables have these names and
 -- the components types of these names
 pub record IsStartOf (functions : List Function) (names types : List (List ℕ)) (x : ComponentStart) (made : StartedComponent)
     : Type 0 where
   pub variable : ℕ
-  pub variable_known : place_of_name names (string_bytes x.component) ≡ Some variable
+  pub variable_known : place_of_name names x.component ≡ Some variable
   pub function : Function
   pub function_known : slice_get functions made.function ≡ Some function
-  pub named : string_bytes function.name ≡ string_bytes x.function
-  pub not_sut : string_bytes x.function ≢ sut
+  pub named : function.name ≡ x.function
+  pub not_sut : x.function ≢ sut
   -- the function runs on the component's type
-  pub runs_on : slice_get types (variable + 1) ≡ Some (string_bytes function.runs_on)
+  pub runs_on : slice_get types (variable + 1) ≡ Some function.runs_on
   -- each argument is known and of its parameter's type, and there are as many
-  pub arguments_known : AllZip (IsArgument names) x.arguments.items made.arguments.items
-  pub arguments_fit : AllZip (HasParameterType types) function.parameters.items made.arguments.items
+  pub arguments_known : AllZip (IsArgument names) x.arguments made.arguments.items
+  pub arguments_fit : AllZip (HasParameterType types) function.parameters made.arguments.items
 
 -- the components that are started
 abbrev pub started_names : List ComponentStart → List (List ℕ)
-started_names xs = map (λ (x : ComponentStart). string_bytes x.component) xs
+started_names xs = map (λ (x : ComponentStart). x.component) xs
 
 -- the place of a component variable's start
 abbrev pub IsStartPlace : List (List ℕ) → List ℕ → ℕ → Type 0
@@ -62,11 +62,11 @@ IsStartPlace started name k = place_of_name started name ≡ Some k
 
 -- the starts of a test case obey their rules and start this
 pub record AreStarts (functions : List Function) (case : TestCase) (made : Starts) : Type 0 where
-  pub starts : AllZip (IsStartOf functions (variables case.setups.items) (type_names_of case))
-      case.starts.items made.starts.items
+  pub starts : AllZip (IsStartOf functions (variables case.setups) (type_names_of case))
+      case.starts made.starts.items
   -- no component is started twice, and the starts are fewer than 2 ^ 32
-  pub once : IsNumbered (started_names case.starts.items)
+  pub once : IsNumbered (started_names case.starts)
   -- each component is started
-  pub all : AllZip (IsStartPlace (started_names case.starts.items)) (variables case.setups.items) made.places.items
+  pub all : AllZip (IsStartPlace (started_names case.starts)) (variables case.setups) made.places.items
   -- a test case that makes components ends with `all component.done`
-  pub done : 0 < length (creations case.setups.items) → IsSome case.all_done
+  pub done : 0 < length (creations case.setups) → IsSome case.all_done

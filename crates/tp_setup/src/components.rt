@@ -1,5 +1,5 @@
 //! The third pass of the checks: the components of the test case.
-ghost use Rattle.std.specs.Prelude.{◌≡◌, All, ◌<◌, ◌≤◌, ◌+◌, ◌++◌, ◌∷◌, [], List, ℕ, Contains, IfErr, IfNone, IfOk, IfSome, None, OnErr, OnOk, Some, length, map, option_map, slice_get, string_bytes};
+ghost use Rattle.std.specs.Prelude.{◌≡◌, All, ◌<◌, ◌≤◌, ◌+◌, ◌++◌, ◌∷◌, [], List, ℕ, Contains, IfErr, IfNone, IfOk, IfSome, None, OnErr, OnOk, Some, length, map, option_map, slice_get};
 ghost use Rattle.std.specs.Option.{option_copied};
 ghost use Rattle.tp_name.specs.Tables.{AreDistinct, IsNumbered, place_of_name};
 ghost use Rattle.tp_name.specs.Refused.{IsRefusedBy, TellsAt};
@@ -87,9 +87,9 @@ fn check_variable<'m>(
     ensures no_port { OnOk result (
         Contains rules.now.port_names.now (variable_name creation.now) → ⊥) }
     ensures known { OnOk result (
-        Contains rules.now.type_names.now (string_bytes creation.now.type_name)) }
+        Contains rules.now.type_names.now creation.now.type_name) }
     ensures same { OnOk result (
-        string_bytes creation.now.type_name ≡ string_bytes creation.now.created) }
+        creation.now.type_name ≡ creation.now.created) }
     ensures few { OnOk result (length variables.new ≤ rules.now.most) }
     ensures refused { IfErr result (IsRefusedBy (IsSoundVariable
         rules.now.type_names.now rules.now.port_names.now variables.old rules.now.most
@@ -166,9 +166,9 @@ fn create<'m>(
     ensures no_port { OnOk result (
         Contains rules.now.port_names.now (variable_name at.entry.creation.now) → ⊥) }
     ensures known { OnOk result (
-        Contains rules.now.type_names.now (string_bytes at.entry.creation.now.type_name)) }
-    ensures same { OnOk result (string_bytes at.entry.creation.now.type_name
-        ≡ string_bytes at.entry.creation.now.created) }
+        Contains rules.now.type_names.now at.entry.creation.now.type_name) }
+    ensures same { OnOk result (at.entry.creation.now.type_name
+        ≡ at.entry.creation.now.created) }
     ensures few { OnOk result (length variables.new ≤ rules.now.most) }
     ensures component { OnOk result (
         Adds rules.now.type_names.now (created at.entry.creation.now) config.old config.new) }
@@ -256,7 +256,7 @@ pub(crate) fn ports_of_type<'m>(
         return Err(refused(ModuleRule::Unknown, line));
     };
     let mut ports = NameSet::new(alloc);
-    declare_ports(&mut ports, &component.ports)?;
+    declare_ports(&mut ports, component.ports.as_slice())?;
     Ok(ports)
 }
 

@@ -1,5 +1,5 @@
 //! The second pass of the checks: everything that definitions name is defined.
-ghost use Rattle.std.specs.Prelude.{◌≡◌, ◌≤◌, ◌↔◌, ℕ, All, Contains, IfErr, IfOk, IfSome, IsTrue, List, OnOk, is_some, length, option_map, string_bytes};
+ghost use Rattle.std.specs.Prelude.{◌≡◌, ◌≤◌, ◌↔◌, ℕ, All, Contains, IfErr, IfOk, IfSome, IsTrue, List, OnOk, is_some, length};
 ghost use Rattle.std.specs.List.{AllZip, list_all};
 ghost use Rattle.tp_tree.specs.declared.tree.Defined.{Defined};
 ghost use Rattle.tp_setup.specs.Definitions.{declared_ports};
@@ -19,6 +19,7 @@ use std::alloc::Global;
 use tp_config::port_type::CompType;
 use tp_name::fault::{ModuleFault, ModuleRule, refused};
 use tp_name::name_set::NameSet;
+use tp_tree::name::Name;
 use tp_tree::tree::{
     ComponentType, Defined, Definition, Direction, FieldType, Function, Module, Parameter,
     PortDeclaration, TestCase,
@@ -47,12 +48,12 @@ fn are_messages_known(types: &NameSet, directions: &[Direction]) -> bool
 {
     directions
         .iter()
-        .all(|direction| are_types(types, &direction.types))
+        .all(|direction| are_types(types, direction.types.as_slice()))
 }
 
 fn are_ports_known(port_types: &NameSet, ports: &[PortDeclaration]) -> bool
     ensures { result ≡ list_all
-        (λ p. is_some (place_of_name port_types.now (string_bytes p.type_name))) ports.now }
+        (λ p. is_some (place_of_name port_types.now p.type_name)) ports.now }
 {
     ports
         .iter()
@@ -61,7 +62,7 @@ fn are_ports_known(port_types: &NameSet, ports: &[PortDeclaration]) -> bool
 
 fn are_parameters_known(components: &NameSet, parameters: &[Parameter]) -> bool
     ensures { result ≡ list_all
-        (λ p. is_some (place_of_name components.now (string_bytes p.type_name))) parameters.now }
+        (λ p. is_some (place_of_name components.now p.type_name)) parameters.now }
 {
     parameters
         .iter()
@@ -99,20 +100,20 @@ fn check_component(
     line: u32,
 ) -> Result<(), ModuleFault>
     ensures known { OnOk result (IsTrue (has_known_ports port_types.now component.now)) }
-    ensures few { OnOk result (length (declared_ports component.now.ports.items) ≤ 64) }
+    ensures few { OnOk result (length (declared_ports component.now.ports) ≤ 64) }
     ensures refused { IfErr result (IsComponentFault port_types.now component.now line) }
 {
-    if !are_ports_known(port_types, &component.ports) {
+    if !are_ports_known(port_types, component.ports.as_slice()) {
         return Err(refused(ModuleRule::Unknown, line));
     }
-    if !are_ports_few(&component.ports) {
+    if !are_ports_few(component.ports.as_slice()) {
         return Err(refused(ModuleRule::Limit, line));
     }
     Ok(())
 }
 
-fn plays_system(system: &Option<String>, function: &Function) -> bool
-    ensures { IsTrue result ↔ CanPlaySystem (option_map string_bytes system.now) function.now }
+fn plays_system(system: &Option<Name>, function: &Function) -> bool
+    ensures { IsTrue result ↔ CanPlaySystem system.now function.now }
 {
     let Some(system) = system else {
         return false;
@@ -122,22 +123,25 @@ fn plays_system(system: &Option<String>, function: &Function) -> bool
 
 fn check_function(
     components: &NameSet,
-    system: &Option<String>,
+    system: &Option<Name>,
     function: &Function,
     line: u32,
 ) -> Result<(), ModuleFault>
-    ensures runs_on { OnOk result (Contains components.now (string_bytes function.now.runs_on)) }
+    ensures runs_on { OnOk result (Contains components.now function.now.runs_on) }
     ensures parameters { OnOk result (IsTrue (has_known_parameters components.now function.now)) }
-    ensures sut { OnOk result (string_bytes function.now.name ≡ sut
-        → CanPlaySystem (option_map string_bytes system.now) function.now) }
+    ensures sut { OnOk result (function.now.name ≡ sut
+        → CanPlaySystem system.now function.now) }
     ensures refused { IfErr result (λ _. ¬ IsSoundFunction components.now
-        (option_map string_bytes system.now) function.now) }
+        system.now function.now) }
     ensures told { (types ports : List (List ℕ)) → IfErr result (TellsAt line (DefinitionBreaks
-        types ports components.now (option_map string_bytes system.now)
+        types ports components.now system.now
         (Defined.Function function.now))) }
 {
     known(components.has(function.runs_on.as_str()), line)?;
-    known(are_parameters_known(components, &function.parameters), line)?;
+    known(
+        are_parameters_known(components, function.parameters.as_slice()),
+        line,
+    )?;
     if is_sut(function.name.as_str()) && !plays_system(system, function) {
         return Err(refused(ModuleRule::NotInSut, line));
     }
@@ -151,9 +155,9 @@ pub fn is_sut(name: &str) -> bool
 }
 
 fn check_case(components: &NameSet, case: &TestCase, line: u32) -> Result<(), ModuleFault>
-    ensures runs_on { OnOk result (Contains components.now (string_bytes case.now.runs_on)) }
+    ensures runs_on { OnOk result (Contains components.now case.now.runs_on) }
     ensures system { OnOk result (
-        IfSome case.now.system (λ s. Contains components.now (string_bytes s))) }
+        IfSome case.now.system (λ s. Contains components.now s)) }
     ensures refused { IfErr result (λ _.
         ¬ AreComponentTypesKnown components.now (Defined.TestCase case.now)) }
     ensures told { IfErr result (λ fault. fault ≡ ModuleFault.Refused ModuleRule.Unknown line) }
@@ -168,24 +172,24 @@ fn check_case(components: &NameSet, case: &TestCase, line: u32) -> Result<(), Mo
 #[tactic(auto, using(crate::proofs::SoundDefinitionRules::soundness))]
 fn check_definition(
     sorted: &Sorted,
-    system: &Option<String>,
+    system: &Option<Name>,
     definition: &Definition,
 ) -> Result<(), ModuleFault>
     ensures sound { OnOk result (
-        IsSoundIn sorted.now (option_map string_bytes system.now) definition.now) }
+        IsSoundIn sorted.now system.now definition.now) }
     ensures refused { IfErr result (λ _.
-        ¬ IsSoundIn sorted.now (option_map string_bytes system.now) definition.now) }
+        ¬ IsSoundIn sorted.now system.now definition.now) }
     ensures told { IfErr result (TellsAt definition.now.line (DefinitionBreaks
         sorted.now.type_names sorted.now.port_names sorted.now.component_names
-        (option_map string_bytes system.now) definition.now.defined)) }
+        system.now definition.now.defined)) }
 {
     let line = definition.line;
     let types = &sorted.type_names;
     let components = &sorted.component_names;
     match &definition.defined {
-        Defined::Record(record) => known(are_fields_known(types, &record.fields), line),
+        Defined::Record(record) => known(are_fields_known(types, record.fields.as_slice()), line),
         Defined::List(list) => known(is_known_type(types, &list.element), line),
-        Defined::Port(port) => known(are_messages_known(types, &port.directions), line),
+        Defined::Port(port) => known(are_messages_known(types, port.directions.as_slice()), line),
         Defined::Component(component) => {
             check_component(&sorted.port_names, component, line)?;
             Ok(())
@@ -200,16 +204,16 @@ fn check_definition(
 
 fn check_definitions(
     sorted: &Sorted,
-    system: &Option<String>,
+    system: &Option<Name>,
     definitions: &[Definition],
 ) -> Result<(), ModuleFault>
     ensures sound { OnOk result (
-        AreSound sorted.now (option_map string_bytes system.now) definitions.now) }
+        AreSound sorted.now system.now definitions.now) }
     ensures refused { IfErr result (λ _.
-        ¬ AreSound sorted.now (option_map string_bytes system.now) definitions.now) }
+        ¬ AreSound sorted.now system.now definitions.now) }
     ensures told { IfErr result (Tells (DefinitionsBreak
         sorted.now.type_names sorted.now.port_names sorted.now.component_names
-        (option_map string_bytes system.now) definitions.now)) }
+        system.now definitions.now)) }
 {
     for definition in definitions {
         check_definition(sorted, system, definition)?;
@@ -230,7 +234,7 @@ fn sort_sound<'m>(
         → IfErr result (Tells (DefinitionsOfBreak parsed.now case.now)) }
 {
     let sorted = sort(alloc, parsed)?;
-    check_definitions(&sorted, &case.system, &parsed.definitions)?;
+    check_definitions(&sorted, &case.system, parsed.definitions.as_slice())?;
     Ok(sorted)
 }
 

@@ -1,5 +1,5 @@
 //! The component types of a module, with the types that their ports receive and send.
-ghost use Rattle.std.specs.Prelude.{◌≡◌, ◌+◌, ◌≤◌, ◌↔◌, ◌++◌, ◌∷◌, [], Contains, IfErr, IfNone, IfOk, IfSome, IsTrue, OnOk, All, length, map, slice_get, string_bytes};
+ghost use Rattle.std.specs.Prelude.{◌≡◌, ◌+◌, ◌≤◌, ◌↔◌, ◌++◌, ◌∷◌, [], Contains, IfErr, IfNone, IfOk, IfSome, IsTrue, OnOk, All, length, map, slice_get};
 ghost use Rattle.std.specs.Option.{option_copied};
 ghost use Rattle.tp_value.specs.declared.types.Ty.{Ty};
 ghost use Rattle.std.specs.List.{AllZip, flat_map};
@@ -63,14 +63,14 @@ fn received_types(
     ensures made { IfOk result (
         AllZip (IsTypeNamed types.now) (flat_map received_types directions.now)) }
     ensures refused { IfErr result (
-        IsRefusedBy (All (λ w. All (NamesType types.now) w.types.items) directions.now)) }
+        IsRefusedBy (All (λ w. All (NamesType types.now) w.types) directions.now)) }
 {
     let mut made = Items::new(alloc);
     for direction in directions {
         if !goes_in(direction.way) {
             continue;
         }
-        add_types(types, &direction.types, &mut made)?;
+        add_types(types, direction.types.as_slice(), &mut made)?;
     }
     Ok(made)
 }
@@ -83,14 +83,14 @@ fn sent_types(
     ensures made { IfOk result (
         AllZip (IsTypeNamed types.now) (flat_map sent_types directions.now)) }
     ensures refused { IfErr result (
-        IsRefusedBy (All (λ w. All (NamesType types.now) w.types.items) directions.now)) }
+        IsRefusedBy (All (λ w. All (NamesType types.now) w.types) directions.now)) }
 {
     let mut made = Items::new(alloc);
     for direction in directions {
         if !goes_out(direction.way) {
             continue;
         }
-        add_types(types, &direction.types, &mut made)?;
+        add_types(types, direction.types.as_slice(), &mut made)?;
     }
     Ok(made)
 }
@@ -104,8 +104,8 @@ fn make_port_type(
         IsPortType types.now port_type.now made.ins made.outs) }
     ensures refused { IfErr result (IsRefusedBy (AreMessagesKnown types.now port_type.now)) }
 {
-    let ins = received_types(alloc, types, &port_type.directions)?;
-    let outs = sent_types(alloc, types, &port_type.directions)?;
+    let ins = received_types(alloc, types, port_type.directions.as_slice())?;
+    let outs = sent_types(alloc, types, port_type.directions.as_slice())?;
     Ok(PortType {
         ins: TypeList::from_items(alloc, ins)?,
         outs: TypeList::from_items(alloc, outs)?,
@@ -223,11 +223,11 @@ fn make_component(
     let mut ports = CompType {
         ports: IndexMap::new(alloc),
     };
-    for declaration in &component.ports {
+    for declaration in component.ports.as_slice() {
         let Some(port_type) = find_made(sorted, made, declaration.type_name.as_str()) else {
             return Err(refused(ModuleRule::Unknown, 0));
         };
-        add_ports(alloc, &mut ports, &declaration.names, port_type)?;
+        add_ports(alloc, &mut ports, declaration.names.as_slice(), port_type)?;
     }
     if !has_room(0, ports.ports.len()) {
         return Err(refused(ModuleRule::Limit, 0));

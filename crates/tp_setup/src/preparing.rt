@@ -33,7 +33,7 @@ fn find_definitions(alloc: Global, parsed: &Module) -> Result<Definitions<'_>, M
     ensures sound { IfOk result (λ d. HasSoundDefinitions parsed.now d.case.case.now) }
     ensures defined { IfOk result (IsDefined parsed.now) }
     ensures begins { IfOk result (λ d.
-        BeginsAmong parsed.now.definitions.items d.case.case.now d.case.line) }
+        BeginsAmong parsed.now.definitions d.case.case.now d.case.line) }
     ensures refused { IfErr result (IsRefusedBy (IsWellDeclared parsed.now)) }
     ensures told { IfErr result (Tells (DeclarationsBreak parsed.now)) }
 {
@@ -59,7 +59,7 @@ fn set_up_and_start<'m>(
     ensures config { IfOk result (λ c. IsConfigBySetup sorted.now.component_names
         (map ports_of components.items) case.entry.case.now c.made.config) }
     ensures variables { IfOk result (λ c. c.made.variables
-        ≡ variables case.entry.case.now.setups.items) }
+        ≡ variables case.entry.case.now.setups) }
     ensures sound { OnOk result (AreSoundVariables sorted.now.component_names
         (component_types_in sorted.now) case.entry.case.now) }
     ensures starts { IfOk result (λ c.

@@ -56,7 +56,7 @@ fn make_field(
     let Some(ty) = resolve(types, &field.type_name) else {
         return Err(refused(ModuleRule::Unknown, line));
     };
-    let name = Items::from_slice(alloc, field.name.name.as_bytes())?;
+    let name = Items::from_slice(alloc, field.name.name.as_str().as_bytes())?;
     Ok(Field { name, ty })
 }
 
@@ -90,7 +90,7 @@ fn make_type(
 {
     match defined {
         Defined::Record(record) => {
-            let fields = make_fields(alloc, types, &record.fields, line)?;
+            let fields = make_fields(alloc, types, record.fields.as_slice(), line)?;
             Ok(TypeDef::Record(fields))
         }
         Defined::List(list) => {

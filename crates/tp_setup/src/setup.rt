@@ -232,7 +232,7 @@ fn first_fault(
     ensures told { HavePorts rules.now.type_names.now config.old.types
         → AreComponentTypesKnown rules.now.type_names.now (Defined.TestCase case.entry.case.now)
         → StopsCreating rules.now.type_names.now rules.now.port_names.now (codes "mtc" ∷ [])
-        (most_variables case.entry.case.now) case.entry.case.now.setups.items
+        (most_variables case.entry.case.now) case.entry.case.now.setups
         stopped.entry.before.now stopped.entry.fault
         → Tells (SetupBreaks rules.now.type_names.now rules.now.port_names.now config.old.types
         case.entry.case.now case.entry.line) result }
@@ -257,9 +257,9 @@ fn create_beside(
     requires main { AddsAll types.now (main_component case.case.now ∷ [])
         (empty_setup config.old.types) config.old }
     ensures sound { OnOk result (HasSoundVariables types.now ports.now
-        (most_variables case.entry.case.now) (creations case.entry.case.now.setups.items)) }
+        (most_variables case.entry.case.now) (creations case.entry.case.now.setups)) }
     ensures added { OnOk result (AddsAll types.now
-        (map created (creations case.entry.case.now.setups.items)) config.old config.new) }
+        (map created (creations case.entry.case.now.setups)) config.old config.new) }
     ensures refused { HavePorts types.now config.old.types → IfErr result (IsRefusedBy (
         CanSetUpBeside types.now ports.now config.old.types case.entry.case.now)) }
     ensures told { HavePorts types.now config.old.types
@@ -272,7 +272,7 @@ fn create_beside(
         port_names: ports,
         most: most_variables(case.case),
     };
-    match create_components(alloc, &mut *config, &rules, &case.case.setups) {
+    match create_components(alloc, &mut *config, &rules, case.case.setups.as_slice()) {
         Ok(()) => Ok(()),
         Err(stopped) => Err(first_fault(alloc, config, &rules, case, stopped)),
     }
@@ -290,7 +290,7 @@ fn create_all(
     ensures sound { OnOk result (AreSoundVariables sorted.now.component_names
         (component_types_in sorted.now) case.entry.case.now) }
     ensures added { OnOk result (AddsAll sorted.now.component_names
-        (map created (creations case.entry.case.now.setups.items)) config.old config.new) }
+        (map created (creations case.entry.case.now.setups)) config.old config.new) }
     ensures refused { AreOwnPorts (component_types_in sorted.now) config.old.types
         → IfErr result (IsRefusedBy (CanSetUp sorted.now.component_names
         (component_types_in sorted.now) config.old.types case.entry.case.now)) }
@@ -314,7 +314,7 @@ fn add_components(
     requires empty { config.old ≡ empty_setup config.old.types }
     ensures added { OnOk result (AddsAll sorted.now.component_names
         (main_component case.entry.case.now
-        ∷ map created (creations case.entry.case.now.setups.items))
+        ∷ map created (creations case.entry.case.now.setups))
         config.old config.new) }
     ensures sound { OnOk result (AreSoundVariables sorted.now.component_names
         (component_types_in sorted.now) case.entry.case.now) }
@@ -346,7 +346,7 @@ fn configure<'m>(
     requires empty { config.old ≡ empty_setup config.old.types }
     ensures config { OnOk result (IsConfigBySetup sorted.now.component_names config.old.types
         case.entry.case.now config.new) }
-    ensures variables { IfOk result (λ known. known ≡ variables case.entry.case.now.setups.items) }
+    ensures variables { IfOk result (λ known. known ≡ variables case.entry.case.now.setups) }
     ensures numbered { IfOk result (λ known. IsNumbered known) }
     ensures sound { OnOk result (AreSoundVariables sorted.now.component_names
         (component_types_in sorted.now) case.entry.case.now) }
@@ -361,7 +361,7 @@ fn configure<'m>(
     add_components(alloc, &mut *config, sorted, case)?;
     let types = &sorted.component_names;
     let system = add_interface(alloc, &mut *config, types, case.case, case.line)?;
-    connect_all(alloc, config, system, &case.case.setups)
+    connect_all(alloc, config, system, case.case.setups.as_slice())
 }
 
 /// The setup statements of the third pass. Each component type has at most 64 ports. 11 `Unknown`
@@ -380,7 +380,7 @@ pub fn set_up<'m>(
     ensures config { IfOk result (λ s. IsConfigBySetup sorted.now.component_names
         (map ports_of components.items) case.entry.case.now s.config) }
     ensures variables { IfOk result (λ s. s.variables
-        ≡ variables case.entry.case.now.setups.items) }
+        ≡ variables case.entry.case.now.setups) }
     ensures numbered { IfOk result (λ s. IsNumbered s.variables) }
     ensures sound { OnOk result (AreSoundVariables sorted.now.component_names
         (component_types_in sorted.now) case.entry.case.now) }

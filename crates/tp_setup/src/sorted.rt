@@ -1,5 +1,5 @@
 //! The definitions of a module, sorted by kind.
-ghost use Rattle.std.specs.Prelude.{◌≡◌, ℕ, List, Option, IfErr, IfOk, map, slice_get, string_bytes};
+ghost use Rattle.std.specs.Prelude.{◌≡◌, ℕ, List, Option, IfErr, IfOk, map, slice_get};
 ghost use Rattle.std.specs.Option.{option_copied};
 ghost use Rattle.tp_tree.specs.declared.tree.Defined.{Defined};
 ghost use Rattle.tp_name.specs.Refused.{IsRefusedBy};
@@ -70,7 +70,7 @@ impl DefinitionKind for Defined {
 impl DefinitionKind for PortType {
     ghost as_kind = { port_type_of };
 
-    ghost name = { λ p. string_bytes p.name };
+    ghost name = { λ p. p.name };
 
     fn as_kind(definition: &Definition) -> Option<&PortType> {
         match &definition.defined {
@@ -87,7 +87,7 @@ impl DefinitionKind for PortType {
 impl DefinitionKind for ComponentType {
     ghost as_kind = { component_type_of };
 
-    ghost name = { λ c. string_bytes c.name };
+    ghost name = { λ c. c.name };
 
     fn as_kind(definition: &Definition) -> Option<&ComponentType> {
         match &definition.defined {
@@ -113,7 +113,7 @@ pub fn as_function(definition: &Definition) -> Option<&Function>
 impl DefinitionKind for Function {
     ghost as_kind = { function_of };
 
-    ghost name = { λ f. string_bytes f.name };
+    ghost name = { λ f. f.name };
 
     fn as_kind(definition: &Definition) -> Option<&Function> {
         as_function(definition)

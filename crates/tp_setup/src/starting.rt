@@ -1,5 +1,5 @@
 //! The third pass of the checks: the rules for starts.
-ghost use Rattle.std.specs.Prelude.{◌≡◌, ◌∷◌, ◌++◌, ◌↔◌, [], ◌<◌, ℕ, List, Contains, IfErr, IfNone, IfOk, IfSome, IsSome, IsTrue, None, OnOk, Some, length, map, slice_get, string_bytes};
+ghost use Rattle.std.specs.Prelude.{◌≡◌, ◌∷◌, ◌++◌, ◌↔◌, [], ◌<◌, ℕ, List, Contains, IfErr, IfNone, IfOk, IfSome, IsSome, IsTrue, None, OnOk, Some, length, map, slice_get};
 ghost use Rattle.std.specs.Option.{option_copied};
 ghost use Rattle.std.specs.List.{AllZip};
 ghost use Rattle.tp_setup.specs.Sorted.{AreFunctionsNamed, functions_in};
@@ -86,15 +86,15 @@ fn check_arguments(
     start: &ComponentStart,
 ) -> Result<Vec<CompId>, ModuleFault>
     ensures known { IfOk result (λ made.
-        AllZip (IsArgument variables.now) start.now.arguments.items made.items) }
+        AllZip (IsArgument variables.now) start.now.arguments made.items) }
     ensures fits { IfOk result (λ made.
         AllZip (HasParameterType (map (λ t. t.now) types.now)) parameters.now made.items) }
     ensures refused { IsNumbered variables.now → IfErr result (IsRefusedBy ((made : List CompId)
-        × AllZip (IsArgument variables.now) start.now.arguments.items made
+        × AllZip (IsArgument variables.now) start.now.arguments made
         × AllZip (HasParameterType (map (λ t. t.now) types.now)) parameters.now made)) }
     ensures told { IsNumbered variables.now → IfErr result (TellsAt start.now.line (
         ArgumentsBreak variables.now (map (λ t. t.now) types.now) parameters.now
-        start.now.arguments.items)) }
+        start.now.arguments)) }
 {
     let arguments = start.arguments.as_slice();
     if arguments.len() != parameters.len() {
@@ -122,7 +122,7 @@ fn check_start(
         (made : StartedComponent) × IsStartOf (functions_in sorted.now) variables.now
         (map (λ t. t.now) types.now) start.now made)) }
     ensures told { (started : List (List ℕ)) → IsNumbered variables.now
-        → (Contains started (string_bytes start.now.component) → ⊥)
+        → (Contains started start.now.component → ⊥)
         → IfErr result (TellsAt start.now.line (StartBreaks (functions_in sorted.now)
         variables.now (map (λ t. t.now) types.now) started start.now)) }
 {
@@ -142,7 +142,13 @@ fn check_start(
     if !is_of_type(types, comp, function.runs_on.as_str()) {
         return Err(refused(ModuleRule::WrongType, line));
     }
-    let arguments = check_arguments(alloc, variables, types, &function.parameters, start)?;
+    let arguments = check_arguments(
+        alloc,
+        variables,
+        types,
+        function.parameters.as_slice(),
+        start,
+    )?;
     Ok(StartedComponent {
         function: place,
         arguments,
@@ -155,7 +161,7 @@ fn component_types(alloc: Global, case: &TestCase) -> Result<Vec<&str>, ModuleFa
 {
     let mut types = Vec::new(alloc);
     types.push(case.runs_on.as_str())?;
-    for setup in &case.setups {
+    for setup in case.setups.as_slice() {
         let Some(creation) = as_creation(setup) else {
             continue;
         };
@@ -170,14 +176,14 @@ fn add_started<'m>(
     start: &'m ComponentStart,
 ) -> Result<(), ModuleFault>
     ensures added { OnOk result (started.new
-        ≡ started.old ++ string_bytes start.now.component ∷ []) }
+        ≡ started.old ++ start.now.component ∷ []) }
     ensures numbered { OnOk result (IsNumbered started.new) }
     ensures told { (functions : List Function) → (types : List (List ℕ)) → IfErr result (
         TellsAt start.now.line (
         StartBreaks functions variables.now types started.old start.now)) }
     ensures refused { IfErr result (IsRefusedBy (
-        Contains variables.now (string_bytes start.now.component)
-        × IsNumbered (started.old ++ string_bytes start.now.component ∷ []))) }
+        Contains variables.now start.now.component
+        × IsNumbered (started.old ++ start.now.component ∷ []))) }
 {
     if !variables.has(start.component.as_str()) {
         return Err(refused(ModuleRule::Unknown, start.line));
@@ -268,33 +274,33 @@ fn start_all<'m>(
     requires { AreFunctionsNamed sorted.now }
     ensures started { IfOk result (λ r. AllZip
         (IsStartOf (functions_in sorted.now) names.now (type_names_of case.now))
-        case.now.starts.items r.1.items) }
-    ensures names { IfOk result (λ r. r.0 ≡ started_names case.now.starts.items) }
+        case.now.starts r.1.items) }
+    ensures names { IfOk result (λ r. r.0 ≡ started_names case.now.starts) }
     ensures numbered { IfOk result (λ r. IsNumbered r.0) }
     ensures refused { IsNumbered names.now → IfErr result (IsRefusedBy (
         (made : List StartedComponent) × AllZip (IsStartOf (functions_in sorted.now) names.now
-        (type_names_of case.now)) case.now.starts.items made
-        × IsNumbered (started_names case.now.starts.items))) }
+        (type_names_of case.now)) case.now.starts made
+        × IsNumbered (started_names case.now.starts))) }
     ensures told { IsNumbered names.now → IfErr result (Tells (StartBreaksAmong
-        (functions_in sorted.now) names.now (type_names_of case.now) case.now.starts.items)) }
+        (functions_in sorted.now) names.now (type_names_of case.now) case.now.starts)) }
 {
     let types = component_types(alloc, case)?;
-    check_each(alloc, sorted, names, &types, &case.starts)
+    check_each(alloc, sorted, names, &types, case.starts.as_slice())
 }
 
 fn place_starts(alloc: Global, started: &NameSet, case: CaseAt<'_>) -> Result<Vec<u32>, ModuleFault>
     ensures places { IfOk result (λ places. AllZip (IsStartPlace started.now)
-        (variables case.entry.case.now.setups.items) places.items) }
-    ensures done { OnOk result (0 < length (creations case.entry.case.now.setups.items)
+        (variables case.entry.case.now.setups) places.items) }
+    ensures done { OnOk result (0 < length (creations case.entry.case.now.setups)
         → IsSome case.entry.case.now.all_done) }
     ensures refused { IfErr result (IsRefusedBy (((places : List ℕ) × AllZip
-        (IsStartPlace started.now) (variables case.entry.case.now.setups.items) places)
-        × (0 < length (creations case.entry.case.now.setups.items)
+        (IsStartPlace started.now) (variables case.entry.case.now.setups) places)
+        × (0 < length (creations case.entry.case.now.setups)
         → IsSome case.entry.case.now.all_done))) }
     ensures told { IfErr result (Tells (
         AfterStartsBreaks started.now case.entry.case.now case.entry.line)) }
 {
-    let places = find_starts(alloc, started, &case.case.setups)?;
+    let places = find_starts(alloc, started, case.case.setups.as_slice())?;
     check_done(case.case, &places, case.line)?;
     Ok(places)
 }
@@ -311,7 +317,7 @@ pub fn check_starts(
     names: &NameSet,
 ) -> Result<Starts, ModuleFault>
     requires named { AreFunctionsNamed sorted.now }
-    requires variables { names.now ≡ variables case.case.now.setups.items }
+    requires variables { names.now ≡ variables case.case.now.setups }
     ensures starts { IfOk result (AreStarts (functions_in sorted.now) case.entry.case.now) }
     ensures refused { IsNumbered names.now → IfErr result (IsRefusedBy ((starts : Starts)
         × AreStarts (functions_in sorted.now) case.entry.case.now starts)) }

@@ -62,7 +62,7 @@ pub(crate) fn declare_ports<'m>(
     ensures told { IfErr result (Tells (DeclaringBreaks names.old (port_name_list ports.now))) }
 {
     for port in ports {
-        declare_all(names, &port.names)?;
+        declare_all(names, port.names.as_slice())?;
     }
     Ok(())
 }
@@ -112,9 +112,9 @@ fn declare_inner<'m>(names: &mut NameSet<'m>, defined: &'m Defined) -> Result<()
     ensures told { IfErr result (Tells (DeclaringBreaks [] (inner_declared defined.now))) }
 {
     match defined {
-        Defined::Record(record) => declare_fields(names, &record.fields),
-        Defined::Component(component) => declare_ports(names, &component.ports),
-        Defined::Function(function) => declare_parameters(names, &function.parameters),
+        Defined::Record(record) => declare_fields(names, record.fields.as_slice()),
+        Defined::Component(component) => declare_ports(names, component.ports.as_slice()),
+        Defined::Function(function) => declare_parameters(names, function.parameters.as_slice()),
         Defined::List(_) | Defined::Port(_) | Defined::TestCase(_) => Ok(()),
     }
 }
@@ -233,15 +233,15 @@ pub fn check_names(alloc: Global, parsed: &Module) -> Result<CaseAt<'_>, ModuleF
     ensures case { IfOk result (λ found. test_cases parsed.now ≡ found.case.now ∷ []) }
     ensures names { OnOk result (HasUniqueNames parsed.now) }
     ensures begins { IfOk result (λ found.
-        BeginsAmong parsed.now.definitions.items found.case.now found.line) }
+        BeginsAmong parsed.now.definitions found.case.now found.line) }
     ensures refused { IfErr result (
         IsRefusedBy (HasUniqueNames parsed.now × HasOneTestCase parsed.now)) }
     ensures told { IfErr result (Tells (NamesBreak parsed.now)) }
 {
-    if !has_case(&parsed.definitions) {
+    if !has_case(parsed.definitions.as_slice()) {
         return Err(refused(ModuleRule::Unknown, parsed.line));
     }
-    match find_case(alloc, &parsed.definitions)? {
+    match find_case(alloc, parsed.definitions.as_slice())? {
         Some(found) => Ok(found),
         None => Err(refused(ModuleRule::Unknown, parsed.line)),
     }

@@ -1,5 +1,5 @@
 -- Which statement could come next where its first tokens alone may be seen.
-use Rattle.std.proofs.Common.{inl, inr, ◌⊎◌, ◌≡◌, ℕ, ◌+◌, ◌<◌, ◌≤◌, true, false, List, ◌∷◌, ◌++◌, Option, Some, length, refl, ap, sym, subst, ◌∙◌, arith, string_bytes}
+use Rattle.std.proofs.Common.{inl, inr, ◌⊎◌, ◌≡◌, ℕ, ◌+◌, ◌<◌, ◌≤◌, true, false, List, ◌∷◌, ◌++◌, Option, Some, length, refl, ap, sym, subst, ◌∙◌, arith}
 use Rattle.tp_token.specs.declared.token.Placed.{Placed}
 use Rattle.tp_token.specs.declared.token.Symbol.TheVariants.{Dot}
 use Rattle.tp_token.specs.declared.word.Word.TheVariants as w
@@ -87,14 +87,14 @@ port_seen hidden ps b kind n t ts z port told could =
     ]
 
 receive_opens : (x : Receive) (r : List Lexeme) (k : ReceiveKind) → x.kind ≡ k →
-    (ts : List Lexeme) × (receive_lexemes x ++ r ≡ name (string_bytes x.port) ∷ symbol Dot ∷ word (receive_word k) ∷ ts)
+    (ts : List Lexeme) × (receive_lexemes x ++ r ≡ name x.port ∷ symbol Dot ∷ word (receive_word k) ∷ ts)
 unfolding receive_lexemes
 receive_opens x r receive_kind.Receive is =
-    (_, ap (λ (k : ReceiveKind). (name (string_bytes x.port) ∷ symbol Dot ∷ operation_lexemes k (received_lexemes x)) ++ r) is)
+    (_, ap (λ (k : ReceiveKind). (name x.port ∷ symbol Dot ∷ operation_lexemes k (received_lexemes x)) ++ r) is)
 receive_opens x r receive_kind.Trigger is =
-    (_, ap (λ (k : ReceiveKind). (name (string_bytes x.port) ∷ symbol Dot ∷ operation_lexemes k (received_lexemes x)) ++ r) is)
+    (_, ap (λ (k : ReceiveKind). (name x.port ∷ symbol Dot ∷ operation_lexemes k (received_lexemes x)) ++ r) is)
 receive_opens x r receive_kind.Check is =
-    (_, ap (λ (k : ReceiveKind). (name (string_bytes x.port) ∷ symbol Dot ∷ operation_lexemes k (received_lexemes x)) ++ r) is)
+    (_, ap (λ (k : ReceiveKind). (name x.port ∷ symbol Dot ∷ operation_lexemes k (received_lexemes x)) ++ r) is)
 
 operation_zero : (o : PortOperation) → is_zero (port_operation_lexeme o) ≡ false
 operation_zero port_operation.Start = refl
@@ -114,12 +114,12 @@ one_seen hidden ps b kind t ts z told could =
 kind_seen : (hidden : ℕ) (k : Kind) (more : List Lexeme) (ps : List Placed) (b : Beginning) → Says ps b → (is_name_in (token_at ps 0) ≡ true → IsOfPort b) →
     CouldBe hidden ps (kind_lexemes k ++ more) → IsUntold hidden ps b ⊎ (b ≡ kind_beginning k)
 unfolding send_lexemes control_lexemes all_ports_lexemes set_verdict_lexemes
-kind_seen hidden (sends x) more ps b says port could = port_seen hidden ps b begins.Send (string_bytes x.port) (word w.Send) _ refl port says.send could
+kind_seen hidden (sends x) more ps b says port could = port_seen hidden ps b begins.Send x.port (word w.Send) _ refl port says.send could
 kind_seen hidden (receives x) more ps b says port could =
     let o = receive_opens x more x.kind refl in
-    port_seen hidden ps b begins.Receive (string_bytes x.port) (word (receive_word x.kind)) o.0 refl port (says.receive x.kind) (read_as o.1 could)
+    port_seen hidden ps b begins.Receive x.port (word (receive_word x.kind)) o.0 refl port (says.receive x.kind) (read_as o.1 could)
 kind_seen hidden (controls x) more ps b says port could =
-    port_seen hidden ps b begins.Control (string_bytes x.port) (port_operation_lexeme x.operation) _ (operation_zero x.operation) port
+    port_seen hidden ps b begins.Control x.port (port_operation_lexeme x.operation) _ (operation_zero x.operation) port
     (says.control x.operation) could
 kind_seen hidden (all_controls x) more ps b says port could = one_seen hidden ps b begins.AllPorts (word w.All) _ refl says.all_ports could
 kind_seen hidden (sets x) more ps b says port could = one_seen hidden ps b begins.SetVerdict (word w.Setverdict) _ refl says.set_verdict could

@@ -11,11 +11,11 @@ use Rattle.tp_syntax.specs.Reading.{AllStand}
 use Rattle.tp_syntax.proofs.PartsLeftToRead.{parts_stand}
 
 -- the directions of a port type may stand before its `}`
-pub directions_stand : (x : PortType) (ts : List Lexeme) → (defined_part (defined.Port x)).is_right ≡ true → AllStand (map direction_part x.directions.items) (symbol RightBrace ∷ ts)
+pub directions_stand : (x : PortType) (ts : List Lexeme) → (defined_part (defined.Port x)).is_right ≡ true → AllStand (map direction_part x.directions) (symbol RightBrace ∷ ts)
 directions_stand x ts right =
-    parts_stand (map direction_part x.directions.items) (symbol RightBrace ∷ ts)
-    (and_parts (has_one x.directions.items) (are_parts (map direction_part x.directions.items)) right).1 refl
+    parts_stand (map direction_part x.directions) (symbol RightBrace ∷ ts)
+    (and_parts (has_one x.directions) (are_parts (map direction_part x.directions)) right).1 refl
 
 -- the declarations of a component type may stand before its `}`
-pub ports_stand : (x : ComponentType) (ts : List Lexeme) → (defined_part (defined.Component x)).is_right ≡ true → AllStand (map port_declaration_part x.ports.items) (symbol RightBrace ∷ ts)
-ports_stand x ts right = parts_stand (map port_declaration_part x.ports.items) (symbol RightBrace ∷ ts) right refl
+pub ports_stand : (x : ComponentType) (ts : List Lexeme) → (defined_part (defined.Component x)).is_right ≡ true → AllStand (map port_declaration_part x.ports) (symbol RightBrace ∷ ts)
+ports_stand x ts right = parts_stand (map port_declaration_part x.ports) (symbol RightBrace ∷ ts) right refl

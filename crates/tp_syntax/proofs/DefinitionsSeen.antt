@@ -1,5 +1,5 @@
 -- Parameters, functions and definitions by what is seen of them.
-use Rattle.std.proofs.Common.{inl, inr, ◌⊎◌, ◌≡◌, ◌≢◌, ℕ, ◌+◌, ◌<◌, Bool, true, false, not, List, [], ◌∷◌, ◌++◌, Option, Some, map, length, refl, ap, sym, subst, ◌∙◌, append_assoc, string_bytes, arith}
+use Rattle.std.proofs.Common.{inl, inr, ◌⊎◌, ◌≡◌, ◌≢◌, ℕ, ◌+◌, ◌<◌, Bool, true, false, not, List, [], ◌∷◌, ◌++◌, Option, Some, map, length, refl, ap, sym, subst, ◌∙◌, append_assoc, arith}
 use Rattle.std.specs.List.{AllByRecursion}
 use Rattle.std.proofs.lemmas.Bool.{false≢true}
 use Rattle.tp_token.specs.declared.token.Placed.{Placed}
@@ -34,17 +34,17 @@ some_seen f P hidden (x ∷ xs) u more ps all z e other could = inl (first_part_
 pub no_parameter : (hidden : ℕ) (xs : List Parameter) (more : List Lexeme) (ps : List Placed) → token_at ps 0 ≡ Some (symbol RightParen) →
     CouldBe hidden ps (parameters_lexemes xs ++ more) → CouldBe hidden ps more
 no_parameter hidden [] more ps closes could = could
-no_parameter hidden (x ∷ xs) more ps closes could = hidden_could (absent_seen hidden ps (name (string_bytes x.type_name)) _ refl could (λ at. cc (closes, at)))
+no_parameter hidden (x ∷ xs) more ps closes could = hidden_could (absent_seen hidden ps (name x.type_name) _ refl could (λ at. cc (closes, at)))
 
 -- the tokens of a function and of a module, one after the other
-pub function_opens : (x : Function) (more : List Lexeme) → function_lexemes x ++ more ≡ word w.Function ∷ name (string_bytes x.name) ∷ symbol LeftParen
-    ∷ (parameters_lexemes x.parameters.items ++ symbol RightParen ∷ word w.Runs ∷ word w.On ∷ name (string_bytes x.runs_on) ∷ symbol LeftBrace
-    ∷ (variables_lexemes x.variables.items ++ (statements_lexemes x.statements.items ++ symbol RightBrace ∷ more)))
+pub function_opens : (x : Function) (more : List Lexeme) → function_lexemes x ++ more ≡ word w.Function ∷ name x.name ∷ symbol LeftParen
+    ∷ (parameters_lexemes x.parameters ++ symbol RightParen ∷ word w.Runs ∷ word w.On ∷ name x.runs_on ∷ symbol LeftBrace
+    ∷ (variables_lexemes x.variables ++ (statements_lexemes x.statements ++ symbol RightBrace ∷ more)))
 unfolding function_lexemes
 function_opens x more = simp append_assoc
 
-pub module_opens : (x : Module) (more : List Lexeme) → module_lexemes x ++ more ≡ word w.Module ∷ name (string_bytes x.name) ∷ symbol LeftBrace
-    ∷ (definitions_lexemes x.definitions.items ++ symbol RightBrace ∷ (end_lexemes x.has_semicolon ++ more))
+pub module_opens : (x : Module) (more : List Lexeme) → module_lexemes x ++ more ≡ word w.Module ∷ name x.name ∷ symbol LeftBrace
+    ∷ (definitions_lexemes x.definitions ++ symbol RightBrace ∷ (end_lexemes x.has_semicolon ++ more))
 module_opens x more = simp append_assoc
 
 -- statements of a function aren't cut before `all component`
@@ -125,17 +125,17 @@ record ThreeTokens (x : Defined) (r : List Lexeme) : Type 0 where
 three_tokens : (x : Defined) (r : List Lexeme) → ThreeTokens x r
 unfolding is_of defined_lexemes record_type_lexemes list_type_lexemes port_type_lexemes component_type_lexemes function_lexemes test_case_lexemes
 three_tokens (defined.Record t) r =
-    record { one = word w.Type; two = word w.Record; three = name (string_bytes t.name); rest = _; are = refl; one_is = refl; two_is = refl; three_is = refl; ended = refl }
+    record { one = word w.Type; two = word w.Record; three = name t.name; rest = _; are = refl; one_is = refl; two_is = refl; three_is = refl; ended = refl }
 three_tokens (defined.List t) r =
     record { one = word w.Type; two = word w.Record; three = word w.Of; rest = _; are = refl; one_is = refl; two_is = refl; three_is = refl; ended = refl }
 three_tokens (defined.Port t) r =
-    record { one = word w.Type; two = word w.Port; three = name (string_bytes t.name); rest = _; are = refl; one_is = refl; two_is = refl; three_is = refl; ended = refl }
+    record { one = word w.Type; two = word w.Port; three = name t.name; rest = _; are = refl; one_is = refl; two_is = refl; three_is = refl; ended = refl }
 three_tokens (defined.Component t) r =
-    record { one = word w.Type; two = word w.Component; three = name (string_bytes t.name); rest = _; are = refl; one_is = refl; two_is = refl; three_is = refl; ended = refl }
+    record { one = word w.Type; two = word w.Component; three = name t.name; rest = _; are = refl; one_is = refl; two_is = refl; three_is = refl; ended = refl }
 three_tokens (defined.Function t) r =
-    record { one = word w.Function; two = name (string_bytes t.name); three = symbol LeftParen; rest = _; are = refl; one_is = refl; two_is = refl; three_is = refl; ended = refl }
+    record { one = word w.Function; two = name t.name; three = symbol LeftParen; rest = _; are = refl; one_is = refl; two_is = refl; three_is = refl; ended = refl }
 three_tokens (defined.TestCase t) r =
-    record { one = word w.Testcase; two = name (string_bytes t.name); three = symbol LeftParen; rest = _; are = refl; one_is = refl; two_is = refl; three_is = refl; ended = refl }
+    record { one = word w.Testcase; two = name t.name; three = symbol LeftParen; rest = _; are = refl; one_is = refl; two_is = refl; three_is = refl; ended = refl }
 
 -- what comes next and what could end in a `}` likewise, or the third token is hidden
 pub same_closed_seen : (hidden : ℕ) (x y : Defined) (ps : List Placed) (ts us : List Lexeme) → ahead ps ≡ defined_lexemes x ++ ts → CouldBe hidden ps (defined_lexemes y ++ us) →

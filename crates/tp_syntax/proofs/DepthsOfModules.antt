@@ -1,5 +1,5 @@
 -- A module nests as deep as brackets are open among its tokens, so it nests at most 32 deep where they are within the limits.
-use Rattle.std.proofs.Common.{◌≡◌, ℕ, suc, ◌+◌, ◌<◌, ◌≤◌, true, false, List, [], ◌∷◌, ◌++◌, map, refl, sym, subst, append-nil, arith, string_bytes}
+use Rattle.std.proofs.Common.{◌≡◌, ℕ, suc, ◌+◌, ◌<◌, ◌≤◌, true, false, List, [], ◌∷◌, ◌++◌, map, refl, sym, subst, append-nil, arith}
 use Rattle.std.specs.List.{AllByRecursion}
 use Rattle.tp_token.specs.declared.word.Word.TheVariants as w
 use Rattle.tp_token.specs.declared.token.Symbol.TheVariants.{LeftParen, RightParen}
@@ -35,35 +35,35 @@ statements_nested {k} ss right =
     (omega arith) right in
     some_beside k (all_nested statement_lexemes statement_depth 0 ss each)
 
-function_nested : (x : Function) → are_parts (map variable_part x.variables.items ++ statements_parts x.statements.items) ≡ true →
-    IsNested (statements_depth x.statements.items + 1) 3 (function_lexemes x)
+function_nested : (x : Function) → are_parts (map variable_part x.variables ++ statements_parts x.statements) ≡ true →
+    IsNested (statements_depth x.statements + 1) 3 (function_lexemes x)
 unfolding function_lexemes
 function_nested x right =
-    let variables = map variable_part x.variables.items in
-    let are = right_behind variables (statements_parts x.statements.items) (parts_right (variables ++ statements_parts x.statements.items) right) in
-    let block = braced_nested (behind_flat (variables_flat {k = 2} x.variables.items) (statements_nested x.statements.items (right_each statement_part x.statements.items are))) in
-    free_before (word w.Function) refl (free_before (name (string_bytes x.name)) refl
-    (behind_flat (three_beside (flat_parenthesised 0 (parameters_flat x.parameters.items)))
-    (free_before (word w.Runs) refl (free_before (word w.On) refl (free_before (name (string_bytes x.runs_on)) refl block)))))
+    let variables = map variable_part x.variables in
+    let are = right_behind variables (statements_parts x.statements) (parts_right (variables ++ statements_parts x.statements) right) in
+    let block = braced_nested (behind_flat (variables_flat {k = 2} x.variables) (statements_nested x.statements (right_each statement_part x.statements are))) in
+    free_before (word w.Function) refl (free_before (name x.name) refl
+    (behind_flat (three_beside (flat_parenthesised 0 (parameters_flat x.parameters)))
+    (free_before (word w.Runs) refl (free_before (word w.On) refl (free_before (name x.runs_on) refl block)))))
 
-behaviour_nested : (x : TestCase) → are_parts (behaviour_parts x) ≡ true → IsNested (statements_depth x.statements.items) 2 (behaviour_lexemes x)
+behaviour_nested : (x : TestCase) → are_parts (behaviour_parts x) ≡ true → IsNested (statements_depth x.statements) 2 (behaviour_lexemes x)
 unfolding behaviour_lexemes
 behaviour_nested x right =
-    let setups = map setup_part x.setups.items in
-    let starts = map start_part x.starts.items in
-    let variables = map variable_part x.variables.items in
-    let ends = statements_parts x.statements.items ++ all_done_parts x.all_done in
+    let setups = map setup_part x.setups in
+    let starts = map start_part x.starts in
+    let variables = map variable_part x.variables in
+    let ends = statements_parts x.statements ++ all_done_parts x.all_done in
     let are = right_behind variables ends (right_behind starts (variables ++ ends) (right_behind setups (starts ++ (variables ++ ends)) (parts_right (behaviour_parts x) right))) in
-    let statements = statements_nested {k = 2} x.statements.items (right_before statement_part x.statements.items (all_done_parts x.all_done) are) in
-    behind_flat (nested_within 0 2 (omega arith) (omega arith) (omega arith) (setups_flat x.setups.items))
-    (behind_flat (starts_flat x.starts.items) (behind_flat (variables_flat x.variables.items) (flat_behind statements (all_done_flat x.all_done))))
+    let statements = statements_nested {k = 2} x.statements (right_before statement_part x.statements (all_done_parts x.all_done) are) in
+    behind_flat (nested_within 0 2 (omega arith) (omega arith) (omega arith) (setups_flat x.setups))
+    (behind_flat (starts_flat x.starts) (behind_flat (variables_flat x.variables) (flat_behind statements (all_done_flat x.all_done))))
 
-test_case_nested : (x : TestCase) → are_parts (behaviour_parts x) ≡ true → IsNested (statements_depth x.statements.items + 1) 3 (test_case_lexemes x)
+test_case_nested : (x : TestCase) → are_parts (behaviour_parts x) ≡ true → IsNested (statements_depth x.statements + 1) 3 (test_case_lexemes x)
 unfolding test_case_lexemes
 test_case_nested x right =
     let parentheses : IsNested 0 3 (symbol LeftParen ∷ symbol RightParen ∷ []) = flat_parenthesised 2 none_nested in
-    free_before (word w.Testcase) refl (free_before (name (string_bytes x.name)) refl
-    (behind_flat parentheses (free_before (word w.Runs) refl (free_before (word w.On) refl (free_before (name (string_bytes x.runs_on)) refl
+    free_before (word w.Testcase) refl (free_before (name x.name) refl
+    (behind_flat parentheses (free_before (word w.Runs) refl (free_before (word w.On) refl (free_before (name x.runs_on) refl
     (behind_flat (system_flat x.system) (braced_nested (behaviour_nested x right))))))))
 
 defined_nested : (x : Defined) → (defined_part x).is_right ≡ true → IsNested (defined_depth x) 3 (defined_lexemes x)
@@ -87,8 +87,8 @@ definitions_nested xs right =
 -- a module nests as deep as it says, and the brackets that it doesn't count nest four deep at most
 pub module_nested : (m : Module) → IsGrammatical m → IsNested (module_depth m) 4 (module_lexemes m)
 module_nested m right =
-    free_before (word w.Module) refl (free_before (name (string_bytes m.name)) refl
-    (flat_behind (braced_nested (definitions_nested m.definitions.items right)) (end_nested m.has_semicolon)))
+    free_before (word w.Module) refl (free_before (name m.name) refl
+    (flat_behind (braced_nested (definitions_nested m.definitions right)) (end_nested m.has_semicolon)))
 
 module_within : (m : Module) → IsGrammatical m → module_depth m ≤ 32 → Allowed 0 false (module_lexemes m)
 module_within m right deep =

@@ -1,7 +1,5 @@
 -- Operations nest as deep as brackets are open among their tokens.
-use Rattle.std.proofs.Common.{◌≡◌, ℕ, ◌+◌, Bool, true, false, List, [], ◌∷◌, ◌++◌, Option, Some, None, refl, append_assoc, arith, string_bytes}
-use Rattle.std.specs.declared.string.String.{String}
-use Rattle.std.specs.declared.alloc.Global.{Global}
+use Rattle.std.proofs.Common.{◌≡◌, ℕ, ◌+◌, Bool, true, false, List, [], ◌∷◌, ◌++◌, Option, Some, None, refl, append_assoc, arith}
 use Rattle.tp_event.specs.declared.operation.PortOperation.{PortOperation}
 use Rattle.tp_event.specs.declared.operation.PortOperation.TheVariants as port_operation
 use Rattle.tp_event.specs.declared.operation.ReceiveKind.{ReceiveKind}
@@ -42,17 +40,17 @@ pub type_nested : {k : ℕ} (x : TypeName) → IsNested 0 k (type_lexemes x)
 type_nested type_name.Integer = one_free (word w.Integer) refl
 type_nested type_name.Boolean = one_free (word w.Boolean) refl
 type_nested type_name.Charstring = one_free (word w.Charstring) refl
-type_nested (type_name.Named n) = one_free (name (string_bytes n)) refl
+type_nested (type_name.Named n) = one_free (name n) refl
 
 -- a component has no brackets
 pub component_nested : {k : ℕ} (x : ComponentName) → IsNested 0 k (component_lexemes x)
-component_nested (component_name.Named n) = one_free (name (string_bytes n)) refl
+component_nested (component_name.Named n) = one_free (name n) refl
 component_nested component_name.Mtc = one_free (word w.Mtc) refl
 component_nested component_name.SelfComponent = one_free (word w.SelfWord) refl
 
 sent_nested : (x : SentExpression) → is_sent x ≡ true → IsNested (sent_depth x) 0 (sent_lexemes x)
 sent_nested (sent.Message m) right = behind_flat (type_nested m.type_name) (free_before (symbol Colon) refl (value_nested m.value right))
-sent_nested (sent.Variable n) right = one_free (name (string_bytes n)) refl
+sent_nested (sent.Variable n) right = one_free (name n) refl
 
 to_nested : (x : Option Receivers) → IsNested 0 0 (to_lexemes x)
 to_nested None = none_nested
@@ -63,7 +61,7 @@ to_nested (Some destination.AllComponents) = free_before (word w.To) refl (free_
 pub send_nested : (x : Send) → is_sent x.sent ≡ true → IsNested (sent_depth x.sent + 1) 0 (send_lexemes x)
 unfolding send_lexemes
 send_nested x right =
-    free_before (name (string_bytes x.port)) refl (free_before (symbol Dot) refl (free_before (word w.Send) refl
+    free_before (name x.port) refl (free_before (symbol Dot) refl (free_before (word w.Send) refl
     (flat_behind (none_beside (omega arith) (parenthesised_nested (sent_nested x.sent right))) (to_nested x.to))))
 
 part_nested : (x : Option MessageTemplate) → is_template_part x ≡ true → IsNested (part_depth x) 0 (template_part x)
@@ -75,13 +73,13 @@ from_nested : (x : Option ComponentName) → IsNested 0 0 (from_lexemes x)
 from_nested None = none_nested
 from_nested (Some c) = free_before (word w.From) refl (component_nested c)
 
-redirect_nested : (v s : Option (String Global)) → IsNested 0 0 (redirect_parts v s)
+redirect_nested : (v s : Option (List ℕ)) → IsNested 0 0 (redirect_parts v s)
 redirect_nested None None = none_nested
-redirect_nested None (Some s) = free_before (symbol Arrow) refl (free_before (word w.Sender) refl (one_free (name (string_bytes s)) refl))
-redirect_nested (Some v) None = free_before (symbol Arrow) refl (free_before (word w.Value) refl (one_free (name (string_bytes v)) refl))
+redirect_nested None (Some s) = free_before (symbol Arrow) refl (free_before (word w.Sender) refl (one_free (name s) refl))
+redirect_nested (Some v) None = free_before (symbol Arrow) refl (free_before (word w.Value) refl (one_free (name v) refl))
 redirect_nested (Some v) (Some s) =
-    free_before (symbol Arrow) refl (free_before (word w.Value) refl (free_before (name (string_bytes v)) refl
-    (free_before (word w.Sender) refl (one_free (name (string_bytes s)) refl))))
+    free_before (symbol Arrow) refl (free_before (word w.Value) refl (free_before (name v) refl
+    (free_before (word w.Sender) refl (one_free (name s) refl))))
 
 operation_nested : (k : ReceiveKind) (d : ℕ) (ts : List Lexeme) → IsNested d 0 ts → IsNested (operation_depth k d) 0 (operation_lexemes k ts)
 operation_nested receive_kind.Receive d ts n = free_before (word w.Receive) refl n
@@ -93,7 +91,7 @@ operation_nested receive_kind.Check d ts n =
 pub receive_nested : (x : Receive) → is_template_part x.template ≡ true → IsNested (receive_depth x) 0 (receive_lexemes x)
 unfolding receive_lexemes received_lexemes
 receive_nested x right =
-    free_before (name (string_bytes x.port)) refl (free_before (symbol Dot) refl
+    free_before (name x.port) refl (free_before (symbol Dot) refl
     (operation_nested x.kind (part_depth x.template) (received_lexemes x)
     (flat_behind (part_nested x.template right) (behind_flat (from_nested x.sender) (redirect_nested x.redirect.value x.redirect.sender)))))
 
@@ -107,7 +105,7 @@ port_operation_free port_operation.Clear = refl
 pub control_nested : (x : Control) → IsNested 0 0 (control_lexemes x)
 unfolding control_lexemes
 control_nested x =
-    free_before (name (string_bytes x.port)) refl (free_before (symbol Dot) refl (one_free (port_operation_lexeme x.operation) (port_operation_free x.operation)))
+    free_before (name x.port) refl (free_before (symbol Dot) refl (one_free (port_operation_lexeme x.operation) (port_operation_free x.operation)))
 
 -- nor has one on all ports
 pub all_ports_nested : (x : PortOperation) → IsNested 0 0 (all_ports_lexemes x)

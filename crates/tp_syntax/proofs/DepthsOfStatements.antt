@@ -1,5 +1,5 @@
 -- Statements nest as deep as brackets are open among their tokens.
-use Rattle.std.proofs.Common.{◌≡◌, ℕ, zero, suc, ◌+◌, ◌<◌, max, true, ◌&&◌, List, [], ◌∷◌, ◌++◌, Option, Some, None, refl, ap, sym, subst, ◌∙◌, arith, string_bytes}
+use Rattle.std.proofs.Common.{◌≡◌, ℕ, zero, suc, ◌+◌, ◌<◌, max, true, ◌&&◌, List, [], ◌∷◌, ◌++◌, Option, Some, None, refl, ap, sym, subst, ◌∙◌, arith}
 use Rattle.std.proofs.lemmas.Bool.{and_parts}
 use Rattle.tp_token.specs.declared.word.Word.TheVariants as w
 use Rattle.tp_token.specs.declared.token.Symbol.TheVariants.{LeftBracket, RightBracket}
@@ -39,9 +39,9 @@ body_nested n below x =
     body_cases (λ x. body_depth x < n → (body_part x).is_right ≡ true → IsNested (body_depth x) 0 (body_lexemes x))
     (λ less right. nested_as tokens.body_nothing nesting.body_depth_nothing none_nested)
     (λ ss less right.
-    let fits : statements_depth ss.items < n = omega (arith, nesting.body_depth_block ss) in
+    let fits : statements_depth ss < n = omega (arith, nesting.body_depth_block ss) in
     nested_as (tokens.body_block ss) (nesting.body_depth_block ss)
-    (block_nested n below ss.items fits (sym (ap (λ (p : Part). p.is_right) (grammar.body_block ss)) ∙ right)))
+    (block_nested n below ss fits (sym (ap (λ (p : Part). p.is_right) (grammar.body_block ss)) ∙ right)))
     x
 
 branch_nested : (n : ℕ) → StatementsBelow n → (x : Branch) → branch_depth x < n → (branch_part x).is_right ≡ true → IsNested (branch_depth x) 0 (branch_lexemes x)
@@ -58,8 +58,8 @@ else_nested : (n : ℕ) → StatementsBelow n → (x : ElseBranch) → else_bran
     IsNested (else_branch_depth x) 0 (else_branch_lexemes x)
 else_nested n below x less right =
     let u = out-ElseBranch x in
-    let fits : statements_depth u.block.items < n = omega (arith, nesting.else_branch_depth_out x) in
-    let block = block_nested n below u.block.items fits (sym (ap (λ (p : Part). p.is_right) (grammar.else_branch_out x)) ∙ right) in
+    let fits : statements_depth u.block < n = omega (arith, nesting.else_branch_depth_out x) in
+    let block = block_nested n below u.block fits (sym (ap (λ (p : Part). p.is_right) (grammar.else_branch_out x)) ∙ right) in
     let brackets : IsNested 1 0 (symbol LeftBracket ∷ word w.Else ∷ symbol RightBracket ∷ []) =
     none_beside (omega arith) (bracketed_nested LeftBracket RightBracket refl refl (free_before (word w.Else) refl (none_nested {k = 0}))) in
     nested_as (tokens.else_branch_out x) (nesting.else_branch_depth_out x)
@@ -73,13 +73,13 @@ otherwise_nested n below (Some x) less right = else_nested n below x less right.
 counted_nested : (n : ℕ) → StatementsBelow n → (x : Counted) → counted_depth x < suc n → (counted_part x).is_right ≡ true → IsNested (counted_depth x) 0 (counted_lexemes x)
 counted_nested n below x less right =
     let u = out-Counted x in
-    let both = and_parts (is_64_bit u.turns.first) (is_64_bit u.turns.bound && are_parts (statements_parts u.block.items))
+    let both = and_parts (is_64_bit u.turns.first) (is_64_bit u.turns.bound && are_parts (statements_parts u.block))
     (sym (ap (λ (p : Part). p.is_right) (grammar.counted_out x)) ∙ right) in
-    let more = and_parts (is_64_bit u.turns.bound) (are_parts (statements_parts u.block.items)) both.1 in
-    let fits : statements_depth u.block.items < n = omega (arith, nesting.counted_depth_out x) in
+    let more = and_parts (is_64_bit u.turns.bound) (are_parts (statements_parts u.block)) both.1 in
+    let fits : statements_depth u.block < n = omega (arith, nesting.counted_depth_out x) in
     nested_as (tokens.counted_out x) (nesting.counted_depth_out x)
-    (for_nested (statements_depth u.block.items) (string_bytes u.turns.name) (int_nested u.turns.first both.0) (int_nested u.turns.bound more.0)
-    (block_nested n below u.block.items fits more.1))
+    (for_nested (statements_depth u.block) u.turns.name (int_nested u.turns.first both.0) (int_nested u.turns.bound more.0)
+    (block_nested n below u.block fits more.1))
 
 alt_nested : (n : ℕ) → StatementsBelow n → (bs : List Branch) (e : Option ElseBranch) → max (branches_depth bs) (otherwise_depth e) < n →
     are_parts (branches_parts bs ++ otherwise_parts e) ≡ true →
@@ -103,10 +103,10 @@ action_nested n below x =
       all_ports = λ x less right. nested_as (tokens.action_all_ports x) (nesting.action_depth_all_ports x) (all_ports_nested x);
       set_verdict = λ x less right. nested_as (tokens.action_set_verdict x) (nesting.action_depth_set_verdict x) (set_verdict_nested x);
       alt = λ bs e less right.
-          let both = and_parts (has_one (branches_parts bs.items ++ otherwise_parts e)) (are_parts (branches_parts bs.items ++ otherwise_parts e))
+          let both = and_parts (has_one (branches_parts bs ++ otherwise_parts e)) (are_parts (branches_parts bs ++ otherwise_parts e))
           (sym (ap (λ (p : Part). p.is_right) (grammar.action_alt bs e)) ∙ right) in
-          let fits : max (branches_depth bs.items) (otherwise_depth e) < n = omega (arith, nesting.action_depth_alt bs e) in
-          nested_as (tokens.action_alt bs e) (nesting.action_depth_alt bs e) (alt_nested n below bs.items e fits both.1);
+          let fits : max (branches_depth bs) (otherwise_depth e) < n = omega (arith, nesting.action_depth_alt bs e) in
+          nested_as (tokens.action_alt bs e) (nesting.action_depth_alt bs e) (alt_nested n below bs e fits both.1);
       counted = λ x less right.
           nested_as (tokens.action_for x) (nesting.action_depth_for x)
           (counted_nested n below x (subst (λ i. i < suc n) (nesting.action_depth_for x) less) (sym (ap (λ (p : Part). p.is_right) (grammar.action_for x)) ∙ right));

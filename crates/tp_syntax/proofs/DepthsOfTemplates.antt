@@ -1,5 +1,5 @@
 -- Templates nest as deep as brackets are open among their tokens.
-use Rattle.std.proofs.Common.{◌≡◌, ℕ, zero, suc, ◌<◌, ℤ, true, List, ◌∷◌, ◌++◌, Option, Some, None, map, refl, sym, subst, ◌∙◌, arith, string_bytes}
+use Rattle.std.proofs.Common.{◌≡◌, ℕ, zero, suc, ◌<◌, ℤ, true, List, ◌∷◌, ◌++◌, Option, Some, None, map, refl, sym, subst, ◌∙◌, arith}
 use Rattle.std.specs.List.{AllByRecursion}
 use Rattle.std.proofs.lemmas.Bool.{and_parts}
 use Rattle.tp_token.specs.declared.word.Word.TheVariants as w
@@ -30,7 +30,7 @@ field_nested n below f less right =
     let t = (out-TemplateField f).template in
     let inner = below t (subst (λ i. i < n) (nesting.template_field_depth_out f) less) (sym (grammar.template_field_out f) ∙ right) in
     nested_as (tokens.template_field_out f) (nesting.template_field_depth_out f)
-    (free_before (name (string_bytes (out-TemplateField f).name)) refl (free_before (symbol Assign) refl inner))
+    (free_before (name (out-TemplateField f).name) refl (free_before (symbol Assign) refl inner))
 
 templates_nested : (n : ℕ) → TemplatesBelow n → (ts : List Template) → deepest (map template_depth ts) < n → AllByRecursion (λ x. is_template x ≡ true) ts →
     IsNested (deepest (map template_depth ts)) 0 (by_commas (map template_lexemes ts))
@@ -60,33 +60,33 @@ template_step n below x =
     template_cases (λ x. template_depth x < suc n → is_template x ≡ true → IsNested (template_depth x) 0 (template_lexemes x)) (record {
       int = λ z less right. nested_as (tokens.template_int z) (nesting.template_depth_int z) (int_nested z (sym (grammar.template_int z) ∙ right));
       bool = λ b less right. nested_as (tokens.template_bool b) (nesting.template_depth_bool b) (bool_nested b);
-      characters = λ cs less right. nested_as (tokens.template_text cs) (nesting.template_depth_text cs) (one_free (text cs.items) refl);
-      named = λ s less right. nested_as (tokens.template_name s) (nesting.template_depth_name s) (one_free (name (string_bytes s)) refl);
+      characters = λ cs less right. nested_as (tokens.template_text cs) (nesting.template_depth_text cs) (one_free (text cs) refl);
+      named = λ s less right. nested_as (tokens.template_name s) (nesting.template_depth_name s) (one_free (name s) refl);
       any = λ less right. nested_as tokens.template_any nesting.template_depth_any (one_free (symbol Question) refl);
       any_or_none = λ less right. nested_as tokens.template_any_or_none nesting.template_depth_any_or_none (one_free (symbol Star) refl);
       one_of = λ ts less right.
-          let fits : deepest (map template_depth ts.items) < n = omega (arith, nesting.template_depth_one_of ts) in
+          let fits : deepest (map template_depth ts) < n = omega (arith, nesting.template_depth_one_of ts) in
           nested_as (tokens.template_one_of ts) (nesting.template_depth_one_of ts)
-          (none_beside (omega arith) (parenthesised_nested (templates_nested n below ts.items fits (one_right is_template ts.items (sym (grammar.template_one_of ts) ∙ right)))));
+          (none_beside (omega arith) (parenthesised_nested (templates_nested n below ts fits (one_right is_template ts (sym (grammar.template_one_of ts) ∙ right)))));
       complement = λ ts less right.
-          let fits : deepest (map template_depth ts.items) < n = omega (arith, nesting.template_depth_complement ts) in
+          let fits : deepest (map template_depth ts) < n = omega (arith, nesting.template_depth_complement ts) in
           nested_as (tokens.template_complement ts) (nesting.template_depth_complement ts)
           (free_before (word w.Complement) refl
           (none_beside (omega arith)
-          (parenthesised_nested (templates_nested n below ts.items fits (one_right is_template ts.items (sym (grammar.template_complement ts) ∙ right))))));
+          (parenthesised_nested (templates_nested n below ts fits (one_right is_template ts (sym (grammar.template_complement ts) ∙ right))))));
       range = λ low high less right.
           let both = and_parts (is_bound low) (is_bound high) (sym (grammar.template_range low high) ∙ right) in
           nested_as (tokens.template_range low high) (nesting.template_depth_range low high) (range_nested low high both.0 both.1);
       pattern = λ cs less right.
-          nested_as (tokens.template_pattern cs) (nesting.template_depth_pattern cs) (free_before (word w.Pattern) refl (one_free (text cs.items) refl));
+          nested_as (tokens.template_pattern cs) (nesting.template_depth_pattern cs) (free_before (word w.Pattern) refl (one_free (text cs) refl));
       list = λ ts less right.
-          let fits : deepest (map template_depth ts.items) < n = omega (arith, nesting.template_depth_list ts) in
+          let fits : deepest (map template_depth ts) < n = omega (arith, nesting.template_depth_list ts) in
           nested_as (tokens.template_list ts) (nesting.template_depth_list ts)
-          (none_beside (omega arith) (braced_nested (templates_nested n below ts.items fits (all_right is_template ts.items (sym (grammar.template_list ts) ∙ right)))));
+          (none_beside (omega arith) (braced_nested (templates_nested n below ts fits (all_right is_template ts (sym (grammar.template_list ts) ∙ right)))));
       fields = λ fs less right.
-          let fits : deepest (map template_field_depth fs.items) < n = omega (arith, nesting.template_depth_record fs) in
+          let fits : deepest (map template_field_depth fs) < n = omega (arith, nesting.template_depth_record fs) in
           nested_as (tokens.template_record fs) (nesting.template_depth_record fs)
-          (none_beside (omega arith) (braced_nested (fields_nested n below fs.items fits (one_right is_template_field fs.items (sym (grammar.template_record fs) ∙ right)))));
+          (none_beside (omega arith) (braced_nested (fields_nested n below fs fits (one_right is_template_field fs (sym (grammar.template_record fs) ∙ right)))));
     }) x
 
 template_up_to : (n : ℕ) → TemplatesBelow n

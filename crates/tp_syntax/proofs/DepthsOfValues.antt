@@ -1,5 +1,5 @@
 -- Values nest as deep as brackets are open among their tokens.
-use Rattle.std.proofs.Common.{◌≡◌, ℕ, zero, suc, ◌<◌, Bool, true, false, [], ◌∷◌, map, refl, sym, subst, ◌∙◌, arith, string_bytes}
+use Rattle.std.proofs.Common.{◌≡◌, ℕ, zero, suc, ◌<◌, Bool, true, false, [], ◌∷◌, map, refl, sym, subst, ◌∙◌, arith}
 use Rattle.tp_token.specs.declared.word.Word.TheVariants as w
 use Rattle.tp_token.specs.declared.token.Symbol.TheVariants.{Assign}
 use Rattle.tp_token.specs.Lexeme.{name, text, word, symbol}
@@ -30,26 +30,26 @@ field_nested n below f less right =
     let v = (out-ValueField f).value in
     let inner = below v (subst (λ i. i < n) (nesting.value_field_depth_out f) less) (sym (grammar.value_field_out f) ∙ right) in
     nested_as (tokens.value_field_out f) (nesting.value_field_depth_out f)
-    (free_before (name (string_bytes (out-ValueField f).name)) refl (free_before (symbol Assign) refl inner))
+    (free_before (name (out-ValueField f).name) refl (free_before (symbol Assign) refl inner))
 
 value_step : (n : ℕ) → ValuesBelow n → ValuesBelow (suc n)
 value_step n below x =
     value_cases (λ x. value_depth x < suc n → is_value x ≡ true → IsNested (value_depth x) 0 (value_lexemes x))
     (λ z less right. nested_as (tokens.value_int z) (nesting.value_depth_int z) (int_nested z (sym (grammar.value_int z) ∙ right)))
     (λ b less right. nested_as (tokens.value_bool b) (nesting.value_depth_bool b) (bool_nested b))
-    (λ cs less right. nested_as (tokens.value_text cs) (nesting.value_depth_text cs) (one_free (text cs.items) refl))
-    (λ s less right. nested_as (tokens.value_name s) (nesting.value_depth_name s) (one_free (name (string_bytes s)) refl))
+    (λ cs less right. nested_as (tokens.value_text cs) (nesting.value_depth_text cs) (one_free (text cs) refl))
+    (λ s less right. nested_as (tokens.value_name s) (nesting.value_depth_name s) (one_free (name s) refl))
     (λ vs less right.
-    let fits : deepest (map value_depth vs.items) < n = omega (arith, nesting.value_depth_list vs) in
-    let each = each_nested value_lexemes value_depth is_value 0 n below vs.items fits (all_right is_value vs.items (sym (grammar.value_list vs) ∙ right)) in
-    nested_as (tokens.value_list vs) (nesting.value_depth_list vs) (none_beside (omega arith) (braced_nested (commas_nested value_lexemes value_depth 0 vs.items each))))
+    let fits : deepest (map value_depth vs) < n = omega (arith, nesting.value_depth_list vs) in
+    let each = each_nested value_lexemes value_depth is_value 0 n below vs fits (all_right is_value vs (sym (grammar.value_list vs) ∙ right)) in
+    nested_as (tokens.value_list vs) (nesting.value_depth_list vs) (none_beside (omega arith) (braced_nested (commas_nested value_lexemes value_depth 0 vs each))))
     (λ fs less right.
-    let fits : deepest (map value_field_depth fs.items) < n = omega (arith, nesting.value_depth_record fs) in
+    let fits : deepest (map value_field_depth fs) < n = omega (arith, nesting.value_depth_record fs) in
     let each =
-    each_nested value_field_lexemes value_field_depth is_value_field 0 n (field_nested n below) fs.items fits
-    (one_right is_value_field fs.items (sym (grammar.value_record fs) ∙ right)) in
+    each_nested value_field_lexemes value_field_depth is_value_field 0 n (field_nested n below) fs fits
+    (one_right is_value_field fs (sym (grammar.value_record fs) ∙ right)) in
     nested_as (tokens.value_record fs) (nesting.value_depth_record fs)
-    (none_beside (omega arith) (braced_nested (commas_nested value_field_lexemes value_field_depth 0 fs.items each))))
+    (none_beside (omega arith) (braced_nested (commas_nested value_field_lexemes value_field_depth 0 fs each))))
     x
 
 value_up_to : (n : ℕ) → ValuesBelow n

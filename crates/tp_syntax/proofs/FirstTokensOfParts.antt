@@ -1,5 +1,5 @@
 -- With which tokens parts begin.
-use Rattle.std.proofs.Common.{◌≡◌, true, false, List, [], ◌∷◌, ◌++◌, Some, refl, string_bytes}
+use Rattle.std.proofs.Common.{◌≡◌, true, false, List, [], ◌∷◌, ◌++◌, Some, refl}
 use Rattle.tp_token.specs.declared.token.Symbol.TheVariants.{RightBrace, RightParen}
 use Rattle.tp_token.specs.Lexeme.{Lexeme, name, symbol}
 use Rattle.tp_syntax.specs.Ahead.{starts_zero}
@@ -92,7 +92,7 @@ type_no_brace type_name.Charstring e r h = cc
 type_no_brace (type_name.Named n) e r h = cc
 
 pub field_no_brace : (x : FieldType) (r : List Lexeme) → first (field_type_lexemes x ++ r) ≡ Some (symbol RightBrace) → ⊥
-field_no_brace x r h = type_no_brace x.type_name (name (string_bytes x.name.name) ∷ []) r h
+field_no_brace x r h = type_no_brace x.type_name (name x.name.name ∷ []) r h
 
 pub component_no_paren : (x : ComponentName) (r : List Lexeme) → first (component_lexemes x ++ r) ≡ Some (symbol RightParen) → ⊥
 component_no_paren (component_name.Named n) r h = cc

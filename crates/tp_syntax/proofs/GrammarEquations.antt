@@ -1,9 +1,6 @@
 -- What the grammar asks of the tree, an equation for each variant.
-use Rattle.std.proofs.Common.{◌≡◌, ◌&&◌, ◌||◌, ℕ, ℤ, Bool, true, false, ◌++◌, Option, Some, None, map, ap, sym, ◌∙◌}
+use Rattle.std.proofs.Common.{List, ◌≡◌, ◌&&◌, ◌||◌, ℕ, ℤ, Bool, true, false, ◌++◌, Option, Some, None, map, ap, sym, ◌∙◌}
 use Rattle.std.specs.List.{list_all}
-use Rattle.std.specs.declared.vec.Vec.{Vec}
-use Rattle.std.specs.declared.alloc.Global.{Global}
-use Rattle.std.specs.declared.string.String.{String}
 use Rattle.tp_tree.specs.declared.message.Value.{Value}
 use Rattle.tp_tree.specs.declared.message.Value.TheVariants as v
 use Rattle.tp_tree.specs.declared.message.Value.TheOpen as ov
@@ -39,19 +36,19 @@ pub value_bool : (x : Bool) → is_value (v.Bool x) ≡ true
 unfolding is_value
 value_bool x = ap is_value (sym (v.rolls-Bool x)) ∙ fold-roll-Value Bool Bool is_value_step is_value_field_step (ov.Bool x)
 
-pub value_text : (t : Vec ℕ Global) → is_value (v.Text t) ≡ true
+pub value_text : (t : List ℕ) → is_value (v.Text t) ≡ true
 unfolding is_value
 value_text t = ap is_value (sym (v.rolls-Text t)) ∙ fold-roll-Value Bool Bool is_value_step is_value_field_step (ov.Text t)
 
-pub value_name : (n : String Global) → is_value (v.Name n) ≡ true
+pub value_name : (n : List ℕ) → is_value (v.Name n) ≡ true
 unfolding is_value
 value_name n = ap is_value (sym (v.rolls-Name n)) ∙ fold-roll-Value Bool Bool is_value_step is_value_field_step (ov.Name n)
 
-pub value_list : (vs : Vec Value Global) → is_value (v.List vs) ≡ each (map is_value vs.items)
+pub value_list : (vs : List Value) → is_value (v.List vs) ≡ each (map is_value vs)
 unfolding is_value
 value_list vs = ap is_value (sym (v.rolls-List vs)) ∙ fold-roll-Value Bool Bool is_value_step is_value_field_step (ov.List vs)
 
-pub value_record : (fs : Vec ValueField Global) → is_value (v.Record fs) ≡ one_and_each (map is_value_field fs.items)
+pub value_record : (fs : List ValueField) → is_value (v.Record fs) ≡ one_and_each (map is_value_field fs)
 unfolding is_value is_value_field
 value_record fs = ap is_value (sym (v.rolls-Record fs)) ∙ fold-roll-Value Bool Bool is_value_step is_value_field_step (ov.Record fs)
 
@@ -72,12 +69,12 @@ unfolding is_template
 template_bool x =
     ap is_template (sym (t.rolls-Bool x)) ∙ fold-roll-Template Bool Bool is_template_step is_template_field_step (ot.Bool x)
 
-pub template_text : (bs : Vec ℕ Global) → is_template (t.Text bs) ≡ true
+pub template_text : (bs : List ℕ) → is_template (t.Text bs) ≡ true
 unfolding is_template
 template_text bs =
     ap is_template (sym (t.rolls-Text bs)) ∙ fold-roll-Template Bool Bool is_template_step is_template_field_step (ot.Text bs)
 
-pub template_name : (n : String Global) → is_template (t.Name n) ≡ true
+pub template_name : (n : List ℕ) → is_template (t.Name n) ≡ true
 unfolding is_template
 template_name n =
     ap is_template (sym (t.rolls-Name n)) ∙ fold-roll-Template Bool Bool is_template_step is_template_field_step (ot.Name n)
@@ -92,12 +89,12 @@ unfolding is_template
 template_any_or_none =
     ap is_template (sym t.rolls-AnyOrNone) ∙ fold-roll-Template Bool Bool is_template_step is_template_field_step ot.AnyOrNone
 
-pub template_one_of : (ts : Vec Template Global) → is_template (t.OneOf ts) ≡ one_and_each (map is_template ts.items)
+pub template_one_of : (ts : List Template) → is_template (t.OneOf ts) ≡ one_and_each (map is_template ts)
 unfolding is_template
 template_one_of ts =
     ap is_template (sym (t.rolls-OneOf ts)) ∙ fold-roll-Template Bool Bool is_template_step is_template_field_step (ot.OneOf ts)
 
-pub template_complement : (ts : Vec Template Global) → is_template (t.Complement ts) ≡ one_and_each (map is_template ts.items)
+pub template_complement : (ts : List Template) → is_template (t.Complement ts) ≡ one_and_each (map is_template ts)
 unfolding is_template
 template_complement ts =
     ap is_template (sym (t.rolls-Complement ts)) ∙ fold-roll-Template Bool Bool is_template_step is_template_field_step (ot.Complement ts)
@@ -107,17 +104,17 @@ unfolding is_template
 template_range low high =
     ap is_template (sym (t.rolls-Range low high)) ∙ fold-roll-Template Bool Bool is_template_step is_template_field_step (ot.Range low high)
 
-pub template_pattern : (bs : Vec ℕ Global) → is_template (t.Pattern bs) ≡ list_all is_plain bs.items
+pub template_pattern : (bs : List ℕ) → is_template (t.Pattern bs) ≡ list_all is_plain bs
 unfolding is_template
 template_pattern bs =
     ap is_template (sym (t.rolls-Pattern bs)) ∙ fold-roll-Template Bool Bool is_template_step is_template_field_step (ot.Pattern bs)
 
-pub template_list : (ts : Vec Template Global) → is_template (t.List ts) ≡ each (map is_template ts.items)
+pub template_list : (ts : List Template) → is_template (t.List ts) ≡ each (map is_template ts)
 unfolding is_template
 template_list ts =
     ap is_template (sym (t.rolls-List ts)) ∙ fold-roll-Template Bool Bool is_template_step is_template_field_step (ot.List ts)
 
-pub template_record : (fs : Vec TemplateField Global) → is_template (t.Record fs) ≡ one_and_each (map is_template_field fs.items)
+pub template_record : (fs : List TemplateField) → is_template (t.Record fs) ≡ one_and_each (map is_template_field fs)
 unfolding is_template is_template_field
 template_record fs =
     ap is_template (sym (t.rolls-Record fs)) ∙ fold-roll-Template Bool Bool is_template_step is_template_field_step (ot.Record fs)
@@ -179,22 +176,22 @@ action_for x =
     ap action_part (sym (a.rolls-For x)) ∙
     fold-roll-Action Part Part Part Part Part Part action_part_step body_part_step branch_part_step counted_part_step else_part_step statement_part_step (oa.For x)
 
-pub action_alt_some : (bs : Vec Branch Global) (e : ElseBranch) → action_part (a.Alt bs (Some e)) ≡
-    record { is_right = has_one (branches_parts bs.items ++ otherwise_parts (Some e)) && are_parts (branches_parts bs.items ++ otherwise_parts (Some e)); is_ended = true }
+pub action_alt_some : (bs : List Branch) (e : ElseBranch) → action_part (a.Alt bs (Some e)) ≡
+    record { is_right = has_one (branches_parts bs ++ otherwise_parts (Some e)) && are_parts (branches_parts bs ++ otherwise_parts (Some e)); is_ended = true }
 unfolding action_part branch_part else_branch_part
 action_alt_some bs e =
     ap action_part (sym (a.rolls-Alt bs (Some e))) ∙
     fold-roll-Action Part Part Part Part Part Part action_part_step body_part_step branch_part_step counted_part_step else_part_step statement_part_step (oa.Alt bs (Some e))
 
-pub action_alt_none : (bs : Vec Branch Global) → action_part (a.Alt bs None) ≡
-    record { is_right = has_one (branches_parts bs.items ++ otherwise_parts None) && are_parts (branches_parts bs.items ++ otherwise_parts None); is_ended = true }
+pub action_alt_none : (bs : List Branch) → action_part (a.Alt bs None) ≡
+    record { is_right = has_one (branches_parts bs ++ otherwise_parts None) && are_parts (branches_parts bs ++ otherwise_parts None); is_ended = true }
 unfolding action_part branch_part
 action_alt_none bs =
     ap action_part (sym (a.rolls-Alt bs None)) ∙
     fold-roll-Action Part Part Part Part Part Part action_part_step body_part_step branch_part_step counted_part_step else_part_step statement_part_step (oa.Alt bs None)
 
-pub action_alt : (bs : Vec Branch Global) (e : Option ElseBranch) → action_part (a.Alt bs e) ≡
-    record { is_right = has_one (branches_parts bs.items ++ otherwise_parts e) && are_parts (branches_parts bs.items ++ otherwise_parts e); is_ended = true }
+pub action_alt : (bs : List Branch) (e : Option ElseBranch) → action_part (a.Alt bs e) ≡
+    record { is_right = has_one (branches_parts bs ++ otherwise_parts e) && are_parts (branches_parts bs ++ otherwise_parts e); is_ended = true }
 action_alt bs None = action_alt_none bs
 action_alt bs (Some e) = action_alt_some bs e
 
@@ -204,7 +201,7 @@ body_nothing =
     ap body_part (sym b.rolls-Nothing) ∙
     fold-roll-BranchBody Part Part Part Part Part Part action_part_step body_part_step branch_part_step counted_part_step else_part_step statement_part_step oa.Nothing
 
-pub body_block : (ss : Vec Statement Global) → body_part (b.Block ss) ≡ record { is_right = are_parts (statements_parts ss.items); is_ended = true }
+pub body_block : (ss : List Statement) → body_part (b.Block ss) ≡ record { is_right = are_parts (statements_parts ss); is_ended = true }
 unfolding body_part statement_part
 body_block ss =
     ap body_part (sym (b.rolls-Block ss)) ∙
@@ -215,11 +212,11 @@ pub branch_out : (x : Branch)
 unfolding branch_part body_part
 branch_out x = fold_out-Branch Part Part Part Part Part Part action_part_step body_part_step branch_part_step counted_part_step else_part_step statement_part_step x
 
-pub counted_out : (x : Counted) → counted_part x ≡ record { is_right = is_64_bit (out-Counted x).turns.first && (is_64_bit (out-Counted x).turns.bound && are_parts (statements_parts (out-Counted x).block.items)); is_ended = true }
+pub counted_out : (x : Counted) → counted_part x ≡ record { is_right = is_64_bit (out-Counted x).turns.first && (is_64_bit (out-Counted x).turns.bound && are_parts (statements_parts (out-Counted x).block)); is_ended = true }
 unfolding counted_part statement_part
 counted_out x = fold_out-Counted Part Part Part Part Part Part action_part_step body_part_step branch_part_step counted_part_step else_part_step statement_part_step x
 
-pub else_branch_out : (x : ElseBranch) → else_branch_part x ≡ record { is_right = are_parts (statements_parts (out-ElseBranch x).block.items); is_ended = true }
+pub else_branch_out : (x : ElseBranch) → else_branch_part x ≡ record { is_right = are_parts (statements_parts (out-ElseBranch x).block); is_ended = true }
 unfolding else_branch_part statement_part
 else_branch_out x = fold_out-ElseBranch Part Part Part Part Part Part action_part_step body_part_step branch_part_step counted_part_step else_part_step statement_part_step x
 
@@ -228,15 +225,15 @@ pub statement_out : (x : Statement)
 unfolding statement_part action_part
 statement_out x = fold_out-Statement Part Part Part Part Part Part action_part_step body_part_step branch_part_step counted_part_step else_part_step statement_part_step x
 
-pub counted_made : (x : Turns) (ss : Vec Statement Global)
-    → counted_part (roll-Counted (record { turns = x; block = ss })) ≡ record { is_right = is_64_bit x.first && (is_64_bit x.bound && are_parts (statements_parts ss.items)); is_ended = true }
+pub counted_made : (x : Turns) (ss : List Statement)
+    → counted_part (roll-Counted (record { turns = x; block = ss })) ≡ record { is_right = is_64_bit x.first && (is_64_bit x.bound && are_parts (statements_parts ss)); is_ended = true }
 unfolding counted_part statement_part
 counted_made x ss =
     fold-roll-Counted Part Part Part Part Part Part action_part_step body_part_step branch_part_step counted_part_step else_part_step statement_part_step
     (record { turns = x; block = ss })
 
-pub else_branch_made : (n : ℕ) (ss : Vec Statement Global) (e : Bool)
-    → else_branch_part (roll-ElseBranch (record { line = n; block = ss; has_semicolon = e })) ≡ record { is_right = are_parts (statements_parts ss.items); is_ended = true }
+pub else_branch_made : (n : ℕ) (ss : List Statement) (e : Bool)
+    → else_branch_part (roll-ElseBranch (record { line = n; block = ss; has_semicolon = e })) ≡ record { is_right = are_parts (statements_parts ss); is_ended = true }
 unfolding else_branch_part statement_part
 else_branch_made n ss e =
     fold-roll-ElseBranch Part Part Part Part Part Part action_part_step body_part_step branch_part_step counted_part_step else_part_step statement_part_step

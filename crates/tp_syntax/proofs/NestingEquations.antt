@@ -1,8 +1,5 @@
 -- How deep the tree nests, an equation for each variant.
-use Rattle.std.proofs.Common.{◌≡◌, ◌+◌, max, ℕ, ℤ, Bool, Option, Some, None, map, ap, sym, ◌∙◌}
-use Rattle.std.specs.declared.vec.Vec.{Vec}
-use Rattle.std.specs.declared.alloc.Global.{Global}
-use Rattle.std.specs.declared.string.String.{String}
+use Rattle.std.proofs.Common.{List, ◌≡◌, ◌+◌, max, ℕ, ℤ, Bool, Option, Some, None, map, ap, sym, ◌∙◌}
 use Rattle.tp_tree.specs.declared.message.Value.{Value}
 use Rattle.tp_tree.specs.declared.message.Value.TheVariants as v
 use Rattle.tp_tree.specs.declared.message.Value.TheOpen as ov
@@ -36,19 +33,19 @@ pub value_depth_bool : (x : Bool) → value_depth (v.Bool x) ≡ 0
 unfolding value_depth
 value_depth_bool x = ap value_depth (sym (v.rolls-Bool x)) ∙ fold-roll-Value ℕ ℕ value_depth_step value_field_depth_step (ov.Bool x)
 
-pub value_depth_text : (t : Vec ℕ Global) → value_depth (v.Text t) ≡ 0
+pub value_depth_text : (t : List ℕ) → value_depth (v.Text t) ≡ 0
 unfolding value_depth
 value_depth_text t = ap value_depth (sym (v.rolls-Text t)) ∙ fold-roll-Value ℕ ℕ value_depth_step value_field_depth_step (ov.Text t)
 
-pub value_depth_name : (n : String Global) → value_depth (v.Name n) ≡ 0
+pub value_depth_name : (n : List ℕ) → value_depth (v.Name n) ≡ 0
 unfolding value_depth
 value_depth_name n = ap value_depth (sym (v.rolls-Name n)) ∙ fold-roll-Value ℕ ℕ value_depth_step value_field_depth_step (ov.Name n)
 
-pub value_depth_list : (vs : Vec Value Global) → value_depth (v.List vs) ≡ deepest (map value_depth vs.items) + 1
+pub value_depth_list : (vs : List Value) → value_depth (v.List vs) ≡ deepest (map value_depth vs) + 1
 unfolding value_depth
 value_depth_list vs = ap value_depth (sym (v.rolls-List vs)) ∙ fold-roll-Value ℕ ℕ value_depth_step value_field_depth_step (ov.List vs)
 
-pub value_depth_record : (fs : Vec ValueField Global) → value_depth (v.Record fs) ≡ deepest (map value_field_depth fs.items) + 1
+pub value_depth_record : (fs : List ValueField) → value_depth (v.Record fs) ≡ deepest (map value_field_depth fs) + 1
 unfolding value_depth value_field_depth
 value_depth_record fs = ap value_depth (sym (v.rolls-Record fs)) ∙ fold-roll-Value ℕ ℕ value_depth_step value_field_depth_step (ov.Record fs)
 
@@ -75,11 +72,11 @@ pub template_depth_bool : (x : Bool) → template_depth (t.Bool x) ≡ 0
 unfolding template_depth
 template_depth_bool x = ap template_depth (sym (t.rolls-Bool x)) ∙ fold-roll-Template ℕ ℕ template_depth_step template_field_depth_step (ot.Bool x)
 
-pub template_depth_text : (bs : Vec ℕ Global) → template_depth (t.Text bs) ≡ 0
+pub template_depth_text : (bs : List ℕ) → template_depth (t.Text bs) ≡ 0
 unfolding template_depth
 template_depth_text bs = ap template_depth (sym (t.rolls-Text bs)) ∙ fold-roll-Template ℕ ℕ template_depth_step template_field_depth_step (ot.Text bs)
 
-pub template_depth_name : (n : String Global) → template_depth (t.Name n) ≡ 0
+pub template_depth_name : (n : List ℕ) → template_depth (t.Name n) ≡ 0
 unfolding template_depth
 template_depth_name n = ap template_depth (sym (t.rolls-Name n)) ∙ fold-roll-Template ℕ ℕ template_depth_step template_field_depth_step (ot.Name n)
 
@@ -91,11 +88,11 @@ pub template_depth_any_or_none : template_depth t.AnyOrNone ≡ 0
 unfolding template_depth
 template_depth_any_or_none = ap template_depth (sym t.rolls-AnyOrNone) ∙ fold-roll-Template ℕ ℕ template_depth_step template_field_depth_step ot.AnyOrNone
 
-pub template_depth_one_of : (ts : Vec Template Global) → template_depth (t.OneOf ts) ≡ deepest (map template_depth ts.items) + 1
+pub template_depth_one_of : (ts : List Template) → template_depth (t.OneOf ts) ≡ deepest (map template_depth ts) + 1
 unfolding template_depth
 template_depth_one_of ts = ap template_depth (sym (t.rolls-OneOf ts)) ∙ fold-roll-Template ℕ ℕ template_depth_step template_field_depth_step (ot.OneOf ts)
 
-pub template_depth_complement : (ts : Vec Template Global) → template_depth (t.Complement ts) ≡ deepest (map template_depth ts.items) + 1
+pub template_depth_complement : (ts : List Template) → template_depth (t.Complement ts) ≡ deepest (map template_depth ts) + 1
 unfolding template_depth
 template_depth_complement ts =
     ap template_depth (sym (t.rolls-Complement ts)) ∙
@@ -107,15 +104,15 @@ template_depth_range low high =
     ap template_depth (sym (t.rolls-Range low high)) ∙
     fold-roll-Template ℕ ℕ template_depth_step template_field_depth_step (ot.Range low high)
 
-pub template_depth_pattern : (bs : Vec ℕ Global) → template_depth (t.Pattern bs) ≡ 0
+pub template_depth_pattern : (bs : List ℕ) → template_depth (t.Pattern bs) ≡ 0
 unfolding template_depth
 template_depth_pattern bs = ap template_depth (sym (t.rolls-Pattern bs)) ∙ fold-roll-Template ℕ ℕ template_depth_step template_field_depth_step (ot.Pattern bs)
 
-pub template_depth_list : (ts : Vec Template Global) → template_depth (t.List ts) ≡ deepest (map template_depth ts.items) + 1
+pub template_depth_list : (ts : List Template) → template_depth (t.List ts) ≡ deepest (map template_depth ts) + 1
 unfolding template_depth
 template_depth_list ts = ap template_depth (sym (t.rolls-List ts)) ∙ fold-roll-Template ℕ ℕ template_depth_step template_field_depth_step (ot.List ts)
 
-pub template_depth_record : (fs : Vec TemplateField Global) → template_depth (t.Record fs) ≡ deepest (map template_field_depth fs.items) + 1
+pub template_depth_record : (fs : List TemplateField) → template_depth (t.Record fs) ≡ deepest (map template_field_depth fs) + 1
 unfolding template_depth template_field_depth
 template_depth_record fs = ap template_depth (sym (t.rolls-Record fs)) ∙ fold-roll-Template ℕ ℕ template_depth_step template_field_depth_step (ot.Record fs)
 
@@ -176,21 +173,21 @@ action_depth_for x =
     ap action_depth (sym (a.rolls-For x)) ∙
     fold-roll-Action ℕ ℕ ℕ ℕ ℕ ℕ action_depth_step body_depth_step branch_depth_step counted_depth_step else_depth_step statement_depth_step (oa.For x)
 
-pub action_depth_alt_some : (bs : Vec Branch Global) (e : ElseBranch)
-    → action_depth (a.Alt bs (Some e)) ≡ max (branches_depth bs.items) (otherwise_depth (Some e)) + 1
+pub action_depth_alt_some : (bs : List Branch) (e : ElseBranch)
+    → action_depth (a.Alt bs (Some e)) ≡ max (branches_depth bs) (otherwise_depth (Some e)) + 1
 unfolding action_depth branch_depth else_branch_depth
 action_depth_alt_some bs e =
     ap action_depth (sym (a.rolls-Alt bs (Some e))) ∙
     fold-roll-Action ℕ ℕ ℕ ℕ ℕ ℕ action_depth_step body_depth_step branch_depth_step counted_depth_step else_depth_step statement_depth_step
     (oa.Alt bs (Some e))
 
-pub action_depth_alt_none : (bs : Vec Branch Global) → action_depth (a.Alt bs None) ≡ max (branches_depth bs.items) (otherwise_depth None) + 1
+pub action_depth_alt_none : (bs : List Branch) → action_depth (a.Alt bs None) ≡ max (branches_depth bs) (otherwise_depth None) + 1
 unfolding action_depth branch_depth
 action_depth_alt_none bs =
     ap action_depth (sym (a.rolls-Alt bs None)) ∙
     fold-roll-Action ℕ ℕ ℕ ℕ ℕ ℕ action_depth_step body_depth_step branch_depth_step counted_depth_step else_depth_step statement_depth_step (oa.Alt bs None)
 
-pub action_depth_alt : (bs : Vec Branch Global) (e : Option ElseBranch) → action_depth (a.Alt bs e) ≡ max (branches_depth bs.items) (otherwise_depth e) + 1
+pub action_depth_alt : (bs : List Branch) (e : Option ElseBranch) → action_depth (a.Alt bs e) ≡ max (branches_depth bs) (otherwise_depth e) + 1
 action_depth_alt bs None = action_depth_alt_none bs
 action_depth_alt bs (Some e) = action_depth_alt_some bs e
 
@@ -200,7 +197,7 @@ body_depth_nothing =
     ap body_depth (sym b.rolls-Nothing) ∙
     fold-roll-BranchBody ℕ ℕ ℕ ℕ ℕ ℕ action_depth_step body_depth_step branch_depth_step counted_depth_step else_depth_step statement_depth_step oa.Nothing
 
-pub body_depth_block : (ss : Vec Statement Global) → body_depth (b.Block ss) ≡ statements_depth ss.items + 1
+pub body_depth_block : (ss : List Statement) → body_depth (b.Block ss) ≡ statements_depth ss + 1
 unfolding body_depth statement_depth
 body_depth_block ss =
     ap body_depth (sym (b.rolls-Block ss)) ∙
@@ -210,11 +207,11 @@ pub branch_depth_out : (x : Branch) → branch_depth x ≡ max 1 (max (receive_d
 unfolding branch_depth body_depth
 branch_depth_out x = fold_out-Branch ℕ ℕ ℕ ℕ ℕ ℕ action_depth_step body_depth_step branch_depth_step counted_depth_step else_depth_step statement_depth_step x
 
-pub counted_depth_out : (x : Counted) → counted_depth x ≡ statements_depth (out-Counted x).block.items + 1
+pub counted_depth_out : (x : Counted) → counted_depth x ≡ statements_depth (out-Counted x).block + 1
 unfolding counted_depth statement_depth
 counted_depth_out x = fold_out-Counted ℕ ℕ ℕ ℕ ℕ ℕ action_depth_step body_depth_step branch_depth_step counted_depth_step else_depth_step statement_depth_step x
 
-pub else_branch_depth_out : (x : ElseBranch) → else_branch_depth x ≡ statements_depth (out-ElseBranch x).block.items + 1
+pub else_branch_depth_out : (x : ElseBranch) → else_branch_depth x ≡ statements_depth (out-ElseBranch x).block + 1
 unfolding else_branch_depth statement_depth
 else_branch_depth_out x =
     fold_out-ElseBranch ℕ ℕ ℕ ℕ ℕ ℕ action_depth_step body_depth_step branch_depth_step counted_depth_step else_depth_step statement_depth_step x

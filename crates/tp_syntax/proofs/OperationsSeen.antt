@@ -1,7 +1,5 @@
 -- Operations by what is seen of them.
-use Rattle.std.proofs.Common.{inl, inr, ◌⊎◌, ◌≡◌, ℕ, pos, true, false, List, [], ◌∷◌, ◌++◌, Option, Some, None, append_assoc, refl, ap, sym, subst, ◌∙◌, string_bytes}
-use Rattle.std.specs.declared.alloc.Global.{Global}
-use Rattle.std.specs.declared.string.String.{String}
+use Rattle.std.proofs.Common.{inl, inr, ◌⊎◌, ◌≡◌, ℕ, pos, true, false, List, [], ◌∷◌, ◌++◌, Option, Some, None, append_assoc, refl, ap, sym, subst, ◌∙◌}
 use Rattle.std.proofs.lemmas.Bool.{false≢true}
 use Rattle.tp_token.specs.declared.token.Placed.{Placed}
 use Rattle.tp_token.specs.declared.token.Symbol.TheVariants.{Arrow, Colon, LeftParen, RightParen}
@@ -54,7 +52,7 @@ pub stops_other : (more : List Lexeme) (t : Lexeme) → ends_operation (Some t) 
 stops_other more t not_end stops at = false≢true (sym not_end ∙ (ap ends_operation (sym at) ∙ stops))
 
 -- a message whose type is a name, with the number 0
-abbrev named_message : String Global → Message
+abbrev named_message : List ℕ → Message
 named_message n = record { type_name = type_name.Named n; value = v.Int (pos 0) }
 
 -- a message without a name
@@ -74,13 +72,13 @@ colon_hidden hidden type_name.Boolean r ps rest n e paren could =
 colon_hidden hidden type_name.Charstring r ps rest n e paren could =
     shorter_hidden ps rest (name n) e (next_other hidden ps rest (name n) (word w.Charstring) _ e refl could (λ same. cc same))
 colon_hidden hidden (type_name.Named k) r ps rest n e paren could =
-    absent_seen hidden rest (symbol Colon) r refl (next_passed hidden ps rest (name n) (name (string_bytes k)) (symbol Colon ∷ r) e refl could) (λ at. cc (paren, at))
+    absent_seen hidden rest (symbol Colon) r refl (next_passed hidden ps rest (name n) (name k) (symbol Colon ∷ r) e refl could) (λ at. cc (paren, at))
 
 -- where a name and a `)` come next, what is sent could be a variable
 pub variable_seen : (hidden : ℕ) (x : SentExpression) (more : List Lexeme) (ps : List Placed) →
     (is_name_in (token_at ps 0) ≡ true) × (token_at ps 1 ≡ Some (symbol RightParen)) → CouldBe hidden ps (sent_lexemes x ++ more) →
     (n : List ℕ) × CouldBe hidden ps (name n ∷ more)
-variable_seen hidden (sent.Variable n) more ps both could = (string_bytes n, could)
+variable_seen hidden (sent.Variable n) more ps both could = (n, could)
 variable_seen hidden (sent.Message m) more ps (is, paren) could =
     let n = named_first ps is in
     let opens : CouldBe hidden ps (type_lexemes m.type_name ++ symbol Colon ∷ _) =
@@ -88,16 +86,16 @@ variable_seen hidden (sent.Message m) more ps (is, paren) could =
     let h = colon_hidden hidden m.type_name _ ps n.1 n.0 n.2 (sym n.3 ∙ paren) opens in
     (n.0, could_cons hidden ps n.1 (name n.0) more n.2 refl (hidden_could h))
 
-variable_unseen : (hidden : ℕ) (n : String Global) (more : List Lexeme) (ps : List Placed) → first more ≡ Some (symbol RightParen) →
-    ((is_name_in (token_at ps 0) ≡ true) × (token_at ps 1 ≡ Some (symbol RightParen)) → ⊥) → CouldBe hidden ps (name (string_bytes n) ∷ more) →
-    (us : List Lexeme) → CouldBe hidden ps (name (string_bytes n) ∷ us)
-variable_unseen hidden n more [] paren other could us = hidden_could (none_left hidden [] (name (string_bytes n)) more refl could)
+variable_unseen : (hidden : ℕ) (n : List ℕ) (more : List Lexeme) (ps : List Placed) → first more ≡ Some (symbol RightParen) →
+    ((is_name_in (token_at ps 0) ≡ true) × (token_at ps 1 ≡ Some (symbol RightParen)) → ⊥) → CouldBe hidden ps (name n ∷ more) →
+    (us : List Lexeme) → CouldBe hidden ps (name n ∷ us)
+variable_unseen hidden n more [] paren other could us = hidden_could (none_left hidden [] (name n) more refl could)
 variable_unseen hidden n more (p ∷ ps) paren other could us =
-    elim (next_seen hidden (p ∷ ps) ps (lexeme_of p.token) (name (string_bytes n)) more refl refl could) [
+    elim (next_seen hidden (p ∷ ps) ps (lexeme_of p.token) (name n) more refl refl could) [
       | inl h ↦ hidden_could h
       | inr same ↦
           let h : AllHidden hidden ps = absent_first hidden ps (symbol RightParen) more refl paren same.1 (λ at. other (ap (λ (t : Lexeme). is_name_in (Some t)) same.0, at)) in
-          could_cons hidden (p ∷ ps) ps (name (string_bytes n)) us (ap (λ (t : Lexeme). t ∷ lexemes ps) same.0) refl (hidden_could h)
+          could_cons hidden (p ∷ ps) ps (name n) us (ap (λ (t : Lexeme). t ∷ lexemes ps) same.0) refl (hidden_could h)
     ]
 
 -- and elsewhere a message could be: the `)` behind a variable is hidden
@@ -189,7 +187,7 @@ named_unseen hidden want (Some n) more ps other could = hidden_could (absent_see
 pub named_seen : (hidden : ℕ) (want : Word) (x : MaybeName) (more : List Lexeme) (ps rest : List Placed) → lexemes ps ≡ word want ∷ lexemes rest →
     (first more ≡ Some (word want) → ⊥) → CouldBe hidden ps (named_part want x ++ more) → (n : List ℕ) × CouldBe hidden rest (name n ∷ more)
 named_seen hidden want None more ps rest e other could = ([], hidden_could (behind_passed hidden more ps rest (word want) e refl other could))
-named_seen hidden want (Some n) more ps rest e other could = (string_bytes n, next_passed hidden ps rest (word want) (word want) _ e refl could)
+named_seen hidden want (Some n) more ps rest e other could = (n, next_passed hidden ps rest (word want) (word want) _ e refl could)
 
 redirect_unseen_of : (hidden : ℕ) (value sender : MaybeName) (more : List Lexeme) (ps : List Placed) → (token_at ps 0 ≡ Some (symbol Arrow) → ⊥) →
     CouldBe hidden ps (redirect_parts value sender ++ more) → CouldBe hidden ps more
@@ -212,8 +210,8 @@ arrow_seen_of : (hidden : ℕ) (value sender : MaybeName) (more : List Lexeme) (
     CouldBe hidden ps (redirect_parts value sender ++ more) → BehindArrow hidden more rest
 arrow_seen_of hidden None None more ps rest e stops could =
     inl ([], hidden_could (behind_passed hidden more ps rest (symbol Arrow) e refl (stops_other more (symbol Arrow) refl stops) could))
-arrow_seen_of hidden None (Some s) more ps rest e stops could = inl (string_bytes s, next_passed hidden ps rest (symbol Arrow) (symbol Arrow) _ e refl could)
-arrow_seen_of hidden (Some n) s more ps rest e stops could = inr (string_bytes n, s, next_passed hidden ps rest (symbol Arrow) (symbol Arrow) _ e refl could)
+arrow_seen_of hidden None (Some s) more ps rest e stops could = inl (s, next_passed hidden ps rest (symbol Arrow) (symbol Arrow) _ e refl could)
+arrow_seen_of hidden (Some n) s more ps rest e stops could = inr (n, s, next_passed hidden ps rest (symbol Arrow) (symbol Arrow) _ e refl could)
 
 pub arrow_seen : (hidden : ℕ) (x : Redirect) (more : List Lexeme) (ps rest : List Placed) → lexemes ps ≡ symbol Arrow ∷ lexemes rest → Stops more →
     CouldBe hidden ps (redirect_lexemes x ++ more) → BehindArrow hidden more rest

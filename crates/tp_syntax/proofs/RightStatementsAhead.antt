@@ -1,5 +1,5 @@
 -- What comes next of a statement, a branch, a counted `for` and an `alt` that is right, part by part, as the parser reads it.
-use Rattle.std.proofs.Common.{◌≡◌, ◌≢◌, true, ◌&&◌, ◌||◌, List, [], ◌∷◌, ◌++◌, Option, Some, string_bytes, append_assoc, ap, sym, subst, ◌∙◌}
+use Rattle.std.proofs.Common.{◌≡◌, ◌≢◌, true, ◌&&◌, ◌||◌, List, [], ◌∷◌, ◌++◌, Option, Some, append_assoc, ap, sym, subst, ◌∙◌}
 use Rattle.std.proofs.lemmas.Bool.{and_parts}
 use Rattle.tp_token.specs.declared.token.Symbol.TheVariants.{LeftBracket, RightBracket, LeftBrace, RightBrace}
 use Rattle.tp_token.specs.Lexeme.{Lexeme, symbol}
@@ -83,24 +83,24 @@ branch_given x more placed =
 pub record CountedGiven (x : Counted) (more : List Lexeme) : Type 0 where
   pub first_right : is_64_bit (out-Counted x).turns.first ≡ true
   pub bound_right : is_64_bit (out-Counted x).turns.bound ≡ true
-  pub right : are_parts (statements_parts (out-Counted x).block.items) ≡ true
-  pub read : counted_lexemes x ++ more ≡ turns_lexemes (out-Counted x).turns (braced (statements_lexemes (out-Counted x).block.items) ++ more)
+  pub right : are_parts (statements_parts (out-Counted x).block) ≡ true
+  pub read : counted_lexemes x ++ more ≡ turns_lexemes (out-Counted x).turns (braced (statements_lexemes (out-Counted x).block) ++ more)
 
 pub counted_given : (x : Counted) (more : List Lexeme) → (counted_part x).is_right ≡ true → CountedGiven x more
 counted_given x more right =
     let s = out-Counted x in
     let parts = sym (ap (λ (p : Part). p.is_right) (grammar.counted_out x)) ∙ right in
     let first_is_integer = and_parts (is_64_bit s.turns.first)
-    (is_64_bit s.turns.bound && are_parts (statements_parts s.block.items)) parts in
+    (is_64_bit s.turns.bound && are_parts (statements_parts s.block)) parts in
     let bound_is_integer = and_parts (is_64_bit s.turns.bound)
-    (are_parts (statements_parts s.block.items)) first_is_integer.1 in
+    (are_parts (statements_parts s.block)) first_is_integer.1 in
     record {
       first_right = first_is_integer.0;
       bound_right = bound_is_integer.0;
       right = bound_is_integer.1;
       read = ap (λ (l : List Lexeme). l ++ more) (tokens.counted_out x)
-          ∙ for_append (string_bytes s.turns.name) (int_lexemes s.turns.first) (int_lexemes s.turns.bound)
-          (braced (statements_lexemes s.block.items)) more;
+          ∙ for_append s.turns.name (int_lexemes s.turns.first) (int_lexemes s.turns.bound)
+          (braced (statements_lexemes s.block)) more;
     }
 
 -- behind the `{` of an `alt` come its branches, `[else]`, and the `}`

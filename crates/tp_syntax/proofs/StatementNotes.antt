@@ -1,7 +1,5 @@
 -- The notes of statements, an equation for each variant.
 use Rattle.std.proofs.Common.{◌≡◌, ℕ, Bool, List, [], ◌∷◌, ◌++◌, Option, Some, None, ap, sym, ◌∙◌}
-use Rattle.std.specs.declared.vec.Vec.{Vec}
-use Rattle.std.specs.declared.alloc.Global.{Global}
 use Rattle.tp_token.specs.declared.word.Word.TheVariants as w
 use Rattle.tp_token.specs.declared.token.Symbol.TheVariants.{LeftBracket, RightBracket}
 use Rattle.tp_token.specs.Lexeme.{word, symbol}
@@ -72,9 +70,9 @@ action_for x =
     action_notes_step body_notes_step branch_notes_step counted_notes_step else_notes_step statement_notes_step
     (o.For x)
 
-action_alt_some : (bs : Vec Branch Global) (e : ElseBranch)
+action_alt_some : (bs : List Branch) (e : ElseBranch)
     → action_notes (a.Alt bs (Some e)) ≡ unnoted (word w.Alt ∷ []) ++ noted_braced
-    (branches_notes bs.items ++ otherwise_notes (Some e))
+    (branches_notes bs ++ otherwise_notes (Some e))
 unfolding action_notes branch_notes else_branch_notes
 action_alt_some bs e =
     ap action_notes (sym (a.rolls-Alt bs (Some e)))
@@ -82,9 +80,9 @@ action_alt_some bs e =
     action_notes_step body_notes_step branch_notes_step counted_notes_step else_notes_step statement_notes_step
     (o.Alt bs (Some e))
 
-action_alt_none : (bs : Vec Branch Global) →
+action_alt_none : (bs : List Branch) →
     action_notes (a.Alt bs None) ≡ unnoted (word w.Alt ∷ []) ++ noted_braced
-    (branches_notes bs.items ++ otherwise_notes None)
+    (branches_notes bs ++ otherwise_notes None)
 unfolding action_notes branch_notes
 action_alt_none bs =
     ap action_notes (sym (a.rolls-Alt bs None))
@@ -92,9 +90,9 @@ action_alt_none bs =
     action_notes_step body_notes_step branch_notes_step counted_notes_step else_notes_step statement_notes_step
     (o.Alt bs None)
 
-pub action_alt : (bs : Vec Branch Global) (e : Option ElseBranch)
+pub action_alt : (bs : List Branch) (e : Option ElseBranch)
     → action_notes (a.Alt bs e) ≡ unnoted (word w.Alt ∷ []) ++ noted_braced
-    (branches_notes bs.items ++ otherwise_notes e)
+    (branches_notes bs ++ otherwise_notes e)
 action_alt bs None = action_alt_none bs
 action_alt bs (Some e) = action_alt_some bs e
 
@@ -105,7 +103,7 @@ body_nothing =
     ∙ fold-roll-BranchBody (List Noted) (List Noted) (List Noted) (List Noted) (List Noted) (List Noted)
     action_notes_step body_notes_step branch_notes_step counted_notes_step else_notes_step statement_notes_step o.Nothing
 
-pub body_block : (ss : Vec Statement Global) → body_notes (b.Block ss) ≡ noted_braced (statements_notes ss.items)
+pub body_block : (ss : List Statement) → body_notes (b.Block ss) ≡ noted_braced (statements_notes ss)
 unfolding body_notes statement_notes
 body_block ss =
     ap body_notes (sym (b.rolls-Block ss))
@@ -130,19 +128,19 @@ statement_out x =
     fold_out-Statement (List Noted) (List Noted) (List Noted) (List Noted) (List Noted) (List Noted)
     action_notes_step body_notes_step branch_notes_step counted_notes_step else_notes_step statement_notes_step x
 
-pub counted_made : (x : Turns) (ss : Vec Statement Global)
+pub counted_made : (x : Turns) (ss : List Statement)
     → counted_notes (roll-Counted (record { turns = x; block = ss })) ≡ unnoted (turns_lexemes x []) ++ noted_braced
-    (statements_notes ss.items)
+    (statements_notes ss)
 unfolding counted_notes statement_notes
 counted_made x ss =
     fold-roll-Counted (List Noted) (List Noted) (List Noted) (List Noted) (List Noted) (List Noted)
     action_notes_step body_notes_step branch_notes_step counted_notes_step else_notes_step statement_notes_step
     (record { turns = x; block = ss })
 
-pub else_branch_made : (n : ℕ) (ss : Vec Statement Global) (e : Bool)
+pub else_branch_made : (n : ℕ) (ss : List Statement) (e : Bool)
     → else_branch_notes (roll-ElseBranch (record { line = n; block = ss; has_semicolon = e })) ≡
     noted_at n (unnoted (symbol LeftBracket ∷ word w.Else ∷ symbol RightBracket ∷ []) ++
-    (noted_braced (statements_notes ss.items) ++ unnoted (end_lexemes e)))
+    (noted_braced (statements_notes ss) ++ unnoted (end_lexemes e)))
 unfolding else_branch_notes statement_notes
 else_branch_made n ss e =
     fold-roll-ElseBranch (List Noted) (List Noted) (List Noted) (List Noted) (List Noted) (List Noted)

@@ -1,7 +1,5 @@
 -- Where the parts of a statement may stand, and which of them come next.
-use Rattle.std.proofs.Common.{inl, inr, ◌≡◌, ◌≢◌, ℕ, Bool, true, false, ◌||◌, List, [], ◌∷◌, ◌++◌, Option, Some, None, refl, ap, sym, subst, ◌∙◌, append_assoc, arith}
-use Rattle.std.specs.Prelude.{◌==◌}
-use Rattle.std.proofs.lemmas.Bool.Decides.{nat_tests}
+use Rattle.std.proofs.Common.{inl, inr, ◌≡◌, ◌≢◌, Bool, true, false, ◌||◌, List, [], ◌∷◌, ◌++◌, Option, Some, None, refl, ap, sym, subst, ◌∙◌, append_assoc}
 use Rattle.std.proofs.lemmas.Bool.{false≢true}
 use Rattle.tp_token.specs.declared.token.Placed.{Placed}
 use Rattle.tp_token.specs.declared.word.Word.TheVariants as w
@@ -60,11 +58,11 @@ body_stops x e more =
     x
 
 pub else_opens : (x : ElseBranch) (r : List Lexeme) → else_branch_lexemes x ++ r ≡ symbol LeftBracket ∷ word w.Else ∷ symbol RightBracket ∷
-    (braced (statements_lexemes (out-ElseBranch x).block.items) ++ (end_lexemes (out-ElseBranch x).has_semicolon ++ r))
+    (braced (statements_lexemes (out-ElseBranch x).block) ++ (end_lexemes (out-ElseBranch x).has_semicolon ++ r))
 else_opens x r =
     ap (λ (l : List Lexeme). l ++ r) (tokens.else_branch_out x)
     ∙ ap (λ (l : List Lexeme). symbol LeftBracket ∷ word w.Else ∷ symbol RightBracket ∷ l)
-    (append_assoc (braced (statements_lexemes (out-ElseBranch x).block.items)) (end_lexemes (out-ElseBranch x).has_semicolon) r)
+    (append_assoc (braced (statements_lexemes (out-ElseBranch x).block)) (end_lexemes (out-ElseBranch x).has_semicolon) r)
 
 -- the branches of an `alt` may stand before its `[else]`, or its `}`
 pub branches_stand : (xs : List Branch) (x : Option ElseBranch) (ts : List Lexeme) → are_parts (branches_parts xs ++ otherwise_parts x) ≡ true →
@@ -106,7 +104,3 @@ pub record Says (ps : List Placed) (b : Beginning) : Type 0 where
   pub send : is_name_in (token_at ps 0) ≡ true → token_at ps 2 ≡ Some (word w.Send) → b ≡ begins.Send
   pub receive : (k : ReceiveKind) → is_name_in (token_at ps 0) ≡ true → token_at ps 2 ≡ Some (word (receive_word k)) → b ≡ begins.Receive
   pub control : (o : PortOperation) → is_name_in (token_at ps 0) ≡ true → token_at ps 2 ≡ Some (port_operation_lexeme o) → b ≡ begins.Control
-
--- what has no length has no element
-pub zero_length : (n : ℕ) → (n == 0) ≡ true → n ≡ 0
-zero_length n h = grind (arith, nat_tests)

@@ -1,7 +1,5 @@
 -- A statement by the tokens that it begins with.
 use Rattle.std.proofs.Common.{inl, inr, ◌≡◌, Bool, true, false, List, [], ◌∷◌, ◌++◌, Option, Some, refl, ap, sym, subst, ◌∙◌, append_assoc}
-use Rattle.std.specs.declared.vec.Vec.{Vec}
-use Rattle.std.specs.declared.alloc.Global.{Global}
 use Rattle.std.proofs.lemmas.Bool.{and_parts, false≢true}
 use Rattle.tp_token.specs.declared.word.Word.TheVariants as w
 use Rattle.tp_token.specs.Lexeme.{Lexeme, word}
@@ -36,7 +34,7 @@ pub record Cases (Q : Action → Type 0) : Type 0 where
   pub control : (x : Control) → Q (a.Control x)
   pub all_ports : (x : PortOperation) → Q (a.AllPorts x)
   pub set_verdict : (x : VerdictName) → Q (a.SetVerdict x)
-  pub alt : (xs : Vec Branch Global) (e : Option ElseBranch) → Q (a.Alt xs e)
+  pub alt : (xs : List Branch) (e : Option ElseBranch) → Q (a.Alt xs e)
   pub counted : (x : Counted) → Q (a.For x)
 
 layer : (Q : Action → Type 0) → Cases Q → (y : o.Action-F Action BranchBody Branch Counted ElseBranch Statement) → Q (roll-Action y)
@@ -51,12 +49,12 @@ layer Q c (o.For x) = subst Q (sym (a.rolls-For x)) (c.counted x)
 pub action_cases : (Q : Action → Type 0) → Cases Q → (x : Action) → Q x
 action_cases Q c x = subst Q (roll-out-Action x) (layer Q c (out-Action x))
 
-body_layer : (Q : BranchBody → Type 0) → Q b.Nothing → ((ss : Vec Statement Global) → Q (b.Block ss)) →
+body_layer : (Q : BranchBody → Type 0) → Q b.Nothing → ((ss : List Statement) → Q (b.Block ss)) →
     (y : o.BranchBody-F Action BranchBody Branch Counted ElseBranch Statement) → Q (roll-BranchBody y)
 body_layer Q n s o.Nothing = subst Q (sym b.rolls-Nothing) n
 body_layer Q n s (o.Block ss) = subst Q (sym (b.rolls-Block ss)) (s ss)
 
-pub body_cases : (Q : BranchBody → Type 0) → Q b.Nothing → ((ss : Vec Statement Global) → Q (b.Block ss)) → (x : BranchBody) → Q x
+pub body_cases : (Q : BranchBody → Type 0) → Q b.Nothing → ((ss : List Statement) → Q (b.Block ss)) → (x : BranchBody) → Q x
 body_cases Q n s x = subst Q (roll-out-BranchBody x) (body_layer Q n s (out-BranchBody x))
 
 -- what is to be read of a statement, by its kind
@@ -116,9 +114,9 @@ action_kind x more =
       all_ports = λ x right ends. (all_controls x, tt, tokens.action_all_ports x);
       set_verdict = λ x right ends. (sets x, tt, tokens.action_set_verdict x);
       alt = λ xs y right ends.
-          let both = and_parts (has_one (branches_parts xs.items ++ otherwise_parts y)) (are_parts (branches_parts xs.items ++ otherwise_parts y))
+          let both = and_parts (has_one (branches_parts xs ++ otherwise_parts y)) (are_parts (branches_parts xs ++ otherwise_parts y))
           (sym (ap (λ (p : Part). p.is_right) (grammar.action_alt xs y)) ∙ right) in
-          (chooses xs.items y, both, tokens.action_alt xs y);
+          (chooses xs y, both, tokens.action_alt xs y);
       counted = λ x right ends. (counts x, sym (ap (λ (p : Part). p.is_right) (grammar.action_for x)) ∙ right, tokens.action_for x);
     }) x
 
@@ -148,7 +146,7 @@ kind_of x =
       control = λ x. (controls x, tokens.action_control x);
       all_ports = λ x. (all_controls x, tokens.action_all_ports x);
       set_verdict = λ x. (sets x, tokens.action_set_verdict x);
-      alt = λ xs y. (chooses xs.items y, tokens.action_alt xs y);
+      alt = λ xs y. (chooses xs y, tokens.action_alt xs y);
       counted = λ x. (counts x, tokens.action_for x);
     }) x
 

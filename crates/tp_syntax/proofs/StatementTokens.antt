@@ -1,7 +1,5 @@
 -- The tokens of statements, an equation for each variant.
 use Rattle.std.proofs.Common.{◌≡◌, ℕ, Bool, List, [], ◌∷◌, ◌++◌, Option, Some, None, append_assoc, ap, sym, ◌∙◌}
-use Rattle.std.specs.declared.vec.Vec.{Vec}
-use Rattle.std.specs.declared.alloc.Global.{Global}
 use Rattle.tp_token.specs.declared.word.Word.TheVariants as w
 use Rattle.tp_token.specs.declared.token.Symbol.TheVariants.{LeftBracket, RightBracket}
 use Rattle.tp_token.specs.Lexeme.{Lexeme, word, symbol}
@@ -65,23 +63,23 @@ action_for x =
     ∙ fold-roll-Action (List Lexeme) (List Lexeme) (List Lexeme) (List Lexeme) (List Lexeme) (List Lexeme)
     action_step body_step branch_step counted_step else_step statement_step (o.For x)
 
-pub action_alt_some : (bs : Vec Branch Global) (e : ElseBranch)
-    → action_lexemes (a.Alt bs (Some e)) ≡ word w.Alt ∷ braced (branches_lexemes bs.items ++ otherwise_lexemes (Some e))
+pub action_alt_some : (bs : List Branch) (e : ElseBranch)
+    → action_lexemes (a.Alt bs (Some e)) ≡ word w.Alt ∷ braced (branches_lexemes bs ++ otherwise_lexemes (Some e))
 unfolding action_lexemes branch_lexemes else_branch_lexemes
 action_alt_some bs e =
     ap action_lexemes (sym (a.rolls-Alt bs (Some e)))
     ∙ fold-roll-Action (List Lexeme) (List Lexeme) (List Lexeme) (List Lexeme) (List Lexeme) (List Lexeme)
     action_step body_step branch_step counted_step else_step statement_step (o.Alt bs (Some e))
 
-pub action_alt_none : (bs : Vec Branch Global) → action_lexemes (a.Alt bs None) ≡ word w.Alt ∷ braced (branches_lexemes bs.items ++ otherwise_lexemes None)
+pub action_alt_none : (bs : List Branch) → action_lexemes (a.Alt bs None) ≡ word w.Alt ∷ braced (branches_lexemes bs ++ otherwise_lexemes None)
 unfolding action_lexemes branch_lexemes
 action_alt_none bs =
     ap action_lexemes (sym (a.rolls-Alt bs None))
     ∙ fold-roll-Action (List Lexeme) (List Lexeme) (List Lexeme) (List Lexeme) (List Lexeme) (List Lexeme)
     action_step body_step branch_step counted_step else_step statement_step (o.Alt bs None)
 
-pub action_alt : (bs : Vec Branch Global) (e : Option ElseBranch)
-    → action_lexemes (a.Alt bs e) ≡ word w.Alt ∷ braced (branches_lexemes bs.items ++ otherwise_lexemes e)
+pub action_alt : (bs : List Branch) (e : Option ElseBranch)
+    → action_lexemes (a.Alt bs e) ≡ word w.Alt ∷ braced (branches_lexemes bs ++ otherwise_lexemes e)
 action_alt bs None = action_alt_none bs
 action_alt bs (Some e) = action_alt_some bs e
 
@@ -92,7 +90,7 @@ body_nothing =
     ∙ fold-roll-BranchBody (List Lexeme) (List Lexeme) (List Lexeme) (List Lexeme) (List Lexeme) (List Lexeme)
     action_step body_step branch_step counted_step else_step statement_step o.Nothing
 
-pub body_block : (ss : Vec Statement Global) → body_lexemes (b.Block ss) ≡ braced (statements_lexemes ss.items)
+pub body_block : (ss : List Statement) → body_lexemes (b.Block ss) ≡ braced (statements_lexemes ss)
 unfolding body_lexemes statement_lexemes
 body_block ss =
     ap body_lexemes (sym (b.rolls-Block ss))
@@ -111,7 +109,7 @@ pub for_append : (i : List ℕ) (first bound a b : List Lexeme) → for_lexemes 
 unfolding for_lexemes
 for_append i first bound a b = simp append_assoc
 
-pub counted_out : (x : Counted) → counted_lexemes x ≡ turns_lexemes (out-Counted x).turns (braced (statements_lexemes (out-Counted x).block.items))
+pub counted_out : (x : Counted) → counted_lexemes x ≡ turns_lexemes (out-Counted x).turns (braced (statements_lexemes (out-Counted x).block))
 unfolding counted_lexemes statement_lexemes
 counted_out x =
     fold_out-Counted (List Lexeme) (List Lexeme) (List Lexeme) (List Lexeme) (List Lexeme) (List Lexeme)
@@ -119,7 +117,7 @@ counted_out x =
 
 pub else_branch_out : (x : ElseBranch)
     → else_branch_lexemes x ≡ symbol LeftBracket ∷ word w.Else ∷ symbol RightBracket ∷
-    (braced (statements_lexemes (out-ElseBranch x).block.items) ++ end_lexemes (out-ElseBranch x).has_semicolon)
+    (braced (statements_lexemes (out-ElseBranch x).block) ++ end_lexemes (out-ElseBranch x).has_semicolon)
 unfolding else_branch_lexemes statement_lexemes
 else_branch_out x =
     fold_out-ElseBranch (List Lexeme) (List Lexeme) (List Lexeme) (List Lexeme) (List Lexeme) (List Lexeme)
@@ -131,16 +129,16 @@ statement_out x =
     fold_out-Statement (List Lexeme) (List Lexeme) (List Lexeme) (List Lexeme) (List Lexeme) (List Lexeme)
     action_step body_step branch_step counted_step else_step statement_step x
 
-pub counted_made : (x : Turns) (ss : Vec Statement Global)
-    → counted_lexemes (roll-Counted (record { turns = x; block = ss })) ≡ turns_lexemes x (braced (statements_lexemes ss.items))
+pub counted_made : (x : Turns) (ss : List Statement)
+    → counted_lexemes (roll-Counted (record { turns = x; block = ss })) ≡ turns_lexemes x (braced (statements_lexemes ss))
 unfolding counted_lexemes statement_lexemes
 counted_made x ss =
     fold-roll-Counted (List Lexeme) (List Lexeme) (List Lexeme) (List Lexeme) (List Lexeme) (List Lexeme)
     action_step body_step branch_step counted_step else_step statement_step (record { turns = x; block = ss })
 
-pub else_branch_made : (n : ℕ) (ss : Vec Statement Global) (e : Bool)
+pub else_branch_made : (n : ℕ) (ss : List Statement) (e : Bool)
     → else_branch_lexemes (roll-ElseBranch (record { line = n; block = ss; has_semicolon = e })) ≡ symbol LeftBracket ∷ word w.Else ∷ symbol RightBracket ∷
-    (braced (statements_lexemes ss.items) ++ end_lexemes e)
+    (braced (statements_lexemes ss) ++ end_lexemes e)
 unfolding else_branch_lexemes statement_lexemes
 else_branch_made n ss e =
     fold-roll-ElseBranch (List Lexeme) (List Lexeme) (List Lexeme) (List Lexeme) (List Lexeme) (List Lexeme)

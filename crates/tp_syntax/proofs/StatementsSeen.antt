@@ -1,5 +1,5 @@
 -- What a statement, a branch or a block could be where the front of a text alone is seen.
-use Rattle.std.proofs.Common.{inl, inr, ◌⊎◌, ◌≡◌, ◌≢◌, ℕ, ◌+◌, ◌<◌, Bool, true, false, ◌||◌, List, [], ◌∷◌, ◌++◌, Option, Some, None, length, refl, ap, sym, subst, ◌∙◌, append_assoc, arith, string_bytes}
+use Rattle.std.proofs.Common.{inl, inr, ◌⊎◌, ◌≡◌, ◌≢◌, ℕ, ◌+◌, ◌<◌, Bool, true, false, ◌||◌, List, [], ◌∷◌, ◌++◌, Option, Some, None, length, refl, ap, sym, subst, ◌∙◌, append_assoc, arith}
 use Rattle.std.specs.Prelude.{is_some}
 use Rattle.std.proofs.lemmas.Bool.{and_parts, false≢true}
 use Rattle.tp_token.specs.declared.token.Placed.{Placed}
@@ -30,9 +30,9 @@ use Rattle.tp_syntax.proofs.StatementReading.{Kind, sends, receives, controls, a
 
 -- the first token of a statement of this kind
 abbrev pub kind_first : Kind → Lexeme
-kind_first (sends x) = name (string_bytes x.port)
-kind_first (receives x) = name (string_bytes x.port)
-kind_first (controls x) = name (string_bytes x.port)
+kind_first (sends x) = name x.port
+kind_first (receives x) = name x.port
+kind_first (controls x) = name x.port
 kind_first (all_controls x) = word w.All
 kind_first (sets x) = word w.Setverdict
 kind_first (chooses xs e) = word w.Alt
@@ -182,7 +182,7 @@ body_next_seen hidden x more ps =
     (read_as (ap (λ (l : List Lexeme). l ++ more) tokens.body_nothing) could)))
     (λ ss right ends at could.
     inr (
-      ss.items,
+      ss,
       sym (ap (λ (p : Part). p.is_right) (grammar.body_block ss)) ∙ right,
       read_as (ap (λ (l : List Lexeme). l ++ more) (tokens.body_block ss)) could,
     ))
@@ -205,7 +205,7 @@ otherwise_next_seen hidden None more ps stand brace at could =
 otherwise_next_seen hidden (Some x) more ps stand brace at could =
     let right = (and_parts (else_branch_part x).is_right (may_end_before (else_branch_part x).is_ended (first more)) stand).0 in
     inr (
-      (out-ElseBranch x).block.items,
+      (out-ElseBranch x).block,
       (out-ElseBranch x).has_semicolon,
       sym (ap (λ (p : Part). p.is_right) (grammar.else_branch_out x)) ∙ right,
       read_as (else_opens x more) could,
@@ -235,11 +235,6 @@ alt_hidden hidden xs x more ps some could closes =
       | inl h ↦ h
       | inr a ↦ absent_seen hidden ps (symbol LeftBracket) o.0 refl (read_as o.1 could) (λ at. cc (a.at, at))
     ]
-
--- what is none has no element
-pub no_items : {A : Type 0} (xs : List A) → length xs ≡ 0 → xs ≡ []
-no_items [] h = refl
-no_items (x ∷ xs) h = absurd (omega arith)
 
 pub not_some : {A : Type 0} (x : Option A) → is_some x ≡ false → x ≡ None
 not_some None h = refl
@@ -301,11 +296,11 @@ kind_of_all : (hidden : ℕ) (k : Kind) (s : List Lexeme) (ps rest : List Placed
     token_at rest 0 ≡ Some (word w.Component) →
     CouldBe hidden ps (kind_lexemes k ++ s) → AllHidden hidden ps ⊎ AllHidden hidden rest
 unfolding send_lexemes receive_lexemes control_lexemes all_ports_lexemes set_verdict_lexemes
-kind_of_all hidden (sends x) s ps rest e next could = inl (next_other hidden ps rest (word w.All) (name (string_bytes x.port)) _ e refl could (λ same. cc same))
+kind_of_all hidden (sends x) s ps rest e next could = inl (next_other hidden ps rest (word w.All) (name x.port) _ e refl could (λ same. cc same))
 kind_of_all hidden (receives x) s ps rest e next could =
-    inl (next_other hidden ps rest (word w.All) (name (string_bytes x.port)) _ e refl could (λ same. cc same))
+    inl (next_other hidden ps rest (word w.All) (name x.port) _ e refl could (λ same. cc same))
 kind_of_all hidden (controls x) s ps rest e next could =
-    inl (next_other hidden ps rest (word w.All) (name (string_bytes x.port)) _ e refl could (λ same. cc same))
+    inl (next_other hidden ps rest (word w.All) (name x.port) _ e refl could (λ same. cc same))
 kind_of_all hidden (all_controls x) s ps rest e next could =
     inr (absent_seen hidden rest (word w.Port) _ refl (next_passed hidden ps rest (word w.All) (word w.All) _ e refl could) (λ at. cc (at, next)))
 kind_of_all hidden (sets x) s ps rest e next could = inl (next_other hidden ps rest (word w.All) (word w.Setverdict) _ e refl could (λ same. cc same))

@@ -1,9 +1,6 @@
 -- A template by the token that it begins with.
-use Rattle.std.proofs.Common.{inl, inr, ◌⊎◌, ◌≡◌, ℕ, suc, ℤ, pos, negsuc, Bool, true, false, List, [], ◌∷◌, ◌++◌, Option, Some, map, refl, ap, sym, subst, ◌∙◌, string_bytes}
+use Rattle.std.proofs.Common.{inl, inr, ◌⊎◌, ◌≡◌, ℕ, suc, ℤ, pos, negsuc, Bool, true, false, List, [], ◌∷◌, ◌++◌, Option, Some, map, refl, ap, sym, subst, ◌∙◌}
 use Rattle.std.specs.List.{list_all}
-use Rattle.std.specs.declared.vec.Vec.{Vec}
-use Rattle.std.specs.declared.alloc.Global.{Global}
-use Rattle.std.specs.declared.string.String.{String}
 use Rattle.std.proofs.lemmas.Bool.{and_parts, false≢true}
 use Rattle.tp_token.specs.declared.word.Word.TheVariants as w
 use Rattle.tp_token.specs.declared.token.Symbol.TheVariants.{Assign, DotDot, LeftBrace, LeftParen, Minus, Question, RightBrace, RightParen, Star}
@@ -27,16 +24,16 @@ use Rattle.tp_syntax.proofs.FirstTokensOfLiterals.{sign_first, no_bool, no_int, 
 pub record Cases (Q : Template → Type 0) : Type 0 where
   pub int : (z : ℤ) → Q (v.Int z)
   pub bool : (b : Bool) → Q (v.Bool b)
-  pub characters : (t : Vec ℕ Global) → Q (v.Text t)
-  pub named : (n : String Global) → Q (v.Name n)
+  pub characters : (t : List ℕ) → Q (v.Text t)
+  pub named : (n : List ℕ) → Q (v.Name n)
   pub any : Q v.Any
   pub any_or_none : Q v.AnyOrNone
-  pub one_of : (ts : Vec Template Global) → Q (v.OneOf ts)
-  pub complement : (ts : Vec Template Global) → Q (v.Complement ts)
+  pub one_of : (ts : List Template) → Q (v.OneOf ts)
+  pub complement : (ts : List Template) → Q (v.Complement ts)
   pub range : (low high : Option ℤ) → Q (v.Range low high)
-  pub pattern : (t : Vec ℕ Global) → Q (v.Pattern t)
-  pub list : (ts : Vec Template Global) → Q (v.List ts)
-  pub fields : (fs : Vec TemplateField Global) → Q (v.Record fs)
+  pub pattern : (t : List ℕ) → Q (v.Pattern t)
+  pub list : (ts : List Template) → Q (v.List ts)
+  pub fields : (fs : List TemplateField) → Q (v.Record fs)
 
 layer : (Q : Template → Type 0) → Cases Q → (y : o.Template-F Template TemplateField) → Q (roll-Template y)
 layer Q c (o.Int z) = subst Q (sym (v.rolls-Int z)) (c.int z)
@@ -118,30 +115,30 @@ template_behind x more t ts =
     template_cases (λ x. is_template x ≡ true → template_lexemes x ++ more ≡ t ∷ ts → Behind more t ts) (record {
       int = λ z right e. int_behind more z t ts (sym (grammar.template_int z) ∙ right) (ap (λ (l : List Lexeme). l ++ more) (sym (tokens.template_int z)) ∙ e);
       bool = λ b right e. bool_behind more b t ts (ap (λ (l : List Lexeme). l ++ more) (sym (tokens.template_bool b)) ∙ e);
-      characters = λ cs right e. moved more (text cs.items) t more ts (ap (λ (l : List Lexeme). l ++ more) (sym (tokens.template_text cs)) ∙ e) refl;
-      named = λ n right e. moved more (name (string_bytes n)) t more ts (ap (λ (l : List Lexeme). l ++ more) (sym (tokens.template_name n)) ∙ e) refl;
+      characters = λ cs right e. moved more (text cs) t more ts (ap (λ (l : List Lexeme). l ++ more) (sym (tokens.template_text cs)) ∙ e) refl;
+      named = λ n right e. moved more (name n) t more ts (ap (λ (l : List Lexeme). l ++ more) (sym (tokens.template_name n)) ∙ e) refl;
       any = λ right e. moved more (symbol Question) t more ts (ap (λ (l : List Lexeme). l ++ more) (sym tokens.template_any) ∙ e) refl;
       any_or_none = λ right e. moved more (symbol Star) t more ts (ap (λ (l : List Lexeme). l ++ more) (sym tokens.template_any_or_none) ∙ e) refl;
       one_of = λ xs right e.
-          paren_behind more (by_commas (map template_lexemes xs.items)) t ts (ap (λ (l : List Lexeme). l ++ more) (sym (tokens.template_one_of xs)) ∙ e)
-          (inr (xs.items, sym (grammar.template_one_of xs) ∙ right, refl));
+          paren_behind more (by_commas (map template_lexemes xs)) t ts (ap (λ (l : List Lexeme). l ++ more) (sym (tokens.template_one_of xs)) ∙ e)
+          (inr (xs, sym (grammar.template_one_of xs) ∙ right, refl));
       complement = λ xs right e.
-          moved more (word w.Complement) t (parenthesised (by_commas (map template_lexemes xs.items)) ++ more) ts
+          moved more (word w.Complement) t (parenthesised (by_commas (map template_lexemes xs)) ++ more) ts
           (ap (λ (l : List Lexeme). l ++ more) (sym (tokens.template_complement xs)) ∙ e)
-          (xs.items, sym (grammar.template_complement xs) ∙ right, refl);
+          (xs, sym (grammar.template_complement xs) ∙ right, refl);
       range = λ low high right e.
           let bounds = and_parts (is_bound low) (is_bound high) (sym (grammar.template_range low high) ∙ right) in
           paren_behind more (low_lexemes low ++ symbol DotDot ∷ high_lexemes high) t ts (ap (λ (l : List Lexeme). l ++ more) (sym (tokens.template_range low high)) ∙ e)
           (inl (low, high, bounds.0, bounds.1, refl));
       pattern = λ cs right e.
-          moved more (word w.Pattern) t (text cs.items ∷ more) ts (ap (λ (l : List Lexeme). l ++ more) (sym (tokens.template_pattern cs)) ∙ e)
-          (cs.items, sym (grammar.template_pattern cs) ∙ right, refl);
+          moved more (word w.Pattern) t (text cs ∷ more) ts (ap (λ (l : List Lexeme). l ++ more) (sym (tokens.template_pattern cs)) ∙ e)
+          (cs, sym (grammar.template_pattern cs) ∙ right, refl);
       list = λ xs right e.
-          brace_behind more (by_commas (map template_lexemes xs.items)) t ts (ap (λ (l : List Lexeme). l ++ more) (sym (tokens.template_list xs)) ∙ e)
-          (inl (xs.items, sym (grammar.template_list xs) ∙ right, refl));
+          brace_behind more (by_commas (map template_lexemes xs)) t ts (ap (λ (l : List Lexeme). l ++ more) (sym (tokens.template_list xs)) ∙ e)
+          (inl (xs, sym (grammar.template_list xs) ∙ right, refl));
       fields = λ fs right e.
-          brace_behind more (by_commas (map template_field_lexemes fs.items)) t ts (ap (λ (l : List Lexeme). l ++ more) (sym (tokens.template_record fs)) ∙ e)
-          (inr (fs.items, sym (grammar.template_record fs) ∙ right, refl));
+          brace_behind more (by_commas (map template_field_lexemes fs)) t ts (ap (λ (l : List Lexeme). l ++ more) (sym (tokens.template_record fs)) ∙ e)
+          (inr (fs, sym (grammar.template_record fs) ∙ right, refl));
     }) x
 
 -- behind a `-` stands a number, without its sign
@@ -151,8 +148,8 @@ template_minus x more os =
     template_cases (λ x. is_template x ≡ true → plain (symbol Minus ∷ os) ≡ template_lexemes x ++ more → (z : ℤ) × (is_64_bit z ≡ true) × (int_lexemes z ++ more ≡ plain (symbol Minus ∷ os))) (record {
       int = λ z right e. (z, sym (grammar.template_int z) ∙ right, sym (e ∙ ap (λ (l : List Lexeme). l ++ more) (tokens.template_int z)));
       bool = λ b right e. absurd (no_bool b more os (e ∙ ap (λ (l : List Lexeme). l ++ more) (tokens.template_bool b)));
-      characters = λ cs right e. absurd (false≢true (sign_first os (text cs.items) more (e ∙ ap (λ (l : List Lexeme). l ++ more) (tokens.template_text cs))));
-      named = λ n right e. absurd (false≢true (sign_first os (name (string_bytes n)) more (e ∙ ap (λ (l : List Lexeme). l ++ more) (tokens.template_name n))));
+      characters = λ cs right e. absurd (false≢true (sign_first os (text cs) more (e ∙ ap (λ (l : List Lexeme). l ++ more) (tokens.template_text cs))));
+      named = λ n right e. absurd (false≢true (sign_first os (name n) more (e ∙ ap (λ (l : List Lexeme). l ++ more) (tokens.template_name n))));
       any = λ right e. absurd (false≢true (sign_first os (symbol Question) more (e ∙ ap (λ (l : List Lexeme). l ++ more) tokens.template_any)));
       any_or_none = λ right e. absurd (false≢true (sign_first os (symbol Star) more (e ∙ ap (λ (l : List Lexeme). l ++ more) tokens.template_any_or_none)));
       one_of = λ xs right e. absurd (false≢true (sign_first os (symbol LeftParen) _ (e ∙ ap (λ (l : List Lexeme). l ++ more) (tokens.template_one_of xs))));
@@ -200,7 +197,7 @@ template_named x r n ts =
     }) x
 
 pub template_field_opens : (f : TemplateField) (r : List Lexeme) →
-    template_field_lexemes f ++ r ≡ name (string_bytes (out-TemplateField f).name) ∷ symbol Assign ∷ (template_lexemes (out-TemplateField f).template ++ r)
+    template_field_lexemes f ++ r ≡ name (out-TemplateField f).name ∷ symbol Assign ∷ (template_lexemes (out-TemplateField f).template ++ r)
 template_field_opens f r = ap (λ (l : List Lexeme). l ++ r) (tokens.template_field_out f)
 
 -- a field doesn't begin with a `}`

@@ -1,8 +1,5 @@
 -- The tokens of templates, an equation for each variant.
-use Rattle.std.proofs.Common.{◌≡◌, ℕ, ℤ, Bool, List, [], ◌∷◌, ◌++◌, Option, map, append_assoc, ap, sym, ◌∙◌, string_bytes}
-use Rattle.std.specs.declared.vec.Vec.{Vec}
-use Rattle.std.specs.declared.alloc.Global.{Global}
-use Rattle.std.specs.declared.string.String.{String}
+use Rattle.std.proofs.Common.{◌≡◌, ℕ, ℤ, Bool, List, [], ◌∷◌, ◌++◌, Option, map, append_assoc, ap, sym, ◌∙◌}
 use Rattle.tp_token.specs.declared.word.Word.TheVariants as w
 use Rattle.tp_token.specs.declared.token.Symbol.TheVariants.{Assign, Question, Star, DotDot}
 use Rattle.tp_token.specs.Lexeme.{Lexeme, name, word, text, symbol}
@@ -23,11 +20,11 @@ pub template_bool : (x : Bool) → template_lexemes (v.Bool x) ≡ bool_lexeme x
 unfolding template_lexemes
 template_bool x = ap template_lexemes (sym (v.rolls-Bool x)) ∙ fold-roll-Template (List Lexeme) (List Lexeme) template_step template_field_step (o.Bool x)
 
-pub template_text : (t : Vec ℕ Global) → template_lexemes (v.Text t) ≡ text t.items ∷ []
+pub template_text : (t : List ℕ) → template_lexemes (v.Text t) ≡ text t ∷ []
 unfolding template_lexemes
 template_text t = ap template_lexemes (sym (v.rolls-Text t)) ∙ fold-roll-Template (List Lexeme) (List Lexeme) template_step template_field_step (o.Text t)
 
-pub template_name : (n : String Global) → template_lexemes (v.Name n) ≡ name (string_bytes n) ∷ []
+pub template_name : (n : List ℕ) → template_lexemes (v.Name n) ≡ name n ∷ []
 unfolding template_lexemes
 template_name n = ap template_lexemes (sym (v.rolls-Name n)) ∙ fold-roll-Template (List Lexeme) (List Lexeme) template_step template_field_step (o.Name n)
 
@@ -40,13 +37,13 @@ unfolding template_lexemes
 template_any_or_none = ap template_lexemes (sym v.rolls-AnyOrNone)
     ∙ fold-roll-Template (List Lexeme) (List Lexeme) template_step template_field_step o.AnyOrNone
 
-pub template_one_of : (ts : Vec Template Global) → template_lexemes (v.OneOf ts) ≡ parenthesised (by_commas (map template_lexemes ts.items))
+pub template_one_of : (ts : List Template) → template_lexemes (v.OneOf ts) ≡ parenthesised (by_commas (map template_lexemes ts))
 unfolding template_lexemes
 template_one_of ts = ap template_lexemes (sym (v.rolls-OneOf ts))
     ∙ fold-roll-Template (List Lexeme) (List Lexeme) template_step template_field_step (o.OneOf ts)
 
-pub template_complement : (ts : Vec Template Global)
-    → template_lexemes (v.Complement ts) ≡ word w.Complement ∷ parenthesised (by_commas (map template_lexemes ts.items))
+pub template_complement : (ts : List Template)
+    → template_lexemes (v.Complement ts) ≡ word w.Complement ∷ parenthesised (by_commas (map template_lexemes ts))
 unfolding template_lexemes
 template_complement ts =
     ap template_lexemes (sym (v.rolls-Complement ts)) ∙ fold-roll-Template (List Lexeme) (List Lexeme) template_step template_field_step (o.Complement ts)
@@ -56,22 +53,22 @@ unfolding template_lexemes
 template_range low high =
     ap template_lexemes (sym (v.rolls-Range low high)) ∙ fold-roll-Template (List Lexeme) (List Lexeme) template_step template_field_step (o.Range low high)
 
-pub template_pattern : (t : Vec ℕ Global) → template_lexemes (v.Pattern t) ≡ word w.Pattern ∷ text t.items ∷ []
+pub template_pattern : (t : List ℕ) → template_lexemes (v.Pattern t) ≡ word w.Pattern ∷ text t ∷ []
 unfolding template_lexemes
 template_pattern t = ap template_lexemes (sym (v.rolls-Pattern t))
     ∙ fold-roll-Template (List Lexeme) (List Lexeme) template_step template_field_step (o.Pattern t)
 
-pub template_list : (ts : Vec Template Global) → template_lexemes (v.List ts) ≡ braced (by_commas (map template_lexemes ts.items))
+pub template_list : (ts : List Template) → template_lexemes (v.List ts) ≡ braced (by_commas (map template_lexemes ts))
 unfolding template_lexemes
 template_list ts = ap template_lexemes (sym (v.rolls-List ts)) ∙ fold-roll-Template (List Lexeme) (List Lexeme) template_step template_field_step (o.List ts)
 
-pub template_record : (fs : Vec TemplateField Global) → template_lexemes (v.Record fs) ≡ braced (by_commas (map template_field_lexemes fs.items))
+pub template_record : (fs : List TemplateField) → template_lexemes (v.Record fs) ≡ braced (by_commas (map template_field_lexemes fs))
 unfolding template_lexemes template_field_lexemes
 template_record fs = ap template_lexemes (sym (v.rolls-Record fs))
     ∙ fold-roll-Template (List Lexeme) (List Lexeme) template_step template_field_step (o.Record fs)
 
 pub template_field_out : (f : TemplateField)
-    → template_field_lexemes f ≡ name (string_bytes (out-TemplateField f).name) ∷ symbol Assign ∷ template_lexemes (out-TemplateField f).template
+    → template_field_lexemes f ≡ name (out-TemplateField f).name ∷ symbol Assign ∷ template_lexemes (out-TemplateField f).template
 unfolding template_lexemes template_field_lexemes
 template_field_out f = fold_out-TemplateField (List Lexeme) (List Lexeme) template_step template_field_step f
 

@@ -1,5 +1,5 @@
 -- What stands in the braces of a function and of a test case: where it may stand, and what comes next behind it.
-use Rattle.std.proofs.Common.{◌≡◌, ◌≢◌, ℕ, Bool, true, false, ◌&&◌, ◌||◌, List, [], ◌∷◌, ◌++◌, Option, Some, None, map, refl, ap, sym, subst, ◌∙◌, append_assoc, string_bytes}
+use Rattle.std.proofs.Common.{◌≡◌, ◌≢◌, ℕ, Bool, true, false, ◌&&◌, ◌||◌, List, [], ◌∷◌, ◌++◌, Option, Some, None, map, refl, ap, sym, subst, ◌∙◌, append_assoc}
 use Rattle.std.proofs.lemmas.Bool.{and_parts, false≢true}
 use Rattle.tp_token.specs.declared.word.Word.TheVariants as w
 use Rattle.tp_token.specs.declared.token.Symbol.TheVariants.{Assign, Dot, LeftParen, RightBrace, Semicolon}
@@ -56,71 +56,71 @@ statements_follow_brace (s ∷ ss) ts =
 
 -- the variables of a function may stand before its statements
 pub function_variables : (x : Function) (ts : List Lexeme) → (defined_part (defined.Function x)).is_right ≡ true →
-    AllStand (map variable_part x.variables.items) (statements_lexemes x.statements.items ++ symbol RightBrace ∷ ts)
+    AllStand (map variable_part x.variables) (statements_lexemes x.statements ++ symbol RightBrace ∷ ts)
 function_variables x ts right =
-    stand_before (map variable_part x.variables.items) (statements_parts x.statements.items) (Some (symbol RightBrace)) (first (statements_lexemes x.statements.items ++ symbol RightBrace ∷ ts))
-    (parts_stand (map variable_part x.variables.items ++ statements_parts x.statements.items) (symbol RightBrace ∷ ts) right refl)
-    (statements_follow_brace x.statements.items ts)
+    stand_before (map variable_part x.variables) (statements_parts x.statements) (Some (symbol RightBrace)) (first (statements_lexemes x.statements ++ symbol RightBrace ∷ ts))
+    (parts_stand (map variable_part x.variables ++ statements_parts x.statements) (symbol RightBrace ∷ ts) right refl)
+    (statements_follow_brace x.statements ts)
 
 -- and its statements before its `}`
 pub function_statements : (x : Function) (ts : List Lexeme) → (defined_part (defined.Function x)).is_right ≡ true →
-    AllStand (statements_parts x.statements.items) (symbol RightBrace ∷ ts)
+    AllStand (statements_parts x.statements) (symbol RightBrace ∷ ts)
 function_statements x ts right =
-    stand_behind (map variable_part x.variables.items) (statements_parts x.statements.items) (Some (symbol RightBrace))
-    (parts_stand (map variable_part x.variables.items ++ statements_parts x.statements.items) (symbol RightBrace ∷ ts) right refl)
+    stand_behind (map variable_part x.variables) (statements_parts x.statements) (Some (symbol RightBrace))
+    (parts_stand (map variable_part x.variables ++ statements_parts x.statements) (symbol RightBrace ∷ ts) right refl)
 
 -- what stands behind the statements of a test case, and so on to its starts
 abbrev pub behind_statements : TestCase → List Lexeme → List Lexeme
 behind_statements x ts = all_done_lexemes x.all_done ++ symbol RightBrace ∷ ts
 
 abbrev pub behind_variables : TestCase → List Lexeme → List Lexeme
-behind_variables x ts = statements_lexemes x.statements.items ++ behind_statements x ts
+behind_variables x ts = statements_lexemes x.statements ++ behind_statements x ts
 
 abbrev pub behind_starts : TestCase → List Lexeme → List Lexeme
-behind_starts x ts = variables_lexemes x.variables.items ++ behind_variables x ts
+behind_starts x ts = variables_lexemes x.variables ++ behind_variables x ts
 
 abbrev pub behind_setups : TestCase → List Lexeme → List Lexeme
-behind_setups x ts = starts_lexemes x.starts.items ++ behind_starts x ts
+behind_setups x ts = starts_lexemes x.starts ++ behind_starts x ts
 
 done_follows : (d : Option AllDone) (ts : List Lexeme) → Follows (all_done_parts d) (Some (symbol RightBrace)) (first (all_done_lexemes d ++ symbol RightBrace ∷ ts))
 done_follows None ts = refl
 done_follows (Some d) ts = refl
 
 statements_follow : (x : TestCase) (ts : List Lexeme) →
-    Follows (statements_parts x.statements.items ++ all_done_parts x.all_done) (Some (symbol RightBrace)) (first (behind_variables x ts))
+    Follows (statements_parts x.statements ++ all_done_parts x.all_done) (Some (symbol RightBrace)) (first (behind_variables x ts))
 statements_follow x ts =
-    follows_all statement_lexemes statement_part x.statements.items (all_done_parts x.all_done) (Some (symbol RightBrace)) (behind_statements x ts) statement_begins
+    follows_all statement_lexemes statement_part x.statements (all_done_parts x.all_done) (Some (symbol RightBrace)) (behind_statements x ts) statement_begins
     (done_follows x.all_done ts)
 
 variables_follow : (x : TestCase) (ts : List Lexeme) →
-    Follows (map variable_part x.variables.items ++ (statements_parts x.statements.items ++ all_done_parts x.all_done)) (Some (symbol RightBrace)) (first (behind_starts x ts))
+    Follows (map variable_part x.variables ++ (statements_parts x.statements ++ all_done_parts x.all_done)) (Some (symbol RightBrace)) (first (behind_starts x ts))
 variables_follow x ts =
-    follows_all variable_lexemes variable_part x.variables.items (statements_parts x.statements.items ++ all_done_parts x.all_done) (Some (symbol RightBrace))
+    follows_all variable_lexemes variable_part x.variables (statements_parts x.statements ++ all_done_parts x.all_done) (Some (symbol RightBrace))
     (behind_variables x ts) variable_begins (statements_follow x ts)
 
 starts_follow : (x : TestCase) (ts : List Lexeme) →
-    Follows (map start_part x.starts.items ++ (map variable_part x.variables.items ++ (statements_parts x.statements.items ++ all_done_parts x.all_done)))
+    Follows (map start_part x.starts ++ (map variable_part x.variables ++ (statements_parts x.statements ++ all_done_parts x.all_done)))
     (Some (symbol RightBrace)) (first (behind_setups x ts))
 starts_follow x ts =
-    follows_all start_lexemes start_part x.starts.items (map variable_part x.variables.items ++ (statements_parts x.statements.items ++ all_done_parts x.all_done))
+    follows_all start_lexemes start_part x.starts (map variable_part x.variables ++ (statements_parts x.statements ++ all_done_parts x.all_done))
     (Some (symbol RightBrace)) (behind_starts x ts) start_begins (variables_follow x ts)
 
 -- where what stands in the braces of a test case may stand
 pub record CaseStands (x : TestCase) (ts : List Lexeme) : Type 0 where
-  pub setups : AllStand (map setup_part x.setups.items) (behind_setups x ts)
-  pub starts : AllStand (map start_part x.starts.items) (behind_starts x ts)
-  pub variables : AllStand (map variable_part x.variables.items) (behind_variables x ts)
-  pub statements : AllStand (statements_parts x.statements.items) (behind_statements x ts)
+  pub setups : AllStand (map setup_part x.setups) (behind_setups x ts)
+  pub starts : AllStand (map start_part x.starts) (behind_starts x ts)
+  pub variables : AllStand (map variable_part x.variables) (behind_variables x ts)
+  pub statements : AllStand (statements_parts x.statements) (behind_statements x ts)
   pub all_done : AllStand (all_done_parts x.all_done) (symbol RightBrace ∷ ts)
 
 pub case_stands : (x : TestCase) (ts : List Lexeme) → (defined_part (defined.TestCase x)).is_right ≡ true → CaseStands x ts
 case_stands x ts right =
     let t = Some (symbol RightBrace) in
     let done = all_done_parts x.all_done in
-    let statements = statements_parts x.statements.items in
-    let variables = map variable_part x.variables.items in
-    let starts = map start_part x.starts.items in
-    let setups = map setup_part x.setups.items in
+    let statements = statements_parts x.statements in
+    let variables = map variable_part x.variables in
+    let starts = map start_part x.starts in
+    let setups = map setup_part x.setups in
     let h0 = parts_stand (behaviour_parts x) (symbol RightBrace ∷ ts) right refl in
     let h1 = stand_behind setups (starts ++ (variables ++ (statements ++ done))) t h0 in
     let h2 = stand_behind starts (variables ++ (statements ++ done)) t h1 in
@@ -147,7 +147,7 @@ case_ends x ts = done_ends x.all_done ts
 
 -- behind the variables of a test case no other comes next
 pub case_no_var : (x : TestCase) (ts : List Lexeme) → first (behind_variables x ts) ≢ Some (word w.Var)
-case_no_var x ts e = statements_no_var x.statements.items (behind_statements x ts) (done_no_var x.all_done ts) e
+case_no_var x ts e = statements_no_var x.statements (behind_statements x ts) (done_no_var x.all_done ts) e
 
 -- what has no `;` and isn't ended stands before a `}`, so before no `(` and no `:=`
 var_ended : (t : TypeName) (n : List ℕ) (e : Bool) (rest : List Lexeme) → may_end_before e (first rest) ≡ true →
@@ -184,12 +184,12 @@ variables_no_setup : (vs : List Variable) (r : List Lexeme) → AllStand (map va
 variables_no_setup [] r stand h = h
 variables_no_setup (v ∷ []) r stand h =
     ap is_setup_ahead (append_assoc (variable_lexemes v) [] r)
-    ∙ var_ended v.type_name (string_bytes v.name) v.has_semicolon r (and_parts true (may_end_before v.has_semicolon (first r)) stand).1
+    ∙ var_ended v.type_name v.name v.has_semicolon r (and_parts true (may_end_before v.has_semicolon (first r)) stand).1
 variables_no_setup (v ∷ u ∷ vs) r stand h =
     let rest = variables_lexemes (u ∷ vs) ++ r in
     let ended = (and_parts v.has_semicolon (may_all_stand (map variable_part (u ∷ vs)) (first r)) (and_parts true (v.has_semicolon && may_all_stand (map variable_part (u ∷ vs)) (first r)) stand).1).0 in
     ap is_setup_ahead (append_assoc (variable_lexemes v) (variables_lexemes (u ∷ vs)) r)
-    ∙ var_ended v.type_name (string_bytes v.name) v.has_semicolon rest (subst (λ b. may_end_before b (first rest) ≡ true) (sym ended) refl)
+    ∙ var_ended v.type_name v.name v.has_semicolon rest (subst (λ b. may_end_before b (first rest) ≡ true) (sym ended) refl)
 
 starts_no_setup : (xs : List ComponentStart) (r : List Lexeme) → is_setup_ahead r ≡ false → is_setup_ahead (starts_lexemes xs ++ r) ≡ false
 unfolding start_lexemes
@@ -199,15 +199,15 @@ starts_no_setup (x ∷ xs) r h = refl
 -- behind the setup statements of a test case no other comes next
 pub case_no_setup : (x : TestCase) (ts : List Lexeme) → CaseStands x ts → is_setup_ahead (behind_setups x ts) ≡ false
 case_no_setup x ts stands =
-    starts_no_setup x.starts.items (behind_starts x ts)
-    (variables_no_setup x.variables.items (behind_variables x ts) stands.variables
-    (statements_no_setup x.statements.items (behind_statements x ts) (done_no_setup x.all_done ts)))
+    starts_no_setup x.starts (behind_starts x ts)
+    (variables_no_setup x.variables (behind_variables x ts) stands.variables
+    (statements_no_setup x.statements (behind_statements x ts) (done_no_setup x.all_done ts)))
 
 receive_no_start : (x : Receive) (k : ReceiveKind) (r : List Lexeme) → x.kind ≡ k → is_start_ahead (receive_lexemes x ++ r) ≡ false
 unfolding receive_lexemes
-receive_no_start x receive_kind.Receive r is = ap (λ k. is_start_ahead ((name (string_bytes x.port) ∷ symbol Dot ∷ operation_lexemes k (received_lexemes x)) ++ r)) is
-receive_no_start x receive_kind.Trigger r is = ap (λ k. is_start_ahead ((name (string_bytes x.port) ∷ symbol Dot ∷ operation_lexemes k (received_lexemes x)) ++ r)) is
-receive_no_start x receive_kind.Check r is = ap (λ k. is_start_ahead ((name (string_bytes x.port) ∷ symbol Dot ∷ operation_lexemes k (received_lexemes x)) ++ r)) is
+receive_no_start x receive_kind.Receive r is = ap (λ k. is_start_ahead ((name x.port ∷ symbol Dot ∷ operation_lexemes k (received_lexemes x)) ++ r)) is
+receive_no_start x receive_kind.Trigger r is = ap (λ k. is_start_ahead ((name x.port ∷ symbol Dot ∷ operation_lexemes k (received_lexemes x)) ++ r)) is
+receive_no_start x receive_kind.Check r is = ap (λ k. is_start_ahead ((name x.port ∷ symbol Dot ∷ operation_lexemes k (received_lexemes x)) ++ r)) is
 
 control_ended : (n : List ℕ) (o : PortOperation) (e : Bool) (rest : List Lexeme) → may_end_before e (first rest) ≡ true →
     is_start_ahead (name n ∷ symbol Dot ∷ port_operation_lexeme o ∷ (end_lexemes e ++ rest)) ≡ false
@@ -228,7 +228,7 @@ action_no_start x e rest =
       receive = λ x h. ap (λ (l : List Lexeme). is_start_ahead (l ++ (end_lexemes e ++ rest))) (tokens.action_receive x) ∙ receive_no_start x x.kind (end_lexemes e ++ rest) refl;
       control = λ x h.
           ap (λ (l : List Lexeme). is_start_ahead (l ++ (end_lexemes e ++ rest))) (tokens.action_control x)
-          ∙ control_ended (string_bytes x.port) x.operation e rest
+          ∙ control_ended x.port x.operation e rest
           (subst (λ (b : Bool). may_end_before (b || e) (first rest) ≡ true) (ap (λ (p : Part). p.is_ended) (grammar.action_control x)) h);
       all_ports = λ x h. ap (λ (l : List Lexeme). is_start_ahead (l ++ (end_lexemes e ++ rest))) (tokens.action_all_ports x);
       set_verdict = λ x h. ap (λ (l : List Lexeme). is_start_ahead (l ++ (end_lexemes e ++ rest))) (tokens.action_set_verdict x);
@@ -272,8 +272,8 @@ variables_no_start (v ∷ vs) r h = refl
 -- behind the starts of a test case no other comes next
 pub case_no_start : (x : TestCase) (ts : List Lexeme) → CaseStands x ts → is_start_ahead (behind_starts x ts) ≡ false
 case_no_start x ts stands =
-    variables_no_start x.variables.items (behind_variables x ts)
-    (statements_no_start x.statements.items (behind_statements x ts) stands.statements (done_no_start x.all_done ts))
+    variables_no_start x.variables (behind_variables x ts)
+    (statements_no_start x.statements (behind_statements x ts) stands.statements (done_no_start x.all_done ts))
 
 -- what is ended may stand anywhere but before a `;`
 pub ended_stands : (t : Option Lexeme) → t ≢ Some (symbol Semicolon) → may_end_before true t ≡ true

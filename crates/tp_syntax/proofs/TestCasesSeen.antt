@@ -1,6 +1,6 @@
 -- What could stand in a test case, by what is seen of it; and the cuts at which its setup statements, its starts and its
 -- statements may end too early.
-use Rattle.std.proofs.Common.{inl, inr, ◌⊎◌, ◌≡◌, ℕ, ◌+◌, ◌<◌, ◌≤◌, Bool, true, false, List, [], ◌∷◌, ◌++◌, Option, Some, None, length, map, refl, ap, sym, ◌∙◌, append_assoc, arith, string_bytes}
+use Rattle.std.proofs.Common.{inl, inr, ◌⊎◌, ◌≡◌, ℕ, ◌+◌, ◌<◌, ◌≤◌, Bool, true, false, List, [], ◌∷◌, ◌++◌, Option, Some, None, length, map, refl, ap, sym, ◌∙◌, append_assoc, arith}
 use Rattle.std.proofs.lemmas.Bool.{and_parts, false≢true}
 use Rattle.tp_token.specs.declared.token.Placed.{Placed}
 use Rattle.tp_token.specs.declared.token.Symbol.TheVariants.{Assign, Dot, LeftParen, RightBrace, RightParen}
@@ -201,7 +201,7 @@ creation_left hidden ps m n r could other =
 action_left : (hidden : ℕ) (x : SetupAction) (e r : List Lexeme) (ps : List Placed) → CouldBe hidden ps ((setup_action_lexemes x ++ e) ++ r) →
     (BeginsSetup ps → ⊥) → AllHidden hidden ps ⊎ IsCutCreation hidden ps
 unfolding setup_action_lexemes
-action_left hidden (setup_action.Create c) e r ps could other = creation_left hidden ps (string_bytes c.type_name) (string_bytes c.name) _ could other
+action_left hidden (setup_action.Create c) e r ps could other = creation_left hidden ps c.type_name c.name _ could other
 action_left hidden (setup_action.Connect a b) e r ps could other = inl (absent_seen hidden ps (word w.Connect) _ refl could (λ at. other (inl at)))
 action_left hidden (setup_action.Map a b) e r ps could other = inl (absent_seen hidden ps (word w.Map) _ refl could (λ at. other (inr (inl at))))
 
@@ -283,7 +283,7 @@ named_left hidden ps n r could other =
 pub start_left : (hidden : ℕ) (ps : List Placed) → (IsStart ps → ⊥) → (x : ComponentStart) (r : List Lexeme) → CouldBe hidden ps (start_lexemes x ++ r) →
     AllHidden hidden ps ⊎ IsCutStart hidden ps
 unfolding start_lexemes
-start_left hidden ps other x r could = named_left hidden ps (string_bytes x.component) _ could other
+start_left hidden ps other x r could = named_left hidden ps x.component _ could other
 
 -- behind `connect` all is hidden, or two ends could come next
 pub connect_seen : (hidden : ℕ) (x : SetupAction) (more : List Lexeme) (ps rest : List Placed) → lexemes ps ≡ word w.Connect ∷ lexemes rest →
@@ -380,7 +380,7 @@ system_seen hidden None more ps rest other e could =
       | inr a ↦ absurd (other (ap first a.1))
     ]
 system_seen hidden (Some n) more ps rest other e could =
-    (string_bytes n, next_passed hidden ps rest (word w.System) (word w.System) (name (string_bytes n) ∷ more) e refl could)
+    (n, next_passed hidden ps rest (word w.System) (word w.System) (name n ∷ more) e refl could)
 
 -- where it doesn't come next, none is left
 pub no_system_seen : (hidden : ℕ) (x : MaybeName) (more : List Lexeme) (ps : List Placed) → (token_at ps 0 ≡ Some (word w.System) → ⊥) →

@@ -1,5 +1,5 @@
 -- Definitions of types by what is seen of them.
-use Rattle.std.proofs.Common.{inl, inr, ◌⊎◌, ◌≡◌, ◌≢◌, ℕ, ◌+◌, ◌≤◌, ◌<◌, Bool, true, false, List, [], ◌∷◌, ◌++◌, Option, Some, length, refl, ap, sym, ◌∙◌, arith, string_bytes}
+use Rattle.std.proofs.Common.{inl, inr, ◌⊎◌, ◌≡◌, ◌≢◌, ℕ, ◌+◌, ◌≤◌, ◌<◌, Bool, true, false, List, [], ◌∷◌, ◌++◌, Option, Some, length, refl, ap, sym, ◌∙◌, arith}
 use Rattle.std.proofs.lemmas.Bool.{false≢true}
 use Rattle.tp_token.specs.declared.token.Placed.{Placed}
 use Rattle.tp_token.specs.declared.word.Word.{Word}
@@ -59,11 +59,6 @@ brace_no_way way.In e = cc e
 brace_no_way way.Out e = cc e
 brace_no_way way.InOut e = cc e
 
--- none of them are none
-pub no_items : {A : Type 0} (xs : List A) → length xs ≡ 0 → xs ≡ []
-no_items [] e = refl
-no_items (x ∷ xs) e = absurd (omega arith)
-
 -- where a way through a port could come next, and the `}` could, all is hidden
 pub way_hidden : (hidden : ℕ) (xs : List Direction) (more : List Lexeme) (p q : Parser) → has_one xs ≡ true → q ≡ p →
     CouldBe hidden p.rest.now (directions_lexemes xs ++ symbol RightBrace ∷ more) → CouldBe hidden q.rest.now (symbol RightBrace ∷ more) →
@@ -120,7 +115,7 @@ record_cut hidden x r ps other could = cut_at hidden ps (second_seen hidden ps (
 record_end : (hidden : ℕ) (x : RecordType) (r : List Lexeme) (ps : List Placed) → token_at ps 2 ≡ Some (word w.Of) →
     CouldBe hidden ps (record_type_lexemes x ++ r) → IsCutType hidden ps
 unfolding record_type_lexemes
-record_end hidden x r ps at could = third_seen hidden ps (name (string_bytes x.name)) _ refl (λ is. cc (at, is)) could
+record_end hidden x r ps at could = third_seen hidden ps (name x.name) _ refl (λ is. cc (at, is)) could
 
 list_cut : (hidden : ℕ) (x : ListType) (r : List Lexeme) (ps : List Placed) → (token_at ps 1 ≡ Some (word w.Record) → ⊥) →
     CouldBe hidden ps (list_type_lexemes x ++ r) → IsCutType hidden ps

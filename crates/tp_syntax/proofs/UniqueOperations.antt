@@ -1,8 +1,6 @@
 -- Operations with the same tokens are the same, and the same stands behind them.
-use Rattle.std.proofs.Common.{◌≡◌, ℕ, true, false, List, [], ◌∷◌, ◌++◌, Option, Some, None, refl, ap, sym, ◌∙◌, append_assoc, string_bytes}
+use Rattle.std.proofs.Common.{◌≡◌, ℕ, true, false, List, [], ◌∷◌, ◌++◌, Option, Some, None, refl, ap, sym, ◌∙◌, append_assoc}
 use Rattle.std.proofs.lemmas.Bool.{false≢true}
-use Rattle.std.specs.declared.string.String.{String}
-use Rattle.std.specs.declared.alloc.Global.{Global}
 use Rattle.tp_token.specs.declared.word.Word.TheVariants as w
 use Rattle.tp_token.specs.declared.token.Symbol.TheVariants.{Arrow, Colon, Dot, LeftParen, RightParen}
 use Rattle.tp_token.specs.Lexeme.{Lexeme, name, word, symbol}
@@ -29,13 +27,12 @@ use Rattle.tp_syntax.specs.Templates.{template_lexemes, message_template_lexemes
 use Rattle.tp_syntax.specs.Statements.{component_lexemes, sent_lexemes, to_lexemes, send_lexemes, template_part, from_lexemes, named_part, redirect_parts, received_lexemes, operation_lexemes, receive_lexemes, port_operation_lexeme, verdict_lexeme}
 use Rattle.tp_syntax.specs.Grammar.{is_value, is_template, is_sent, is_template_part}
 use Rattle.tp_syntax.specs.Reading.{first, ends_operation, Stops}
-use Rattle.tp_syntax.specs.Contents.{optional_name, type_content, message_content, message_template_content, template_part_content, component_content, optional_component, sent_content, to_content, send_content, receive_content}
 use Rattle.tp_syntax.proofs.UniqueSequences.{Agree, tails}
 use Rattle.tp_syntax.proofs.UniqueValues.{values_same}
 use Rattle.tp_syntax.proofs.UniqueTemplates.{templates_same}
 
 -- a type
-pub type_same : (x y : TypeName) (r s : List Lexeme) → type_lexemes x ++ r ≡ type_lexemes y ++ s → Agree (type_content x) (type_content y) r s
+pub type_same : (x y : TypeName) (r s : List Lexeme) → type_lexemes x ++ r ≡ type_lexemes y ++ s → Agree x y r s
 type_same type_name.Integer type_name.Integer r s e = (refl, tails e)
 type_same type_name.Boolean type_name.Boolean r s e = (refl, tails e)
 type_same type_name.Charstring type_name.Charstring r s e = (refl, tails e)
@@ -43,28 +40,28 @@ type_same (type_name.Named m) (type_name.Named n) r s e = (cc, cc)
 type_same x y r s e = absurd (cc)
 
 -- a component
-pub component_same : (x y : ComponentName) (r s : List Lexeme) → component_lexemes x ++ r ≡ component_lexemes y ++ s → Agree (component_content x) (component_content y) r s
+pub component_same : (x y : ComponentName) (r s : List Lexeme) → component_lexemes x ++ r ≡ component_lexemes y ++ s → Agree x y r s
 component_same (component_name.Named m) (component_name.Named n) r s e = (cc, cc)
 component_same component_name.Mtc component_name.Mtc r s e = (refl, tails e)
 component_same component_name.SelfComponent component_name.SelfComponent r s e = (refl, tails e)
 component_same x y r s e = absurd (cc)
 
 message_same : (x y : Message) (r s : List Lexeme) → is_value x.value ≡ true → is_value y.value ≡ true → message_lexemes x ++ r ≡ message_lexemes y ++ s
-    → Agree (message_content x) (message_content y) r s
+    → Agree x y r s
 message_same x y r s a b e =
     let kind = type_same x.type_name y.type_name (symbol Colon ∷ (value_lexemes x.value ++ r)) (symbol Colon ∷ (value_lexemes y.value ++ s))
     (sym (append_assoc (type_lexemes x.type_name) (symbol Colon ∷ value_lexemes x.value) r) ∙ e ∙ append_assoc (type_lexemes y.type_name) (symbol Colon ∷ value_lexemes y.value) s) in
     let value = values_same x.value y.value r s a b (tails kind.1) in
-    (cc, value.1)
+    (λ i. record { type_name = kind.0 i; value = value.0 i }, value.1)
 
 message_template_same : (x y : MessageTemplate) (r s : List Lexeme) → is_template x.template ≡ true → is_template y.template ≡ true
-    → message_template_lexemes x ++ r ≡ message_template_lexemes y ++ s → Agree (message_template_content x) (message_template_content y) r s
+    → message_template_lexemes x ++ r ≡ message_template_lexemes y ++ s → Agree x y r s
 message_template_same x y r s a b e =
     let kind = type_same x.type_name y.type_name (symbol Colon ∷ (template_lexemes x.template ++ r)) (symbol Colon ∷ (template_lexemes y.template ++ s))
     (sym (append_assoc (type_lexemes x.type_name) (symbol Colon ∷ template_lexemes x.template) r) ∙ e
     ∙ append_assoc (type_lexemes y.type_name) (symbol Colon ∷ template_lexemes y.template) s) in
     let template = templates_same x.template y.template r s a b (tails kind.1) in
-    (cc, template.1)
+    (λ i. record { type_name = kind.0 i; template = template.0 i }, template.1)
 
 -- a message has other tokens than a variable
 no_variable : (x : TypeName) (t r s : List Lexeme) (n : List ℕ) → (type_lexemes x ++ symbol Colon ∷ t) ++ r ≡ name n ∷ symbol RightParen ∷ s → ⊥
@@ -74,19 +71,19 @@ no_variable type_name.Charstring t r s n e = cc
 no_variable (type_name.Named m) t r s n e = cc
 
 sent_same : (x y : SentExpression) (r s : List Lexeme) → is_sent x ≡ true → is_sent y ≡ true → sent_lexemes x ++ symbol RightParen ∷ r ≡ sent_lexemes y ++ symbol RightParen ∷ s
-    → Agree (sent_content x) (sent_content y) r s
+    → Agree x y r s
 sent_same (sent.Message m) (sent.Message n) r s a b e =
     let i = message_same m n (symbol RightParen ∷ r) (symbol RightParen ∷ s) a b e in
-    (i.0, tails i.1)
-sent_same (sent.Message m) (sent.Variable n) r s a b e = absurd (no_variable m.type_name (value_lexemes m.value) (symbol RightParen ∷ r) s (string_bytes n) e)
-sent_same (sent.Variable n) (sent.Message m) r s a b e = absurd (no_variable m.type_name (value_lexemes m.value) (symbol RightParen ∷ s) r (string_bytes n) (sym e))
+    (ap sent.Message i.0, tails i.1)
+sent_same (sent.Message m) (sent.Variable n) r s a b e = absurd (no_variable m.type_name (value_lexemes m.value) (symbol RightParen ∷ r) s n e)
+sent_same (sent.Variable n) (sent.Message m) r s a b e = absurd (no_variable m.type_name (value_lexemes m.value) (symbol RightParen ∷ s) r n (sym e))
 sent_same (sent.Variable m) (sent.Variable n) r s a b e = (cc, cc)
 
 -- what may stand behind an operation isn't this
 no_stop : (t : Lexeme) (r ts : List Lexeme) → Stops r → r ≡ t ∷ ts → ends_operation (Some t) ≡ false → ⊥
 no_stop t r ts h e other = false≢true (sym other ∙ ap (λ (k : List Lexeme). ends_operation (first k)) (sym e) ∙ h)
 
-to_same : (x y : Option Receivers) (r s : List Lexeme) → Stops r → Stops s → to_lexemes x ++ r ≡ to_lexemes y ++ s → Agree (to_content x) (to_content y) r s
+to_same : (x y : Option Receivers) (r s : List Lexeme) → Stops r → Stops s → to_lexemes x ++ r ≡ to_lexemes y ++ s → Agree x y r s
 to_same None None r s a b e = (refl, e)
 to_same None (Some (destination.Component d)) r s a b e = absurd (no_stop (word w.To) r _ a e refl)
 to_same None (Some destination.AllComponents) r s a b e = absurd (no_stop (word w.To) r _ a e refl)
@@ -101,37 +98,37 @@ to_same (Some destination.AllComponents) (Some (destination.Component component_
 to_same (Some destination.AllComponents) (Some (destination.Component component_name.SelfComponent)) r s a b e = absurd (cc)
 to_same (Some destination.AllComponents) (Some destination.AllComponents) r s a b e = (refl, tails (tails (tails e)))
 
-send_behind : (x : Send) (r : List Lexeme) → send_lexemes x ++ r ≡ name (string_bytes x.port) ∷ symbol Dot ∷ word w.Send ∷ symbol LeftParen ∷
+send_behind : (x : Send) (r : List Lexeme) → send_lexemes x ++ r ≡ name x.port ∷ symbol Dot ∷ word w.Send ∷ symbol LeftParen ∷
     (sent_lexemes x.sent ++ symbol RightParen ∷ (to_lexemes x.to ++ r))
 unfolding send_lexemes
 send_behind x r = simp append_assoc
 
 -- a send
 pub send_same : (x y : Send) (r s : List Lexeme) → is_sent x.sent ≡ true → is_sent y.sent ≡ true → Stops r → Stops s → send_lexemes x ++ r ≡ send_lexemes y ++ s
-    → Agree (send_content x) (send_content y) r s
+    → Agree x y r s
 send_same x y r s a b p q e =
     let here = sym (send_behind x r) ∙ e ∙ send_behind y s in
-    let port : string_bytes x.port ≡ string_bytes y.port = cc in
+    let port : x.port ≡ y.port = cc in
     let message = sent_same x.sent y.sent (to_lexemes x.to ++ r) (to_lexemes y.to ++ s) a b (tails (tails (tails (tails here)))) in
     let to = to_same x.to y.to r s p q message.1 in
-    (cc, to.1)
+    (λ i. record { port = port i; sent = message.0 i; to = to.0 i }, to.1)
 
 from_same : (x y : Option ComponentName) (r s : List Lexeme) → (first r ≡ Some (word w.From) → ⊥) → (first s ≡ Some (word w.From) → ⊥) → from_lexemes x ++ r ≡ from_lexemes y ++ s
-    → Agree (optional_component x) (optional_component y) r s
+    → Agree x y r s
 from_same None None r s a b e = (refl, e)
 from_same None (Some k) r s a b e = absurd (a (ap first e))
 from_same (Some d) None r s a b e = absurd (b (ap first (sym e)))
 from_same (Some d) (Some k) r s a b e = let i = component_same d k r s (tails e) in (cc, i.1)
 
-sender_same : (x y : Option (String Global)) (r s : List Lexeme) → Stops r → Stops s → named_part w.Sender x ++ r ≡ named_part w.Sender y ++ s
-    → Agree (optional_name x) (optional_name y) r s
+sender_same : (x y : Option (List ℕ)) (r s : List Lexeme) → Stops r → Stops s → named_part w.Sender x ++ r ≡ named_part w.Sender y ++ s
+    → Agree x y r s
 sender_same None None r s a b e = (refl, e)
 sender_same None (Some n) r s a b e = absurd (no_stop (word w.Sender) r _ a e refl)
 sender_same (Some n) None r s a b e = absurd (no_stop (word w.Sender) s _ b (sym e) refl)
 sender_same (Some m) (Some n) r s a b e = (cc, cc)
 
-redirect_same : (x p y q : Option (String Global)) (r s : List Lexeme) → Stops r → Stops s → redirect_parts x p ++ r ≡ redirect_parts y q ++ s
-    → (optional_name x ≡ optional_name y) × (optional_name p ≡ optional_name q) × (r ≡ s)
+redirect_same : (x p y q : Option (List ℕ)) (r s : List Lexeme) → Stops r → Stops s → redirect_parts x p ++ r ≡ redirect_parts y q ++ s
+    → (x ≡ y) × (p ≡ q) × (r ≡ s)
 redirect_same None None None None r s a b e = (refl, refl, e)
 redirect_same None None None (Some n) r s a b e = absurd (no_stop (symbol Arrow) r _ a e refl)
 redirect_same None None (Some n) q r s a b e = absurd (no_stop (symbol Arrow) r _ a e refl)
@@ -144,7 +141,7 @@ redirect_same (Some m) p (Some n) q r s a b e = let i = sender_same p q r s a b 
 
 template_part_same : (x y : Option MessageTemplate) (r s : List Lexeme) → is_template_part x ≡ true → is_template_part y ≡ true
     → (first r ≡ Some (symbol LeftParen) → ⊥) → (first s ≡ Some (symbol LeftParen) → ⊥) → template_part x ++ r ≡ template_part y ++ s
-    → Agree (template_part_content x) (template_part_content y) r s
+    → Agree x y r s
 template_part_same None None r s a b p q e = (refl, e)
 template_part_same None (Some n) r s a b p q e = absurd (p (ap first e))
 template_part_same (Some m) None r s a b p q e = absurd (q (ap first (sym e)))
@@ -156,12 +153,12 @@ template_part_same (Some m) (Some n) r s a b p q e =
 stop_other : (t : Lexeme) (r : List Lexeme) → Stops r → ends_operation (Some t) ≡ false → first r ≡ Some t → ⊥
 stop_other t r h other e = false≢true (sym other ∙ ap ends_operation (sym e) ∙ h)
 
-no_from : (x p : Option (String Global)) (r : List Lexeme) → Stops r → first (redirect_parts x p ++ r) ≡ Some (word w.From) → ⊥
+no_from : (x p : Option (List ℕ)) (r : List Lexeme) → Stops r → first (redirect_parts x p ++ r) ≡ Some (word w.From) → ⊥
 no_from None None r h e = stop_other (word w.From) r h refl e
 no_from None (Some n) r h e = cc
 no_from (Some n) p r h e = cc
 
-no_paren : (d : Option ComponentName) (x p : Option (String Global)) (r : List Lexeme) → Stops r → first (from_lexemes d ++ (redirect_parts x p ++ r)) ≡ Some (symbol LeftParen) → ⊥
+no_paren : (d : Option ComponentName) (x p : Option (List ℕ)) (r : List Lexeme) → Stops r → first (from_lexemes d ++ (redirect_parts x p ++ r)) ≡ Some (symbol LeftParen) → ⊥
 no_paren None None None r h e = stop_other (symbol LeftParen) r h refl e
 no_paren None None (Some n) r h e = cc
 no_paren None (Some n) p r h e = cc
@@ -173,10 +170,10 @@ received_behind x r = simp append_assoc
 
 -- what stands behind the word of a receiving operation is the same
 record Received (x y : Receive) (r s : List Lexeme) : Type 0 where
-  template : template_part_content x.template ≡ template_part_content y.template
-  component : optional_component x.sender ≡ optional_component y.sender
-  value : optional_name x.redirect.value ≡ optional_name y.redirect.value
-  sender : optional_name x.redirect.sender ≡ optional_name y.redirect.sender
+  template : x.template ≡ y.template
+  component : x.sender ≡ y.sender
+  value : x.redirect.value ≡ y.redirect.value
+  sender : x.redirect.sender ≡ y.redirect.sender
   behind : r ≡ s
 
 received_same : (x y : Receive) (r s : List Lexeme) → is_template_part x.template ≡ true → is_template_part y.template ≡ true → Stops r → Stops s
@@ -198,19 +195,20 @@ kind_same receive_kind.Check receive_kind.Check x y r s a b p q e =
     (refl, record { template = i.template; component = i.component; value = i.value; sender = i.sender; behind = tails i.behind })
 kind_same j k x y r s a b p q e = absurd (cc)
 
-receive_behind : (x : Receive) (r : List Lexeme) → receive_lexemes x ++ r ≡ name (string_bytes x.port) ∷ symbol Dot ∷ (operation_lexemes x.kind (received_lexemes x) ++ r)
+receive_behind : (x : Receive) (r : List Lexeme) → receive_lexemes x ++ r ≡ name x.port ∷ symbol Dot ∷ (operation_lexemes x.kind (received_lexemes x) ++ r)
 unfolding receive_lexemes
 receive_behind x r = refl
 
 -- a receiving operation
 pub receive_same : (x y : Receive) (r s : List Lexeme) → is_template_part x.template ≡ true → is_template_part y.template ≡ true → Stops r → Stops s
-    → receive_lexemes x ++ r ≡ receive_lexemes y ++ s → Agree (receive_content x) (receive_content y) r s
+    → receive_lexemes x ++ r ≡ receive_lexemes y ++ s → Agree x y r s
 receive_same x y r s a b p q e =
     let here = sym (receive_behind x r) ∙ e ∙ receive_behind y s in
-    let port : string_bytes x.port ≡ string_bytes y.port = cc in
+    let port : x.port ≡ y.port = cc in
     let i = kind_same x.kind y.kind x y r s a b p q (tails (tails here)) in
     let same = i.1 in
-    (cc (port, i.0, same.template, same.component, same.value, same.sender), same.behind)
+    let redirect : x.redirect ≡ y.redirect = λ j. record { value = same.value j; sender = same.sender j } in
+    (λ j. record { port = port j; kind = i.0 j; template = same.template j; sender = same.component j; redirect = redirect j }, same.behind)
 
 -- an operation on a port
 pub operation_same : (x y : PortOperation) (r s : List Lexeme) → port_operation_lexeme x ∷ r ≡ port_operation_lexeme y ∷ s → Agree x y r s

@@ -1,12 +1,12 @@
 -- Templates with the same tokens are the same, and the same stands behind them.
-use Rattle.std.proofs.Common.{◌≡◌, ℕ, zero, suc, ◌≤◌, ℤ, pos, negsuc, Bool, true, false, List, [], ◌∷◌, ◌++◌, length, Option, Some, None, map, refl, ap, sym, subst, ◌∙◌, append_assoc, arith, string_bytes}
+use Rattle.std.proofs.Common.{◌≡◌, ℕ, zero, suc, ◌≤◌, ℤ, pos, negsuc, Bool, true, false, List, [], ◌∷◌, ◌++◌, length, Option, Some, None, map, refl, ap, sym, subst, ◌∙◌, append_assoc, arith}
 use Rattle.std.proofs.lemmas.Bool.{false≢true}
 use Rattle.std.proofs.lemmas.List.{nil_from_length}
 use Rattle.tp_token.specs.declared.token.Symbol.TheVariants.{Assign, DotDot, LeftBrace, LeftParen, RightBrace, RightParen}
 use Rattle.tp_token.specs.Lexeme.{Lexeme, name, symbol}
 use Rattle.tp_tree.specs.declared.message.Template.{Template}
 use Rattle.tp_tree.specs.declared.message.Template.TheOpen as o
-use Rattle.tp_tree.specs.declared.message.Template.TheViews.{out-Template}
+use Rattle.tp_tree.specs.declared.message.Template.TheViews.{roll-Template, out-Template, roll-out-Template, roll-TemplateField, roll-out-TemplateField}
 use Rattle.tp_tree.specs.declared.message.Template.TheFolds.{map-Template, fold_out-Template, fold_out-TemplateField}
 use Rattle.tp_tree.specs.declared.message.TemplateField.{TemplateField, out-TemplateField}
 use Rattle.tp_syntax.specs.Sequences.{more_by_commas, by_commas, braced, parenthesised}
@@ -14,8 +14,6 @@ use Rattle.tp_syntax.specs.Values.{int_lexemes}
 use Rattle.tp_syntax.specs.Templates.{low_lexemes, high_lexemes, template_step, template_field_step, template_lexemes, template_field_lexemes}
 use Rattle.tp_syntax.specs.Grammar.{one_and_each, is_template_step, is_template_field_step, is_template, is_template_field}
 use Rattle.tp_syntax.specs.Reading.{first}
-use Rattle.tp_syntax.specs.Contents as c
-use Rattle.tp_syntax.specs.Contents.{Content, template_content_step, template_field_content_step, template_content, template_field_content}
 use Rattle.tp_syntax.proofs.TemplateReading.{template_named, template_some}
 use Rattle.tp_syntax.proofs.PassedPartGrowth.{each_of_one}
 use Rattle.tp_syntax.proofs.FirstTokensOfValues.{Start, sign, truth, quote, letter, question, star, paren, complement, pattern, brace, start_of, int_starts, bool_starts, int_opens, bool_opens}
@@ -24,15 +22,12 @@ use Rattle.tp_syntax.proofs.UniqueSequences.{Agree, Unique, is_close, tails, enc
 abbrev pub Layer : Type 0
 Layer = o.Template-F Template TemplateField
 
--- the tokens of a layer, whether it is right, and what it says
+-- the tokens of a layer, and whether it is right
 abbrev pub layer_lexemes : Layer → List Lexeme
 layer_lexemes x = template_step (map-Template Template TemplateField (List Lexeme) (List Lexeme) template_lexemes template_field_lexemes x)
 
 abbrev is_layer : Layer → Bool
 is_layer x = is_template_step (map-Template Template TemplateField Bool Bool is_template is_template_field x)
-
-abbrev pub layer_content : Layer → Content
-layer_content x = template_content_step (map-Template Template TemplateField Content Content template_content template_field_content x)
 
 pub out_lexemes : (x : Template) → template_lexemes x ≡ layer_lexemes (out-Template x)
 unfolding template_lexemes template_field_lexemes
@@ -42,22 +37,14 @@ out_right : (x : Template) → is_template x ≡ is_layer (out-Template x)
 unfolding is_template is_template_field
 out_right x = fold_out-Template Bool Bool is_template_step is_template_field_step x
 
-pub out_content : (x : Template) → template_content x ≡ layer_content (out-Template x)
-unfolding template_content template_field_content
-out_content x = fold_out-Template Content Content template_content_step template_field_content_step x
-
 pub field_lexemes : (x : TemplateField)
-    → template_field_lexemes x ≡ name (string_bytes (out-TemplateField x).name) ∷ symbol Assign ∷ template_lexemes (out-TemplateField x).template
+    → template_field_lexemes x ≡ name (out-TemplateField x).name ∷ symbol Assign ∷ template_lexemes (out-TemplateField x).template
 unfolding template_lexemes template_field_lexemes
 field_lexemes x = fold_out-TemplateField (List Lexeme) (List Lexeme) template_step template_field_step x
 
 field_right : (x : TemplateField) → is_template_field x ≡ is_template (out-TemplateField x).template
 unfolding is_template is_template_field
 field_right x = fold_out-TemplateField Bool Bool is_template_step is_template_field_step x
-
-pub field_content : (x : TemplateField) → template_field_content x ≡ c.field (string_bytes (out-TemplateField x).name) (template_content (out-TemplateField x).template)
-unfolding template_content template_field_content
-field_content x = fold_out-TemplateField Content Content template_content_step template_field_content_step x
 
 -- with what a layer begins
 abbrev layer_start : Layer → Start
@@ -109,26 +96,27 @@ template_opens x r = ap (λ (t : List Lexeme). is_close (first (t ++ r))) (out_l
 field_opens : (x : TemplateField) (r : List Lexeme) → is_close (first (template_field_lexemes x ++ r)) ≡ false
 field_opens x r = ap (λ (t : List Lexeme). is_close (first (t ++ r))) (field_lexemes x)
 
-field_same : (n : ℕ) → Unique n template_lexemes template_content is_template → Unique n template_field_lexemes template_field_content is_template_field
+field_same : (n : ℕ) → Unique n template_lexemes is_template → Unique n template_field_lexemes is_template_field
 field_same n below x y r s room a b e =
     let u = out-TemplateField x in
     let v = out-TemplateField y in
-    let here : name (string_bytes u.name) ∷ symbol Assign ∷ (template_lexemes u.template ++ r) ≡ name (string_bytes v.name) ∷ symbol Assign ∷ (template_lexemes v.template ++ s) =
+    let here : name u.name ∷ symbol Assign ∷ (template_lexemes u.template ++ r) ≡ name v.name ∷ symbol Assign ∷ (template_lexemes v.template ++ s) =
     sym (ap (λ (t : List Lexeme). t ++ r) (field_lexemes x)) ∙ e ∙ ap (λ (t : List Lexeme). t ++ s) (field_lexemes y) in
-    let size : length (name (string_bytes u.name) ∷ symbol Assign ∷ (template_lexemes u.template ++ r)) ≤ n =
+    let size : length (name u.name ∷ symbol Assign ∷ (template_lexemes u.template ++ r)) ≤ n =
     subst (λ (t : List Lexeme). length (t ++ r) ≤ n) (field_lexemes x) room in
-    let named : string_bytes u.name ≡ string_bytes v.name = cc in
+    let named : u.name ≡ v.name = cc in
     let one = below u.template v.template r s (omega arith) (sym (field_right x) ∙ a) (sym (field_right y) ∙ b) (tails (tails here)) in
-    (field_content x ∙ ap (λ k. c.field k (template_content u.template)) named ∙ ap (λ k. c.field (string_bytes v.name) k) one.0 ∙ sym (field_content y), one.1)
+    let both : u ≡ v = λ i. record { name = named i; template = one.0 i } in
+    (sym (roll-out-TemplateField x) ∙ ap roll-TemplateField both ∙ roll-out-TemplateField y, one.1)
 
 -- a list has other tokens than a record
 mixed : (xs : List Template) (fs : List TemplateField) (r s : List Lexeme) → one_and_each (map is_template_field fs) ≡ true
     → braced (by_commas (map template_lexemes xs)) ++ r ≡ braced (by_commas (map template_field_lexemes fs)) ++ s → ⊥
 mixed xs [] r s some e = false≢true some
 mixed xs (f ∷ fs) r s some e =
-    let front : (t : List Lexeme) × ((by_commas (map template_field_lexemes (f ∷ fs)) ++ symbol RightBrace ∷ []) ++ s ≡ name (string_bytes (out-TemplateField f).name) ∷ symbol Assign ∷ t) =
+    let front : (t : List Lexeme) × ((by_commas (map template_field_lexemes (f ∷ fs)) ++ symbol RightBrace ∷ []) ++ s ≡ name (out-TemplateField f).name ∷ symbol Assign ∷ t) =
     (_, ap (λ (t : List Lexeme). ((t ++ more_by_commas (map template_field_lexemes fs)) ++ symbol RightBrace ∷ []) ++ s) (field_lexemes f)) in
-    no_field template_lexemes template_named xs r (string_bytes (out-TemplateField f).name) front.0 (tails e ∙ front.1)
+    no_field template_lexemes template_named xs r (out-TemplateField f).name front.0 (tails e ∙ front.1)
 
 low_same : (x y : Option ℤ) (r s : List Lexeme) → low_lexemes x ++ r ≡ low_lexemes y ++ s → Agree x y r s
 low_same None None r s e = (refl, tails (tails e))
@@ -152,11 +140,11 @@ range_behind : (low high : Option ℤ) (r : List Lexeme)
 range_behind low high r = simp append_assoc
 
 range_same : (a b x y : Option ℤ) (r s : List Lexeme) → parenthesised (low_lexemes a ++ symbol DotDot ∷ high_lexemes b) ++ r ≡ parenthesised (low_lexemes x ++ symbol DotDot ∷ high_lexemes y) ++ s
-    → Agree (c.range a b) (c.range x y) r s
+    → Agree {A = Layer} (o.Range a b) (o.Range x y) r s
 range_same a b x y r s e =
     let low = low_same a x _ _ (sym (range_behind a b r) ∙ tails e ∙ range_behind x y s) in
     let high = high_same b y (symbol RightParen ∷ r) (symbol RightParen ∷ s) (tails low.1) in
-    (ap (λ k. c.range k b) low.0 ∙ ap (λ k. c.range x k) high.0, tails high.1)
+    (λ i. o.Range (low.0 i) (high.0 i), tails high.1)
 
 -- a template that begins as an integer is one
 signed : (x : Layer) → layer_start x ≡ sign → (z : ℤ) × (layer_lexemes x ≡ int_lexemes z)
@@ -191,59 +179,59 @@ no_range (x ∷ xs) low high r s some e =
     dots_alone xs r (high_lexemes high ++ symbol RightParen ∷ s)
     (low_behind low z.0 _ _ (sym front ∙ ap (λ (t : List Lexeme). t ++ (m ++ symbol RightParen ∷ r)) (out_lexemes x ∙ z.1)))
 
-several_same : (n : ℕ) → Unique n template_lexemes template_content is_template → (opening closing : Lexeme) → is_close (Some closing) ≡ true → (xs ys : List Template) (r s : List Lexeme)
+several_same : (n : ℕ) → Unique n template_lexemes is_template → (opening closing : Lexeme) → is_close (Some closing) ≡ true → (xs ys : List Template) (r s : List Lexeme)
     → length (opening ∷ ((by_commas (map template_lexemes xs) ++ closing ∷ []) ++ r)) ≤ suc n → one_and_each (map is_template xs) ≡ true → one_and_each (map is_template ys) ≡ true
     → opening ∷ ((by_commas (map template_lexemes xs) ++ closing ∷ []) ++ r) ≡ opening ∷ ((by_commas (map template_lexemes ys) ++ closing ∷ []) ++ s)
-    → Agree (c.sequence (map template_content xs)) (c.sequence (map template_content ys)) r s
+    → Agree xs ys r s
 several_same n below opening closing closes xs ys r s room a b e =
-    enclosed_same n template_lexemes template_content is_template below template_opens opening closing closes xs ys r s room
+    enclosed_same n template_lexemes is_template below template_opens opening closing closes xs ys r s room
     (each_of_one (map is_template xs) a) (each_of_one (map is_template ys) b) e
 
-layer_same : (n : ℕ) → Unique n template_lexemes template_content is_template → (x y : Layer) (r s : List Lexeme) → length (layer_lexemes x ++ r) ≤ suc n
+layer_same : (n : ℕ) → Unique n template_lexemes is_template → (x y : Layer) (r s : List Lexeme) → length (layer_lexemes x ++ r) ≤ suc n
     → is_layer x ≡ true → is_layer y ≡ true → layer_lexemes x ++ r ≡ layer_lexemes y ++ s → layer_start x ≡ layer_start y
-    → Agree (layer_content x) (layer_content y) r s
-layer_same n below (o.Int z) (o.Int w) r s room a b e k = let i = int_same z w r s e in (ap c.integer i.0, i.1)
-layer_same n below (o.Bool x) (o.Bool y) r s room a b e k = let i = bool_same x y r s e in (ap c.boolean i.0, i.1)
+    → Agree x y r s
+layer_same n below (o.Int z) (o.Int w) r s room a b e k = let i = int_same z w r s e in (ap o.Int i.0, i.1)
+layer_same n below (o.Bool x) (o.Bool y) r s room a b e k = let i = bool_same x y r s e in (ap o.Bool i.0, i.1)
 layer_same n below (o.Text x) (o.Text y) r s room a b e k = (cc, cc)
 layer_same n below (o.Name x) (o.Name y) r s room a b e k = (cc, cc)
 layer_same n below o.Any o.Any r s room a b e k = (refl, cc)
 layer_same n below o.AnyOrNone o.AnyOrNone r s room a b e k = (refl, cc)
 layer_same n below (o.OneOf xs) (o.OneOf ys) r s room a b e k =
-    let i = several_same n below (symbol LeftParen) (symbol RightParen) refl xs.items ys.items r s room a b e in
-    (ap c.one_of i.0, i.1)
+    let i = several_same n below (symbol LeftParen) (symbol RightParen) refl xs ys r s room a b e in
+    (ap o.OneOf i.0, i.1)
 layer_same n below (o.Complement xs) (o.Complement ys) r s room a b e k =
-    let i = several_same n below (symbol LeftParen) (symbol RightParen) refl xs.items ys.items r s (omega arith) a b (tails e) in
-    (ap c.complement i.0, i.1)
+    let i = several_same n below (symbol LeftParen) (symbol RightParen) refl xs ys r s (omega arith) a b (tails e) in
+    (ap o.Complement i.0, i.1)
 layer_same n below (o.Range p q) (o.Range u v) r s room a b e k = range_same p q u v r s e
 layer_same n below (o.Pattern x) (o.Pattern y) r s room a b e k = (cc, cc)
 layer_same n below (o.List xs) (o.List ys) r s room a b e k =
-    let i = enclosed_same n template_lexemes template_content is_template below template_opens (symbol LeftBrace) (symbol RightBrace) refl xs.items ys.items r s room a b e in
-    (ap c.list i.0, i.1)
+    let i = enclosed_same n template_lexemes is_template below template_opens (symbol LeftBrace) (symbol RightBrace) refl xs ys r s room a b e in
+    (ap o.List i.0, i.1)
 layer_same n below (o.Record xs) (o.Record ys) r s room a b e k =
-    let i = enclosed_same n template_field_lexemes template_field_content is_template_field (field_same n below) field_opens (symbol LeftBrace) (symbol RightBrace) refl
-    xs.items ys.items r s room (each_of_one (map is_template_field xs.items) a) (each_of_one (map is_template_field ys.items) b) e in
-    (ap c.fields i.0, i.1)
-layer_same n below (o.OneOf xs) (o.Range p q) r s room a b e k = absurd (no_range xs.items p q r s a e)
-layer_same n below (o.Range p q) (o.OneOf xs) r s room a b e k = absurd (no_range xs.items p q s r b (sym e))
-layer_same n below (o.List xs) (o.Record ys) r s room a b e k = absurd (mixed xs.items ys.items r s b e)
-layer_same n below (o.Record xs) (o.List ys) r s room a b e k = absurd (mixed ys.items xs.items s r a (sym e))
+    let i = enclosed_same n template_field_lexemes is_template_field (field_same n below) field_opens (symbol LeftBrace) (symbol RightBrace) refl
+    xs ys r s room (each_of_one (map is_template_field xs) a) (each_of_one (map is_template_field ys) b) e in
+    (ap o.Record i.0, i.1)
+layer_same n below (o.OneOf xs) (o.Range p q) r s room a b e k = absurd (no_range xs p q r s a e)
+layer_same n below (o.Range p q) (o.OneOf xs) r s room a b e k = absurd (no_range xs p q s r b (sym e))
+layer_same n below (o.List xs) (o.Record ys) r s room a b e k = absurd (mixed xs ys r s b e)
+layer_same n below (o.Record xs) (o.List ys) r s room a b e k = absurd (mixed ys xs s r a (sym e))
 layer_same n below x y r s room a b e k = absurd (cc)
 
-template_step_same : (n : ℕ) → Unique n template_lexemes template_content is_template → Unique (suc n) template_lexemes template_content is_template
+template_step_same : (n : ℕ) → Unique n template_lexemes is_template → Unique (suc n) template_lexemes is_template
 template_step_same n below x y r s room a b e =
     let u = out-Template x in
     let v = out-Template y in
     let here : layer_lexemes u ++ r ≡ layer_lexemes v ++ s = sym (ap (λ (t : List Lexeme). t ++ r) (out_lexemes x)) ∙ e ∙ ap (λ (t : List Lexeme). t ++ s) (out_lexemes y) in
     let size : length (layer_lexemes u ++ r) ≤ suc n = subst (λ (t : List Lexeme). length (t ++ r) ≤ suc n) (out_lexemes x) room in
     let one = layer_same n below u v r s size (sym (out_right x) ∙ a) (sym (out_right y) ∙ b) here (sym (starts u r) ∙ ap start_of here ∙ starts v s) in
-    (out_content x ∙ one.0 ∙ sym (out_content y), one.1)
+    (sym (roll-out-Template x) ∙ ap roll-Template one.0 ∙ roll-out-Template y, one.1)
 
 -- templates with the same tokens agree
-pub template_same : (n : ℕ) → Unique n template_lexemes template_content is_template
+pub template_same : (n : ℕ) → Unique n template_lexemes is_template
 template_same zero = λ x y r s room a b e. absurd (template_some x r (nil_from_length (template_lexemes x ++ r) (omega arith)))
 template_same (suc n) = template_step_same n (template_same n)
 
 -- templates with the same tokens agree, however many they are
 pub templates_same : (x y : Template) (r s : List Lexeme) → is_template x ≡ true → is_template y ≡ true → template_lexemes x ++ r ≡ template_lexemes y ++ s
-    → Agree (template_content x) (template_content y) r s
+    → Agree x y r s
 templates_same x y r s = template_same (length (template_lexemes x ++ r)) x y r s (omega arith)

@@ -1,20 +1,18 @@
 -- Values with the same tokens are the same, and the same stands behind them.
-use Rattle.std.proofs.Common.{◌≡◌, ℕ, zero, suc, ◌≤◌, Bool, true, false, List, [], ◌∷◌, ◌++◌, length, map, refl, ap, sym, subst, ◌∙◌, arith, string_bytes}
+use Rattle.std.proofs.Common.{◌≡◌, ℕ, zero, suc, ◌≤◌, Bool, true, false, List, [], ◌∷◌, ◌++◌, length, map, refl, ap, sym, subst, ◌∙◌, arith}
 use Rattle.std.proofs.lemmas.Bool.{false≢true}
 use Rattle.std.proofs.lemmas.List.{nil_from_length}
 use Rattle.tp_token.specs.declared.token.Symbol.TheVariants.{Assign, LeftBrace, RightBrace}
 use Rattle.tp_token.specs.Lexeme.{Lexeme, name, symbol}
 use Rattle.tp_tree.specs.declared.message.Value.{Value}
 use Rattle.tp_tree.specs.declared.message.Value.TheOpen as o
-use Rattle.tp_tree.specs.declared.message.Value.TheViews.{out-Value}
+use Rattle.tp_tree.specs.declared.message.Value.TheViews.{roll-Value, out-Value, roll-out-Value, roll-ValueField, roll-out-ValueField}
 use Rattle.tp_tree.specs.declared.message.Value.TheFolds.{map-Value, fold_out-Value, fold_out-ValueField}
 use Rattle.tp_tree.specs.declared.message.ValueField.{ValueField, out-ValueField}
 use Rattle.tp_syntax.specs.Sequences.{more_by_commas, by_commas, braced}
 use Rattle.tp_syntax.specs.Values.{value_step, value_field_step, value_lexemes, value_field_lexemes}
 use Rattle.tp_syntax.specs.Grammar.{one_and_each, is_value_step, is_value_field_step, is_value, is_value_field}
 use Rattle.tp_syntax.specs.Reading.{first}
-use Rattle.tp_syntax.specs.Contents as c
-use Rattle.tp_syntax.specs.Contents.{Content, value_content_step, value_field_content_step, value_content, value_field_content}
 use Rattle.tp_syntax.proofs.ValueReading.{value_named, value_some}
 use Rattle.tp_syntax.proofs.PassedPartGrowth.{each_of_one}
 use Rattle.tp_syntax.proofs.FirstTokensOfValues.{Start, sign, truth, quote, letter, brace, start_of, int_starts, bool_starts, int_opens, bool_opens}
@@ -23,15 +21,12 @@ use Rattle.tp_syntax.proofs.UniqueSequences.{Agree, Unique, is_close, tails, enc
 abbrev pub Layer : Type 0
 Layer = o.Value-F Value ValueField
 
--- the tokens of a layer, whether it is right, and what it says
+-- the tokens of a layer, and whether it is right
 abbrev pub layer_lexemes : Layer → List Lexeme
 layer_lexemes x = value_step (map-Value Value ValueField (List Lexeme) (List Lexeme) value_lexemes value_field_lexemes x)
 
 abbrev is_layer : Layer → Bool
 is_layer x = is_value_step (map-Value Value ValueField Bool Bool is_value is_value_field x)
-
-abbrev pub layer_content : Layer → Content
-layer_content x = value_content_step (map-Value Value ValueField Content Content value_content value_field_content x)
 
 pub out_lexemes : (x : Value) → value_lexemes x ≡ layer_lexemes (out-Value x)
 unfolding value_lexemes value_field_lexemes
@@ -41,21 +36,13 @@ out_right : (x : Value) → is_value x ≡ is_layer (out-Value x)
 unfolding is_value is_value_field
 out_right x = fold_out-Value Bool Bool is_value_step is_value_field_step x
 
-pub out_content : (x : Value) → value_content x ≡ layer_content (out-Value x)
-unfolding value_content value_field_content
-out_content x = fold_out-Value Content Content value_content_step value_field_content_step x
-
-pub field_lexemes : (x : ValueField) → value_field_lexemes x ≡ name (string_bytes (out-ValueField x).name) ∷ symbol Assign ∷ value_lexemes (out-ValueField x).value
+pub field_lexemes : (x : ValueField) → value_field_lexemes x ≡ name (out-ValueField x).name ∷ symbol Assign ∷ value_lexemes (out-ValueField x).value
 unfolding value_lexemes value_field_lexemes
 field_lexemes x = fold_out-ValueField (List Lexeme) (List Lexeme) value_step value_field_step x
 
 field_right : (x : ValueField) → is_value_field x ≡ is_value (out-ValueField x).value
 unfolding is_value is_value_field
 field_right x = fold_out-ValueField Bool Bool is_value_step is_value_field_step x
-
-pub field_content : (x : ValueField) → value_field_content x ≡ c.field (string_bytes (out-ValueField x).name) (value_content (out-ValueField x).value)
-unfolding value_content value_field_content
-field_content x = fold_out-ValueField Content Content value_content_step value_field_content_step x
 
 -- with what a layer begins
 abbrev layer_start : Layer → Start
@@ -89,60 +76,61 @@ value_opens x r = ap (λ (t : List Lexeme). is_close (first (t ++ r))) (out_lexe
 field_opens : (x : ValueField) (r : List Lexeme) → is_close (first (value_field_lexemes x ++ r)) ≡ false
 field_opens x r = ap (λ (t : List Lexeme). is_close (first (t ++ r))) (field_lexemes x)
 
-field_same : (n : ℕ) → Unique n value_lexemes value_content is_value → Unique n value_field_lexemes value_field_content is_value_field
+field_same : (n : ℕ) → Unique n value_lexemes is_value → Unique n value_field_lexemes is_value_field
 field_same n below x y r s room a b e =
     let u = out-ValueField x in
     let v = out-ValueField y in
-    let here : name (string_bytes u.name) ∷ symbol Assign ∷ (value_lexemes u.value ++ r) ≡ name (string_bytes v.name) ∷ symbol Assign ∷ (value_lexemes v.value ++ s) =
+    let here : name u.name ∷ symbol Assign ∷ (value_lexemes u.value ++ r) ≡ name v.name ∷ symbol Assign ∷ (value_lexemes v.value ++ s) =
     sym (ap (λ (t : List Lexeme). t ++ r) (field_lexemes x)) ∙ e ∙ ap (λ (t : List Lexeme). t ++ s) (field_lexemes y) in
-    let size : length (name (string_bytes u.name) ∷ symbol Assign ∷ (value_lexemes u.value ++ r)) ≤ n =
+    let size : length (name u.name ∷ symbol Assign ∷ (value_lexemes u.value ++ r)) ≤ n =
     subst (λ (t : List Lexeme). length (t ++ r) ≤ n) (field_lexemes x) room in
-    let named : string_bytes u.name ≡ string_bytes v.name = cc in
+    let named : u.name ≡ v.name = cc in
     let one = below u.value v.value r s (omega arith) (sym (field_right x) ∙ a) (sym (field_right y) ∙ b) (tails (tails here)) in
-    (field_content x ∙ ap (λ k. c.field k (value_content u.value)) named ∙ ap (λ k. c.field (string_bytes v.name) k) one.0 ∙ sym (field_content y), one.1)
+    let both : u ≡ v = λ i. record { name = named i; value = one.0 i } in
+    (sym (roll-out-ValueField x) ∙ ap roll-ValueField both ∙ roll-out-ValueField y, one.1)
 
 -- a list has other tokens than a record
 mixed : (xs : List Value) (fs : List ValueField) (r s : List Lexeme) → one_and_each (map is_value_field fs) ≡ true
     → braced (by_commas (map value_lexemes xs)) ++ r ≡ braced (by_commas (map value_field_lexemes fs)) ++ s → ⊥
 mixed xs [] r s some e = false≢true some
 mixed xs (f ∷ fs) r s some e =
-    let front : (t : List Lexeme) × ((by_commas (map value_field_lexemes (f ∷ fs)) ++ symbol RightBrace ∷ []) ++ s ≡ name (string_bytes (out-ValueField f).name) ∷ symbol Assign ∷ t) =
+    let front : (t : List Lexeme) × ((by_commas (map value_field_lexemes (f ∷ fs)) ++ symbol RightBrace ∷ []) ++ s ≡ name (out-ValueField f).name ∷ symbol Assign ∷ t) =
     (_, ap (λ (t : List Lexeme). ((t ++ more_by_commas (map value_field_lexemes fs)) ++ symbol RightBrace ∷ []) ++ s) (field_lexemes f)) in
-    no_field value_lexemes value_named xs r (string_bytes (out-ValueField f).name) front.0 (tails e ∙ front.1)
+    no_field value_lexemes value_named xs r (out-ValueField f).name front.0 (tails e ∙ front.1)
 
-layer_same : (n : ℕ) → Unique n value_lexemes value_content is_value → (x y : Layer) (r s : List Lexeme) → length (layer_lexemes x ++ r) ≤ suc n
+layer_same : (n : ℕ) → Unique n value_lexemes is_value → (x y : Layer) (r s : List Lexeme) → length (layer_lexemes x ++ r) ≤ suc n
     → is_layer x ≡ true → is_layer y ≡ true → layer_lexemes x ++ r ≡ layer_lexemes y ++ s → layer_start x ≡ layer_start y
-    → Agree (layer_content x) (layer_content y) r s
-layer_same n below (o.Int z) (o.Int w) r s room a b e k = let i = int_same z w r s e in (ap c.integer i.0, i.1)
-layer_same n below (o.Bool x) (o.Bool y) r s room a b e k = let i = bool_same x y r s e in (ap c.boolean i.0, i.1)
+    → Agree x y r s
+layer_same n below (o.Int z) (o.Int w) r s room a b e k = let i = int_same z w r s e in (ap o.Int i.0, i.1)
+layer_same n below (o.Bool x) (o.Bool y) r s room a b e k = let i = bool_same x y r s e in (ap o.Bool i.0, i.1)
 layer_same n below (o.Text x) (o.Text y) r s room a b e k = (cc, cc)
 layer_same n below (o.Name x) (o.Name y) r s room a b e k = (cc, cc)
 layer_same n below (o.List xs) (o.List ys) r s room a b e k =
-    let i = enclosed_same n value_lexemes value_content is_value below value_opens (symbol LeftBrace) (symbol RightBrace) refl xs.items ys.items r s room a b e in
-    (ap c.list i.0, i.1)
+    let i = enclosed_same n value_lexemes is_value below value_opens (symbol LeftBrace) (symbol RightBrace) refl xs ys r s room a b e in
+    (ap o.List i.0, i.1)
 layer_same n below (o.Record xs) (o.Record ys) r s room a b e k =
-    let i = enclosed_same n value_field_lexemes value_field_content is_value_field (field_same n below) field_opens (symbol LeftBrace) (symbol RightBrace) refl
-    xs.items ys.items r s room (each_of_one (map is_value_field xs.items) a) (each_of_one (map is_value_field ys.items) b) e in
-    (ap c.fields i.0, i.1)
-layer_same n below (o.List xs) (o.Record ys) r s room a b e k = absurd (mixed xs.items ys.items r s b e)
-layer_same n below (o.Record xs) (o.List ys) r s room a b e k = absurd (mixed ys.items xs.items s r a (sym e))
+    let i = enclosed_same n value_field_lexemes is_value_field (field_same n below) field_opens (symbol LeftBrace) (symbol RightBrace) refl
+    xs ys r s room (each_of_one (map is_value_field xs) a) (each_of_one (map is_value_field ys) b) e in
+    (ap o.Record i.0, i.1)
+layer_same n below (o.List xs) (o.Record ys) r s room a b e k = absurd (mixed xs ys r s b e)
+layer_same n below (o.Record xs) (o.List ys) r s room a b e k = absurd (mixed ys xs s r a (sym e))
 layer_same n below x y r s room a b e k = absurd (cc)
 
-value_step_same : (n : ℕ) → Unique n value_lexemes value_content is_value → Unique (suc n) value_lexemes value_content is_value
+value_step_same : (n : ℕ) → Unique n value_lexemes is_value → Unique (suc n) value_lexemes is_value
 value_step_same n below x y r s room a b e =
     let u = out-Value x in
     let v = out-Value y in
     let here : layer_lexemes u ++ r ≡ layer_lexemes v ++ s = sym (ap (λ (t : List Lexeme). t ++ r) (out_lexemes x)) ∙ e ∙ ap (λ (t : List Lexeme). t ++ s) (out_lexemes y) in
     let size : length (layer_lexemes u ++ r) ≤ suc n = subst (λ (t : List Lexeme). length (t ++ r) ≤ suc n) (out_lexemes x) room in
     let one = layer_same n below u v r s size (sym (out_right x) ∙ a) (sym (out_right y) ∙ b) here (sym (starts u r) ∙ ap start_of here ∙ starts v s) in
-    (out_content x ∙ one.0 ∙ sym (out_content y), one.1)
+    (sym (roll-out-Value x) ∙ ap roll-Value one.0 ∙ roll-out-Value y, one.1)
 
 -- values with the same tokens agree
-pub value_same : (n : ℕ) → Unique n value_lexemes value_content is_value
+pub value_same : (n : ℕ) → Unique n value_lexemes is_value
 value_same zero = λ x y r s room a b e. absurd (value_some x r (nil_from_length (value_lexemes x ++ r) (omega arith)))
 value_same (suc n) = value_step_same n (value_same n)
 
 -- values with the same tokens agree, however many they are
 pub values_same : (x y : Value) (r s : List Lexeme) → is_value x ≡ true → is_value y ≡ true → value_lexemes x ++ r ≡ value_lexemes y ++ s
-    → Agree (value_content x) (value_content y) r s
+    → Agree x y r s
 values_same x y r s = value_same (length (value_lexemes x ++ r)) x y r s (omega arith)

@@ -1,8 +1,5 @@
 -- A value by the token that it begins with.
-use Rattle.std.proofs.Common.{inl, inr, ◌⊎◌, ◌≡◌, ℕ, suc, ℤ, pos, negsuc, Bool, true, false, List, [], ◌∷◌, ◌++◌, Some, map, refl, ap, sym, subst, ◌∙◌, string_bytes}
-use Rattle.std.specs.declared.vec.Vec.{Vec}
-use Rattle.std.specs.declared.alloc.Global.{Global}
-use Rattle.std.specs.declared.string.String.{String}
+use Rattle.std.proofs.Common.{inl, inr, ◌⊎◌, ◌≡◌, ℕ, suc, ℤ, pos, negsuc, Bool, true, false, List, [], ◌∷◌, ◌++◌, Some, map, refl, ap, sym, subst, ◌∙◌}
 use Rattle.std.proofs.lemmas.Bool.{false≢true}
 use Rattle.tp_token.specs.declared.word.Word.TheVariants as w
 use Rattle.tp_token.specs.declared.token.Symbol.TheVariants.{Assign, LeftBrace, Minus, RightBrace}
@@ -21,8 +18,8 @@ use Rattle.tp_syntax.proofs.ValueTokens as tokens
 use Rattle.tp_syntax.proofs.GrammarEquations as grammar
 use Rattle.tp_syntax.proofs.FirstTokensOfLiterals.{sign_first, no_bool, no_int, no_bool_brace, int_unnamed, bool_unnamed, some_int}
 
-layer : (Q : Value → Type 0) → ((z : ℤ) → Q (v.Int z)) → ((b : Bool) → Q (v.Bool b)) → ((t : Vec ℕ Global) → Q (v.Text t)) →
-    ((n : String Global) → Q (v.Name n)) → ((vs : Vec Value Global) → Q (v.List vs)) → ((fs : Vec ValueField Global) → Q (v.Record fs)) →
+layer : (Q : Value → Type 0) → ((z : ℤ) → Q (v.Int z)) → ((b : Bool) → Q (v.Bool b)) → ((t : List ℕ) → Q (v.Text t)) →
+    ((n : List ℕ) → Q (v.Name n)) → ((vs : List Value) → Q (v.List vs)) → ((fs : List ValueField) → Q (v.Record fs)) →
     (y : o.Value-F Value ValueField) → Q (roll-Value y)
 layer Q i b t n l r (o.Int z) = subst Q (sym (v.rolls-Int z)) (i z)
 layer Q i b t n l r (o.Bool x) = subst Q (sym (v.rolls-Bool x)) (b x)
@@ -32,8 +29,8 @@ layer Q i b t n l r (o.List x) = subst Q (sym (v.rolls-List x)) (l x)
 layer Q i b t n l r (o.Record x) = subst Q (sym (v.rolls-Record x)) (r x)
 
 -- a fact of each value, variant by variant
-pub value_cases : (Q : Value → Type 0) → ((z : ℤ) → Q (v.Int z)) → ((b : Bool) → Q (v.Bool b)) → ((t : Vec ℕ Global) → Q (v.Text t)) →
-    ((n : String Global) → Q (v.Name n)) → ((vs : Vec Value Global) → Q (v.List vs)) → ((fs : Vec ValueField Global) → Q (v.Record fs)) → (x : Value) → Q x
+pub value_cases : (Q : Value → Type 0) → ((z : ℤ) → Q (v.Int z)) → ((b : Bool) → Q (v.Bool b)) → ((t : List ℕ) → Q (v.Text t)) →
+    ((n : List ℕ) → Q (v.Name n)) → ((vs : List Value) → Q (v.List vs)) → ((fs : List ValueField) → Q (v.Record fs)) → (x : Value) → Q x
 value_cases Q i b t n l r x = subst Q (roll-out-Value x) (layer Q i b t n l r (out-Value x))
 
 -- several values in braces, or several fields, behind the `{`
@@ -80,14 +77,14 @@ value_behind x more t ts =
     value_cases (λ x. is_value x ≡ true → value_lexemes x ++ more ≡ t ∷ ts → Behind more t ts)
     (λ z right e. int_behind more z t ts (sym (grammar.value_int z) ∙ right) (ap (λ (l : List Lexeme). l ++ more) (sym (tokens.value_int z)) ∙ e))
     (λ b right e. bool_behind more b t ts (ap (λ (l : List Lexeme). l ++ more) (sym (tokens.value_bool b)) ∙ e))
-    (λ cs right e. moved more (text cs.items) t more ts (ap (λ (l : List Lexeme). l ++ more) (sym (tokens.value_text cs)) ∙ e) refl)
-    (λ n right e. moved more (name (string_bytes n)) t more ts (ap (λ (l : List Lexeme). l ++ more) (sym (tokens.value_name n)) ∙ e) refl)
+    (λ cs right e. moved more (text cs) t more ts (ap (λ (l : List Lexeme). l ++ more) (sym (tokens.value_text cs)) ∙ e) refl)
+    (λ n right e. moved more (name n) t more ts (ap (λ (l : List Lexeme). l ++ more) (sym (tokens.value_name n)) ∙ e) refl)
     (λ vs right e.
-    brace_behind more (by_commas (map value_lexemes vs.items)) t ts (ap (λ (l : List Lexeme). l ++ more) (sym (tokens.value_list vs)) ∙ e)
-    (inl (vs.items, sym (grammar.value_list vs) ∙ right, refl)))
+    brace_behind more (by_commas (map value_lexemes vs)) t ts (ap (λ (l : List Lexeme). l ++ more) (sym (tokens.value_list vs)) ∙ e)
+    (inl (vs, sym (grammar.value_list vs) ∙ right, refl)))
     (λ fs right e.
-    brace_behind more (by_commas (map value_field_lexemes fs.items)) t ts (ap (λ (l : List Lexeme). l ++ more) (sym (tokens.value_record fs)) ∙ e)
-    (inr (fs.items, sym (grammar.value_record fs) ∙ right, refl)))
+    brace_behind more (by_commas (map value_field_lexemes fs)) t ts (ap (λ (l : List Lexeme). l ++ more) (sym (tokens.value_record fs)) ∙ e)
+    (inr (fs, sym (grammar.value_record fs) ∙ right, refl)))
     x
 
 -- behind a `-` stands a number, without its sign
@@ -97,8 +94,8 @@ value_minus x more os =
     value_cases (λ x. is_value x ≡ true → plain (symbol Minus ∷ os) ≡ value_lexemes x ++ more → (z : ℤ) × (is_64_bit z ≡ true) × (int_lexemes z ++ more ≡ plain (symbol Minus ∷ os)))
     (λ z right e. (z, sym (grammar.value_int z) ∙ right, sym (e ∙ ap (λ (l : List Lexeme). l ++ more) (tokens.value_int z))))
     (λ b right e. absurd (no_bool b more os (e ∙ ap (λ (l : List Lexeme). l ++ more) (tokens.value_bool b))))
-    (λ cs right e. absurd (false≢true (sign_first os (text cs.items) more (e ∙ ap (λ (l : List Lexeme). l ++ more) (tokens.value_text cs)))))
-    (λ n right e. absurd (false≢true (sign_first os (name (string_bytes n)) more (e ∙ ap (λ (l : List Lexeme). l ++ more) (tokens.value_name n)))))
+    (λ cs right e. absurd (false≢true (sign_first os (text cs) more (e ∙ ap (λ (l : List Lexeme). l ++ more) (tokens.value_text cs)))))
+    (λ n right e. absurd (false≢true (sign_first os (name n) more (e ∙ ap (λ (l : List Lexeme). l ++ more) (tokens.value_name n)))))
     (λ vs right e. absurd (false≢true (sign_first os (symbol LeftBrace) _ (e ∙ ap (λ (l : List Lexeme). l ++ more) (tokens.value_list vs)))))
     (λ fs right e. absurd (false≢true (sign_first os (symbol LeftBrace) _ (e ∙ ap (λ (l : List Lexeme). l ++ more) (tokens.value_record fs)))))
     x
@@ -128,7 +125,7 @@ value_named x r n ts =
     x
 
 pub value_field_opens : (f : ValueField) (r : List Lexeme) →
-    value_field_lexemes f ++ r ≡ name (string_bytes (out-ValueField f).name) ∷ symbol Assign ∷ (value_lexemes (out-ValueField f).value ++ r)
+    value_field_lexemes f ++ r ≡ name (out-ValueField f).name ∷ symbol Assign ∷ (value_lexemes (out-ValueField f).value ++ r)
 value_field_opens f r = ap (λ (l : List Lexeme). l ++ r) (tokens.value_field_out f)
 
 -- a field doesn't begin with a `}`

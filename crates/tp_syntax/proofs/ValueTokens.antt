@@ -1,8 +1,5 @@
 -- The tokens of values, an equation for each variant.
-use Rattle.std.proofs.Common.{◌≡◌, ℕ, ℤ, Bool, List, [], ◌∷◌, map, append_assoc, ap, sym, ◌∙◌, string_bytes}
-use Rattle.std.specs.declared.vec.Vec.{Vec}
-use Rattle.std.specs.declared.alloc.Global.{Global}
-use Rattle.std.specs.declared.string.String.{String}
+use Rattle.std.proofs.Common.{◌≡◌, ℕ, ℤ, Bool, List, [], ◌∷◌, map, append_assoc, ap, sym, ◌∙◌}
 use Rattle.tp_token.specs.declared.token.Symbol.TheVariants.{Assign}
 use Rattle.tp_token.specs.Lexeme.{Lexeme, name, text, symbol}
 use Rattle.tp_tree.specs.declared.message.Value.{Value}
@@ -21,24 +18,24 @@ pub value_bool : (x : Bool) → value_lexemes (v.Bool x) ≡ bool_lexeme x ∷ [
 unfolding value_lexemes
 value_bool x = ap value_lexemes (sym (v.rolls-Bool x)) ∙ fold-roll-Value (List Lexeme) (List Lexeme) value_step value_field_step (o.Bool x)
 
-pub value_text : (t : Vec ℕ Global) → value_lexemes (v.Text t) ≡ text t.items ∷ []
+pub value_text : (t : List ℕ) → value_lexemes (v.Text t) ≡ text t ∷ []
 unfolding value_lexemes
 value_text t = ap value_lexemes (sym (v.rolls-Text t)) ∙ fold-roll-Value (List Lexeme) (List Lexeme) value_step value_field_step (o.Text t)
 
-pub value_name : (n : String Global) → value_lexemes (v.Name n) ≡ name (string_bytes n) ∷ []
+pub value_name : (n : List ℕ) → value_lexemes (v.Name n) ≡ name n ∷ []
 unfolding value_lexemes
 value_name n = ap value_lexemes (sym (v.rolls-Name n)) ∙ fold-roll-Value (List Lexeme) (List Lexeme) value_step value_field_step (o.Name n)
 
-pub value_list : (vs : Vec Value Global) → value_lexemes (v.List vs) ≡ braced (by_commas (map value_lexemes vs.items))
+pub value_list : (vs : List Value) → value_lexemes (v.List vs) ≡ braced (by_commas (map value_lexemes vs))
 unfolding value_lexemes
 value_list vs = ap value_lexemes (sym (v.rolls-List vs)) ∙ fold-roll-Value (List Lexeme) (List Lexeme) value_step value_field_step (o.List vs)
 
-pub value_record : (fs : Vec ValueField Global) → value_lexemes (v.Record fs) ≡ braced (by_commas (map value_field_lexemes fs.items))
+pub value_record : (fs : List ValueField) → value_lexemes (v.Record fs) ≡ braced (by_commas (map value_field_lexemes fs))
 unfolding value_lexemes value_field_lexemes
 value_record fs = ap value_lexemes (sym (v.rolls-Record fs)) ∙ fold-roll-Value (List Lexeme) (List Lexeme) value_step value_field_step (o.Record fs)
 
 pub value_field_out : (f : ValueField)
-    → value_field_lexemes f ≡ name (string_bytes (out-ValueField f).name) ∷ symbol Assign ∷ value_lexemes (out-ValueField f).value
+    → value_field_lexemes f ≡ name (out-ValueField f).name ∷ symbol Assign ∷ value_lexemes (out-ValueField f).value
 unfolding value_lexemes value_field_lexemes
 value_field_out f = fold_out-ValueField (List Lexeme) (List Lexeme) value_step value_field_step f
 

@@ -1,7 +1,5 @@
 -- A value by what is seen of it.
-use Rattle.std.proofs.Common.{inl, inr, ◌⊎◌, ◌≡◌, ℕ, ◌≤◌, ℤ, pos, Bool, true, false, ◌&&◌, List, [], ◌∷◌, ◌++◌, Some, map, length, append_assoc, refl, ap, sym, subst, ◌∙◌, arith, string_bytes}
-use Rattle.std.specs.declared.string.String.{String}
-use Rattle.std.specs.declared.alloc.Global.{Global}
+use Rattle.std.proofs.Common.{inl, inr, ◌⊎◌, ◌≡◌, ℕ, ◌≤◌, ℤ, pos, Bool, true, false, ◌&&◌, List, [], ◌∷◌, ◌++◌, Some, map, length, append_assoc, refl, ap, sym, subst, ◌∙◌, arith}
 use Rattle.std.proofs.lemmas.Bool.{false≢true}
 use Rattle.tp_token.specs.declared.token.Placed.{Placed}
 use Rattle.tp_token.specs.declared.word.Word.TheVariants as w
@@ -137,23 +135,23 @@ record_front hidden f us [] other could =
 record_front hidden f us (p ∷ ps) other could =
     let n = (out-ValueField f).name in
     let tail = value_lexemes (out-ValueField f).value ++ us in
-    let opens : CouldBe hidden (p ∷ ps) (name (string_bytes n) ∷ symbol Assign ∷ tail) = subst (λ (ts : List Lexeme). CouldBe hidden (p ∷ ps) ts) (value_field_opens f us) could in
-    elim (next_seen hidden (p ∷ ps) ps (lexeme_of p.token) (name (string_bytes n)) (symbol Assign ∷ tail) refl refl opens) [
+    let opens : CouldBe hidden (p ∷ ps) (name n ∷ symbol Assign ∷ tail) = subst (λ (ts : List Lexeme). CouldBe hidden (p ∷ ps) ts) (value_field_opens f us) could in
+    elim (next_seen hidden (p ∷ ps) ps (lexeme_of p.token) (name n) (symbol Assign ∷ tail) refl refl opens) [
       | inl h ↦ (omega arith, hidden_could h)
       | inr same ↦
           let h : AllHidden hidden ps = absent_seen hidden ps (symbol Assign) tail refl same.1 (λ at. other (ap (λ (t : Lexeme). is_name_in (Some t)) same.0, at)) in
-          let front : by_commas (map value_lexemes (v.Name n ∷ [])) ++ symbol RightBrace ∷ [] ≡ name (string_bytes n) ∷ symbol RightBrace ∷ [] =
+          let front : by_commas (map value_lexemes (v.Name n ∷ [])) ++ symbol RightBrace ∷ [] ≡ name n ∷ symbol RightBrace ∷ [] =
           ap (λ (l : List Lexeme). (l ++ []) ++ symbol RightBrace ∷ []) (tokens.value_name n) in (
             omega arith,
             subst (λ (ts : List Lexeme). CouldBe hidden (p ∷ ps) ts) (sym front)
-                (could_cons hidden (p ∷ ps) ps (name (string_bytes n)) (symbol RightBrace ∷ []) (ap (λ (t : Lexeme). t ∷ lexemes ps) same.0) refl (hidden_could h)),
+                (could_cons hidden (p ∷ ps) ps (name n) (symbol RightBrace ∷ []) (ap (λ (t : Lexeme). t ∷ lexemes ps) same.0) refl (hidden_could h)),
           )
     ]
 
 -- where a record could come next, and no name and `:=` do, all is hidden but a name, which could be a list's
 pub record_unseen : (hidden : ℕ) (fs : List ValueField) (more : List Lexeme) (ps : List Placed) → one_and_each (map is_value_field fs) ≡ true → (BeginsField ps → ⊥) →
     CouldBe hidden ps ((by_commas (map value_field_lexemes fs) ++ symbol RightBrace ∷ []) ++ more) →
-    (n : String Global) × (length ps ≤ hidden) × CouldBe hidden ps (by_commas (map value_lexemes (v.Name n ∷ [])) ++ symbol RightBrace ∷ [])
+    (n : List ℕ) × (length ps ≤ hidden) × CouldBe hidden ps (by_commas (map value_lexemes (v.Name n ∷ [])) ++ symbol RightBrace ∷ [])
 record_unseen hidden [] more ps right other could = absurd (false≢true right)
 record_unseen hidden (f ∷ fs) more ps right other could =
     let rest = more_by_commas (map value_field_lexemes fs) ++ symbol RightBrace ∷ more in
@@ -162,7 +160,7 @@ record_unseen hidden (f ∷ fs) more ps right other could =
     ((out-ValueField f).name, r.0, r.1)
 
 -- a name alone is right as a list
-pub name_right : (n : String Global) → one_and_each (map is_value (v.Name n ∷ [])) ≡ true
+pub name_right : (n : List ℕ) → one_and_each (map is_value (v.Name n ∷ [])) ≡ true
 name_right n = ap (λ b. b && true) (grammar.value_name n)
 
 -- where a list could come next, and a name and `:=` do, all is hidden but the name

@@ -76,8 +76,8 @@ is_value_step (v.Int z) = is_64_bit z
 is_value_step (v.Bool b) = true
 is_value_step (v.Text bs) = true
 is_value_step (v.Name n) = true
-is_value_step (v.List vs) = each vs.items
-is_value_step (v.Record fs) = one_and_each fs.items
+is_value_step (v.List vs) = each vs
+is_value_step (v.Record fs) = one_and_each fs
 
 -- a field is as right as its value
 abbrev pub is_value_field_step : v.ValueField-F Bool Bool → Bool
@@ -107,12 +107,12 @@ is_template_step (t.Text bs) = true
 is_template_step (t.Name n) = true
 is_template_step t.Any = true
 is_template_step t.AnyOrNone = true
-is_template_step (t.OneOf ts) = one_and_each ts.items
-is_template_step (t.Complement ts) = one_and_each ts.items
+is_template_step (t.OneOf ts) = one_and_each ts
+is_template_step (t.Complement ts) = one_and_each ts
 is_template_step (t.Range low high) = is_bound low && is_bound high
-is_template_step (t.Pattern bs) = list_all is_plain bs.items
-is_template_step (t.List ts) = each ts.items
-is_template_step (t.Record fs) = one_and_each fs.items
+is_template_step (t.Pattern bs) = list_all is_plain bs
+is_template_step (t.List ts) = each ts
+is_template_step (t.Record fs) = one_and_each fs
 
 -- a field is as right as its template
 abbrev pub is_template_field_step : t.TemplateField-F Bool Bool → Bool
@@ -145,7 +145,7 @@ action_part_step (s.AllPorts o) = record { is_right = true; is_ended = false }
 action_part_step (s.SetVerdict v) = record { is_right = true; is_ended = false }
 action_part_step (s.Alt bs e) =
     record {
-      is_right = has_one (bs.items ++ option_to_list e) && are_parts (bs.items ++ option_to_list e);
+      is_right = has_one (bs ++ option_to_list e) && are_parts (bs ++ option_to_list e);
       is_ended = true;
     }
 action_part_step (s.For x) = x
@@ -153,7 +153,7 @@ action_part_step (s.For x) = x
 -- a block ends in a `}`
 abbrev pub body_part_step : s.BranchBody-F Part Part Part Part Part Part → Part
 body_part_step s.Nothing = record { is_right = true; is_ended = false }
-body_part_step (s.Block ss) = record { is_right = are_parts ss.items; is_ended = true }
+body_part_step (s.Block ss) = record { is_right = are_parts ss; is_ended = true }
 
 -- a branch has a `;`, or ends in a block
 abbrev pub branch_part_step : s.Branch-F Part Part Part Part Part Part → Part
@@ -167,13 +167,13 @@ branch_part_step b =
 abbrev pub counted_part_step : s.Counted-F Part Part Part Part Part Part → Part
 counted_part_step f =
     record {
-      is_right = is_64_bit f.turns.first && (is_64_bit f.turns.bound && are_parts f.block.items);
+      is_right = is_64_bit f.turns.first && (is_64_bit f.turns.bound && are_parts f.block);
       is_ended = true;
     }
 
 -- an `[else]` branch ends in a block
 abbrev pub else_part_step : s.ElseBranch-F Part Part Part Part Part Part → Part
-else_part_step e = record { is_right = are_parts e.block.items; is_ended = true }
+else_part_step e = record { is_right = are_parts e.block; is_ended = true }
 
 -- a statement has a `;`, or what it does ends in a `}`
 abbrev pub statement_part_step : s.Statement-F Part Part Part Part Part Part → Part
@@ -235,11 +235,11 @@ variable_part v = record { is_right = true; is_ended = v.has_semicolon }
 
 -- a direction of a port type has a type at least, and needs its `;`
 abbrev pub direction_part : Direction → Part
-direction_part d = record { is_right = has_one d.types.items; is_ended = d.has_semicolon }
+direction_part d = record { is_right = has_one d.types; is_ended = d.has_semicolon }
 
 -- a declaration of ports has a name at least, and needs its `;`
 abbrev pub port_declaration_part : PortDeclaration → Part
-port_declaration_part p = record { is_right = has_one p.names.items; is_ended = p.has_semicolon }
+port_declaration_part p = record { is_right = has_one p.names; is_ended = p.has_semicolon }
 
 -- a setup statement needs its `;`
 abbrev pub setup_part : SetupStatement → Part
@@ -257,8 +257,8 @@ all_done_parts (Some d) = record { is_right = true; is_ended = d.has_semicolon }
 -- what stands in the braces of a test case
 abbrev pub behaviour_parts : TestCase → List Part
 behaviour_parts t =
-    map setup_part t.setups.items ++ (map start_part t.starts.items ++ (map variable_part t.variables.items ++
-    (statements_parts t.statements.items ++ all_done_parts t.all_done)))
+    map setup_part t.setups ++ (map start_part t.starts ++ (map variable_part t.variables ++
+    (statements_parts t.statements ++ all_done_parts t.all_done)))
 
 -- what a definition defines: a port type has a direction at least; a list type alone doesn't end in a `}`
 abbrev pub defined_part : Defined → Part
@@ -266,14 +266,14 @@ defined_part (defined.Record r) = record { is_right = true; is_ended = true }
 defined_part (defined.List l) = record { is_right = true; is_ended = false }
 defined_part (defined.Port p) =
     record {
-      is_right = has_one p.directions.items && are_parts (map direction_part p.directions.items);
+      is_right = has_one p.directions && are_parts (map direction_part p.directions);
       is_ended = true;
     }
 defined_part (defined.Component c) =
-    record { is_right = are_parts (map port_declaration_part c.ports.items); is_ended = true }
+    record { is_right = are_parts (map port_declaration_part c.ports); is_ended = true }
 defined_part (defined.Function f) =
     record {
-      is_right = are_parts (map variable_part f.variables.items ++ statements_parts f.statements.items);
+      is_right = are_parts (map variable_part f.variables ++ statements_parts f.statements);
       is_ended = true;
     }
 defined_part (defined.TestCase t) = record { is_right = are_parts (behaviour_parts t); is_ended = true }
@@ -289,4 +289,4 @@ definition_part d =
 -- the module is one of the grammar: beside its tokens, what may not be empty isn't, patterns have plain characters, and
 -- a `;` is missing only behind a `}` or directly before one
 abbrev pub IsGrammatical : Module → Type 0
-IsGrammatical m = IsTrue (are_parts (map definition_part m.definitions.items))
+IsGrammatical m = IsTrue (are_parts (map definition_part m.definitions))

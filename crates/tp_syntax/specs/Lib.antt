@@ -1,5 +1,4 @@
 pub mod Ahead
-pub mod Contents
 pub mod Definitions
 pub mod Faults
 pub mod Forward
@@ -11,10 +10,10 @@ pub mod Nesting
 pub mod Passing
 pub mod Reading
 pub mod Refusals
-pub mod Same
 pub mod Sequences
 pub mod Standing
 pub mod Statements
 pub mod Stuck
 pub mod Templates
+pub mod Unique
 pub mod Values

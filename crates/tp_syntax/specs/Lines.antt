@@ -1,5 +1,5 @@
 -- The lines that a tree notes: each is that of the first token of what it is noted of.
-use Rattle.std.specs.Prelude.{◌≡◌, ℕ, Bool, true, List, [], ◌∷◌, ◌++◌, map, Option, Some, None, string_bytes}
+use Rattle.std.specs.Prelude.{◌≡◌, ℕ, Bool, true, List, [], ◌∷◌, ◌++◌, map, Option, Some, None}
 use Rattle.tp_token.specs.declared.word.Word.TheVariants as w
 use Rattle.tp_token.specs.declared.token.Symbol.TheVariants.{Comma, LeftBrace, LeftBracket, LeftParen, Minus, RightBrace, RightBracket, RightParen}
 use Rattle.tp_token.specs.Lexeme.{Lexeme, PlacedLexeme, name, word, symbol}
@@ -83,24 +83,24 @@ field_type_notes f = unnoted (type_lexemes f.type_name) ++ declared_name_notes f
 -- a record type has fields
 unfoldable pub record_type_notes : RecordType → List Noted
 record_type_notes r =
-    unnoted (word w.Type ∷ word w.Record ∷ name (string_bytes r.name) ∷ []) ++
-    noted_braced (noted_by_commas (map field_type_notes r.fields.items))
+    unnoted (word w.Type ∷ word w.Record ∷ name r.name ∷ []) ++
+    noted_braced (noted_by_commas (map field_type_notes r.fields))
 
 -- a declaration of ports has declared names
 unfoldable pub port_declaration_notes : PortDeclaration → List Noted
 port_declaration_notes p =
-    unnoted (word w.Port ∷ name (string_bytes p.type_name) ∷ []) ++
-    (noted_by_commas (map declared_name_notes p.names.items) ++ unnoted (end_lexemes p.has_semicolon))
+    unnoted (word w.Port ∷ name p.type_name ∷ []) ++
+    (noted_by_commas (map declared_name_notes p.names) ++ unnoted (end_lexemes p.has_semicolon))
 
 -- a component type has declarations of ports
 unfoldable pub component_type_notes : ComponentType → List Noted
 component_type_notes t =
-    unnoted (word w.Type ∷ word w.Component ∷ name (string_bytes t.name) ∷ []) ++
-    noted_braced (noted_in_order (map port_declaration_notes t.ports.items))
+    unnoted (word w.Type ∷ word w.Component ∷ name t.name ∷ []) ++
+    noted_braced (noted_in_order (map port_declaration_notes t.ports))
 
 -- a parameter has a declared name
 abbrev pub parameter_notes : Parameter → List Noted
-parameter_notes p = unnoted (name (string_bytes p.type_name) ∷ []) ++ declared_name_notes p.name
+parameter_notes p = unnoted (name p.type_name ∷ []) ++ declared_name_notes p.name
 
 -- a variable has its line
 abbrev pub variable_notes : Variable → List Noted
@@ -114,7 +114,7 @@ action_notes_step (s.Receive x) = unnoted (receive_lexemes x)
 action_notes_step (s.Control x) = unnoted (control_lexemes x)
 action_notes_step (s.AllPorts o) = unnoted (all_ports_lexemes o)
 action_notes_step (s.SetVerdict v) = unnoted (set_verdict_lexemes v)
-action_notes_step (s.Alt bs e) = unnoted (word w.Alt ∷ []) ++ noted_braced (noted_in_order bs.items ++ noted_else e)
+action_notes_step (s.Alt bs e) = unnoted (word w.Alt ∷ []) ++ noted_braced (noted_in_order bs ++ noted_else e)
 action_notes_step (s.For x) = x
 
 -- a branch has its line, that of its `[`
@@ -128,19 +128,19 @@ branch_notes_step b =
 abbrev pub body_notes_step :
     s.BranchBody-F (List Noted) (List Noted) (List Noted) (List Noted) (List Noted) (List Noted) → List Noted
 body_notes_step s.Nothing = []
-body_notes_step (s.Block ss) = noted_braced (noted_in_order ss.items)
+body_notes_step (s.Block ss) = noted_braced (noted_in_order ss)
 
 -- a counted `for` has a block
 abbrev pub counted_notes_step :
     s.Counted-F (List Noted) (List Noted) (List Noted) (List Noted) (List Noted) (List Noted) → List Noted
-counted_notes_step f = unnoted (turns_lexemes f.turns []) ++ noted_braced (noted_in_order f.block.items)
+counted_notes_step f = unnoted (turns_lexemes f.turns []) ++ noted_braced (noted_in_order f.block)
 
 -- an `[else]` branch has its line, that of its `[`
 abbrev pub else_notes_step :
     s.ElseBranch-F (List Noted) (List Noted) (List Noted) (List Noted) (List Noted) (List Noted) → List Noted
 else_notes_step e =
     noted_at e.line (unnoted (symbol LeftBracket ∷ word w.Else ∷ symbol RightBracket ∷ []) ++
-    (noted_braced (noted_in_order e.block.items) ++ unnoted (end_lexemes e.has_semicolon)))
+    (noted_braced (noted_in_order e.block) ++ unnoted (end_lexemes e.has_semicolon)))
 
 -- a statement has its line
 abbrev pub statement_notes_step :
@@ -199,10 +199,10 @@ otherwise_notes (Some e) = else_branch_notes e
 -- a function has parameters, variables and statements
 unfoldable pub function_notes : Function → List Noted
 function_notes f =
-    unnoted (word w.Function ∷ name (string_bytes f.name) ∷ symbol LeftParen ∷ []) ++
-    (noted_by_commas (map parameter_notes f.parameters.items) ++
-    (unnoted (symbol RightParen ∷ word w.Runs ∷ word w.On ∷ name (string_bytes f.runs_on) ∷ []) ++
-    noted_braced (noted_in_order (map variable_notes f.variables.items) ++ statements_notes f.statements.items)))
+    unnoted (word w.Function ∷ name f.name ∷ symbol LeftParen ∷ []) ++
+    (noted_by_commas (map parameter_notes f.parameters) ++
+    (unnoted (symbol RightParen ∷ word w.Runs ∷ word w.On ∷ name f.runs_on ∷ []) ++
+    noted_braced (noted_in_order (map variable_notes f.variables) ++ statements_notes f.statements)))
 
 -- a setup statement has its line
 abbrev pub setup_notes : SetupStatement → List Noted
@@ -215,15 +215,15 @@ start_notes s = noted_at s.line (unnoted (start_lexemes s))
 -- what stands in the braces of a test case
 unfoldable pub behaviour_notes : TestCase → List Noted
 behaviour_notes t =
-    noted_in_order (map setup_notes t.setups.items) ++ (noted_in_order (map start_notes t.starts.items) ++
-    (noted_in_order (map variable_notes t.variables.items) ++ (statements_notes t.statements.items ++
+    noted_in_order (map setup_notes t.setups) ++ (noted_in_order (map start_notes t.starts) ++
+    (noted_in_order (map variable_notes t.variables) ++ (statements_notes t.statements ++
     unnoted (all_done_lexemes t.all_done))))
 
 -- a test case has setup statements, starts, variables and statements
 unfoldable pub test_case_notes : TestCase → List Noted
 test_case_notes t =
-    unnoted (word w.Testcase ∷ name (string_bytes t.name) ∷ symbol LeftParen ∷ symbol RightParen ∷ word w.Runs ∷
-    word w.On ∷ name (string_bytes t.runs_on) ∷ system_lexemes t.system) ++ noted_braced (behaviour_notes t)
+    unnoted (word w.Testcase ∷ name t.name ∷ symbol LeftParen ∷ symbol RightParen ∷ word w.Runs ∷
+    word w.On ∷ name t.runs_on ∷ system_lexemes t.system) ++ noted_braced (behaviour_notes t)
 
 -- what a definition defines
 unfoldable pub defined_notes : Defined → List Noted
@@ -241,8 +241,8 @@ definition_notes d = noted_at d.line (defined_notes d.defined ++ unnoted (end_le
 -- a module has its line, and definitions
 abbrev pub module_notes : Module → List Noted
 module_notes m =
-    noted_at m.line (unnoted (word w.Module ∷ name (string_bytes m.name) ∷ []) ++
-    (noted_braced (noted_in_order (map definition_notes m.definitions.items)) ++ unnoted (end_lexemes m.has_semicolon)))
+    noted_at m.line (unnoted (word w.Module ∷ name m.name ∷ []) ++
+    (noted_braced (noted_in_order (map definition_notes m.definitions)) ++ unnoted (end_lexemes m.has_semicolon)))
 
 -- a token before the tokens: a `-` is left out where the test says so
 abbrev pub placed_before : Bool → Lexeme → PlacedLexeme → List PlacedLexeme → List PlacedLexeme

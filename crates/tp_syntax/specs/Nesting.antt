@@ -38,8 +38,8 @@ value_depth_step (v.Int z) = 0
 value_depth_step (v.Bool b) = 0
 value_depth_step (v.Text bs) = 0
 value_depth_step (v.Name n) = 0
-value_depth_step (v.List vs) = deepest vs.items + 1
-value_depth_step (v.Record fs) = deepest fs.items + 1
+value_depth_step (v.List vs) = deepest vs + 1
+value_depth_step (v.Record fs) = deepest fs + 1
 
 -- a field is as deep as its value
 abbrev pub value_field_depth_step : v.ValueField-F ℕ ℕ → ℕ
@@ -61,12 +61,12 @@ template_depth_step (t.Text bs) = 0
 template_depth_step (t.Name n) = 0
 template_depth_step t.Any = 0
 template_depth_step t.AnyOrNone = 0
-template_depth_step (t.OneOf ts) = deepest ts.items + 1
-template_depth_step (t.Complement ts) = deepest ts.items + 1
+template_depth_step (t.OneOf ts) = deepest ts + 1
+template_depth_step (t.Complement ts) = deepest ts + 1
 template_depth_step (t.Range low high) = 1
 template_depth_step (t.Pattern bs) = 0
-template_depth_step (t.List ts) = deepest ts.items + 1
-template_depth_step (t.Record fs) = deepest fs.items + 1
+template_depth_step (t.List ts) = deepest ts + 1
+template_depth_step (t.Record fs) = deepest fs + 1
 
 -- a field is as deep as its template
 abbrev pub template_field_depth_step : t.TemplateField-F ℕ ℕ → ℕ
@@ -112,7 +112,7 @@ action_depth_step (s.Receive x) = receive_depth x
 action_depth_step (s.Control x) = 0
 action_depth_step (s.AllPorts o) = 0
 action_depth_step (s.SetVerdict v) = 1
-action_depth_step (s.Alt bs e) = max (deepest bs.items) (else_depth e) + 1
+action_depth_step (s.Alt bs e) = max (deepest bs) (else_depth e) + 1
 action_depth_step (s.For x) = x
 
 -- the brackets before the operation of a branch are closed before it
@@ -122,15 +122,15 @@ branch_depth_step b = max 1 (max (receive_depth b.receive) b.body)
 -- a block stands in braces
 abbrev pub body_depth_step : s.BranchBody-F ℕ ℕ ℕ ℕ ℕ ℕ → ℕ
 body_depth_step s.Nothing = 0
-body_depth_step (s.Block ss) = deepest ss.items + 1
+body_depth_step (s.Block ss) = deepest ss + 1
 
 -- a counted `for`: its parentheses are closed before its block
 abbrev pub counted_depth_step : s.Counted-F ℕ ℕ ℕ ℕ ℕ ℕ → ℕ
-counted_depth_step f = deepest f.block.items + 1
+counted_depth_step f = deepest f.block + 1
 
 -- an `[else]` branch: its brackets are closed before its block
 abbrev pub else_depth_step : s.ElseBranch-F ℕ ℕ ℕ ℕ ℕ ℕ → ℕ
-else_depth_step e = deepest e.block.items + 1
+else_depth_step e = deepest e.block + 1
 
 -- a statement is as deep as what it does
 abbrev pub statement_depth_step : s.Statement-F ℕ ℕ ℕ ℕ ℕ ℕ → ℕ
@@ -191,8 +191,8 @@ defined_depth (defined.Record r) = 0
 defined_depth (defined.List l) = 0
 defined_depth (defined.Port p) = 0
 defined_depth (defined.Component c) = 0
-defined_depth (defined.Function f) = statements_depth f.statements.items + 1
-defined_depth (defined.TestCase c) = statements_depth c.statements.items + 1
+defined_depth (defined.Function f) = statements_depth f.statements + 1
+defined_depth (defined.TestCase c) = statements_depth c.statements + 1
 
 -- how deep definitions nest
 abbrev pub definitions_depth : List Definition → ℕ
@@ -201,4 +201,4 @@ definitions_depth xs = deepest (map (λ (x : Definition). defined_depth x.define
 -- how deep the brackets of a module nest, its own braces counted. Those of types, parameters, connections and starts
 -- are not counted: by the grammar they are never more than four deep
 abbrev pub module_depth : Module → ℕ
-module_depth m = definitions_depth m.definitions.items + 1
+module_depth m = definitions_depth m.definitions + 1

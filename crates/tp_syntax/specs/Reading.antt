@@ -1,7 +1,5 @@
 -- Where a part may stand, and which tokens it begins with.
-use Rattle.std.specs.Prelude.{◌≡◌, Bool, true, false, ◌&&◌, ◌⊎◌, IsTrue, List, [], ◌∷◌, Option, Some, None}
-use Rattle.std.specs.declared.alloc.Global.{Global}
-use Rattle.std.specs.declared.string.String.{String}
+use Rattle.std.specs.Prelude.{ℕ, ◌≡◌, Bool, true, false, ◌&&◌, ◌⊎◌, IsTrue, List, [], ◌∷◌, Option, Some, None}
 use Rattle.tp_token.specs.declared.word.Word.{Word}
 use Rattle.tp_token.specs.declared.word.Word.TheVariants as w
 use Rattle.tp_token.specs.declared.token.Placed.{Placed}
@@ -61,7 +59,7 @@ IsEndedOr is_ended before = IsTrue is_ended ⊎ before
 
 -- a name that may be missing
 abbrev pub MaybeName : Type 0
-MaybeName = Option (String Global)
+MaybeName = Option (List ℕ)
 
 -- whether it is a type that is defined
 abbrev pub is_type : Defined → Bool

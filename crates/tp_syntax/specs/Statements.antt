@@ -1,7 +1,5 @@
 -- The tokens of statements, an equation for each line of the grammar.
-use Rattle.std.specs.Prelude.{ℕ, List, [], ◌∷◌, ◌++◌, map, Option, Some, None, string_bytes}
-use Rattle.std.specs.declared.string.String.{String}
-use Rattle.std.specs.declared.alloc.Global.{Global}
+use Rattle.std.specs.Prelude.{ℕ, List, [], ◌∷◌, ◌++◌, map, Option, Some, None}
 use Rattle.tp_token.specs.declared.word.Word.{Word}
 use Rattle.tp_token.specs.declared.word.Word.TheVariants as w
 use Rattle.tp_token.specs.declared.token.Symbol.TheVariants.{Dot, LeftParen, RightParen, LeftBracket, RightBracket, Arrow, Assign, Semicolon, Less, Plus}
@@ -39,14 +37,14 @@ use Rattle.tp_syntax.specs.Templates.{message_template_lexemes}
 
 -- Name | "mtc" | "self"
 abbrev pub component_lexemes : ComponentName → List Lexeme
-component_lexemes (component_name.Named n) = name (string_bytes n) ∷ []
+component_lexemes (component_name.Named n) = name n ∷ []
 component_lexemes component_name.Mtc = word w.Mtc ∷ []
 component_lexemes component_name.SelfComponent = word w.SelfWord ∷ []
 
 -- TypeName ":" Value | Name
 abbrev pub sent_lexemes : SentExpression → List Lexeme
 sent_lexemes (sent.Message m) = message_lexemes m
-sent_lexemes (sent.Variable n) = name (string_bytes n) ∷ []
+sent_lexemes (sent.Variable n) = name n ∷ []
 
 -- [ "to" ( Comp | "all" "component" ) ]
 abbrev pub to_lexemes : Option Receivers → List Lexeme
@@ -57,7 +55,7 @@ to_lexemes (Some destination.AllComponents) = word w.To ∷ word w.All ∷ word 
 -- Name "." "send" "(" Message ")" [ "to" .. ]
 unfoldable pub send_lexemes : Send → List Lexeme
 send_lexemes s =
-    name (string_bytes s.port) ∷ symbol Dot ∷ word w.Send ∷ (parenthesised (sent_lexemes s.sent) ++ to_lexemes s.to)
+    name s.port ∷ symbol Dot ∷ word w.Send ∷ (parenthesised (sent_lexemes s.sent) ++ to_lexemes s.to)
 
 -- [ "(" MsgT ")" ]
 abbrev pub template_part : Option MessageTemplate → List Lexeme
@@ -70,15 +68,15 @@ from_lexemes None = []
 from_lexemes (Some c) = word w.From ∷ component_lexemes c
 
 -- a word and a name, which may be missing
-abbrev pub named_part : Word → Option (String Global) → List Lexeme
+abbrev pub named_part : Word → Option (List ℕ) → List Lexeme
 named_part x None = []
-named_part x (Some n) = word x ∷ name (string_bytes n) ∷ []
+named_part x (Some n) = word x ∷ name n ∷ []
 
 -- [ "->" [ "value" Name ] [ "sender" Name ] ], with at least one of the two
-abbrev pub redirect_parts : Option (String Global) → Option (String Global) → List Lexeme
+abbrev pub redirect_parts : Option (List ℕ) → Option (List ℕ) → List Lexeme
 redirect_parts None None = []
-redirect_parts None (Some s) = symbol Arrow ∷ word w.Sender ∷ name (string_bytes s) ∷ []
-redirect_parts (Some v) s = symbol Arrow ∷ word w.Value ∷ name (string_bytes v) ∷ named_part w.Sender s
+redirect_parts None (Some s) = symbol Arrow ∷ word w.Sender ∷ name s ∷ []
+redirect_parts (Some v) s = symbol Arrow ∷ word w.Value ∷ name v ∷ named_part w.Sender s
 
 -- the tokens of a redirect
 abbrev pub redirect_lexemes : Redirect → List Lexeme
@@ -96,7 +94,7 @@ operation_lexemes receive_kind.Check ts = word w.Check ∷ parenthesised (word w
 
 -- Name "." and a receiving operation
 unfoldable pub receive_lexemes : Receive → List Lexeme
-receive_lexemes r = name (string_bytes r.port) ∷ symbol Dot ∷ operation_lexemes r.kind (received_lexemes r)
+receive_lexemes r = name r.port ∷ symbol Dot ∷ operation_lexemes r.kind (received_lexemes r)
 
 -- "start" | "stop" | "halt" | "clear"
 abbrev pub port_operation_lexeme : PortOperation → Lexeme
@@ -107,7 +105,7 @@ port_operation_lexeme port_operation.Clear = word w.Clear
 
 -- Name "." and an operation
 unfoldable pub control_lexemes : Control → List Lexeme
-control_lexemes c = name (string_bytes c.port) ∷ symbol Dot ∷ port_operation_lexeme c.operation ∷ []
+control_lexemes c = name c.port ∷ symbol Dot ∷ port_operation_lexeme c.operation ∷ []
 
 -- "all" "port" "." and an operation
 unfoldable pub all_ports_lexemes : PortOperation → List Lexeme
@@ -128,7 +126,7 @@ set_verdict_lexemes v = word w.Setverdict ∷ parenthesised (verdict_lexeme v �
 -- "var" TypeName Name S
 abbrev pub variable_lexemes : Variable → List Lexeme
 variable_lexemes v =
-    word w.Var ∷ (type_lexemes v.type_name ++ name (string_bytes v.name) ∷ end_lexemes v.has_semicolon)
+    word w.Var ∷ (type_lexemes v.type_name ++ name v.name ∷ end_lexemes v.has_semicolon)
 
 -- the tokens of variables, one after the other
 abbrev pub variables_lexemes : List Variable → List Lexeme
@@ -147,7 +145,7 @@ action_step (s.Receive x) = receive_lexemes x
 action_step (s.Control x) = control_lexemes x
 action_step (s.AllPorts o) = all_ports_lexemes o
 action_step (s.SetVerdict v) = set_verdict_lexemes v
-action_step (s.Alt bs e) = word w.Alt ∷ braced (all_of bs.items ++ else_lexemes e)
+action_step (s.Alt bs e) = word w.Alt ∷ braced (all_of bs ++ else_lexemes e)
 action_step (s.For x) = x
 
 -- "[" "]", a receiving operation, and what follows
@@ -160,7 +158,7 @@ branch_step b =
 abbrev pub body_step :
     s.BranchBody-F (List Lexeme) (List Lexeme) (List Lexeme) (List Lexeme) (List Lexeme) (List Lexeme) → List Lexeme
 body_step s.Nothing = []
-body_step (s.Block ss) = braced (all_of ss.items)
+body_step (s.Block ss) = braced (all_of ss)
 
 -- ";" Name "<" Int ";" Name ":=" Name "+" "1" ")" and what follows: the name i three times, the bound
 abbrev pub step_lexemes : List ℕ → List Lexeme → List Lexeme → List Lexeme
@@ -176,19 +174,19 @@ for_lexemes i first bound rest =
 
 -- the turns of a counted `for`, and what follows
 abbrev pub turns_lexemes : Turns → List Lexeme → List Lexeme
-turns_lexemes t rest = for_lexemes (string_bytes t.name) (int_lexemes t.first) (int_lexemes t.bound) rest
+turns_lexemes t rest = for_lexemes t.name (int_lexemes t.first) (int_lexemes t.bound) rest
 
 -- a counted `for` and its block
 abbrev pub counted_step :
     s.Counted-F (List Lexeme) (List Lexeme) (List Lexeme) (List Lexeme) (List Lexeme) (List Lexeme) → List Lexeme
-counted_step f = turns_lexemes f.turns (braced (all_of f.block.items))
+counted_step f = turns_lexemes f.turns (braced (all_of f.block))
 
 -- "[" "else" "]" Block
 abbrev pub else_step :
     s.ElseBranch-F (List Lexeme) (List Lexeme) (List Lexeme) (List Lexeme) (List Lexeme) (List Lexeme) → List Lexeme
 else_step e =
     symbol LeftBracket ∷ word w.Else ∷ symbol RightBracket ∷
-    (braced (all_of e.block.items) ++ end_lexemes e.has_semicolon)
+    (braced (all_of e.block) ++ end_lexemes e.has_semicolon)
 
 -- a statement and its `;`
 abbrev pub statement_step :

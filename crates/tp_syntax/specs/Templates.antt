@@ -1,5 +1,5 @@
 -- The tokens of templates, an equation for each line of the grammar.
-use Rattle.std.specs.Prelude.{ℤ, List, [], ◌∷◌, ◌++◌, Option, Some, None, string_bytes}
+use Rattle.std.specs.Prelude.{ℤ, List, [], ◌∷◌, ◌++◌, Option, Some, None}
 use Rattle.tp_token.specs.declared.word.Word.TheVariants as w
 use Rattle.tp_token.specs.declared.token.Symbol.TheVariants.{Colon, Minus, Assign, Question, Star, DotDot}
 use Rattle.tp_token.specs.Lexeme.{Lexeme, name, word, text, symbol}
@@ -26,20 +26,20 @@ high_lexemes None = word w.Infinity ∷ []
 abbrev pub template_step : t.Template-F (List Lexeme) (List Lexeme) → List Lexeme
 template_step (t.Int z) = int_lexemes z
 template_step (t.Bool b) = bool_lexeme b ∷ []
-template_step (t.Text bs) = text bs.items ∷ []
-template_step (t.Name n) = name (string_bytes n) ∷ []
+template_step (t.Text bs) = text bs ∷ []
+template_step (t.Name n) = name n ∷ []
 template_step t.Any = symbol Question ∷ []
 template_step t.AnyOrNone = symbol Star ∷ []
-template_step (t.OneOf ts) = parenthesised (by_commas ts.items)
-template_step (t.Complement ts) = word w.Complement ∷ parenthesised (by_commas ts.items)
+template_step (t.OneOf ts) = parenthesised (by_commas ts)
+template_step (t.Complement ts) = word w.Complement ∷ parenthesised (by_commas ts)
 template_step (t.Range low high) = parenthesised (low_lexemes low ++ symbol DotDot ∷ high_lexemes high)
-template_step (t.Pattern bs) = word w.Pattern ∷ text bs.items ∷ []
-template_step (t.List ts) = braced (by_commas ts.items)
-template_step (t.Record fs) = braced (by_commas fs.items)
+template_step (t.Pattern bs) = word w.Pattern ∷ text bs ∷ []
+template_step (t.List ts) = braced (by_commas ts)
+template_step (t.Record fs) = braced (by_commas fs)
 
 -- Name ":=" Templ
 abbrev pub template_field_step : t.TemplateField-F (List Lexeme) (List Lexeme) → List Lexeme
-template_field_step f = name (string_bytes f.name) ∷ symbol Assign ∷ f.template
+template_field_step f = name f.name ∷ symbol Assign ∷ f.template
 
 -- the tokens of a template
 unfoldable pub template_lexemes : Template → List Lexeme

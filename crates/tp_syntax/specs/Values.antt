@@ -1,5 +1,5 @@
 -- The tokens of values, types and messages, an equation for each line of the grammar.
-use Rattle.std.specs.Prelude.{suc, ℤ, pos, negsuc, Bool, true, false, List, [], ◌∷◌, ◌++◌, string_bytes}
+use Rattle.std.specs.Prelude.{suc, ℤ, pos, negsuc, Bool, true, false, List, [], ◌∷◌, ◌++◌}
 use Rattle.tp_token.specs.declared.word.Word.TheVariants as w
 use Rattle.tp_token.specs.declared.token.Symbol.TheVariants.{Colon, Minus, Assign}
 use Rattle.tp_token.specs.Lexeme.{Lexeme, name, word, number, text, symbol}
@@ -27,20 +27,20 @@ abbrev pub type_lexemes : TypeName → List Lexeme
 type_lexemes type_name.Integer = word w.Integer ∷ []
 type_lexemes type_name.Boolean = word w.Boolean ∷ []
 type_lexemes type_name.Charstring = word w.Charstring ∷ []
-type_lexemes (type_name.Named n) = name (string_bytes n) ∷ []
+type_lexemes (type_name.Named n) = name n ∷ []
 
 -- an integer, a truth value, a text, a name, or values or fields in braces
 abbrev pub value_step : v.Value-F (List Lexeme) (List Lexeme) → List Lexeme
 value_step (v.Int z) = int_lexemes z
 value_step (v.Bool b) = bool_lexeme b ∷ []
-value_step (v.Text bs) = text bs.items ∷ []
-value_step (v.Name n) = name (string_bytes n) ∷ []
-value_step (v.List vs) = braced (by_commas vs.items)
-value_step (v.Record fs) = braced (by_commas fs.items)
+value_step (v.Text bs) = text bs ∷ []
+value_step (v.Name n) = name n ∷ []
+value_step (v.List vs) = braced (by_commas vs)
+value_step (v.Record fs) = braced (by_commas fs)
 
 -- Name ":=" Value
 abbrev pub value_field_step : v.ValueField-F (List Lexeme) (List Lexeme) → List Lexeme
-value_field_step f = name (string_bytes f.name) ∷ symbol Assign ∷ f.value
+value_field_step f = name f.name ∷ symbol Assign ∷ f.value
 
 -- the tokens of a value
 unfoldable pub value_lexemes : Value → List Lexeme

@@ -1,5 +1,5 @@
 //! The tokens that are left to read, and a look at the first of them.
-ghost use Rattle.std.specs.Prelude.{[], ℕ, ◌<◌, ◌≢◌, Bool, true, List, ◌≡◌, ◌+◌, ◌≤◌, ◌∷◌, ◌||◌, ◌↔◌, IsTrue, length, IfErr, IfOk, OnErr, OnOk, Some, string_bytes};
+ghost use Rattle.std.specs.Prelude.{[], ℕ, ◌<◌, ◌≢◌, Bool, true, List, ◌≡◌, ◌+◌, ◌≤◌, ◌∷◌, ◌||◌, ◌↔◌, IsTrue, length, IfErr, IfOk, OnErr, OnOk, Some};
 ghost use Rattle.std.specs.Bool.{OnTrue, OnFalse};
 ghost use Rattle.tp_token.specs.Lexeme.{Lexeme, name, symbol, word, lexeme_of};
 ghost use Rattle.tp_syntax.specs.Ahead.{ahead, lexemes, lexemes_from, is_name_in, is_number_in, symbol_in, token_at, word_in};
@@ -15,6 +15,7 @@ use crate::stuck::Stuck;
 use std::alloc::Global;
 use tp_token::token::{Placed, Symbol, Token};
 use tp_token::word::Word;
+use tp_tree::name::Name;
 
 #[derive(Drop)]
 pub(crate) struct Parser<'a, 't> {
@@ -75,9 +76,9 @@ impl<'a, 't> Parser<'a, 't> {
         }
     }
 
-    pub fn name(&mut self, alloc: Global) -> Result<String, Stuck>
+    pub fn name(&mut self, alloc: Global) -> Result<Name, Stuck>
         ensures tokens { IfOk result (λ n.
-            ahead self.old.rest.now ≡ name (string_bytes n) ∷ ahead self.new.rest.now) }
+            ahead self.old.rest.now ≡ name n ∷ ahead self.new.rest.now) }
         ensures shorter { OnOk result (length self.new.rest.now + 1 ≡ length self.old.rest.now) }
         ensures forward { OnOk result (GoesForward self.old self.new) }
         ensures reads { (hidden : ℕ) (spelling : List ℕ) (more : List Lexeme) →
@@ -87,18 +88,18 @@ impl<'a, 't> Parser<'a, 't> {
     {
         let placed = self.take()?;
         match placed.token {
-            Token::Name(spelling) => Ok(String::from_str(alloc, spelling)?),
+            Token::Name(spelling) => Ok(Name::from_str(alloc, spelling)?),
             _ => Err(Stuck::Passed(self.rest.len())),
         }
     }
 
-    pub fn same_name(&mut self, want: &String) -> Result<(), Stuck>
+    pub fn same_name(&mut self, want: &Name) -> Result<(), Stuck>
         ensures tokens { OnOk result
-            (ahead self.old.rest.now ≡ name (string_bytes want.now) ∷ ahead self.new.rest.now) }
+            (ahead self.old.rest.now ≡ name want.now ∷ ahead self.new.rest.now) }
         ensures shorter { OnOk result (length self.new.rest.now + 1 ≡ length self.old.rest.now) }
         ensures forward { OnOk result (GoesForward self.old self.new) }
         ensures reads { (hidden : ℕ) (more : List Lexeme) →
-            Reads hidden self.old (name (string_bytes want.now) ∷ []) more result self.new }
+            Reads hidden self.old (name want.now ∷ []) more result self.new }
         ensures place { IfErr result (IsWrongBehind 0 self.old) }
         ensures stuck { IfErr result (IsStuckAt self.new) }
     {

@@ -18,6 +18,7 @@ use std::alloc::Global;
 use tp_token::token::Symbol;
 use tp_token::word::Word;
 use tp_tree::tree::{Defined, Definition, Function, Module, Parameter};
+use tp_value::items::Items;
 
 fn ends_in_brace(defined: &Defined) -> bool
     ensures { result ≡ (defined_part defined.now).is_ended }
@@ -41,18 +42,18 @@ impl<'a, 't> Parser<'a, 't> {
         Ok(Parameter { type_name, name })
     }
 
-    fn parameters(&mut self, alloc: Global) -> Result<Vec<Parameter>, Stuck>
-        ensures tokens { IfOk result (λ x. Passes self.old (parameters_lexemes x.items) self.new) }
+    fn parameters(&mut self, alloc: Global) -> Result<Items<Parameter>, Stuck>
+        ensures tokens { IfOk result (λ x. Passes self.old (parameters_lexemes x) self.new) }
         ensures shorter { OnOk result (length self.new.rest.now ≤ length self.old.rest.now) }
         ensures lines { IfOk result (λ x.
-            PassesLines self.old (noted_by_commas (map parameter_notes x.items)) self.new) }
+            PassesLines self.old (noted_by_commas (map parameter_notes x)) self.new) }
         ensures reads { (hidden : ℕ) (xs : List Parameter) (more : List Lexeme) →
             first more ≡ Some (symbol Symbol.RightParen) →
             Reads hidden self.old (parameters_lexemes xs) more result self.new }
         ensures beyond { GoesBeyond 0 self.old result self.new }
         ensures stuck { IfErr result (IsStuckAt self.new) }
     {
-        let mut parameters = Vec::new(alloc);
+        let mut parameters = Items::new(alloc);
         if self.is_symbol_at(0, Symbol::RightParen) {
             return Ok(parameters);
         }
@@ -145,13 +146,13 @@ impl<'a, 't> Parser<'a, 't> {
         })
     }
 
-    fn definitions(&mut self, alloc: Global) -> Result<Vec<Definition>, Stuck>
-        ensures tokens { IfOk result (λ x. Passes self.old (definitions_lexemes x.items) self.new) }
+    fn definitions(&mut self, alloc: Global) -> Result<Items<Definition>, Stuck>
+        ensures tokens { IfOk result (λ x. Passes self.old (definitions_lexemes x) self.new) }
         ensures shorter { OnOk result (length self.new.rest.now ≤ length self.old.rest.now) }
         ensures lines { IfOk result (λ x.
-            PassesLines self.old (noted_in_order (map definition_notes x.items)) self.new) }
+            PassesLines self.old (noted_in_order (map definition_notes x)) self.new) }
         ensures grammatical { IfOk result (λ x.
-            GoesOver self.old (map definition_part x.items) self.new) }
+            GoesOver self.old (map definition_part x) self.new) }
         ensures reads { (hidden : ℕ) (xs : List Definition) (more : List Lexeme) →
             AllStand (map definition_part xs) more →
             first more ≡ Some (symbol Symbol.RightBrace) →
@@ -159,7 +160,7 @@ impl<'a, 't> Parser<'a, 't> {
         ensures beyond { GoesBeyond 0 self.old result self.new }
         ensures stuck { IfErr result (IsStuckAt self.new) }
     {
-        let mut definitions = Vec::new(alloc);
+        let mut definitions = Items::new(alloc);
         'more: while !self.is_symbol_at(0, Symbol::RightBrace) {
             let definition = self.definition(alloc)?;
             definitions.push(definition)?;

@@ -1,21 +1,15 @@
 //! Laws of the grammar. Each is the contract of a function that does nothing.
 ghost use Rattle.tp_syntax.specs.Limits.{DepthsAreOfTokens};
-ghost use Rattle.tp_syntax.specs.Same.{ModulesAreUnique, ReadingsAreUnique};
-ghost use Rattle.tp_syntax.specs.Same.{SameModulesHaveSameTokens};
+ghost use Rattle.tp_syntax.specs.Unique.{ModulesAreUnique, ReadingsAreUnique};
 
-/// Modules that differ only in their lines have the same tokens. This is the converse of
-/// [`modules_are_unique`].
-pub fn same_modules_have_same_tokens()
-    ensures { SameModulesHaveSameTokens }
-{}
-
-/// Two modules of the grammar with the same tokens differ only in their lines.
+/// Tokens with their lines are at most one module of the grammar: two modules with the same tokens,
+/// which note the lines of these, are equal.
 pub fn modules_are_unique()
     ensures { ModulesAreUnique }
 {}
 
 /// A text is at most one module of the grammar. So the module that [`parse`](crate::parser::parse)
-/// returns is, but for its lines, the only one that the text is read as.
+/// returns is the only one that the text is read as.
 pub fn readings_are_unique()
     ensures { ReadingsAreUnique }
 {}

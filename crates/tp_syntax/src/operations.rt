@@ -17,6 +17,7 @@ use tp_event::operation::{PortOperation, ReceiveKind};
 use tp_token::token::{Symbol, Token};
 use tp_token::word::Word;
 use tp_tree::message::MessageTemplate;
+use tp_tree::name::Name;
 use tp_tree::tree::{ComponentName, Control, Receive, Receivers, Redirect, Send, SentExpression};
 
 #[derive(Drop)]
@@ -41,7 +42,7 @@ impl<'a, 't> Parser<'a, 't> {
             Token::Word(Word::Mtc) => Ok(ComponentName::Mtc),
             Token::Word(Word::SelfWord) => Ok(ComponentName::SelfComponent),
             Token::Name(spelling) => {
-                let name = String::from_str(alloc, spelling)?;
+                let name = Name::from_str(alloc, spelling)?;
                 Ok(ComponentName::Named(name))
             }
             _ => Err(Stuck::Passed(self.rest.len())),
@@ -163,7 +164,7 @@ impl<'a, 't> Parser<'a, 't> {
         Ok(Some(component))
     }
 
-    fn named_part(&mut self, alloc: Global, want: Word) -> Result<Option<String>, Stuck>
+    fn named_part(&mut self, alloc: Global, want: Word) -> Result<Option<Name>, Stuck>
         ensures tokens { IfOk result (λ n. Passes self.old (named_part want n) self.new) }
         ensures shorter { OnOk result (length self.new.rest.now ≤ length self.old.rest.now) }
         ensures forward { OnOk result (GoesForward self.old self.new) }

@@ -1,5 +1,5 @@
 //! Parts of statements: variables, verdicts, the head of a `for`, and `[else]`.
-ghost use Rattle.std.specs.Prelude.{ℤ, [], ◌≢◌, false, List, Some, MatchResult, ◌≡◌, ◌+◌, ◌<◌, ◌≤◌, ◌∷◌, IsTrue, length, map, IfOk, OnOk, string_bytes, IfErr, ℕ, true};
+ghost use Rattle.std.specs.Prelude.{ℤ, [], ◌≢◌, false, List, Some, MatchResult, ◌≡◌, ◌+◌, ◌<◌, ◌≤◌, ◌∷◌, IsTrue, length, map, IfOk, OnOk, IfErr, ℕ, true};
 ghost use Rattle.tp_token.specs.Lexeme.{Lexeme, number, symbol, word};
 ghost use Rattle.tp_syntax.specs.Ahead.{ahead, is_name_in, token_at};
 ghost use Rattle.tp_syntax.specs.Forward.{GoesForward, PassesLines};
@@ -18,7 +18,9 @@ use crate::stuck::Stuck;
 use std::alloc::Global;
 use tp_token::token::{Symbol, Token};
 use tp_token::word::Word;
+use tp_tree::name::Name;
 use tp_tree::tree::{Turns, Variable, VerdictName};
+use tp_value::items::Items;
 
 impl<'a, 't> Parser<'a, 't> {
     fn verdict(&mut self) -> Result<VerdictName, Stuck>
@@ -94,13 +96,13 @@ impl<'a, 't> Parser<'a, 't> {
         })
     }
 
-    pub fn variables(&mut self, alloc: Global) -> Result<Vec<Variable>, Stuck>
-        ensures tokens { IfOk result (λ v. Passes self.old (variables_lexemes v.items) self.new) }
+    pub fn variables(&mut self, alloc: Global) -> Result<Items<Variable>, Stuck>
+        ensures tokens { IfOk result (λ v. Passes self.old (variables_lexemes v) self.new) }
         ensures shorter { OnOk result (length self.new.rest.now ≤ length self.old.rest.now) }
         ensures lines { IfOk result (λ v.
-            PassesLines self.old (noted_in_order (map variable_notes v.items)) self.new) }
+            PassesLines self.old (noted_in_order (map variable_notes v)) self.new) }
         ensures grammatical { IfOk result (λ v.
-            GoesOver self.old (map variable_part v.items) self.new) }
+            GoesOver self.old (map variable_part v) self.new) }
         ensures reads { (hidden : ℕ) (xs : List Variable) (more : List Lexeme) →
             AllStand (map variable_part xs) more →
             first more ≢ Some (word Word.Var) →
@@ -119,7 +121,7 @@ impl<'a, 't> Parser<'a, 't> {
             MatchResult result (λ _. self.new ≡ self.old) IsForMemory }
         ensures stuck { IfErr result (IsStuckAt self.new) }
     {
-        let mut variables = Vec::new(alloc);
+        let mut variables = Items::new(alloc);
         'more: while self.is_word_at(0, Word::Var) {
             let variable = self.variable(alloc)?;
             variables.push(variable)?;
@@ -158,16 +160,16 @@ impl<'a, 't> Parser<'a, 't> {
     /// Reads what follows the first value of a `for`, up to its `)`: the bound of its variable, and
     /// the step.
     #[tactic(auto, using(std::proofs::lemmas::List::append_assoc))]
-    fn step(&mut self, variable: &String) -> Result<i64, Stuck>
+    fn step(&mut self, variable: &Name) -> Result<i64, Stuck>
         ensures tokens { IfOk result (λ z.
             ahead self.old.rest.now
-            ≡ step_lexemes (string_bytes variable.now) (int_lexemes z) (ahead self.new.rest.now)) }
+            ≡ step_lexemes variable.now (int_lexemes z) (ahead self.new.rest.now)) }
         ensures shorter { OnOk result (length self.new.rest.now < length self.old.rest.now) }
         ensures forward { OnOk result (GoesForward self.old self.new) }
         ensures reads { (hidden : ℕ) (z : ℤ) (more : List Lexeme) →
             IsTrue (is_64_bit z) →
             CouldBe hidden self.old.rest.now
-            (step_lexemes (string_bytes variable.now) (int_lexemes z) more) →
+            (step_lexemes variable.now (int_lexemes z) more) →
             MatchResult result (λ _. CouldBe hidden self.new.rest.now more)
             (IsStuckInHidden hidden) }
         ensures beyond { GoesBeyond 0 self.old result self.new }

@@ -22,6 +22,7 @@ use std::alloc::Global;
 use tp_token::token::Symbol;
 use tp_token::word::Word;
 use tp_tree::tree::{Action, Branch, BranchBody, Counted, ElseBranch, Statement};
+use tp_value::items::Items;
 
 enum Beginning {
     Send,
@@ -224,22 +225,22 @@ impl<'a, 't> Parser<'a, 't> {
     }
 
     #[cycle(statement)]
-    fn branches(&mut self, alloc: Global) -> Result<Vec<Branch>, Stuck>
-        ensures tokens { IfOk result (λ v. Passes self.old (branches_lexemes v.items) self.new) }
+    fn branches(&mut self, alloc: Global) -> Result<Items<Branch>, Stuck>
+        ensures tokens { IfOk result (λ v. Passes self.old (branches_lexemes v) self.new) }
         ensures shorter { OnOk result (length self.new.rest.now ≤ length self.old.rest.now) }
-        ensures lines { IfOk result (λ v. PassesLines self.old (branches_notes v.items) self.new) }
+        ensures lines { IfOk result (λ v. PassesLines self.old (branches_notes v) self.new) }
         ensures grammatical { IfOk result (λ v.
-            GoesOver self.old (branches_parts v.items) self.new) }
+            GoesOver self.old (branches_parts v) self.new) }
         ensures reads { (hidden : ℕ) (xs : List Branch) (more : List Lexeme) →
             AllStand (branches_parts xs) more →
             is_branch_ahead more ≡ false →
             ReadsOr hidden self.old (branches_lexemes xs) more result self.new
             (IsCutAt (symbol Symbol.LeftBracket) hidden self.new.rest.now) }
         ensures beyond { GoesBeyond 0 self.old result self.new }
-        ensures none { IfOk result (λ v. v.items ≡ [] → self.new ≡ self.old) }
+        ensures none { IfOk result (λ v. v ≡ [] → self.new ≡ self.old) }
         ensures stuck { IfErr result (IsStuckAt self.new) }
     {
-        let mut branches = Vec::new(alloc);
+        let mut branches = Items::new(alloc);
         'more: while self.is_branch() {
             let branch = self.branch(alloc)?;
             branches.push(branch)?;
@@ -358,13 +359,13 @@ impl<'a, 't> Parser<'a, 't> {
 
     #[cycle(statement)]
     #[tactic(auto, using(crate::proofs::StatementTokens::statement_rules))]
-    fn block(&mut self, alloc: Global) -> Result<Vec<Statement>, Stuck>
+    fn block(&mut self, alloc: Global) -> Result<Items<Statement>, Stuck>
         ensures tokens { IfOk result (λ v.
-            Passes self.old (braced (statements_lexemes v.items)) self.new) }
+            Passes self.old (braced (statements_lexemes v)) self.new) }
         ensures shorter { OnOk result (length self.new.rest.now < length self.old.rest.now) }
         ensures lines { IfOk result (λ v.
-            PassesLines self.old (noted_braced (statements_notes v.items)) self.new) }
-        ensures grammatical { IfOk result (λ v. IsTrue (are_parts (statements_parts v.items))) }
+            PassesLines self.old (noted_braced (statements_notes v)) self.new) }
+        ensures grammatical { IfOk result (λ v. IsTrue (are_parts (statements_parts v))) }
         ensures reads { (hidden : ℕ) (xs : List Statement) (more : List Lexeme) →
             IsTrue (are_parts (statements_parts xs)) →
             Reads hidden self.old (braced (statements_lexemes xs)) more result self.new }
@@ -378,13 +379,13 @@ impl<'a, 't> Parser<'a, 't> {
     }
 
     #[cycle(statement)]
-    pub fn statements(&mut self, alloc: Global, is_case: bool) -> Result<Vec<Statement>, Stuck>
-        ensures tokens { IfOk result (λ v. Passes self.old (statements_lexemes v.items) self.new) }
+    pub fn statements(&mut self, alloc: Global, is_case: bool) -> Result<Items<Statement>, Stuck>
+        ensures tokens { IfOk result (λ v. Passes self.old (statements_lexemes v) self.new) }
         ensures shorter { OnOk result (length self.new.rest.now ≤ length self.old.rest.now) }
         ensures lines { IfOk result (λ v.
-            PassesLines self.old (statements_notes v.items) self.new) }
+            PassesLines self.old (statements_notes v) self.new) }
         ensures grammatical { IfOk result (λ v.
-            GoesOver self.old (statements_parts v.items) self.new) }
+            GoesOver self.old (statements_parts v) self.new) }
         ensures reads { (hidden : ℕ) (xs : List Statement) (more : List Lexeme) →
             AllStand (statements_parts xs) more →
             is_end_ahead is_case more ≡ true →
@@ -402,7 +403,7 @@ impl<'a, 't> Parser<'a, 't> {
             GoesBeyond 3 self.old result self.new }
         ensures stuck { IfErr result (IsStuckAt self.new) }
     {
-        let mut statements = Vec::new(alloc);
+        let mut statements = Items::new(alloc);
         'more: while !self.is_end(is_case) {
             let statement = self.statement(alloc)?;
             statements.push(statement)?;

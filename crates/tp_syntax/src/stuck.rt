@@ -2,7 +2,7 @@
 ghost use Rattle.std.specs.Prelude.{◌≡◌};
 ghost use Rattle.tp_syntax.specs.declared.stuck.Stuck.TheVariants as stuck;
 
-use std::alloc::{AllocError, AllocFailed};
+use tp_refusal::memory::Memory;
 
 /// Why the parser stops. It says where; the tokens decide which fault that is.
 #[derive(Clone, Copy)]
@@ -16,18 +16,10 @@ pub(crate) enum Stuck {
     Memory,
 }
 
-impl From<AllocError> for Stuck {
+impl From<Memory> for Stuck {
     ghost from_gives = { λ _ made. made ≡ stuck.Memory };
 
-    fn from(_refused: AllocError) -> Stuck {
-        Stuck::Memory
-    }
-}
-
-impl<T: Drop> From<AllocFailed<T>> for Stuck {
-    ghost from_gives = { λ _ made. made ≡ stuck.Memory };
-
-    fn from(_refused: AllocFailed<T>) -> Stuck {
+    fn from(_refused: Memory) -> Stuck {
         Stuck::Memory
     }
 }

@@ -18,6 +18,8 @@ use std::alloc::Global;
 use tp_token::token::{Symbol, Token};
 use tp_token::word::Word;
 use tp_tree::message::{MessageTemplate, Template, TemplateField};
+use tp_tree::name::Name;
+use tp_value::items::Items;
 
 /// The other characters have a meaning in a TTCN-3 pattern that this profile leaves out.
 fn is_plain(character: u8) -> bool
@@ -128,7 +130,7 @@ impl<'a, 't> Parser<'a, 't> {
         let placed = self.take()?;
         match &placed.token {
             Token::Text(characters) if is_pattern(characters) => {
-                let characters = Vec::from_slice(alloc, characters)?;
+                let characters = Items::from_slice(alloc, characters)?;
                 Ok(Template::Pattern(characters))
             }
             _ => Err(Stuck::Passed(self.rest.len())),
@@ -164,11 +166,11 @@ impl<'a, 't> Parser<'a, 't> {
             Token::Word(Word::True) => Ok(Template::Bool(true)),
             Token::Word(Word::False) => Ok(Template::Bool(false)),
             Token::Text(characters) => {
-                let characters = Vec::from_slice(alloc, characters)?;
+                let characters = Items::from_slice(alloc, characters)?;
                 Ok(Template::Text(characters))
             }
             Token::Name(spelling) => {
-                let name = String::from_str(alloc, spelling)?;
+                let name = Name::from_str(alloc, spelling)?;
                 Ok(Template::Name(name))
             }
             Token::Symbol(Symbol::Question) => Ok(Template::Any),
@@ -260,7 +262,7 @@ impl<'a, 't> Parser<'a, 't> {
         ensures stuck { IfErr result (IsStuckAt self.new) }
     {
         if self.has_symbol(Symbol::RightBrace) {
-            return Ok(Template::List(Vec::new(alloc)));
+            return Ok(Template::List(Items::new(alloc)));
         }
         if self.is_field() {
             let fields = self.template_fields(alloc)?;
@@ -273,19 +275,19 @@ impl<'a, 't> Parser<'a, 't> {
     }
 
     #[cycle(template)]
-    fn templates(&mut self, alloc: Global) -> Result<Vec<Template>, Stuck>
+    fn templates(&mut self, alloc: Global) -> Result<Items<Template>, Stuck>
         ensures tokens { IfOk result (λ v.
-            Passes self.old (by_commas (map template_lexemes v.items)) self.new) }
+            Passes self.old (by_commas (map template_lexemes v)) self.new) }
         ensures shorter { OnOk result (length self.new.rest.now < length self.old.rest.now) }
         ensures forward { OnOk result (GoesForward self.old self.new) }
-        ensures grammatical { IfOk result (λ v. IsTrue (one_and_each (map is_template v.items))) }
+        ensures grammatical { IfOk result (λ v. IsTrue (one_and_each (map is_template v))) }
         ensures reads { (hidden : ℕ) (xs : List Template) (more : List Lexeme) →
             IsTrue (one_and_each (map is_template xs)) →
             Stops more →
             Reads hidden self.old (by_commas (map template_lexemes xs)) more result self.new }
         ensures stuck { IfErr result (IsStuckAt self.new) }
     {
-        let mut templates = Vec::new(alloc);
+        let mut templates = Items::new(alloc);
         let first = self.template(alloc)?;
         templates.push(first)?;
         'more: while self.has_symbol(Symbol::Comma) {
@@ -296,13 +298,13 @@ impl<'a, 't> Parser<'a, 't> {
     }
 
     #[cycle(template)]
-    fn template_fields(&mut self, alloc: Global) -> Result<Vec<TemplateField>, Stuck>
+    fn template_fields(&mut self, alloc: Global) -> Result<Items<TemplateField>, Stuck>
         ensures tokens { IfOk result (λ v.
-            Passes self.old (by_commas (map template_field_lexemes v.items)) self.new) }
+            Passes self.old (by_commas (map template_field_lexemes v)) self.new) }
         ensures shorter { OnOk result (length self.new.rest.now < length self.old.rest.now) }
         ensures forward { OnOk result (GoesForward self.old self.new) }
         ensures grammatical { IfOk result (λ v.
-            IsTrue (one_and_each (map is_template_field v.items))) }
+            IsTrue (one_and_each (map is_template_field v))) }
         ensures reads { (hidden : ℕ) (xs : List TemplateField) (more : List Lexeme) →
             IsTrue (one_and_each (map is_template_field xs)) →
             Stops more →
@@ -311,7 +313,7 @@ impl<'a, 't> Parser<'a, 't> {
         ensures beyond { BeginsField self.old.rest.now → GoesBeyond 2 self.old result self.new }
         ensures stuck { IfErr result (IsStuckAt self.new) }
     {
-        let mut fields = Vec::new(alloc);
+        let mut fields = Items::new(alloc);
         let first = self.template_field(alloc)?;
         fields.push(first)?;
         'more: while self.has_symbol(Symbol::Comma) {

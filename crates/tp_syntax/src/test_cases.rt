@@ -19,10 +19,12 @@ use crate::stuck::Stuck;
 use std::alloc::Global;
 use tp_token::token::{Symbol, Token};
 use tp_token::word::Word;
+use tp_tree::name::Name;
 use tp_tree::tree::{
     AllDone, ComponentName, ComponentStart, Creation, Defined, EndComponent, PairEnd, SetupAction,
     SetupStatement, TestCase,
 };
+use tp_value::items::Items;
 
 impl<'a, 't> Parser<'a, 't> {
     fn end_component(&mut self, alloc: Global) -> Result<EndComponent, Stuck>
@@ -41,7 +43,7 @@ impl<'a, 't> Parser<'a, 't> {
             Token::Word(Word::SelfWord) => Ok(EndComponent::SelfComponent),
             Token::Word(Word::System) => Ok(EndComponent::System),
             Token::Name(spelling) => {
-                let name = String::from_str(alloc, spelling)?;
+                let name = Name::from_str(alloc, spelling)?;
                 Ok(EndComponent::Named(name))
             }
             _ => Err(Stuck::Passed(self.rest.len())),
@@ -190,13 +192,13 @@ impl<'a, 't> Parser<'a, 't> {
                 && self.is_symbol_at(3, Symbol::Assign)
     }
 
-    fn setups(&mut self, alloc: Global) -> Result<Vec<SetupStatement>, Stuck>
-        ensures tokens { IfOk result (λ x. Passes self.old (setups_lexemes x.items) self.new) }
+    fn setups(&mut self, alloc: Global) -> Result<Items<SetupStatement>, Stuck>
+        ensures tokens { IfOk result (λ x. Passes self.old (setups_lexemes x) self.new) }
         ensures shorter { OnOk result (length self.new.rest.now ≤ length self.old.rest.now) }
         ensures lines { IfOk result (λ x.
-            PassesLines self.old (noted_in_order (map setup_notes x.items)) self.new) }
+            PassesLines self.old (noted_in_order (map setup_notes x)) self.new) }
         ensures grammatical { IfOk result (λ x.
-            GoesOver self.old (map setup_part x.items) self.new) }
+            GoesOver self.old (map setup_part x) self.new) }
         ensures reads { (hidden : ℕ) (xs : List SetupStatement) (more : List Lexeme) →
             AllStand (map setup_part xs) more →
             is_setup_ahead more ≡ false →
@@ -205,7 +207,7 @@ impl<'a, 't> Parser<'a, 't> {
         ensures beyond { GoesBeyond 0 self.old result self.new }
         ensures stuck { IfErr result (IsStuckAt self.new) }
     {
-        let mut setups = Vec::new(alloc);
+        let mut setups = Items::new(alloc);
         'more: while self.is_setup() {
             let setup = self.setup(alloc)?;
             setups.push(setup)?;
@@ -213,8 +215,8 @@ impl<'a, 't> Parser<'a, 't> {
         Ok(setups)
     }
 
-    fn arguments(&mut self, alloc: Global) -> Result<Vec<ComponentName>, Stuck>
-        ensures tokens { IfOk result (λ x. Passes self.old (arguments_lexemes x.items) self.new) }
+    fn arguments(&mut self, alloc: Global) -> Result<Items<ComponentName>, Stuck>
+        ensures tokens { IfOk result (λ x. Passes self.old (arguments_lexemes x) self.new) }
         ensures shorter { OnOk result (length self.new.rest.now ≤ length self.old.rest.now) }
         ensures forward { OnOk result (GoesForward self.old self.new) }
         ensures reads { (hidden : ℕ) (xs : List ComponentName) (more : List Lexeme) →
@@ -223,7 +225,7 @@ impl<'a, 't> Parser<'a, 't> {
         ensures beyond { GoesBeyond 0 self.old result self.new }
         ensures stuck { IfErr result (IsStuckAt self.new) }
     {
-        let mut arguments = Vec::new(alloc);
+        let mut arguments = Items::new(alloc);
         if self.is_symbol_at(0, Symbol::RightParen) {
             return Ok(arguments);
         }
@@ -288,13 +290,13 @@ impl<'a, 't> Parser<'a, 't> {
             && self.is_symbol_at(3, Symbol::LeftParen)
     }
 
-    fn starts(&mut self, alloc: Global) -> Result<Vec<ComponentStart>, Stuck>
-        ensures tokens { IfOk result (λ x. Passes self.old (starts_lexemes x.items) self.new) }
+    fn starts(&mut self, alloc: Global) -> Result<Items<ComponentStart>, Stuck>
+        ensures tokens { IfOk result (λ x. Passes self.old (starts_lexemes x) self.new) }
         ensures shorter { OnOk result (length self.new.rest.now ≤ length self.old.rest.now) }
         ensures lines { IfOk result (λ x.
-            PassesLines self.old (noted_in_order (map start_notes x.items)) self.new) }
+            PassesLines self.old (noted_in_order (map start_notes x)) self.new) }
         ensures grammatical { IfOk result (λ x.
-            GoesOver self.old (map start_part x.items) self.new) }
+            GoesOver self.old (map start_part x) self.new) }
         ensures reads { (hidden : ℕ) (xs : List ComponentStart) (more : List Lexeme) →
             AllStand (map start_part xs) more →
             is_start_ahead more ≡ false →
@@ -305,7 +307,7 @@ impl<'a, 't> Parser<'a, 't> {
             MatchResult result (λ _. self.new ≡ self.old) IsForMemory }
         ensures stuck { IfErr result (IsStuckAt self.new) }
     {
-        let mut starts = Vec::new(alloc);
+        let mut starts = Items::new(alloc);
         'more: while self.is_start() {
             let start = self.start(alloc)?;
             starts.push(start)?;
@@ -338,7 +340,7 @@ impl<'a, 't> Parser<'a, 't> {
         Ok(Some(AllDone { has_semicolon }))
     }
 
-    fn system(&mut self, alloc: Global) -> Result<Option<String>, Stuck>
+    fn system(&mut self, alloc: Global) -> Result<Option<Name>, Stuck>
         ensures tokens { IfOk result (λ x. Passes self.old (system_lexemes x) self.new) }
         ensures shorter { OnOk result (length self.new.rest.now ≤ length self.old.rest.now) }
         ensures forward { OnOk result (GoesForward self.old self.new) }

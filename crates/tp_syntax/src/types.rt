@@ -23,6 +23,7 @@ use tp_tree::tree::{
     ComponentType, DeclaredName, Defined, Direction, FieldType, ListType, PortDeclaration,
     PortType, RecordType, Way,
 };
+use tp_value::items::Items;
 
 impl<'a, 't> Parser<'a, 't> {
     pub fn declared_name(&mut self, alloc: Global) -> Result<DeclaredName, Stuck>
@@ -54,18 +55,18 @@ impl<'a, 't> Parser<'a, 't> {
         Ok(FieldType { type_name, name })
     }
 
-    fn fields(&mut self, alloc: Global) -> Result<Vec<FieldType>, Stuck>
-        ensures tokens { IfOk result (λ x. Passes self.old (field_types_lexemes x.items) self.new) }
+    fn fields(&mut self, alloc: Global) -> Result<Items<FieldType>, Stuck>
+        ensures tokens { IfOk result (λ x. Passes self.old (field_types_lexemes x) self.new) }
         ensures shorter { OnOk result (length self.new.rest.now ≤ length self.old.rest.now) }
         ensures lines { IfOk result (λ x.
-            PassesLines self.old (noted_by_commas (map field_type_notes x.items)) self.new) }
+            PassesLines self.old (noted_by_commas (map field_type_notes x)) self.new) }
         ensures reads { (hidden : ℕ) (xs : List FieldType) (more : List Lexeme) →
             first more ≡ Some (symbol Symbol.RightBrace) →
             Reads hidden self.old (field_types_lexemes xs) more result self.new }
         ensures beyond { GoesBeyond 0 self.old result self.new }
         ensures stuck { IfErr result (IsStuckAt self.new) }
     {
-        let mut fields = Vec::new(alloc);
+        let mut fields = Items::new(alloc);
         if self.is_symbol_at(0, Symbol::RightBrace) {
             return Ok(fields);
         }
@@ -144,11 +145,11 @@ impl<'a, 't> Parser<'a, 't> {
         }
     }
 
-    fn types(&mut self, alloc: Global) -> Result<Vec<TypeName>, Stuck>
-        ensures tokens { IfOk result (λ x. Passes self.old (types_lexemes x.items) self.new) }
+    fn types(&mut self, alloc: Global) -> Result<Items<TypeName>, Stuck>
+        ensures tokens { IfOk result (λ x. Passes self.old (types_lexemes x) self.new) }
         ensures shorter { OnOk result (length self.new.rest.now < length self.old.rest.now) }
         ensures forward { OnOk result (GoesForward self.old self.new) }
-        ensures grammatical { IfOk result (λ x. IsTrue (has_one x.items)) }
+        ensures grammatical { IfOk result (λ x. IsTrue (has_one x)) }
         ensures reads { (hidden : ℕ) (xs : List TypeName) (more : List Lexeme) →
             IsTrue (has_one xs) →
             Stops more →
@@ -156,7 +157,7 @@ impl<'a, 't> Parser<'a, 't> {
         ensures beyond { GoesBeyond 0 self.old result self.new }
         ensures stuck { IfErr result (IsStuckAt self.new) }
     {
-        let mut types = Vec::new(alloc);
+        let mut types = Items::new(alloc);
         let first = self.type_name(alloc)?;
         types.push(first)?;
         'more: while self.has_symbol(Symbol::Comma) {
@@ -188,21 +189,21 @@ impl<'a, 't> Parser<'a, 't> {
         })
     }
 
-    fn directions(&mut self, alloc: Global) -> Result<Vec<Direction>, Stuck>
-        ensures tokens { IfOk result (λ x. Passes self.old (directions_lexemes x.items) self.new) }
+    fn directions(&mut self, alloc: Global) -> Result<Items<Direction>, Stuck>
+        ensures tokens { IfOk result (λ x. Passes self.old (directions_lexemes x) self.new) }
         ensures shorter { OnOk result (length self.new.rest.now ≤ length self.old.rest.now) }
         ensures forward { OnOk result (GoesForward self.old self.new) }
         ensures grammatical { IfOk result (λ x.
-            GoesOver self.old (map direction_part x.items) self.new) }
+            GoesOver self.old (map direction_part x) self.new) }
         ensures reads { (hidden : ℕ) (xs : List Direction) (more : List Lexeme) →
             AllStand (map direction_part xs) more →
             first more ≡ Some (symbol Symbol.RightBrace) →
             Reads hidden self.old (directions_lexemes xs) more result self.new }
         ensures beyond { GoesBeyond 0 self.old result self.new }
-        ensures none { IfOk result (λ x. x.items ≡ [] → self.new ≡ self.old) }
+        ensures none { IfOk result (λ x. x ≡ [] → self.new ≡ self.old) }
         ensures stuck { IfErr result (IsStuckAt self.new) }
     {
-        let mut directions = Vec::new(alloc);
+        let mut directions = Items::new(alloc);
         'more: while !self.is_symbol_at(0, Symbol::RightBrace) {
             let direction = self.direction(alloc)?;
             directions.push(direction)?;
@@ -238,13 +239,13 @@ impl<'a, 't> Parser<'a, 't> {
         Ok(PortType { name, directions })
     }
 
-    fn names(&mut self, alloc: Global) -> Result<Vec<DeclaredName>, Stuck>
+    fn names(&mut self, alloc: Global) -> Result<Items<DeclaredName>, Stuck>
         ensures tokens { IfOk result (λ x.
-            Passes self.old (declared_names_lexemes x.items) self.new) }
+            Passes self.old (declared_names_lexemes x) self.new) }
         ensures shorter { OnOk result (length self.new.rest.now < length self.old.rest.now) }
         ensures lines { IfOk result (λ x.
-            PassesLines self.old (noted_by_commas (map declared_name_notes x.items)) self.new) }
-        ensures grammatical { IfOk result (λ x. IsTrue (has_one x.items)) }
+            PassesLines self.old (noted_by_commas (map declared_name_notes x)) self.new) }
+        ensures grammatical { IfOk result (λ x. IsTrue (has_one x)) }
         ensures reads { (hidden : ℕ) (xs : List DeclaredName) (more : List Lexeme) →
             IsTrue (has_one xs) →
             Stops more →
@@ -252,7 +253,7 @@ impl<'a, 't> Parser<'a, 't> {
         ensures beyond { GoesBeyond 0 self.old result self.new }
         ensures stuck { IfErr result (IsStuckAt self.new) }
     {
-        let mut names = Vec::new(alloc);
+        let mut names = Items::new(alloc);
         let first = self.declared_name(alloc)?;
         names.push(first)?;
         'more: while self.has_symbol(Symbol::Comma) {
@@ -286,14 +287,14 @@ impl<'a, 't> Parser<'a, 't> {
         })
     }
 
-    fn ports(&mut self, alloc: Global) -> Result<Vec<PortDeclaration>, Stuck>
+    fn ports(&mut self, alloc: Global) -> Result<Items<PortDeclaration>, Stuck>
         ensures tokens { IfOk result (λ x.
-            Passes self.old (port_declarations_lexemes x.items) self.new) }
+            Passes self.old (port_declarations_lexemes x) self.new) }
         ensures shorter { OnOk result (length self.new.rest.now ≤ length self.old.rest.now) }
         ensures lines { IfOk result (λ x.
-            PassesLines self.old (noted_in_order (map port_declaration_notes x.items)) self.new) }
+            PassesLines self.old (noted_in_order (map port_declaration_notes x)) self.new) }
         ensures grammatical { IfOk result (λ x.
-            GoesOver self.old (map port_declaration_part x.items) self.new) }
+            GoesOver self.old (map port_declaration_part x) self.new) }
         ensures reads { (hidden : ℕ) (xs : List PortDeclaration) (more : List Lexeme) →
             AllStand (map port_declaration_part xs) more →
             first more ≡ Some (symbol Symbol.RightBrace) →
@@ -301,7 +302,7 @@ impl<'a, 't> Parser<'a, 't> {
         ensures beyond { GoesBeyond 0 self.old result self.new }
         ensures stuck { IfErr result (IsStuckAt self.new) }
     {
-        let mut ports = Vec::new(alloc);
+        let mut ports = Items::new(alloc);
         'more: while !self.is_symbol_at(0, Symbol::RightBrace) {
             let port_declaration = self.port_declaration(alloc)?;
             ports.push(port_declaration)?;

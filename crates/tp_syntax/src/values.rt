@@ -18,6 +18,8 @@ use std::alloc::Global;
 use tp_token::token::{Symbol, Token};
 use tp_token::word::Word;
 use tp_tree::message::{Message, TypeName, Value, ValueField};
+use tp_tree::name::Name;
+use tp_value::items::Items;
 
 impl<'a, 't> Parser<'a, 't> {
     /// The number as an integer. The parser is stuck after 9223372036854775808, which needs a `-`
@@ -101,7 +103,7 @@ impl<'a, 't> Parser<'a, 't> {
             Token::Word(Word::Boolean) => Ok(TypeName::Boolean),
             Token::Word(Word::Charstring) => Ok(TypeName::Charstring),
             Token::Name(spelling) => {
-                let name = String::from_str(alloc, spelling)?;
+                let name = Name::from_str(alloc, spelling)?;
                 Ok(TypeName::Named(name))
             }
             _ => Err(Stuck::Passed(self.rest.len())),
@@ -154,11 +156,11 @@ impl<'a, 't> Parser<'a, 't> {
             Token::Word(Word::True) => Ok(Value::Bool(true)),
             Token::Word(Word::False) => Ok(Value::Bool(false)),
             Token::Text(characters) => {
-                let characters = Vec::from_slice(alloc, characters)?;
+                let characters = Items::from_slice(alloc, characters)?;
                 Ok(Value::Text(characters))
             }
             Token::Name(spelling) => {
-                let name = String::from_str(alloc, spelling)?;
+                let name = Name::from_str(alloc, spelling)?;
                 Ok(Value::Name(name))
             }
             Token::Symbol(Symbol::LeftBrace) => self.value_entries(alloc),
@@ -188,7 +190,7 @@ impl<'a, 't> Parser<'a, 't> {
         ensures stuck { IfErr result (IsStuckAt self.new) }
     {
         if self.has_symbol(Symbol::RightBrace) {
-            return Ok(Value::List(Vec::new(alloc)));
+            return Ok(Value::List(Items::new(alloc)));
         }
         if self.is_field() {
             let fields = self.value_fields(alloc)?;
@@ -201,19 +203,19 @@ impl<'a, 't> Parser<'a, 't> {
     }
 
     #[cycle(value)]
-    pub fn values(&mut self, alloc: Global) -> Result<Vec<Value>, Stuck>
+    pub fn values(&mut self, alloc: Global) -> Result<Items<Value>, Stuck>
         ensures tokens { IfOk result (λ v.
-            Passes self.old (by_commas (map value_lexemes v.items)) self.new) }
+            Passes self.old (by_commas (map value_lexemes v)) self.new) }
         ensures shorter { OnOk result (length self.new.rest.now < length self.old.rest.now) }
         ensures forward { OnOk result (GoesForward self.old self.new) }
-        ensures grammatical { IfOk result (λ v. IsTrue (one_and_each (map is_value v.items))) }
+        ensures grammatical { IfOk result (λ v. IsTrue (one_and_each (map is_value v))) }
         ensures reads { (hidden : ℕ) (xs : List Value) (more : List Lexeme) →
             IsTrue (one_and_each (map is_value xs)) →
             Stops more →
             Reads hidden self.old (by_commas (map value_lexemes xs)) more result self.new }
         ensures stuck { IfErr result (IsStuckAt self.new) }
     {
-        let mut values = Vec::new(alloc);
+        let mut values = Items::new(alloc);
         let first = self.value(alloc)?;
         values.push(first)?;
         'more: while self.has_symbol(Symbol::Comma) {
@@ -224,13 +226,13 @@ impl<'a, 't> Parser<'a, 't> {
     }
 
     #[cycle(value)]
-    pub fn value_fields(&mut self, alloc: Global) -> Result<Vec<ValueField>, Stuck>
+    pub fn value_fields(&mut self, alloc: Global) -> Result<Items<ValueField>, Stuck>
         ensures tokens { IfOk result (λ v.
-            Passes self.old (by_commas (map value_field_lexemes v.items)) self.new) }
+            Passes self.old (by_commas (map value_field_lexemes v)) self.new) }
         ensures shorter { OnOk result (length self.new.rest.now < length self.old.rest.now) }
         ensures forward { OnOk result (GoesForward self.old self.new) }
         ensures grammatical { IfOk result (λ v.
-            IsTrue (one_and_each (map is_value_field v.items))) }
+            IsTrue (one_and_each (map is_value_field v))) }
         ensures reads { (hidden : ℕ) (xs : List ValueField) (more : List Lexeme) →
             IsTrue (one_and_each (map is_value_field xs)) →
             Stops more →
@@ -239,7 +241,7 @@ impl<'a, 't> Parser<'a, 't> {
         ensures beyond { BeginsField self.old.rest.now → GoesBeyond 2 self.old result self.new }
         ensures stuck { IfErr result (IsStuckAt self.new) }
     {
-        let mut fields = Vec::new(alloc);
+        let mut fields = Items::new(alloc);
         let first = self.value_field(alloc)?;
         fields.push(first)?;
         'more: while self.has_symbol(Symbol::Comma) {

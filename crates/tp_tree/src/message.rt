@@ -1,4 +1,6 @@
 //! Messages and templates, as a text writes them: the leaves of the tree.
+use crate::name::Name;
+use tp_value::items::Items;
 
 /// The name of a type (ES 201 873-1, 6).
 #[derive(Drop)]
@@ -7,7 +9,7 @@ pub enum TypeName {
     Boolean,
     Charstring,
     /// The name of a definition.
-    Named(String),
+    Named(Name),
 }
 
 /// A value (ES 201 873-1, 6.1 and 6.2).
@@ -16,18 +18,18 @@ pub enum TypeName {
 pub enum Value {
     Int(i64),
     Bool(bool),
-    Text(Vec<u8>),
-    Name(String),
+    Text(Items<u8>),
+    Name(Name),
     /// Values in braces, by their places.
-    List(Vec<Value>),
+    List(Items<Value>),
     /// At least one field, by their names, in braces.
-    Record(Vec<ValueField>),
+    Record(Items<ValueField>),
 }
 
 #[derive(Drop)]
 #[cycle(value)]
 pub struct ValueField {
-    pub name: String,
+    pub name: Name,
     pub value: Value,
 }
 
@@ -37,30 +39,30 @@ pub struct ValueField {
 pub enum Template {
     Int(i64),
     Bool(bool),
-    Text(Vec<u8>),
-    Name(String),
+    Text(Items<u8>),
+    Name(Name),
     /// `?`
     Any,
     /// `*`
     AnyOrNone,
     /// At least one template in parentheses, one of which must match.
-    OneOf(Vec<Template>),
+    OneOf(Items<Template>),
     /// `complement`, and at least one template in parentheses, none of which may match.
-    Complement(Vec<Template>),
+    Complement(Items<Template>),
     /// A range: its lower bound, or `-infinity`, and its upper bound, or `infinity`.
     Range(Option<i64>, Option<i64>),
     /// The characters of the text after `pattern`.
-    Pattern(Vec<u8>),
+    Pattern(Items<u8>),
     /// Templates in braces, by their places.
-    List(Vec<Template>),
+    List(Items<Template>),
     /// At least one field, by their names, in braces.
-    Record(Vec<TemplateField>),
+    Record(Items<TemplateField>),
 }
 
 #[derive(Drop)]
 #[cycle(template)]
 pub struct TemplateField {
-    pub name: String,
+    pub name: Name,
     pub template: Template,
 }
 

@@ -3,20 +3,22 @@
 //! those of the tree. A `line` is that of the first token of its statement, branch or definition.
 //! `has_semicolon` says whether a `;` follows.
 use crate::message::{Message, MessageTemplate, TypeName, Value};
+use crate::name::Name;
 use tp_event::operation::{PortOperation, ReceiveKind};
+use tp_value::items::Items;
 
 /// A name where it is declared (ES 201 873-1, 5.2.2).
 #[derive(Drop)]
 pub struct DeclaredName {
     pub line: u32,
-    pub name: String,
+    pub name: Name,
 }
 
 /// A component, as a statement names it (ES 201 873-1, 6.2.11).
 #[derive(Drop)]
 pub enum ComponentName {
     /// A component variable or parameter.
-    Named(String),
+    Named(Name),
     Mtc,
     SelfComponent,
 }
@@ -24,7 +26,7 @@ pub enum ComponentName {
 #[derive(Drop)]
 pub enum SentExpression {
     Message(Message),
-    Variable(String),
+    Variable(Name),
 }
 
 #[derive(Drop)]
@@ -36,7 +38,7 @@ pub enum Receivers {
 /// A send (ES 201 873-1, 22.2.1).
 #[derive(Drop)]
 pub struct Send {
-    pub port: String,
+    pub port: Name,
     pub sent: SentExpression,
     pub to: Option<Receivers>,
 }
@@ -44,14 +46,14 @@ pub struct Send {
 /// The variables that store what was received: after `->`, which is there if one of the two is.
 #[derive(Drop)]
 pub struct Redirect {
-    pub value: Option<String>,
-    pub sender: Option<String>,
+    pub value: Option<Name>,
+    pub sender: Option<Name>,
 }
 
 /// A receiving operation (ES 201 873-1, 22.2.2 to 22.2.4).
 #[derive(Drop)]
 pub struct Receive {
-    pub port: String,
+    pub port: Name,
     pub kind: ReceiveKind,
     pub template: Option<MessageTemplate>,
     pub sender: Option<ComponentName>,
@@ -61,7 +63,7 @@ pub struct Receive {
 /// An operation on one port (ES 201 873-1, 22.5).
 #[derive(Drop)]
 pub struct Control {
-    pub port: String,
+    pub port: Name,
     pub operation: PortOperation,
 }
 
@@ -94,7 +96,7 @@ pub enum Action {
     AllPorts(PortOperation),
     SetVerdict(VerdictName),
     /// The branches, and `[else]` if it is the last one. There is at least one.
-    Alt(Vec<Branch>, Option<ElseBranch>),
+    Alt(Items<Branch>, Option<ElseBranch>),
     For(Counted),
 }
 
@@ -112,7 +114,7 @@ pub struct Branch {
 #[cycle(statement)]
 pub enum BranchBody {
     Nothing,
-    Block(Vec<Statement>),
+    Block(Items<Statement>),
 }
 
 /// The branch `[else]` of an `alt` (ES 201 873-1, 20.2).
@@ -120,14 +122,14 @@ pub enum BranchBody {
 #[cycle(statement)]
 pub struct ElseBranch {
     pub line: u32,
-    pub block: Vec<Statement>,
+    pub block: Items<Statement>,
     pub has_semicolon: bool,
 }
 
 /// The head of a counted `for` (ES 201 873-1, 19.4), which names its variable four times.
 #[derive(Drop)]
 pub struct Turns {
-    pub name: String,
+    pub name: Name,
     pub first: i64,
     /// The bound that the variable stays below.
     pub bound: i64,
@@ -138,7 +140,7 @@ pub struct Turns {
 #[cycle(statement)]
 pub struct Counted {
     pub turns: Turns,
-    pub block: Vec<Statement>,
+    pub block: Items<Statement>,
 }
 
 /// A `var` statement: a variable without a value (ES 201 873-1, 11.1).
@@ -146,7 +148,7 @@ pub struct Counted {
 pub struct Variable {
     pub line: u32,
     pub type_name: TypeName,
-    pub name: String,
+    pub name: Name,
     pub has_semicolon: bool,
 }
 
@@ -159,15 +161,15 @@ pub struct FieldType {
 /// A record type (ES 201 873-1, 6.2.1).
 #[derive(Drop)]
 pub struct RecordType {
-    pub name: String,
-    pub fields: Vec<FieldType>,
+    pub name: Name,
+    pub fields: Items<FieldType>,
 }
 
 /// A list type, `record of` (ES 201 873-1, 6.2.3).
 #[derive(Drop)]
 pub struct ListType {
     pub element: TypeName,
-    pub name: String,
+    pub name: Name,
 }
 
 /// The way of messages through a port.
@@ -183,53 +185,53 @@ pub enum Way {
 pub struct Direction {
     pub way: Way,
     /// At least one.
-    pub types: Vec<TypeName>,
+    pub types: Items<TypeName>,
     pub has_semicolon: bool,
 }
 
 /// A message port type (ES 201 873-1, 6.2.9).
 #[derive(Drop)]
 pub struct PortType {
-    pub name: String,
+    pub name: Name,
     /// At least one.
-    pub directions: Vec<Direction>,
+    pub directions: Items<Direction>,
 }
 
 #[derive(Drop)]
 pub struct PortDeclaration {
-    pub type_name: String,
+    pub type_name: Name,
     /// At least one.
-    pub names: Vec<DeclaredName>,
+    pub names: Items<DeclaredName>,
     pub has_semicolon: bool,
 }
 
 /// A component type (ES 201 873-1, 6.2.10).
 #[derive(Drop)]
 pub struct ComponentType {
-    pub name: String,
-    pub ports: Vec<PortDeclaration>,
+    pub name: Name,
+    pub ports: Items<PortDeclaration>,
 }
 
 #[derive(Drop)]
 pub struct Parameter {
-    pub type_name: String,
+    pub type_name: Name,
     pub name: DeclaredName,
 }
 
 /// A function (ES 201 873-1, 16.1).
 #[derive(Drop)]
 pub struct Function {
-    pub name: String,
-    pub parameters: Vec<Parameter>,
-    pub runs_on: String,
+    pub name: Name,
+    pub parameters: Items<Parameter>,
+    pub runs_on: Name,
     /// The variables come before the statements.
-    pub variables: Vec<Variable>,
-    pub statements: Vec<Statement>,
+    pub variables: Items<Variable>,
+    pub statements: Items<Statement>,
 }
 
 #[derive(Drop)]
 pub enum EndComponent {
-    Named(String),
+    Named(Name),
     Mtc,
     SelfComponent,
     System,
@@ -238,7 +240,7 @@ pub enum EndComponent {
 #[derive(Drop)]
 pub struct PairEnd {
     pub component: EndComponent,
-    pub port: String,
+    pub port: Name,
 }
 
 /// The action of a setup statement (ES 201 873-1, 21.1 and 21.3.1).
@@ -251,10 +253,10 @@ pub enum SetupAction {
 
 #[derive(Drop)]
 pub struct Creation {
-    pub type_name: String,
-    pub name: String,
+    pub type_name: Name,
+    pub name: Name,
     /// The type of the component.
-    pub created: String,
+    pub created: Name,
 }
 
 #[derive(Drop)]
@@ -268,9 +270,9 @@ pub struct SetupStatement {
 #[derive(Drop)]
 pub struct ComponentStart {
     pub line: u32,
-    pub component: String,
-    pub function: String,
-    pub arguments: Vec<ComponentName>,
+    pub component: Name,
+    pub function: Name,
+    pub arguments: Items<ComponentName>,
     pub has_semicolon: bool,
 }
 
@@ -283,13 +285,13 @@ pub struct AllDone {
 /// A test case (ES 201 873-1, 16.3).
 #[derive(Drop)]
 pub struct TestCase {
-    pub name: String,
-    pub runs_on: String,
-    pub system: Option<String>,
-    pub setups: Vec<SetupStatement>,
-    pub starts: Vec<ComponentStart>,
-    pub variables: Vec<Variable>,
-    pub statements: Vec<Statement>,
+    pub name: Name,
+    pub runs_on: Name,
+    pub system: Option<Name>,
+    pub setups: Items<SetupStatement>,
+    pub starts: Items<ComponentStart>,
+    pub variables: Items<Variable>,
+    pub statements: Items<Statement>,
     pub all_done: Option<AllDone>,
 }
 
@@ -313,8 +315,8 @@ pub struct Definition {
 /// A module (ES 201 873-1, 8).
 pub struct Module {
     pub line: u32,
-    pub name: String,
-    pub definitions: Vec<Definition>,
+    pub name: Name,
+    pub definitions: Items<Definition>,
     pub has_semicolon: bool,
 }
 

@@ -1,5 +1,5 @@
 -- The next value stands for what is made of it, and at the end each field has one.
-use Rattle.std.proofs.Common.{◌≡◌, ◌≤◌, length, arith, ap, sym, ◌∙◌, refl, map, slice_get, Some, string_bytes, get_or, rules, subst, take, All}
+use Rattle.std.proofs.Common.{◌≡◌, ◌≤◌, length, arith, ap, sym, ◌∙◌, refl, map, slice_get, Some, get_or, rules, subst, take, All}
 use Rattle.std.proofs.lemmas.List.Elements.{All-push}
 use Rattle.std.proofs.lemmas.Option.{slice_get_read}
 use Rattle.std.proofs.lemmas.List.{length-set, length-map}
@@ -49,19 +49,19 @@ resolve_named-loop-index-init t c = record {
 pub resolve_named-loop-index-preserved : goal.resolve_named-loop-index-preserved
 resolve_named-loop-index-preserved t c =
     let i = c.loop-index.invariant in
-    let placing : IsPlacing c.args.fields.now (map (λ x. string_bytes x.name) c.args.entries.now) c.in_ok-places.places.items =
+    let placing : IsPlacing c.args.fields.now (map (λ x. x.name) c.args.entries.now) c.in_ok-places.places.items =
     c.in_ok-places.ensures.placed in
     let is_place : slice_get c.in_ok-places.places.items c.loop-index.index ≡ Some c.index-place.result.now =
     slice_get_read c.in_ok-places.places.items (length c.in_ok-places.places.items) c.loop-index.index c.index-place.result.now refl
-    (omega (arith, placing.as_many, length-map c.args.entries.now (λ x. string_bytes x.name))) c.index-place.ensures in
+    (omega (arith, placing.as_many, length-map c.args.entries.now (λ x. x.name))) c.index-place.ensures in
     let is_field : slice_get c.args.fields.now c.index-place.result.now ≡ Some c.in-Some.field.now =
     slice_get_read c.args.fields.now (length c.args.fields.now) c.index-place.result.now c.in-Some.field.now refl c.in-Some.ensures.lookup.3.0
     c.in-Some.ensures.lookup.1 in
     let is_entry : slice_get c.args.entries.now c.loop-index.index ≡ Some c.index-entries-index.result =
     slice_get_read c.args.entries.now (length c.args.entries.now) c.loop-index.index c.index-entries-index.result refl (omega arith)
     c.index-entries-index.is in
-    let same : string_bytes c.index-entries-index.result.name ≡ c.in-Some.field.now.name =
-    placed_name (λ x. string_bytes x.name) (λ f x. IsValue c.args.context.now.scope.now.types.now (texts c.args.context.now.turns.now) f.ty x.value)
+    let same : c.index-entries-index.result.name ≡ c.in-Some.field.now.name =
+    placed_name (λ x. x.name) (λ f x. IsValue c.args.context.now.scope.now.types.now (texts c.args.context.now.turns.now) f.ty x.value)
     c.args.entries.now c.args.fields.now placing c.loop-index.index c.index-place.result.now c.in-Some.field.now c.index-entries-index.result is_place is_field
     is_entry in
     let fits : IsEntry c.args.context.now.scope.now.types.now (texts c.args.context.now.turns.now) c.args.fields.now c.index-entries-index.result =
@@ -80,7 +80,7 @@ resolve_named-loop-index-preserved t c =
           (All-push (IsEntry c.args.context.now.scope.now.types.now (texts c.args.context.now.turns.now) c.args.fields.now) (take c.loop-index.index c.args.entries.now) c.index-entries-index.result i.fit fits);
       as_many = length-set c.loop-index.made.items c.index-place.result.now c.in_ok-one.one ∙ i.as_many;
       filled =
-          filled_more (λ x. string_bytes x.name) (λ f x. IsValue c.args.context.now.scope.now.types.now (texts c.args.context.now.turns.now) f.ty x.value)
+          filled_more (λ x. x.name) (λ f x. IsValue c.args.context.now.scope.now.types.now (texts c.args.context.now.turns.now) f.ty x.value)
           c.args.entries.now c.args.fields.now
           c.in_ok-places.places.items c.loop-index.index c.loop-index.made.items c.index-place.result.now c.in_ok-one.one c.in-Some.field.now
           c.index-entries-index.result placing i.as_many is_place is_field is_entry c.in_ok-one.ensures.stands i.filled;
@@ -89,16 +89,16 @@ resolve_named-loop-index-preserved t c =
 pub resolve_named-returns-clause-named : goal.resolve_named-returns-clause-named
 resolve_named-returns-clause-named t c =
     let i = c.loop-index.invariant in
-    let placing : IsPlacing c.args.fields.now (map (λ x. string_bytes x.name) c.args.entries.now) c.in_ok-places.places.items =
+    let placing : IsPlacing c.args.fields.now (map (λ x. x.name) c.args.entries.now) c.in_ok-places.places.items =
     c.in_ok-places.ensures.placed in
     let end : length c.in_ok-places.places.items ≤ c.loop-index.index =
-    omega (arith, placing.as_many, length-map c.args.entries.now (λ x. string_bytes x.name)) in
+    omega (arith, placing.as_many, length-map c.args.entries.now (λ x. x.name)) in
     let types = c.args.context.now.scope.now.types.now in
     let turns = texts c.args.context.now.turns.now in
-    rw c.from_vec.ensures (in_order (λ x. string_bytes x.name) (λ f x. IsValue types turns f.ty x.value) c.args.entries.now c.args.fields.now
+    rw c.from_vec.ensures (in_order (λ x. x.name) (λ f x. IsValue types turns f.ty x.value) c.args.entries.now c.args.fields.now
     (AreNamed types turns c.args.entries.now) (no_name c.args.entries.now) (λ fs ws f j x y. one_name_more c.args.entries.now fs ws f j x y)
     c.loop-index.made.items i.as_many
-    (all_filled (λ x. string_bytes x.name) (λ f x. IsValue types turns f.ty x.value) c.args.entries.now c.args.fields.now c.in_ok-places.places.items
+    (all_filled (λ x. x.name) (λ f x. IsValue types turns f.ty x.value) c.args.entries.now c.args.fields.now c.in_ok-places.places.items
     c.loop-index.index c.loop-index.made.items placing end i.filled))
 
 pub resolve_elements-returns-in_err-one-clause-told : goal.resolve_elements-returns-in_err-one-clause-told
@@ -128,36 +128,36 @@ resolve_named-returns-in_err-places-clause-told t c = λ sound apart.
 
 pub resolve_named-returns-in_default-clause-told : goal.resolve_named-returns-in_default-clause-told
 resolve_named-returns-in_default-clause-told t c =
-    let placing : IsPlacing c.args.fields.now (map (λ x. string_bytes x.name) c.args.entries.now) c.in_ok-places.places.items =
+    let placing : IsPlacing c.args.fields.now (map (λ x. x.name) c.args.entries.now) c.in_ok-places.places.items =
     c.in_ok-places.ensures.placed in
     absurd (omega (
       arith,
       c.in_default.ensures.lookup.3,
       c.index-place.ensures,
-      place_below c.args.fields.now (map (λ x. string_bytes x.name) c.args.entries.now) c.in_ok-places.places.items placing c.loop-index.index
-          c.index-place.result.now (omega (arith, placing.as_many, length-map c.args.entries.now (λ x. string_bytes x.name))),
+      place_below c.args.fields.now (map (λ x. x.name) c.args.entries.now) c.in_ok-places.places.items placing c.loop-index.index
+          c.index-place.result.now (omega (arith, placing.as_many, length-map c.args.entries.now (λ x. x.name))),
     ))
 
 pub resolve_named-returns-in_err-one-clause-told : goal.resolve_named-returns-in_err-one-clause-told
 resolve_named-returns-in_err-one-clause-told t c = λ sound apart.
-    let placing : IsPlacing c.args.fields.now (map (λ x. string_bytes x.name) c.args.entries.now) c.in_ok-places.places.items =
+    let placing : IsPlacing c.args.fields.now (map (λ x. x.name) c.args.entries.now) c.in_ok-places.places.items =
     c.in_ok-places.ensures.placed in
     let is_place : slice_get c.in_ok-places.places.items c.loop-index.index ≡ Some c.index-place.result.now =
     slice_get_read c.in_ok-places.places.items (length c.in_ok-places.places.items) c.loop-index.index c.index-place.result.now refl
-    (omega (arith, placing.as_many, length-map c.args.entries.now (λ x. string_bytes x.name))) c.index-place.ensures in
+    (omega (arith, placing.as_many, length-map c.args.entries.now (λ x. x.name))) c.index-place.ensures in
     let is_field : slice_get c.args.fields.now c.index-place.result.now ≡ Some c.in-Some.field.now =
     slice_get_read c.args.fields.now (length c.args.fields.now) c.index-place.result.now c.in-Some.field.now refl c.in-Some.ensures.lookup.3.0
     c.in-Some.ensures.lookup.1 in
     let is_entry : slice_get c.args.entries.now c.loop-index.index ≡ Some c.index-entries-index.result =
     slice_get_read c.args.entries.now (length c.args.entries.now) c.loop-index.index c.index-entries-index.result refl (omega arith)
     c.index-entries-index.is in
-    let same : string_bytes c.index-entries-index.result.name ≡ c.in-Some.field.now.name =
-    placed_name (λ x. string_bytes x.name) (λ f x. IsValue c.args.context.now.scope.now.types.now (texts c.args.context.now.turns.now) f.ty x.value)
+    let same : c.index-entries-index.result.name ≡ c.in-Some.field.now.name =
+    placed_name (λ x. x.name) (λ f x. IsValue c.args.context.now.scope.now.types.now (texts c.args.context.now.turns.now) f.ty x.value)
     c.args.entries.now c.args.fields.now placing c.loop-index.index c.index-place.result.now c.in-Some.field.now c.index-entries-index.result is_place is_field
     is_entry in
     tells_at _ _ _ c.from_residual-in_err-one.result c.in_err-one.field-0.0 c.from_residual-in_err-one.ensures.1
     (λ r broken. b.entry c.args.fields.now c.args.entries.now c.loop-index.index c.index-place.result.now c.in-Some.field.now c.index-entries-index.result r
-    (placed_entries c.args.fields.now (map (λ x. string_bytes x.name) c.args.entries.now) c.in_ok-places.places.items placing) c.loop-index.invariant.fit
+    (placed_entries c.args.fields.now (map (λ x. x.name) c.args.entries.now) c.in_ok-places.places.items placing) c.loop-index.invariant.fit
     is_entry is_field same broken)
     (c.in_err-one.ensures.told sound)
 
@@ -165,7 +165,7 @@ pub resolve_value-returns-in_err-place-in-Name-clause-told : goal.resolve_value-
 resolve_value-returns-in_err-place-in-Name-clause-told t c = λ sound.
     tells_at _ _ _ c.from_residual-in_err-place-in-Name.result c.in_err-place-in-Name.field-0.0 c.from_residual-in_err-place-in-Name.ensures.1
     (λ r broken. rw c.in-Name.is (b.name c.args.ty c.in-Name.name r broken))
-    (rw c.as_str.ensures.value at c.in_err-place-in-Name.ensures.told)
+    (rw c.as_str.ensures at c.in_err-place-in-Name.ensures.told)
 
 pub resolve_value-returns-in_err-made-in-Some-Record-clause-told : goal.resolve_value-returns-in_err-made-in-Some-Record-clause-told
 resolve_value-returns-in_err-made-in-Some-Record-clause-told t c = λ sound.
@@ -174,7 +174,7 @@ resolve_value-returns-in_err-made-in-Some-Record-clause-told t c = λ sound.
     tells_at _ _ _ c.from_residual-in_err-made-in-Some-Record.result c.in_err-made-in-Some-Record.field-0.0
     c.from_residual-in_err-made-in-Some-Record.ensures.1
     (λ r broken. rw c.in-List.is (b.places c.args.ty c.in-Some-Record.fields c.in-List.values r defined broken))
-    (rw (c.as_slice.ensures, c.deref-in-Some-Record.ensures.value) at (c.in_err-made-in-Some-Record.ensures.told sound))
+    (rw (c.as_slice-in-Some-Record.ensures, c.as_slice-in-Some-Record-2.ensures) at (c.in_err-made-in-Some-Record.ensures.told sound))
 
 pub resolve_value-returns-in_err-check_type-in-Int-clause-told : goal.resolve_value-returns-in_err-check_type-in-Int-clause-told
 resolve_value-returns-in_err-check_type-in-Int-clause-told t c = λ sound.
@@ -189,7 +189,7 @@ resolve_value-returns-in_err-check_type-in-Bool-clause-told t c = λ sound.
 pub resolve_value-returns-in_err-text-in-Text-clause-told : goal.resolve_value-returns-in_err-text-in-Text-clause-told
 resolve_value-returns-in_err-text-in-Text-clause-told t c = λ sound.
     tells_at _ _ _ c.from_residual-in_err-text-in-Text.result _ c.from_residual-in_err-text-in-Text.ensures.1
-    (λ r broken. rw c.in-Text.is (b.text c.args.ty c.in-Text.text r broken)) (rw c.deref.ensures.value at c.in_err-text-in-Text.ensures.told)
+    (λ r broken. rw c.in-Text.is (b.text c.args.ty c.in-Text.text r broken)) (rw c.as_slice.ensures at c.in_err-text-in-Text.ensures.told)
 
 pub resolve_value-returns-in_err-made-in-Some-ListOf-clause-told : goal.resolve_value-returns-in_err-made-in-Some-ListOf-clause-told
 resolve_value-returns-in_err-made-in-Some-ListOf-clause-told t c = λ sound.
@@ -197,7 +197,7 @@ resolve_value-returns-in_err-made-in-Some-ListOf-clause-told t c = λ sound.
     sym c.in-Some-ListOf.ensures ∙ ap Some c.in-Some-ListOf.field-0-is in
     tells_at _ _ _ c.from_residual-in_err-made-in-Some-ListOf.result _ c.from_residual-in_err-made-in-Some-ListOf.ensures.1
     (λ r broken. rw c.in-List.is (b.elements c.args.ty c.in-Some-ListOf.element c.in-List.values r defined broken))
-    (rw c.deref-in-Some-ListOf.ensures.value at (c.in_err-made-in-Some-ListOf.ensures.told sound))
+    (rw c.as_slice-in-Some-ListOf.ensures at (c.in_err-made-in-Some-ListOf.ensures.told sound))
 
 pub resolve_value-returns-in-None-clause-told : goal.resolve_value-returns-in-None-clause-told
 resolve_value-returns-in-None-clause-told t c = λ sound.
@@ -209,7 +209,7 @@ resolve_value-returns-in_err-made-in-Record-clause-told t c = λ sound.
     sym c.in-Some-Record-definition.ensures ∙ ap Some c.in-Some-Record-definition.field-0-is in
     tells_at _ _ _ c.from_residual-in_err-made-in-Record.result _ c.from_residual-in_err-made-in-Record.ensures.1
     (λ r broken. rw c.in-Record.is (b.fields c.args.ty c.in-Some-Record-definition.fields c.in-Record.entries r defined broken))
-    ((rw (c.as_slice-in-Record.ensures, c.deref-in-Record.ensures.value) at c.in_err-made-in-Record.ensures.told) sound
+    ((rw (c.as_slice-in-Record.ensures, c.as_slice-in-Record-2.ensures) at c.in_err-made-in-Record.ensures.told) sound
     (sound.own_names c.args.ty c.in-Some-Record-definition.fields defined))
 
 pub resolve_value-returns-in_default-clause-told : goal.resolve_value-returns-in_default-clause-told

@@ -1,5 +1,5 @@
 -- What the values so far stand for is made, each in its turn or at the place of its field.
-use Rattle.std.proofs.Common.{◌≡◌, length, take, string_bytes, All}
+use Rattle.std.proofs.Common.{◌≡◌, length, take, All}
 use Rattle.tp_name.specs.Named.{texts}
 use Rattle.tp_body.specs.Messages.{AreElements, AreFields, IsValue}
 use Rattle.tp_body.specs.BrokenValues.{IsEntry}
@@ -16,7 +16,7 @@ invariant-resolve_fields-loop-index l =
 abbrev pub invariant-resolve_named-loop-index : goal.invariant-resolve_named-loop-index
 invariant-resolve_named-loop-index l = record {
   as_many : length l.made.items ≡ length l.fields;
-  filled : Filled (λ x. string_bytes x.name) (λ f x. IsValue l.context.scope.now.types.now (texts l.context.turns.now) f.ty x.value)
+  filled : Filled (λ x. x.name) (λ f x. IsValue l.context.scope.now.types.now (texts l.context.turns.now) f.ty x.value)
       l.entries l.fields l.places.items l.index l.made.items;
   fit : All (IsEntry l.context.scope.now.types.now (texts l.context.turns.now) l.fields) (take l.index l.entries);
 }

@@ -1,5 +1,5 @@
 -- The next statement or branch stands for what is made; a `for` adds its variable to those around.
-use Rattle.std.proofs.Common.{arith, ◌≡◌, [], ◌∷◌, ◌++◌, length, refl, ap, sym, ◌∙◌, string_bytes, true≢false}
+use Rattle.std.proofs.Common.{arith, ◌≡◌, [], ◌∷◌, ◌++◌, length, refl, ap, sym, ◌∙◌, true≢false}
 use Rattle.std.proofs.lemmas.Option.{slice_get_read}
 use Rattle.std.proofs.lemmas.Result.{IfErr-weaker}
 use Rattle.tp_tree.specs.declared.tree.Action.TheVariants as action
@@ -40,11 +40,11 @@ resolve_for-returns-clause-stands t c =
     let scope = c.args.context.now.scope.now in
     let variables = c.args.context.now.variables.now in
     let turns = texts c.args.context.now.turns.now in
-    let new : IsNew scope variables turns (string_bytes looped.turns.name) = rw c.as_str-name.ensures.value at c.is_new.ensures.0 c.if-not-is_new.false in
-    let row : texts c.deref.result.now ≡ turns ++ string_bytes looped.turns.name ∷ [] =
-    ap texts c.deref.ensures.value ∙ c.in_ok-inside.ensures.inside ∙ ap (λ x. turns ++ x ∷ []) c.as_str-name.ensures.value in
-    let inside : IsBlock scope variables (turns ++ string_bytes looped.turns.name ∷ []) looped.block.items c.in_ok-block.block =
-    rw (sym row, sym c.deref-2.ensures.value) c.in_ok-block.ensures.stands in
+    let new : IsNew scope variables turns looped.turns.name = rw c.as_str-name.ensures at c.is_new.ensures.0 c.if-not-is_new.false in
+    let row : texts c.deref.result.now ≡ turns ++ looped.turns.name ∷ [] =
+    ap texts c.deref.ensures.value ∙ c.in_ok-inside.ensures.inside ∙ ap (λ x. turns ++ x ∷ []) c.as_str-name.ensures in
+    let inside : IsBlock scope variables (turns ++ looped.turns.name ∷ []) looped.block c.in_ok-block.block =
+    rw (sym row, sym c.as_slice.ensures) c.in_ok-block.ensures.stands in
     rw c.counted_for.ensures (statement_for scope variables turns (action.For c.args.looped.now) c.args.looped.now c.in_ok-block.block refl new inside)
 
 pub resolve_block-returns-in_err-one-clause-told : goal.resolve_block-returns-in_err-one-clause-told
@@ -82,31 +82,31 @@ resolve_for-returns-then-not-is_new-clause-told t c = λ sound typed.
     (StatementBreaks c.args.context.now.scope.now c.args.context.now.variables.now (texts c.args.context.now.turns.now) c.args.context.now.line
     (action.For c.args.looped.now)) _ (cc)
     (b.old_name (texts c.args.context.now.turns.now) c.args.context.now.line c.args.looped.now
-    (λ h. true≢false (sym ((rw c.as_str-name.ensures.value at c.is_new.ensures.1) h) ∙ c.if-not-is_new.true)))
+    (λ h. true≢false (sym ((rw c.as_str-name.ensures at c.is_new.ensures.1) h) ∙ c.if-not-is_new.true)))
 
 pub resolve_for-returns-in_err-block-clause-told : goal.resolve_for-returns-in_err-block-clause-told
 resolve_for-returns-in_err-block-clause-told t c = λ sound typed.
     let turns = texts c.args.context.now.turns.now in
     let looped = out-Counted c.args.looped.now in
-    let row : texts c.deref.result.now ≡ turns ++ string_bytes looped.turns.name ∷ [] =
-    ap texts c.deref.ensures.value ∙ c.in_ok-inside.ensures.inside ∙ ap (λ x. turns ++ x ∷ []) c.as_str-name.ensures.value in
-    let new = rw c.as_str-name.ensures.value at c.is_new.ensures.0 c.if-not-is_new.false in
+    let row : texts c.deref.result.now ≡ turns ++ looped.turns.name ∷ [] =
+    ap texts c.deref.ensures.value ∙ c.in_ok-inside.ensures.inside ∙ ap (λ x. turns ++ x ∷ []) c.as_str-name.ensures in
+    let new = rw c.as_str-name.ensures at c.is_new.ensures.0 c.if-not-is_new.false in
     tells_on _ _ c.from_residual-in_err-block.result _ c.from_residual-in_err-block.ensures.1
     (λ r at broken. b.counted turns c.args.context.now.line c.args.looped.now r at new broken)
-    (rw (row, c.deref-2.ensures.value) at (c.in_err-block.ensures.told sound typed))
+    (rw (row, c.as_slice.ensures) at (c.in_err-block.ensures.told sound typed))
 
 pub resolve_statement-returns-in_err-made-in-Alt-clause-told : goal.resolve_statement-returns-in_err-made-in-Alt-clause-told
 resolve_statement-returns-in_err-made-in-Alt-clause-told t c = λ sound typed.
     tells_on _ _ c.from_residual-in_err-made-in-Alt.result _ c.from_residual-in_err-made-in-Alt.ensures.1
     (λ r at broken. rw c.in-Alt.is (b.branches (texts c.args.context.now.turns.now) c.args.context.now.line c.in-Alt.branches c.in-Alt.otherwise r at broken))
-    (rw c.deref.ensures.value at (c.in_err-made-in-Alt.ensures.told sound typed))
+    (rw c.as_slice.ensures at (c.in_err-made-in-Alt.ensures.told sound typed))
 
 pub resolve_after-returns-in-Block-clause-told : goal.resolve_after-returns-in-Block-clause-told
 resolve_after-returns-in-Block-clause-told t c = λ sound typed.
     IfErr-weaker c.resolve_block.result _ _
     (λ f. told_on _ (AfterBreaks c.args.context.now.scope.now c.args.context.now.variables.now (texts c.args.context.now.turns.now) c.args.body.now) f
     (λ r at broken. rw c.in-Block.is (b.in_block (texts c.args.context.now.turns.now) c.in-Block.statements r at broken)))
-    (rw c.deref.ensures.value at (c.resolve_block.ensures.told sound typed))
+    (rw c.as_slice.ensures at (c.resolve_block.ensures.told sound typed))
 
 pub resolve_statement-returns-in_err-sending-in-Send-clause-told : goal.resolve_statement-returns-in_err-sending-in-Send-clause-told
 resolve_statement-returns-in_err-sending-in-Send-clause-told t c = λ sound typed.
@@ -123,8 +123,8 @@ resolve_statement-returns-in_err-receiving-in-Receive-clause-told t c = λ sound
 pub resolve_statement-returns-in_err-block-in-Alt-clause-told : goal.resolve_statement-returns-in_err-block-in-Alt-clause-told
 resolve_statement-returns-in_err-block-in-Alt-clause-told t c = λ sound typed.
     let is = c.in-Alt.is ∙ ap (action.Alt c.in-Alt.branches) c.in-Some.is in
-    let stands = rw c.deref.ensures.value at c.in_ok-made-in-Alt.ensures.stands in
+    let stands = rw c.as_slice.ensures at c.in_ok-made-in-Alt.ensures.stands in
     tells_on _ _ c.from_residual-in_err-block-in-Alt.result _ c.from_residual-in_err-block-in-Alt.ensures.1
     (λ r at broken. rw is (b.otherwise (texts c.args.context.now.turns.now) c.args.context.now.line c.in-Alt.branches c.in_ok-made-in-Alt.made
     c.in-Some.otherwise r at stands broken))
-    (rw c.deref-in-Alt.ensures.value at (c.in_err-block-in-Alt.ensures.told sound typed))
+    (rw c.as_slice-in-Alt.ensures at (c.in_err-block-in-Alt.ensures.told sound typed))

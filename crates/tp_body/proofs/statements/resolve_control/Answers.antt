@@ -18,4 +18,4 @@ returns-in_default-clause-told c = λ sound.
     (StatementBreaks c.args.context.now.scope.now c.args.context.now.variables.now (texts c.args.context.now.turns.now) c.args.context.now.line
     (action.Control c.args.control.now)) _ (cc)
     (b.control_of_no_port (texts c.args.context.now.turns.now) c.args.context.now.line c.args.control.now c.in_ok-check_not_in_sut.ensures.ok
-    (rw c.as_str.ensures.value at (c.in_default.ensures.absent sound.few_ports)))
+    (rw c.as_str.ensures at (c.in_default.ensures.absent sound.few_ports)))

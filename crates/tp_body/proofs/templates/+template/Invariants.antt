@@ -1,5 +1,5 @@
 -- What the templates so far stand for is made, each in its turn or at the place of its field.
-use Rattle.std.proofs.Common.{◌≡◌, length, take, string_bytes, All}
+use Rattle.std.proofs.Common.{◌≡◌, length, take, All}
 use Rattle.tp_name.specs.Named.{texts}
 use Rattle.tp_body.specs.Messages.{AreMembers, AreElementTemplates, AreFieldTemplates, IsTemplate}
 use Rattle.tp_body.specs.BrokenTemplates.{IsTemplateEntry}
@@ -17,7 +17,7 @@ invariant-resolve_field_templates-loop-index l =
 abbrev pub invariant-resolve_named_templates-loop-index : goal.invariant-resolve_named_templates-loop-index
 invariant-resolve_named_templates-loop-index l = record {
   as_many : length l.made.items ≡ length l.fields;
-  filled : Filled (λ x. string_bytes x.name) (λ f x. IsTemplate l.context.scope.now.types.now (texts l.context.turns.now) f.ty x.template)
+  filled : Filled (λ x. x.name) (λ f x. IsTemplate l.context.scope.now.types.now (texts l.context.turns.now) f.ty x.template)
       l.entries l.fields l.places.items l.index l.made.items;
   fit : All (IsTemplateEntry l.context.scope.now.types.now (texts l.context.turns.now) l.fields) (take l.index l.entries);
 }

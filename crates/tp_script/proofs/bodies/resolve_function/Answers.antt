@@ -1,5 +1,5 @@
 -- A function whose body is refused has none.
-use Rattle.std.proofs.Common.{◌∙◌, ap, map, string_bytes}
+use Rattle.std.proofs.Common.{◌∙◌, ap, map}
 use Rattle.tp_setup.specs.Definitions.{declared}
 use Rattle.tp_script.specs.Instances.{known_in}
 use Rattle.tp_script.specs.Scopes.{plays_of}
@@ -14,10 +14,10 @@ use Rattle.tp_script.proofs.bodies.resolve_function.Goals as goal
 pub returns-clause-refused : goal.returns-clause-refused
 returns-clause-refused c = λ sound own.
     let f = c.args.function.now in
-    body_refused (known_in c.args.prepared.now) c.plays.result (plays_of f) c.as_str-runs_on.result.now (string_bytes f.runs_on) c.in_ok-parameters.parameters
-    (map (λ p. declared p.name) f.parameters.items) c.in_ok-scope.scope c.deref-2.result.now f.variables.items c.deref-3.result.now f.statements.items
-    c.resolve_body.result c.plays.ensures c.as_str-runs_on.ensures.value
-    (c.in_ok-parameters.ensures.names ∙ ap (map (λ p. declared p.name)) c.deref.ensures.value) c.deref-2.ensures.value c.deref-3.ensures.value sound
+    body_refused (known_in c.args.prepared.now) c.plays.result (plays_of f) c.as_str-runs_on.result.now f.runs_on c.in_ok-parameters.parameters
+    (map (λ p. declared p.name) f.parameters) c.in_ok-scope.scope c.as_slice-2.result.now f.variables c.as_slice-3.result.now f.statements
+    c.resolve_body.result c.plays.ensures c.as_str-runs_on.ensures
+    (c.in_ok-parameters.ensures.names ∙ ap (map (λ p. declared p.name)) c.as_slice.ensures) c.as_slice-2.ensures c.as_slice-3.ensures sound
     c.in_ok-scope.ensures.scope c.resolve_body.ensures.refused
 
 pub returns-in_err-parameters-clause-told : goal.returns-in_err-parameters-clause-told
@@ -26,19 +26,19 @@ returns-in_err-parameters-clause-told c = λ sound own can.
     let P = FunctionBreaks (known_in c.args.prepared.now) f c.args.line in
     handed (Tells P) c.from_residual.result _ c.from_residual.ensures.1
     (tells_memory P c.in_err-parameters.field-0.0
-    (memory_left (IsNumbered (map (λ p. declared p.name) f.parameters.items)) c.in_err-parameters.field-0.0
-    (rw c.deref.ensures.value at c.in_err-parameters.ensures.refused) own))
+    (memory_left (IsNumbered (map (λ p. declared p.name) f.parameters)) c.in_err-parameters.field-0.0
+    (rw c.as_slice.ensures at c.in_err-parameters.ensures.refused) own))
 
 pub returns-in_err-scope-clause-told : goal.returns-in_err-scope-clause-told
 returns-in_err-scope-clause-told c = λ sound own can.
     handed (Tells (FunctionBreaks (known_in c.args.prepared.now) c.args.function.now c.args.line)) c.from_residual-in_err-scope.result _
-    c.from_residual-in_err-scope.ensures.1 (absurd (c.in_err-scope.ensures.unknown (rw c.as_str-runs_on.ensures.value can)))
+    c.from_residual-in_err-scope.ensures.1 (absurd (c.in_err-scope.ensures.unknown (rw c.as_str-runs_on.ensures can)))
 
 pub returns-clause-told : goal.returns-clause-told
 returns-clause-told c = λ sound own can.
     let f = c.args.function.now in
-    body_told (known_in c.args.prepared.now) c.plays.result (plays_of f) c.as_str-runs_on.result.now (string_bytes f.runs_on) c.in_ok-parameters.parameters
-    (map (λ p. declared p.name) f.parameters.items) c.args.line c.in_ok-scope.scope c.deref-2.result.now f.variables.items c.deref-3.result.now
-    f.statements.items c.resolve_body.result c.plays.ensures c.as_str-runs_on.ensures.value
-    (c.in_ok-parameters.ensures.names ∙ ap (map (λ p. declared p.name)) c.deref.ensures.value) c.deref-2.ensures.value c.deref-3.ensures.value sound
+    body_told (known_in c.args.prepared.now) c.plays.result (plays_of f) c.as_str-runs_on.result.now f.runs_on c.in_ok-parameters.parameters
+    (map (λ p. declared p.name) f.parameters) c.args.line c.in_ok-scope.scope c.as_slice-2.result.now f.variables c.as_slice-3.result.now
+    f.statements c.resolve_body.result c.plays.ensures c.as_str-runs_on.ensures
+    (c.in_ok-parameters.ensures.names ∙ ap (map (λ p. declared p.name)) c.as_slice.ensures) c.as_slice-2.ensures c.as_slice-3.ensures sound
     c.in_ok-scope.ensures.scope c.resolve_body.ensures.told

@@ -20,11 +20,11 @@ returns-in-Err-clause-told c = λ others small.
     at_map c.args.line (NameBreaks names (variable_name one)) (CreationBreaks rules.type_names.now rules.port_names.now others names rules.most one) c.at.result
     (taken_told rules.type_names.now rules.port_names.now others names rules.most one small)
     (name_told names (variable_name one) c.args.line c.in-Err.fault c.at.result c.at.ensures.duplicate c.at.ensures.limit c.at.ensures.memory
-    (rw c.as_str.ensures.value at c.in-Err.ensures.duplicate) c.in-Err.ensures.limit)
+    (rw c.as_str.ensures at c.in-Err.ensures.duplicate) c.in-Err.ensures.limit)
 
 pub returns-then-has-clause-told : goal.returns-then-has-clause-told
 returns-then-has-clause-told c = λ others small.
-    rw c.refused.ensures (refl, port (rw c.as_str-2.ensures.value at (c.has.ensures.known.0 c.if-has.true)))
+    rw c.refused.ensures (refl, port (rw c.as_str-2.ensures at (c.has.ensures.known.0 c.if-has.true)))
 
 pub returns-then-not-has-clause-told : goal.returns-then-not-has-clause-told
 returns-then-not-has-clause-told c = λ others small.
@@ -32,12 +32,12 @@ returns-then-not-has-clause-told c = λ others small.
     let one = c.args.creation.now in
     let fresh : Contains names (variable_name one) → ⊥ =
     λ h. repeated names (variable_name one) h
-    (subst AreDistinct (c.in_default.ensures.ok ∙ ap (λ n. names ++ n ∷ []) c.as_str.ensures.value) c.in_default.ensures.distinct) in
+    (subst AreDistinct (c.in_default.ensures.ok ∙ ap (λ n. names ++ n ∷ []) c.as_str.ensures) c.in_default.ensures.distinct) in
     let free : Contains c.args.rules.now.port_names.now (variable_name one) → ⊥ =
-    λ h. true≢false (sym (c.has.ensures.known.1 (rw c.as_str-2.ensures.value h)) ∙ c.if-has.false) in
+    λ h. true≢false (sym (c.has.ensures.known.1 (rw c.as_str-2.ensures h)) ∙ c.if-has.false) in
     rw c.refused-then-not-has.ensures (
       refl,
-      unknown_type fresh free (λ h. true≢false (sym (c.has-2.ensures.known.1 (rw c.as_str-3.ensures.value h)) ∙ c.if-not-has.true)),
+      unknown_type fresh free (λ h. true≢false (sym (c.has-2.ensures.known.1 (rw c.as_str-3.ensures h)) ∙ c.if-not-has.true)),
     )
 
 pub returns-then-ne-clause-told : goal.returns-then-ne-clause-told
@@ -46,15 +46,15 @@ returns-then-ne-clause-told c = λ others small.
     let one = c.args.creation.now in
     let fresh : Contains names (variable_name one) → ⊥ =
     λ h. repeated names (variable_name one) h
-    (subst AreDistinct (c.in_default.ensures.ok ∙ ap (λ n. names ++ n ∷ []) c.as_str.ensures.value) c.in_default.ensures.distinct) in
+    (subst AreDistinct (c.in_default.ensures.ok ∙ ap (λ n. names ++ n ∷ []) c.as_str.ensures) c.in_default.ensures.distinct) in
     let free : Contains c.args.rules.now.port_names.now (variable_name one) → ⊥ =
-    λ h. true≢false (sym (c.has.ensures.known.1 (rw c.as_str-2.ensures.value h)) ∙ c.if-has.false) in
+    λ h. true≢false (sym (c.has.ensures.known.1 (rw c.as_str-2.ensures h)) ∙ c.if-has.false) in
     let same : c.as_str-4.result.now ≡ c.as_str-5.result.now → ⊥ =
     λ e. true≢false (sym c.if-ne.true ∙ c.ne.ensures ∙ ap not ((bytes_eq-Decides c.as_str-4.result.now c.as_str-5.result.now).1 e)) in
     rw c.refused-then-ne.ensures (
       refl,
-      other_type fresh free (rw c.as_str-3.ensures.value at (c.has-2.ensures.known.0 c.if-not-has.false))
-          (λ e. same (c.as_str-4.ensures.value ∙ e ∙ sym c.as_str-5.ensures.value)),
+      other_type fresh free (rw c.as_str-3.ensures at (c.has-2.ensures.known.0 c.if-not-has.false))
+          (λ e. same (c.as_str-4.ensures ∙ e ∙ sym c.as_str-5.ensures)),
     )
 
 -- a test that fails, negated
@@ -68,15 +68,15 @@ returns-then-len-rules-clause-told c = λ others small.
     let one = c.args.creation.now in
     let fresh : Contains names (variable_name one) → ⊥ =
     λ h. repeated names (variable_name one) h
-    (subst AreDistinct (c.in_default.ensures.ok ∙ ap (λ n. names ++ n ∷ []) c.as_str.ensures.value) c.in_default.ensures.distinct) in
+    (subst AreDistinct (c.in_default.ensures.ok ∙ ap (λ n. names ++ n ∷ []) c.as_str.ensures) c.in_default.ensures.distinct) in
     let free : Contains c.args.rules.now.port_names.now (variable_name one) → ⊥ =
-    λ h. true≢false (sym (c.has.ensures.known.1 (rw c.as_str-2.ensures.value h)) ∙ c.if-has.false) in
+    λ h. true≢false (sym (c.has.ensures.known.1 (rw c.as_str-2.ensures h)) ∙ c.if-has.false) in
     let same : c.as_str-4.result.now ≡ c.as_str-5.result.now =
     (bytes_eq-Decides c.as_str-4.result.now c.as_str-5.result.now).0 (negated _ (sym c.ne.ensures ∙ c.if-ne.false)) in
     rw c.refused-then-len-rules.ensures (
       refl,
-      many fresh free (rw c.as_str-3.ensures.value at (c.has-2.ensures.known.0 c.if-not-has.false))
-          (sym c.as_str-4.ensures.value ∙ same ∙ c.as_str-5.ensures.value)
+      many fresh free (rw c.as_str-3.ensures at (c.has-2.ensures.known.0 c.if-not-has.false))
+          (sym c.as_str-4.ensures ∙ same ∙ c.as_str-5.ensures)
           (omega (
             arith,
             c.if-len-rules.true,

@@ -32,4 +32,4 @@ returns-in_err-add_component-clause-told c = λ others (room : HasRoomForVariabl
       same = ok.same;
       few = subst (λ l. length l ≤ rules.most) ok.added ok.few;
     }))
-    (rw (c.as_str.ensures.value, c.as_str-2.ensures.value) at (c.in_err-add_component.ensures.told room.typed)))
+    (rw (c.as_str.ensures, c.as_str-2.ensures) at (c.in_err-add_component.ensures.told room.typed)))

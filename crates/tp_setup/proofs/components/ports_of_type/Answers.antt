@@ -1,5 +1,5 @@
 -- The component type at the place of the name has that name, and its ports are those declared.
-use Rattle.std.proofs.Common.{inr, ◌≡◌, ◌++◌, ◌∙◌, Some, ap, map, slice_get, string_bytes, sym}
+use Rattle.std.proofs.Common.{inr, ◌≡◌, ◌++◌, ◌∙◌, Some, ap, map, slice_get, sym}
 use Rattle.tp_setup.specs.Definitions.{declared_ports}
 use Rattle.tp_setup.specs.Sorted.{component_types_in}
 use Rattle.tp_name.proofs.NameSetLookups.{named_at}
@@ -20,19 +20,19 @@ returns-clause-ports c =
     record {
       component = one;
       there = contains_at xs c.in-Some.place one there;
-      named = named_at c.args.sorted.now.component_names (λ c. string_bytes c.name) xs c.args.name.now c.in-Some.place one c.requires c.in-Some.ensures.place
+      named = named_at c.args.sorted.now.component_names (λ c. c.name) xs c.args.name.now c.in-Some.place one c.requires c.in-Some.ensures.place
           there;
-      ports_are = c.in_ok-declare_ports.ensures.names ∙ ap (λ l. l ++ declared_ports c.deref-2.result.now) c.new-ports.ensures.empty
-          ∙ ap declared_ports c.deref-2.ensures.value;
+      ports_are = c.in_ok-declare_ports.ensures.names ∙ ap (λ l. l ++ declared_ports c.as_slice.result.now) c.new-ports.ensures.empty
+          ∙ ap declared_ports c.as_slice.ensures;
     }
 
 pub returns-in_default-clause-refused : goal.returns-in_default-clause-refused
 returns-in_default-clause-refused c = λ few. inr (λ r. place_unknown c.args.sorted.now.component_names c.args.name.now c.in_default.ensures.place
-    (named_there (λ (t : ComponentType). string_bytes t.name) (component_types_in c.args.sorted.now) c.args.sorted.now.component_names c.args.name.now
+    (named_there (λ (t : ComponentType). t.name) (component_types_in c.args.sorted.now) c.args.sorted.now.component_names c.args.name.now
     r.1.component c.requires r.1.there r.1.named))
 
 pub returns-in_default-definition_at-clause-refused : goal.returns-in_default-definition_at-clause-refused
-returns-in_default-definition_at-clause-refused c = λ few. inr (λ r. item_there (λ (t : ComponentType). string_bytes t.name)
+returns-in_default-definition_at-clause-refused c = λ few. inr (λ r. item_there (λ (t : ComponentType). t.name)
     (component_types_in c.args.sorted.now) c.args.sorted.now.component_names c.args.name.now c.in-Some.place c.requires c.in-Some.ensures.place
     (c.in_default-definition_at.ensures ∙ ap (λ l. slice_get (map (λ c. c.now) l) c.in-Some.place) c.deref.ensures.value))
 
@@ -40,6 +40,6 @@ pub returns-in_err-declare_ports-clause-refused : goal.returns-in_err-declare_po
 returns-in_err-declare_ports-clause-refused c = λ few.
     let one = c.in-Some-definition_at.component.now in
     handed_on c.from_residual.result _ c.from_residual.ensures.1 c.in_err-declare_ports.ensures.refused
-    (λ r. rw (c.new-ports.ensures.empty, c.deref-2.ensures.value)
-    (all_got (λ (t : ComponentType). IsNumbered (declared_ports t.ports.items)) (component_types_in c.args.sorted.now) c.in-Some.place one few
+    (λ r. rw (c.new-ports.ensures.empty, c.as_slice.ensures)
+    (all_got (λ (t : ComponentType). IsNumbered (declared_ports t.ports)) (component_types_in c.args.sorted.now) c.in-Some.place one few
     (ap (λ l. slice_get (map (λ c. c.now) l) c.in-Some.place) (sym c.deref.ensures.value) ∙ sym c.in-Some-definition_at.ensures)))

@@ -9,12 +9,12 @@ use Rattle.tp_setup.proofs.definitions.are_ports_few.Goals as goal
 
 -- the ports up to a declaration, and its own, are among all
 among_all : (ports : List PortDeclaration) (i : ℕ) (p : PortDeclaration) → i < length ports → p ≡ get_or ports i p
-    → length (declared_ports (take i ports)) + length p.names.items ≤ length (declared_ports ports)
+    → length (declared_ports (take i ports)) + length p.names ≤ length (declared_ports ports)
 among_all ports i p lt is =
-    let each : PortDeclaration → List (List ℕ) = λ x. map declared x.names.items in
+    let each : PortDeclaration → List (List ℕ) = λ x. map declared x.names in
     let whole : length (flat_map each (take i ports)) + length (each p) ≤ length (flat_map each ports) =
     subst (λ x. length (flat_map each (take i ports)) + length (each x) ≤ length (flat_map each ports)) (sym is) (length-flat_map-take each ports i p lt) in
-    let own : length (each p) ≡ length p.names.items = simp length-map refl in
+    let own : length (each p) ≡ length p.names = simp length-map refl in
     subst (λ n. length (flat_map each (take i ports)) + n ≤ length (flat_map each ports)) own whole
 
 pub returns-then-not-has_room : goal.returns-then-not-has_room

@@ -14,18 +14,18 @@ module _ (names : List (List ℕ)) (x : ComponentType) (line : ℕ) (fault : Mod
   of_unknown isnt is = inl (λ h. absurd (cc), is)
 
   -- the types of all ports are known, and there are too many
-  of_many : (few : Bool) → has_known_ports names x ≡ true → (length (declared_ports x.ports.items) ≤ 64 → few ≡ true) → few ≡ false
+  of_many : (few : Bool) → has_known_ports names x ≡ true → (length (declared_ports x.ports) ≤ 64 → few ≡ true) → few ≡ false
       → fault ≡ Refused Limit line → IsComponentFault names x line fault
   of_many few known most isnt is = inr (known, grind (arith, most, isnt), is)
 
 pub returns-then-not-are_ports_known-clause-refused : goal.returns-then-not-are_ports_known-clause-refused
 returns-then-not-are_ports_known-clause-refused c =
-    let known = rw c.deref.ensures.value at c.are_ports_known.ensures in
+    let known = rw c.as_slice.ensures at c.are_ports_known.ensures in
     of_unknown c.args.port_types.now c.args.component.now c.args.line c.refused.result (sym known ∙ c.if-not-are_ports_known.true) c.refused.ensures
 
 pub returns-then-not-are_ports_few-clause-refused : goal.returns-then-not-are_ports_few-clause-refused
 returns-then-not-are_ports_few-clause-refused c =
-    let known = rw c.deref.ensures.value at c.are_ports_known.ensures in
-    let few = rw c.deref-2.ensures.value at c.are_ports_few.ensures in
+    let known = rw c.as_slice.ensures at c.are_ports_known.ensures in
+    let few = rw c.as_slice-2.ensures at c.are_ports_few.ensures in
     of_many c.args.port_types.now c.args.component.now c.args.line c.refused-then-not-are_ports_few.result c.are_ports_few.result
     (sym known ∙ c.if-not-are_ports_known.false) few.1 c.if-not-are_ports_few.true c.refused-then-not-are_ports_few.ensures

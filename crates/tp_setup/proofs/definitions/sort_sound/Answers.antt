@@ -1,5 +1,5 @@
 -- The names that were sorted out are the module's, so its definitions obey the rules.
-use Rattle.std.proofs.Common.{option_map, string_bytes, subst, sym}
+use Rattle.std.proofs.Common.{subst, sym}
 use Rattle.tp_setup.specs.Definitions.{type_names, port_type_names, component_type_names}
 use Rattle.tp_setup.specs.Rules.{HasUniqueNames}
 use Rattle.tp_setup.specs.Sorted.{AreSound, HasSoundDefinitions}
@@ -16,9 +16,9 @@ returns-clause-sound c =
     let s = c.in_ok-sorted.sorted in
     let m = c.args.parsed.now in
     sound_all s.type_names (type_names m) s.port_names (port_type_names m) s.component_names (component_type_names m)
-    (option_map string_bytes c.args.case.now.system) m.definitions.items
+    c.args.case.now.system m.definitions
     c.in_ok-sorted.ensures.sorted.types.names_are c.in_ok-sorted.ensures.sorted.ports.names_are c.in_ok-sorted.ensures.sorted.components.names_are
-    (subst (AreSound s (option_map string_bytes c.args.case.now.system)) c.deref.ensures.value c.in_ok-check_definitions.ensures.sound)
+    (subst (AreSound s c.args.case.now.system) c.as_slice.ensures c.in_ok-check_definitions.ensures.sound)
 
 pub returns-in_err-sorted-clause-refused : goal.returns-in_err-sorted-clause-refused
 returns-in_err-sorted-clause-refused c =
@@ -31,9 +31,9 @@ returns-in_err-check_definitions-clause-refused c =
     let m = c.args.parsed.now in
     handed_break _ c.from_residual-in_err-check_definitions.result _ c.from_residual-in_err-check_definitions.ensures.1
     (λ (h : HasUniqueNames m × HasSoundDefinitions m c.args.case.now). c.in_err-check_definitions.ensures.refused
-    (subst (AreSound s (option_map string_bytes c.args.case.now.system)) (sym c.deref.ensures.value)
+    (subst (AreSound s c.args.case.now.system) (sym c.as_slice.ensures)
     (sound_all (type_names m) s.type_names (port_type_names m) s.port_names (component_type_names m) s.component_names
-    (option_map string_bytes c.args.case.now.system) m.definitions.items (sym c.in_ok-sorted.ensures.sorted.types.names_are)
+    c.args.case.now.system m.definitions (sym c.in_ok-sorted.ensures.sorted.types.names_are)
     (sym c.in_ok-sorted.ensures.sorted.ports.names_are) (sym c.in_ok-sorted.ensures.sorted.components.names_are) h.1)))
 
 pub returns-in_err-sorted-clause-told : goal.returns-in_err-sorted-clause-told
@@ -46,11 +46,11 @@ pub returns-in_err-check_definitions-clause-told : goal.returns-in_err-check_def
 returns-in_err-check_definitions-clause-told c = λ unique.
     let s = c.in_ok-sorted.sorted in
     let m = c.args.parsed.now in
-    let system = option_map string_bytes c.args.case.now.system in
+    let system = c.args.case.now.system in
     let fault = c.in_err-check_definitions.field-0.0 in
     handed (Tells (DefinitionsOfBreak m c.args.case.now)) c.from_residual-in_err-check_definitions.result _
     c.from_residual-in_err-check_definitions.ensures.1
-    (told_all s.type_names (type_names m) s.port_names (port_type_names m) s.component_names (component_type_names m) system m.definitions.items fault
+    (told_all s.type_names (type_names m) s.port_names (port_type_names m) s.component_names (component_type_names m) system m.definitions fault
     c.in_ok-sorted.ensures.sorted.types.names_are c.in_ok-sorted.ensures.sorted.ports.names_are c.in_ok-sorted.ensures.sorted.components.names_are
-    (subst (λ l. Tells (DefinitionsBreak s.type_names s.port_names s.component_names system l) fault) c.deref.ensures.value
+    (subst (λ l. Tells (DefinitionsBreak s.type_names s.port_names s.component_names system l) fault) c.as_slice.ensures
     c.in_err-check_definitions.ensures.told))

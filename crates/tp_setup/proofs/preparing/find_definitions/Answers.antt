@@ -32,5 +32,5 @@ returns-clause-told c =
 
 pub returns-clause-begins : goal.returns-clause-begins
 returns-clause-begins c =
-    begins_kept c.define.result c.args.parsed.now.definitions.items c.in_ok-case.case.case.now c.in_ok-case.case.line c.in_ok-case.ensures.begins
+    begins_kept c.define.result c.args.parsed.now.definitions c.in_ok-case.case.case.now c.in_ok-case.case.line c.in_ok-case.ensures.begins
     c.define.ensures.case c.define.ensures.begins

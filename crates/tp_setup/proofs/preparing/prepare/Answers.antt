@@ -1,5 +1,5 @@
 -- What the passes made and checked over the sorted names holds of the module itself.
-use Rattle.std.proofs.Common.{◌∙◌, ap, map, string_bytes, subst, sym}
+use Rattle.std.proofs.Common.{◌∙◌, ap, map, subst, sym}
 use Rattle.tp_tree.specs.declared.tree.ComponentType.{ComponentType}
 use Rattle.tp_tree.specs.declared.tree.Function.{Function}
 use Rattle.tp_config.specs.Shape.{ports_of}
@@ -19,12 +19,12 @@ use Rattle.tp_setup.proofs.preparing.prepare.Goals as goal
 pub set_up_and_start-requires-clause-components : goal.set_up_and_start-requires-clause-components
 set_up_and_start-requires-clause-components c =
     c.in_ok-case.ensures.defined.sorted.components.names_are
-    ∙ ap (map (λ (x : ComponentType). string_bytes x.name)) (sym c.in_ok-case.ensures.defined.sorted.components.items_are)
+    ∙ ap (map (λ (x : ComponentType). x.name)) (sym c.in_ok-case.ensures.defined.sorted.components.items_are)
 
 pub set_up_and_start-requires-clause-functions : goal.set_up_and_start-requires-clause-functions
 set_up_and_start-requires-clause-functions c =
     c.in_ok-case.ensures.defined.sorted.functions.names_are
-    ∙ ap (map (λ (x : Function). string_bytes x.name)) (sym c.in_ok-case.ensures.defined.sorted.functions.items_are)
+    ∙ ap (map (λ (x : Function). x.name)) (sym c.in_ok-case.ensures.defined.sorted.functions.items_are)
 
 pub returns-clause-rules : goal.returns-clause-rules
 returns-clause-rules c =

@@ -23,19 +23,19 @@ pub returns-clause-added : goal.returns-clause-added
 returns-clause-added c =
     OnOk-map c.create_all.result _ _
     (adds_main c.args.sorted.now.component_names c.args.case.case.now c.args.config.now c.add_component.new.config c.create_all.new.config
-    (rw c.as_str.ensures.value at c.in_ok-add_component.ensures.added)) c.create_all.ensures.added
+    (rw c.as_str.ensures at c.in_ok-add_component.ensures.added)) c.create_all.ensures.added
 
 pub create_all-requires-clause-main : goal.create_all-requires-clause-main
 create_all-requires-clause-main c =
     main_added c.args.sorted.now.component_names (main_component c.args.case.case.now) c.args.config.now c.add_component.new.config c.requires.empty
-    (rw c.as_str.ensures.value at c.in_ok-add_component.ensures.added)
+    (rw c.as_str.ensures at c.in_ok-add_component.ensures.added)
 
 pub returns-in_err-add_component-clause-refused : goal.returns-in_err-add_component-clause-refused
 returns-in_err-add_component-clause-refused c = λ own.
     let types = component_types_in c.args.sorted.now in
     let names = c.args.sorted.now.component_names in
     handed_on c.from_residual.result _ c.from_residual.ensures.1 c.in_err-add_component.ensures.refused
-    (λ r. rw c.as_str.ensures.value
+    (λ r. rw c.as_str.ensures
     (main_can names c.args.config.now.types c.args.case.case.now r.config r.is_set_up
     (have_ports types names c.args.config.now.types c.requires.named own) c.args.config.now c.requires.empty))
 
@@ -56,7 +56,7 @@ returns-in_err-add_component-clause-told c = λ own known.
     handed (Tells P) c.from_residual.result _ c.from_residual.ensures.1
     (tells_memory P c.in_err-add_component.field-0.0
     (memory_left (CanAdd names (main_component case) c.args.config.now) c.in_err-add_component.field-0.0
-    (rw c.as_str.ensures.value at c.in_err-add_component.ensures.refused)
+    (rw c.as_str.ensures at c.in_err-add_component.ensures.refused)
     (main_free names made case c.args.config.now (have_ports types names made c.requires.named own) known.0 c.requires.empty)))
 
 pub returns-clause-told : goal.returns-clause-told

@@ -24,9 +24,9 @@ returns-clause-config c =
     OnOk-map c.connect_all.result _ _
     (set_up_is c.args.sorted.now.component_names c.args.config.now.types c.args.case.case.now c.args.config.now c.add_components.new.config
     c.add_interface.new.config c.connect_all.new.config
-    (component_number c.in_ok-system.system) c.deref.result.now c.requires.empty c.in_ok-add_components.ensures.added c.in_ok-system.ensures.added
+    (component_number c.in_ok-system.system) c.as_slice.result.now c.requires.empty c.in_ok-add_components.ensures.added c.in_ok-system.ensures.added
     c.in_ok-system.ensures.number
-    c.deref.ensures.value) c.connect_all.ensures.makes
+    c.as_slice.ensures) c.connect_all.ensures.makes
 
 pub returns-in_err-system-clause-refused : goal.returns-in_err-system-clause-refused
 returns-in_err-system-clause-refused c = λ own.
@@ -45,7 +45,7 @@ returns-clause-refused c = λ own.
     IfErr-weaker c.connect_all.result _ _
     (λ f. breaks_part _ _ f
     (λ r. all_ready names types made c.args.case.case.now r c.args.config.now c.add_components.new.config c.add_interface.new.config
-    (component_number c.in_ok-system.system) c.deref.result.now c.requires.empty c.deref.ensures.value c.in_ok-add_components.ensures.added
+    (component_number c.in_ok-system.system) c.as_slice.result.now c.requires.empty c.as_slice.ensures c.in_ok-add_components.ensures.added
     c.in_ok-system.ensures.added c.in_ok-system.ensures.number))
     (c.connect_all.ensures.refused
     (subst HaveOwnPorts (sym (c.in_ok-system.ensures.added.types_stay ∙ c.in_ok-add_components.ensures.added.types_stay))
@@ -60,17 +60,17 @@ returns-in_err-system-clause-told c = λ own known.
     let line = c.args.case.line in
     let s = c.add_components.new.config in
     let sound = c.in_ok-add_components.ensures.sound in
-    let added : AddsAll names (main_component case ∷ map created (creations case.setups.items)) (empty_setup made) s =
-    subst (λ (z : Setup). AddsAll names (main_component case ∷ map created (creations case.setups.items)) z s) c.requires.empty
+    let added : AddsAll names (main_component case ∷ map created (creations case.setups)) (empty_setup made) s =
+    subst (λ (z : Setup). AddsAll names (main_component case ∷ map created (creations case.setups)) z s) c.requires.empty
     c.in_ok-add_components.ensures.added in
     handed (Tells (CaseSetupBreaks names types made case line)) c.from_residual-in_err-system.result _ c.from_residual-in_err-system.ensures.1
     (tells_from line (InterfaceBreaks case s) (CaseSetupBreaks names types made case line) c.in_err-system.field-0.0
     (λ rule b. record {
       ports = sound.ports;
       has_ports = sound.has_ports;
-      breaks = interface_breaks names sound.ports made case line case.setups.items sound.sound s added [] (sym (append-nil case.setups.items)) rule b;
+      breaks = interface_breaks names sound.ports made case line case.setups sound.sound s added [] (sym (append-nil case.setups)) rule b;
     })
-    (c.in_err-system.ensures.told (awaits names sound.ports made case line case.setups.items sound.sound s added
+    (c.in_err-system.ensures.told (awaits names sound.ports made case line case.setups sound.sound s added
     (have_ports types names made c.requires.named own) known)))
 
 pub returns-clause-told : goal.returns-clause-told
@@ -84,12 +84,12 @@ returns-clause-told c = λ own known.
     let s = c.add_interface.new.config in
     let sound = c.in_ok-add_components.ensures.sound in
     let system = component_number c.in_ok-system.system in
-    let added : AddsAll names (main_component case ∷ map created (creations case.setups.items)) (empty_setup made) first =
-    subst (λ (z : Setup). AddsAll names (main_component case ∷ map created (creations case.setups.items)) z first) c.requires.empty
+    let added : AddsAll names (main_component case ∷ map created (creations case.setups)) (empty_setup made) first =
+    subst (λ (z : Setup). AddsAll names (main_component case ∷ map created (creations case.setups)) z first) c.requires.empty
     c.in_ok-add_components.ensures.added in
-    IfErr-weaker c.connect_all.result (Tells (PairsBreak system s case.setups.items)) (Tells (CaseSetupBreaks names types made case line))
+    IfErr-weaker c.connect_all.result (Tells (PairsBreak system s case.setups)) (Tells (CaseSetupBreaks names types made case line))
     (λ f told. beside_told names sound.ports types made case line sound.has_ports f
-    (pairs_told names sound.ports made case line case.setups.items sound.sound first added s c.in_ok-system.ensures.added system
-    c.in_ok-system.ensures.number [] f (sym (append-nil case.setups.items)) told))
-    (rw c.deref.ensures.value at (c.connect_all.ensures.told
-    (rw c.deref.ensures.value (small_variables names sound.ports case case.setups.items sound.sound))))
+    (pairs_told names sound.ports made case line case.setups sound.sound first added s c.in_ok-system.ensures.added system
+    c.in_ok-system.ensures.number [] f (sym (append-nil case.setups)) told))
+    (rw c.as_slice.ensures at (c.connect_all.ensures.told
+    (rw c.as_slice.ensures (small_variables names sound.ports case case.setups sound.sound))))

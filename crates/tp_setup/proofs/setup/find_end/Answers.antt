@@ -7,4 +7,4 @@ use Rattle.tp_setup.proofs.setup.find_end.Goals as goal
 pub returns-in_default-port_of-clause-refused : goal.returns-in_default-port_of-clause-refused
 returns-in_default-port_of-clause-refused c = λ few. inr (no_port c.args.config.now c.args.known.now (component_number c.args.system) c.args.end.now
     c.in-Some.comp c.in-Some.ensures.known
-    (λ there. absurd (let h = c.in_default-port_of.ensures.known.1 (rw c.as_str.ensures.value there) in cc h)))
+    (λ there. absurd (let h = c.in_default-port_of.ensures.known.1 (rw c.as_str.ensures there) in cc h)))

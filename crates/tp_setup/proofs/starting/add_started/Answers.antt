@@ -7,22 +7,22 @@ pub returns-then-not-has-clause-told : goal.returns-then-not-has-clause-told
 returns-then-not-has-clause-told c = λ functions types.
     rw c.refused.ensures (
       refl,
-      unknown_variable (λ h. true≢false (sym (c.has.ensures.known.1 (rw c.as_str.ensures.value h)) ∙ c.if-not-has.true)),
+      unknown_variable (λ h. true≢false (sym (c.has.ensures.known.1 (rw c.as_str.ensures h)) ∙ c.if-not-has.true)),
     )
 
 pub returns-in-Err-Duplicate-clause-told : goal.returns-in-Err-Duplicate-clause-told
 returns-in-Err-Duplicate-clause-told c = λ functions types.
     rw c.refused-in-Err-Duplicate.ensures (
       refl,
-      started_twice (rw c.as_str.ensures.value at (c.has.ensures.known.0 c.if-not-has.false))
-          (rw c.as_str-2.ensures.value at ((rw c.in-Err-Duplicate.field-0-is at c.in-Err-Duplicate.ensures.duplicate).0 refl)),
+      started_twice (rw c.as_str.ensures at (c.has.ensures.known.0 c.if-not-has.false))
+          (rw c.as_str-2.ensures at ((rw c.in-Err-Duplicate.field-0-is at c.in-Err-Duplicate.ensures.duplicate).0 refl)),
     )
 
 pub returns-in-Err-Limit-clause-told : goal.returns-in-Err-Limit-clause-told
 returns-in-Err-Limit-clause-told c = λ functions types.
     rw c.refused-in-Err-Limit.ensures (
       refl,
-      many_starts (rw c.as_str.ensures.value at (c.has.ensures.known.0 c.if-not-has.false))
-          (λ h. let e = (rw c.in-Err-Limit.field-0-is at c.in-Err-Limit.ensures.duplicate).1 (rw c.as_str-2.ensures.value h) in cc e)
+      many_starts (rw c.as_str.ensures at (c.has.ensures.known.0 c.if-not-has.false))
+          (λ h. let e = (rw c.in-Err-Limit.field-0-is at c.in-Err-Limit.ensures.duplicate).1 (rw c.as_str-2.ensures h) in cc e)
           ((rw c.in-Err-Limit.field-0-is at c.in-Err-Limit.ensures.limit) refl),
     )

@@ -11,5 +11,5 @@ returns-then-not-is_of_type-clause-told c = λ few.
     rw c.refused-then-not-is_of_type.ensures (
       refl,
       other_argument c.in-Some.comp.0 c.in-Some.ensures.known
-          (λ h. true≢false (sym (c.is_of_type.ensures.1 (rw c.as_str.ensures.value h)) ∙ c.if-not-is_of_type.true)),
+          (λ h. true≢false (sym (c.is_of_type.ensures.1 (rw c.as_str.ensures h)) ∙ c.if-not-is_of_type.true)),
     )

@@ -1,5 +1,5 @@
 -- The next start obeys its rules, and its component was not started before.
-use Rattle.std.proofs.Common.{◌+◌, ◌++◌, ◌∷◌, [], ◌∙◌, ap, arith, drop, map, string_bytes, subst, sym, take}
+use Rattle.std.proofs.Common.{◌+◌, ◌++◌, ◌∷◌, [], ◌∙◌, ap, arith, drop, map, subst, sym, take}
 use Rattle.std.proofs.lemmas.List.{map_push}
 use Rattle.tp_tree.specs.declared.tree.ComponentStart.{ComponentStart}
 use Rattle.tp_setup.specs.Sorted.{functions_in}
@@ -22,13 +22,13 @@ loop-start-preserved c =
     let xs = c.args.starts.now in
     let i = c.loop-start.start-index in
     let x = c.start-item.result in
-    let name = λ (x : ComponentStart). string_bytes x.component in
+    let name = λ (x : ComponentStart). x.component in
     rw c.in_ok-push.ensures.items
     (record {
       started = zip_more (IsStartOf (functions_in c.args.sorted.now) c.args.variables.now (map (λ t. t.now) c.args.types.now)) xs c.loop-start.started.items i x
           c.in_ok-one.one (omega arith) c.start-item.is
           c.loop-start.invariant.started c.in_ok-one.ensures.start;
-      names = c.in_ok-add_started.ensures.added ∙ ap (λ l. l ++ string_bytes x.component ∷ []) c.loop-start.invariant.names
+      names = c.in_ok-add_started.ensures.added ∙ ap (λ l. l ++ x.component ∷ []) c.loop-start.invariant.names
           ∙ sym (map_push name (take i xs) x)
           ∙ ap (map name) (pushed xs i x (omega arith) c.start-item.is);
       numbered = c.in_ok-add_started.ensures.numbered;
@@ -39,7 +39,7 @@ returns-in_err-add_started-clause-refused c = λ few.
     let xs = c.args.starts.now in
     let i = c.loop-start.start-index in
     let x = c.start-item.result in
-    let name = λ (x : ComponentStart). string_bytes x.component in
+    let name = λ (x : ComponentStart). x.component in
     handed_on c.from_residual.result _ c.from_residual.ensures.1 c.in_err-add_started.ensures.refused
     (λ r. (
       let one = zip_here (IsStartOf (functions_in c.args.sorted.now) c.args.variables.now (map (λ t. t.now) c.args.types.now)) xs r.0 i x r.1
@@ -77,4 +77,4 @@ returns-in_err-one-clause-told c = λ few.
     c.from_residual-in_err-one.ensures.1
     (start_among functions c.args.variables.now types xs c.loop-start.start-index x c.loop-start.names c.loop-start.started.items
     c.in_err-one.field-0.0 (omega arith) c.start-item.is before.started before.names before.numbered
-    (c.in_err-one.ensures.told c.loop-start.names few (λ h. repeated c.loop-start.names (string_bytes x.component) h own.distinct)))
+    (c.in_err-one.ensures.told c.loop-start.names few (λ h. repeated c.loop-start.names x.component h own.distinct)))

@@ -1,5 +1,5 @@
 -- The function is not `sut`, runs on the component's type, and is given what it takes.
-use Rattle.std.proofs.Common.{◌≡◌, ◌+◌, ◌∙◌, ℕ, Option, None, Some, ap, map, refl, inr, slice_get, string_bytes, sym, true≢false}
+use Rattle.std.proofs.Common.{◌≡◌, ◌+◌, ◌∙◌, ℕ, Option, None, Some, ap, map, refl, inr, slice_get, sym, true≢false}
 use Rattle.std.specs.Option.{option_map}
 use Rattle.std.proofs.lemmas.Option.{same_Some}
 use Rattle.tp_name.specs.Tables.{place_of_name}
@@ -29,53 +29,53 @@ returns-clause-start c =
     let there : slice_get xs place ≡ Some one =
     ap (λ l. slice_get (map (λ f. f.now) l) place) (sym c.deref.ensures.value) ∙ sym c.in-Some-definition_at.ensures in
     let known =
-    place_before (place_of_name c.args.variables.now (string_bytes c.args.start.now.component)) c.in-Some.comp.0
-    (rw c.as_str.ensures.value at c.in-Some.ensures.known) in
+    place_before (place_of_name c.args.variables.now c.args.start.now.component) c.in-Some.comp.0
+    (rw c.as_str.ensures at c.in-Some.ensures.known) in
     record {
       variable = known.0;
       variable_known = known.1;
       function = one;
       function_known = there;
-      named = named_at c.args.sorted.now.function_names (λ f. string_bytes f.name) xs (string_bytes c.args.start.now.function) place one c.requires
-          (rw c.as_str-2.ensures.value at c.in-Some-find.ensures.place) there;
-      not_sut = λ h. true≢false (sym (c.is_sut.ensures.1 (c.as_str-3.ensures.value ∙ h)) ∙ c.if-is_sut.false);
-      runs_on = rw (known.2, c.as_str-4.ensures.value) at (c.is_of_type.ensures.0 c.if-not-is_of_type.false);
+      named = named_at c.args.sorted.now.function_names (λ f. f.name) xs c.args.start.now.function place one c.requires
+          (rw c.as_str-2.ensures at c.in-Some-find.ensures.place) there;
+      not_sut = λ h. true≢false (sym (c.is_sut.ensures.1 (c.as_str-3.ensures ∙ h)) ∙ c.if-is_sut.false);
+      runs_on = rw (known.2, c.as_str-4.ensures) at (c.is_of_type.ensures.0 c.if-not-is_of_type.false);
       arguments_known = c.in_ok-arguments.ensures.known;
-      arguments_fit = rw c.deref-2.ensures.value at c.in_ok-arguments.ensures.fits;
+      arguments_fit = rw c.as_slice.ensures at c.in_ok-arguments.ensures.fits;
     }
 
 pub returns-in_default-find-clause-refused : goal.returns-in_default-find-clause-refused
 returns-in_default-find-clause-refused c = λ few. inr (no_function (functions_in c.args.sorted.now) c.args.sorted.now.function_names c.requires
-    c.args.variables.now (map (λ t. t.now) c.args.types.now) c.args.start.now (rw c.as_str-2.ensures.value at c.in_default-find.ensures.place))
+    c.args.variables.now (map (λ t. t.now) c.args.types.now) c.args.start.now (rw c.as_str-2.ensures at c.in_default-find.ensures.place))
 
 pub returns-in_default-definition_at-clause-refused : goal.returns-in_default-definition_at-clause-refused
-returns-in_default-definition_at-clause-refused c = λ few. inr (λ r. item_there (λ (f : Function). string_bytes f.name) (functions_in c.args.sorted.now)
-    c.args.sorted.now.function_names (string_bytes c.args.start.now.function) c.in-Some-find.place c.requires
-    (rw c.as_str-2.ensures.value at c.in-Some-find.ensures.place)
+returns-in_default-definition_at-clause-refused c = λ few. inr (λ r. item_there (λ (f : Function). f.name) (functions_in c.args.sorted.now)
+    c.args.sorted.now.function_names c.args.start.now.function c.in-Some-find.place c.requires
+    (rw c.as_str-2.ensures at c.in-Some-find.ensures.place)
     (c.in_default-definition_at.ensures ∙ ap (λ l. slice_get (map (λ f. f.now) l) c.in-Some-find.place) c.deref.ensures.value))
 
 pub returns-then-not-is_of_type-clause-refused : goal.returns-then-not-is_of_type-clause-refused
 returns-then-not-is_of_type-clause-refused c = λ few. inr (λ r. true≢false (sym (c.is_of_type.ensures.1
-    (rw (← c.as_str-4.ensures.value) at (runs_there (functions_in c.args.sorted.now) c.args.sorted.now.function_names c.requires c.args.variables.now
+    (rw (← c.as_str-4.ensures) at (runs_there (functions_in c.args.sorted.now) c.args.sorted.now.function_names c.requires c.args.variables.now
     (map (λ t. t.now) c.args.types.now) c.args.start.now c.in-Some.comp.0 c.in-Some-find.place c.in-Some-definition_at.function.now
-    c.in-Some-find.ensures.distinct (rw c.as_str-2.ensures.value at c.in-Some-find.ensures.place)
+    c.in-Some-find.ensures.distinct (rw c.as_str-2.ensures at c.in-Some-find.ensures.place)
     (ap (λ l. slice_get (map (λ f. f.now) l) c.in-Some-find.place) (sym c.deref.ensures.value) ∙ sym c.in-Some-definition_at.ensures)
-    (rw c.as_str.ensures.value at c.in-Some.ensures.known) r.0 r.1))) ∙ c.if-not-is_of_type.true))
+    (rw c.as_str.ensures at c.in-Some.ensures.known) r.0 r.1))) ∙ c.if-not-is_of_type.true))
 
 pub returns-in_err-arguments-clause-refused : goal.returns-in_err-arguments-clause-refused
 returns-in_err-arguments-clause-refused c = λ few.
-    handed_on c.from_residual.result _ c.from_residual.ensures.1 (c.in_err-arguments.ensures.refused few) (rw c.deref-2.ensures.value
+    handed_on c.from_residual.result _ c.from_residual.ensures.1 (c.in_err-arguments.ensures.refused few) (rw c.as_slice.ensures
     (given_there (functions_in c.args.sorted.now) c.args.sorted.now.function_names c.requires c.args.variables.now
     (map (λ t. t.now) c.args.types.now) c.args.start.now c.in-Some-find.place c.in-Some-definition_at.function.now
-    c.in-Some-find.ensures.distinct (rw c.as_str-2.ensures.value at c.in-Some-find.ensures.place)
+    c.in-Some-find.ensures.distinct (rw c.as_str-2.ensures at c.in-Some-find.ensures.place)
     (ap (λ l. slice_get (map (λ f. f.now) l) c.in-Some-find.place) (sym c.deref.ensures.value) ∙ sym c.in-Some-definition_at.ensures)))
 
 pub returns-in_default-clause-told : goal.returns-in_default-clause-told
 returns-in_default-clause-told c = λ started few new.
     rw c.refused.ensures (
       refl,
-      unknown_variable (place_unknown c.args.variables.now (string_bytes c.args.start.now.component)
-          (sym (rw c.as_str.ensures.value at (c.in_default.ensures.absent few)))),
+      unknown_variable (place_unknown c.args.variables.now c.args.start.now.component
+          (sym (rw c.as_str.ensures at (c.in_default.ensures.absent few)))),
     )
 
 pub returns-in_default-find-clause-told : goal.returns-in_default-find-clause-told
@@ -85,19 +85,19 @@ returns-in_default-find-clause-told c = λ started few new.
     let types = map (λ t. t.now) c.args.types.now in
     let x = c.args.start.now in
     let known =
-    place_before (place_of_name names (string_bytes x.component)) c.in-Some.comp.0 (rw c.as_str.ensures.value at c.in-Some.ensures.known) in
+    place_before (place_of_name names x.component) c.in-Some.comp.0 (rw c.as_str.ensures at c.in-Some.ensures.known) in
     rw c.refused-in_default-find.ensures (
       refl,
-      unknown_function (place_known names (string_bytes x.component) known.0 (sym known.1)) new
-          (λ h. place_unknown c.args.sorted.now.function_names (string_bytes x.function)
-          (rw c.as_str-2.ensures.value at c.in_default-find.ensures.place)
-          (subst (λ l. Contains l (string_bytes x.function)) (sym c.requires) h)),
+      unknown_function (place_known names x.component known.0 (sym known.1)) new
+          (λ h. place_unknown c.args.sorted.now.function_names x.function
+          (rw c.as_str-2.ensures at c.in_default-find.ensures.place)
+          (subst (λ l. Contains l x.function) (sym c.requires) h)),
     )
 
 pub returns-in_default-definition_at-clause-told : goal.returns-in_default-definition_at-clause-told
 returns-in_default-definition_at-clause-told c = λ started few new.
-    absurd (item_there (λ (f : Function). string_bytes f.name) (functions_in c.args.sorted.now) c.args.sorted.now.function_names
-    (string_bytes c.args.start.now.function) c.in-Some-find.place c.requires (rw c.as_str-2.ensures.value at c.in-Some-find.ensures.place)
+    absurd (item_there (λ (f : Function). f.name) (functions_in c.args.sorted.now) c.args.sorted.now.function_names
+    c.args.start.now.function c.in-Some-find.place c.requires (rw c.as_str-2.ensures at c.in-Some-find.ensures.place)
     (c.in_default-definition_at.ensures ∙ ap (λ l. slice_get (map (λ f. f.now) l) c.in-Some-find.place) c.deref.ensures.value))
 
 pub returns-then-is_sut-clause-told : goal.returns-then-is_sut-clause-told
@@ -107,17 +107,17 @@ returns-then-is_sut-clause-told c = λ started few new.
     let types = map (λ t. t.now) c.args.types.now in
     let x = c.args.start.now in
     let known =
-    place_before (place_of_name names (string_bytes x.component)) c.in-Some.comp.0 (rw c.as_str.ensures.value at c.in-Some.ensures.known) in
+    place_before (place_of_name names x.component) c.in-Some.comp.0 (rw c.as_str.ensures at c.in-Some.ensures.known) in
     let one = c.in-Some-definition_at.function.now in
     let there : slice_get xs c.in-Some-find.place ≡ Some one =
     ap (λ l. slice_get (map (λ f. f.now) l) c.in-Some-find.place) (sym c.deref.ensures.value) ∙ sym c.in-Some-definition_at.ensures in
     let function : IsStartFunction xs x one =
     start_function xs c.args.sorted.now.function_names x c.in-Some-find.place one c.requires
-    (rw c.as_str-2.ensures.value at c.in-Some-find.ensures.place) there in
+    (rw c.as_str-2.ensures at c.in-Some-find.ensures.place) there in
     rw c.refused-then-is_sut.ensures (
       refl,
-      starts_sut one (place_known names (string_bytes x.component) known.0 (sym known.1)) new function
-          (sym c.as_str-3.ensures.value ∙ c.is_sut.ensures.0 c.if-is_sut.true),
+      starts_sut one (place_known names x.component known.0 (sym known.1)) new function
+          (sym c.as_str-3.ensures ∙ c.is_sut.ensures.0 c.if-is_sut.true),
     )
 
 pub returns-then-not-is_of_type-clause-told : goal.returns-then-not-is_of_type-clause-told
@@ -127,18 +127,18 @@ returns-then-not-is_of_type-clause-told c = λ started few new.
     let types = map (λ t. t.now) c.args.types.now in
     let x = c.args.start.now in
     let known =
-    place_before (place_of_name names (string_bytes x.component)) c.in-Some.comp.0 (rw c.as_str.ensures.value at c.in-Some.ensures.known) in
+    place_before (place_of_name names x.component) c.in-Some.comp.0 (rw c.as_str.ensures at c.in-Some.ensures.known) in
     let one = c.in-Some-definition_at.function.now in
     let there : slice_get xs c.in-Some-find.place ≡ Some one =
     ap (λ l. slice_get (map (λ f. f.now) l) c.in-Some-find.place) (sym c.deref.ensures.value) ∙ sym c.in-Some-definition_at.ensures in
     let function : IsStartFunction xs x one =
     start_function xs c.args.sorted.now.function_names x c.in-Some-find.place one c.requires
-    (rw c.as_str-2.ensures.value at c.in-Some-find.ensures.place) there in
+    (rw c.as_str-2.ensures at c.in-Some-find.ensures.place) there in
     rw c.refused-then-not-is_of_type.ensures (
       refl,
       other_type one known.0 known.1 new function
-          (λ h. true≢false (sym (c.is_sut.ensures.1 (c.as_str-3.ensures.value ∙ h)) ∙ c.if-is_sut.false))
-          (λ e. true≢false (sym (c.is_of_type.ensures.1 (rw (known.2, c.as_str-4.ensures.value) e)) ∙ c.if-not-is_of_type.true)),
+          (λ h. true≢false (sym (c.is_sut.ensures.1 (c.as_str-3.ensures ∙ h)) ∙ c.if-is_sut.false))
+          (λ e. true≢false (sym (c.is_of_type.ensures.1 (rw (known.2, c.as_str-4.ensures) e)) ∙ c.if-not-is_of_type.true)),
     )
 
 pub returns-in_err-arguments-clause-told : goal.returns-in_err-arguments-clause-told
@@ -148,17 +148,17 @@ returns-in_err-arguments-clause-told c = λ started few new.
     let types = map (λ t. t.now) c.args.types.now in
     let x = c.args.start.now in
     let known =
-    place_before (place_of_name names (string_bytes x.component)) c.in-Some.comp.0 (rw c.as_str.ensures.value at c.in-Some.ensures.known) in
+    place_before (place_of_name names x.component) c.in-Some.comp.0 (rw c.as_str.ensures at c.in-Some.ensures.known) in
     let one = c.in-Some-definition_at.function.now in
     let there : slice_get xs c.in-Some-find.place ≡ Some one =
     ap (λ l. slice_get (map (λ f. f.now) l) c.in-Some-find.place) (sym c.deref.ensures.value) ∙ sym c.in-Some-definition_at.ensures in
     let function : IsStartFunction xs x one =
     start_function xs c.args.sorted.now.function_names x c.in-Some-find.place one c.requires
-    (rw c.as_str-2.ensures.value at c.in-Some-find.ensures.place) there in
+    (rw c.as_str-2.ensures at c.in-Some-find.ensures.place) there in
     handed (TellsAt x.line (StartBreaks xs names types started x)) c.from_residual.result _ c.from_residual.ensures.1
-    (at_map x.line (ArgumentsBreak names types one.parameters.items x.arguments.items) (StartBreaks xs names types started x)
+    (at_map x.line (ArgumentsBreak names types one.parameters x.arguments) (StartBreaks xs names types started x)
     c.in_err-arguments.field-0.0
     (λ rule b. other_arguments one known.0 rule known.1 new function
-    (λ h. true≢false (sym (c.is_sut.ensures.1 (c.as_str-3.ensures.value ∙ h)) ∙ c.if-is_sut.false))
-    (rw (known.2, c.as_str-4.ensures.value) at (c.is_of_type.ensures.0 c.if-not-is_of_type.false)) b)
-    (rw c.deref-2.ensures.value at (c.in_err-arguments.ensures.told few)))
+    (λ h. true≢false (sym (c.is_sut.ensures.1 (c.as_str-3.ensures ∙ h)) ∙ c.if-is_sut.false))
+    (rw (known.2, c.as_str-4.ensures) at (c.is_of_type.ensures.0 c.if-not-is_of_type.false)) b)
+    (rw c.as_slice.ensures at (c.in_err-arguments.ensures.told few)))

@@ -24,9 +24,9 @@ returns-in_err-started-clause-told c = λ few.
     let fault = c.in_err-started.field-0.0 in
     let P = StartsBreak functions case c.args.case.line in
     handed (Tells P) c.from_residual.result _ c.from_residual.ensures.1
-    (tells_map (StartBreaksAmong functions (variables case.setups.items) (type_names_of case) case.starts.items) P fault
+    (tells_map (StartBreaksAmong functions (variables case.setups) (type_names_of case) case.starts) P fault
     (λ rule line b. a_start rule line b)
-    (subst (λ n. Tells (StartBreaksAmong functions n (type_names_of case) case.starts.items) fault) c.requires.variables
+    (subst (λ n. Tells (StartBreaksAmong functions n (type_names_of case) case.starts) fault) c.requires.variables
     (c.in_err-started.ensures.told few)))
 
 pub returns-in_err-places-clause-told : goal.returns-in_err-places-clause-told
@@ -36,11 +36,11 @@ returns-in_err-places-clause-told c = λ few.
     let fault = c.in_err-places.field-0.0 in
     let P = StartsBreak functions case c.args.case.line in
     let named = c.in_ok-started.ensures.names in
-    let obey : AreStarted functions (variables case.setups.items) (type_names_of case) case.starts.items = record {
+    let obey : AreStarted functions (variables case.setups) (type_names_of case) case.starts = record {
       made = c.in_ok-started.starts.items;
       each = rw (← c.requires.variables) c.in_ok-started.ensures.started;
       once = subst IsNumbered named c.in_ok-started.ensures.numbered;
     } in
     handed (Tells P) c.from_residual-in_err-places.result _ c.from_residual-in_err-places.ensures.1
-    (tells_map (AfterStartsBreaks (started_names case.starts.items) case c.args.case.line) P fault (λ rule line b. after_starts rule line obey b)
+    (tells_map (AfterStartsBreaks (started_names case.starts) case c.args.case.line) P fault (λ rule line b. after_starts rule line obey b)
     (subst (λ n. Tells (AfterStartsBreaks n case c.args.case.line) fault) named c.in_err-places.ensures.told))

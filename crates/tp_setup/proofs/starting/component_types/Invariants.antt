@@ -1,5 +1,5 @@
 -- The types are that of `mtc` and those of the components that are made so far.
-use Rattle.std.proofs.Common.{◌≡◌, ◌∷◌, map, string_bytes, take}
+use Rattle.std.proofs.Common.{◌≡◌, ◌∷◌, map, take}
 use Rattle.tp_tree.specs.declared.tree.Creation.{Creation}
 use Rattle.tp_setup.specs.Components.{creations}
 use Rattle.tp_setup.proofs.starting.component_types.Given as goal
@@ -7,4 +7,4 @@ use Rattle.tp_setup.proofs.starting.component_types.Given as goal
 abbrev pub invariant-loop-setup : goal.invariant-loop-setup
 invariant-loop-setup l =
     map (λ t. t.now) l.types.items
-    ≡ string_bytes l.case.runs_on ∷ map (λ (c : Creation). string_bytes c.type_name) (creations (take l.setup-index l.setup-items))
+    ≡ l.case.runs_on ∷ map (λ (c : Creation). c.type_name) (creations (take l.setup-index l.setup-items))

@@ -27,12 +27,12 @@ loop-setup-preserved c =
     )
     (subst (λ l. AllZip R l (c.loop-setup.places.items ++ c.in-Some-find.place ∷ [])) (sym (map_push variable_name before one))
     (zip_push R (map variable_name before) c.loop-setup.places.items (variable_name one) c.in-Some-find.place c.loop-setup.invariant
-    (rw c.as_str.ensures.value at (sym c.in-Some-find.ensures.place))))
+    (rw c.as_str.ensures at (sym c.in-Some-find.ensures.place))))
 
 pub returns-in_default-find-clause-refused : goal.returns-in_default-find-clause-refused
 returns-in_default-find-clause-refused c =
     inr (not_started c.args.setups.now c.loop-setup.setup-index c.setup-item.result (omega arith) c.setup-item.is c.in-Some.creation.now c.in-Some.ensures
-    c.args.started.now (rw c.as_str.ensures.value at c.in_default-find.ensures.place))
+    c.args.started.now (rw c.as_str.ensures at c.in_default-find.ensures.place))
 
 pub returns-in_default-find-clause-told : goal.returns-in_default-find-clause-told
 returns-in_default-find-clause-told c =
@@ -40,5 +40,5 @@ returns-in_default-find-clause-told c =
       refl,
       never_among c.args.started.now c.args.setups.now c.loop-setup.setup-index c.setup-item.result c.in-Some.creation.now c.loop-setup.places.items
           (omega arith) c.setup-item.is c.in-Some.ensures c.loop-setup.invariant
-          (place_unknown c.args.started.now (variable_name c.in-Some.creation.now) (rw c.as_str.ensures.value at c.in_default-find.ensures.place)),
+          (place_unknown c.args.started.now (variable_name c.in-Some.creation.now) (rw c.as_str.ensures at c.in_default-find.ensures.place)),
     )

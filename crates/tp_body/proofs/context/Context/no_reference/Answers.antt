@@ -6,7 +6,7 @@ use Rattle.tp_body.proofs.context.Context.no_reference.Goals as goal
 pub returns-in-Named : goal.returns-in-Named
 returns-in-Named c = λ none.
     no_reference_told c.args.self.now.scope.now c.args.self.now.variables.now (texts c.args.self.now.turns.now) c.args.self.now.line _ c.args.component.now
-    c.in-Named.name c.in-Named.is none (rw c.as_str.ensures.value at c.no_turn.ensures)
+    c.in-Named.name c.in-Named.is none (rw c.as_str.ensures at c.no_turn.ensures)
 
 pub returns : goal.returns
 returns c = λ none.

@@ -1,5 +1,5 @@
 -- One more statement or branch is read behind the others; a `for` and an `[else]` have their block.
-use Rattle.std.proofs.Common.{◌≡◌, inr, Some, ◌<◌, ◌&&◌, not, length, inl, refl, List, ◌∷◌, ◌++◌, append_assoc, ap, sym, ◌∙◌, arith, subst, rules, [], string_bytes, true}
+use Rattle.std.proofs.Common.{◌≡◌, inr, Some, ◌&&◌, not, length, inl, refl, List, ◌∷◌, ◌++◌, append_assoc, ap, sym, ◌∙◌, arith, subst, rules, [], true, true≢false}
 use Rattle.tp_token.specs.declared.word.Word.TheVariants as w
 use Rattle.tp_token.specs.declared.token.Symbol.TheVariants.{Dot, LeftBracket, RightBracket, RightBrace}
 use Rattle.tp_token.specs.Lexeme.{Lexeme, word, symbol}
@@ -18,7 +18,7 @@ use Rattle.tp_syntax.proofs.FirstTokensAhead.{raw}
 use Rattle.tp_syntax.proofs.FirstTokensStand.{memory_alone, own_could}
 use Rattle.tp_syntax.proofs.PartsLeftToRead.{all_any, parts_stand}
 use Rattle.tp_syntax.specs.Reading.{MayStandBefore, may_end_before}
-use Rattle.tp_syntax.proofs.StatementParts.{branches_stand, otherwise_stands, otherwise_no_branch, zero_length, Says}
+use Rattle.tp_syntax.proofs.StatementParts.{branches_stand, otherwise_stands, otherwise_no_branch, Says}
 use Rattle.tp_syntax.proofs.RightStatementsAhead.{alt_given, branch_given, counted_given, statement_given}
 use Rattle.tp_syntax.proofs.StatementReading.{statement_begins, branch_begins, action_no_zero}
 use Rattle.tp_tree.specs.declared.tree.Statement.{out-Statement}
@@ -37,7 +37,7 @@ use Rattle.tp_syntax.specs.Stuck.{StandAtLeast}
 use Rattle.tp_syntax.proofs.FirstTokensSeen.{handed_as, handed_seen, hidden_could, hidden_place, hidden_result, same_could}
 use Rattle.tp_syntax.proofs.PartsInOrderSeen.{all_seen, none_left_seen}
 use Rattle.tp_syntax.proofs.StandingTokens.{loop_ends, loop_passes, loop_stands, read_as}
-use Rattle.tp_syntax.proofs.StatementsSeen.{alt_hidden, body_next_seen, body_none_seen, branch_end_seen, branch_ends_seen, branch_unseen, end_unseen, name_no_end, no_items, no_otherwise_seen, not_some, one_more, otherwise_next_seen, statement_end_seen, statement_ends_seen}
+use Rattle.tp_syntax.proofs.StatementsSeen.{alt_hidden, body_next_seen, body_none_seen, branch_end_seen, branch_ends_seen, branch_unseen, end_unseen, name_no_end, no_otherwise_seen, not_some, one_more, otherwise_next_seen, statement_end_seen, statement_ends_seen}
 use Rattle.tp_syntax.proofs.BeginningsSeen.{action_seen, other_way, port_passed, port_stuck}
 use Rattle.tp_syntax.proofs.cursor.Parser.+statement.Goals as goal
 use Rattle.tp_syntax.proofs.cursor.Parser.+statement.Goals.{alt-else-is_empty-via-then-is_empty+else-is_none, alt-else-is_empty-via-else-is_empty}
@@ -72,14 +72,14 @@ statements-more-preserved t c = record {
       (subst (λ (p : Parser). token_at p.rest.now 1 ≡ Some (symbol Dot)) (sym same) dot)
       (subst (λ (p : Parser). token_at p.rest.now 2 ≡ Some (word w.Start)) (sym same) start))
       (omega (arith, c.in_ok-statement.ensures.shorter));
-  tokens = rw c.in_ok-push.ensures.items
-      (push_read_all statement_lexemes c.more.statements.items c.in_ok-statement.statement _ _ _ c.more.invariant.tokens c.in_ok-statement.ensures.tokens);
-  grammatical = rw c.in_ok-push.ensures.items
-      (between_push statement_part c.more.statements.items c.in_ok-statement.statement _ _ _ c.more.invariant.grammatical
+  tokens = rw c.in_ok-push.ensures.ok
+      (push_read_all statement_lexemes c.more.statements c.in_ok-statement.statement _ _ _ c.more.invariant.tokens c.in_ok-statement.ensures.tokens);
+  grammatical = rw c.in_ok-push.ensures.ok
+      (between_push statement_part c.more.statements c.in_ok-statement.statement _ _ _ c.more.invariant.grammatical
       c.more-test.ensures.goes_on c.in_ok-statement.ensures.grammatical);
   shorter = omega (arith, c.more.invariant.shorter, c.in_ok-statement.ensures.shorter);
-  lines = rw c.in_ok-push.ensures.items
-      (passes_push statement_notes c.more.statements.items c.in_ok-statement.statement c.more.invariant.lines c.in_ok-statement.ensures.lines);
+  lines = rw c.in_ok-push.ensures.ok
+      (passes_push statement_notes c.more.statements c.in_ok-statement.statement c.more.invariant.lines c.in_ok-statement.ensures.lines);
 }
 
 pub branches-more-preserved : goal.branches-more-preserved
@@ -94,15 +94,15 @@ branches-more-preserved t c = record {
             none_left_seen branch_lexemes branch_part (λ _. Unit {0}) hidden more _
             (omega (arith, c.in_ok-branch.ensures.beyond_bracket at.0))
       ];
-  none = rw c.in_ok-push.ensures.items (λ empty. absurd (one_more _ _ empty));
-  tokens = rw c.in_ok-push.ensures.items
-      (push_read_all branch_lexemes c.more.branches.items c.in_ok-branch.branch _ _ _ c.more.invariant.tokens c.in_ok-branch.ensures.tokens);
-  grammatical = rw c.in_ok-push.ensures.items
-      (between_push branch_part c.more.branches.items c.in_ok-branch.branch _ _ _ c.more.invariant.grammatical
+  none = rw c.in_ok-push.ensures.ok (λ empty. absurd (one_more _ _ empty));
+  tokens = rw c.in_ok-push.ensures.ok
+      (push_read_all branch_lexemes c.more.branches c.in_ok-branch.branch _ _ _ c.more.invariant.tokens c.in_ok-branch.ensures.tokens);
+  grammatical = rw c.in_ok-push.ensures.ok
+      (between_push branch_part c.more.branches c.in_ok-branch.branch _ _ _ c.more.invariant.grammatical
       (bracket_goes_on _ (c.more-test.ensures.0 refl).0) c.in_ok-branch.ensures.grammatical);
   shorter = omega (arith, c.more.invariant.shorter, c.in_ok-branch.ensures.shorter);
-  lines = rw c.in_ok-push.ensures.items
-      (passes_push branch_notes c.more.branches.items c.in_ok-branch.branch c.more.invariant.lines c.in_ok-branch.ensures.lines);
+  lines = rw c.in_ok-push.ensures.ok
+      (passes_push branch_notes c.more.branches c.in_ok-branch.branch c.more.invariant.lines c.in_ok-branch.ensures.lines);
 }
 
 pub counted-returns-clause-tokens : goal.counted-returns-clause-tokens
@@ -112,7 +112,7 @@ counted-returns-clause-tokens t c =
 
 pub otherwise-returns-clause-tokens : goal.otherwise-returns-clause-tokens
 otherwise-returns-clause-tokens t c =
-    let block : List Lexeme = braced (statements_lexemes c.in_ok-block.block.items) in
+    let block : List Lexeme = braced (statements_lexemes c.in_ok-block.block) in
     rw else_branch_made (c.in_ok-else_mark.ensures.tokens ∙ ap (λ (ts : List Lexeme). symbol LeftBracket ∷ word w.Else ∷ symbol RightBracket ∷ ts)
     (c.in_ok-block.ensures.tokens ∙ ap (λ (ts : List Lexeme). block ++ ts) c.in_ok-has_semicolon.ensures.tokens
     ∙ sym (append_assoc block (end_lexemes c.in_ok-has_semicolon.has_semicolon) _)))
@@ -133,8 +133,8 @@ pub counted-returns-clause-grammatical : goal.counted-returns-clause-grammatical
 counted-returns-clause-grammatical t c =
     let turns = c.in_ok-turns.turns in
     rw grammar.counted_made
-    (and_from (is_64_bit turns.first) (is_64_bit turns.bound && are_parts (statements_parts c.in_ok-block.block.items)) c.in_ok-turns.ensures.within.0
-    (and_from (is_64_bit turns.bound) (are_parts (statements_parts c.in_ok-block.block.items)) c.in_ok-turns.ensures.within.1 c.in_ok-block.ensures.grammatical))
+    (and_from (is_64_bit turns.first) (is_64_bit turns.bound && are_parts (statements_parts c.in_ok-block.block)) c.in_ok-turns.ensures.within.0
+    (and_from (is_64_bit turns.bound) (are_parts (statements_parts c.in_ok-block.block)) c.in_ok-turns.ensures.within.1 c.in_ok-block.ensures.grammatical))
 
 pub otherwise-returns-clause-grammatical : goal.otherwise-returns-clause-grammatical
 otherwise-returns-clause-grammatical t c =
@@ -142,7 +142,7 @@ otherwise-returns-clause-grammatical t c =
 
 pub block-returns-clause-grammatical : goal.block-returns-clause-grammatical
 block-returns-clause-grammatical t c =
-    between_parts (statements_parts c.in_ok-statements.statements.items) _ _ c.in_ok-statements.ensures.grammatical
+    between_parts (statements_parts c.in_ok-statements.statements) _ _ c.in_ok-statements.ensures.grammatical
 
 pub action-returns-in_ok-send-in-Send-clause-grammatical : goal.action-returns-in_ok-send-in-Send-clause-grammatical
 action-returns-in_ok-send-in-Send-clause-grammatical t c = rw grammar.action_send c.in_ok-send-in-Send.ensures.grammatical
@@ -170,14 +170,14 @@ body-returns-clause-grammatical t c = rw grammar.body_block c.in_ok-block.ensure
 
 pub alt-returns-clause-grammatical : goal.alt-returns-clause-grammatical
 alt-returns-clause-grammatical t c =
-    let branches = c.in_ok-branches.branches.items in
+    let branches = c.in_ok-branches.branches in
     let otherwise = c.in_ok-otherwise.otherwise in
     rw grammar.action_alt
     (and_from (has_one (branches_parts branches ++ otherwise_parts otherwise)) (are_parts (branches_parts branches ++ otherwise_parts otherwise))
     (elim c.else-is_empty.branch [
       | alt-else-is_empty-via-then-is_empty+else-is_none w ↦ alt_of_else branches otherwise (w.is_none.ensures ∙ ap not w.if-is_none.false)
       | alt-else-is_empty-via-else-is_empty w ↦
-          let some : 0 < length c.in_ok-branches.branches.items = grind arith in alt_of_branches branches otherwise some
+          alt_of_branches branches otherwise (λ none. true≢false (sym (c.is_empty.ensures.1 none) ∙ w.if-is_empty.false))
     ])
     (between_parts (branches_parts branches ++ otherwise_parts otherwise) _ _
     (between_then (branches_parts branches) (otherwise_parts otherwise) _ _ _
@@ -186,23 +186,23 @@ alt-returns-clause-grammatical t c =
 pub statements-more-init : goal.statements-more-init
 statements-more-init t c = record {
   tokens = first_of (search rules, grind (arith, common_steps));
-  grammatical = rw c.new-statements.ensures.items (between_none _);
+  grammatical = rw c.new-statements.ensures (between_none _);
   seen = λ hidden xs more stand ends could. (xs, all_any xs, stand, could);
   beyond_name = λ is. inl refl;
   beyond_dot = λ is dot. inl refl;
   beyond_start = λ is dot start. inl refl;
   shorter = first_of (search rules, grind (arith, common_steps));
-  lines = rw c.new-statements.ensures.items (passes_none _);
+  lines = rw c.new-statements.ensures (passes_none _);
 }
 
 pub branches-more-init : goal.branches-more-init
 branches-more-init t c = record {
   tokens = first_of (search rules, grind (arith, common_steps));
-  grammatical = rw c.new-branches.ensures.items (between_none _);
+  grammatical = rw c.new-branches.ensures (between_none _);
   seen = λ hidden xs more stand other could. (xs, all_any xs, stand, could);
   none = λ empty. refl;
   shorter = first_of (search rules, grind (arith, common_steps));
-  lines = rw c.new-branches.ensures.items (passes_none _);
+  lines = rw c.new-branches.ensures (passes_none _);
 }
 
 pub statement-returns-clause-lines : goal.statement-returns-clause-lines
@@ -275,7 +275,7 @@ counted-returns-clause-lines t c =
     let turns = c.in_ok-turns.turns in
     let body =
     passes_then (passes_unnoted (turns_lexemes turns []) c.in_ok-turns.ensures.forward
-    (c.in_ok-turns.ensures.tokens ∙ sym (for_append (string_bytes turns.name) (int_lexemes turns.first) (int_lexemes turns.bound) [] _))) c.in_ok-block.ensures.lines in
+    (c.in_ok-turns.ensures.tokens ∙ sym (for_append turns.name (int_lexemes turns.first) (int_lexemes turns.bound) [] _))) c.in_ok-block.ensures.lines in
     rw notes.counted_made body
 
 pub block-returns-clause-lines : goal.block-returns-clause-lines
@@ -584,7 +584,7 @@ counted-returns-in_err-block-clause-reads t c =
     let e0 = read_as g.read could in
     let e1 = c.in_ok-turns.ensures.reads hidden (out-Counted x).turns _ g.first_right g.bound_right e0 in
     handed_seen hidden c.from_residual-in_err-block.result _ _ c.from_residual-in_err-block.ensures.1
-    (c.in_err-block.ensures.reads hidden (out-Counted x).block.items more g.right e1)
+    (c.in_err-block.ensures.reads hidden (out-Counted x).block more g.right e1)
 
 pub counted-returns-clause-reads : goal.counted-returns-clause-reads
 counted-returns-clause-reads t c =
@@ -592,7 +592,7 @@ counted-returns-clause-reads t c =
     let g = counted_given x more right in
     let e0 = read_as g.read could in
     let e1 = c.in_ok-turns.ensures.reads hidden (out-Counted x).turns _ g.first_right g.bound_right e0 in
-    c.in_ok-block.ensures.reads hidden (out-Counted x).block.items more g.right e1
+    c.in_ok-block.ensures.reads hidden (out-Counted x).block more g.right e1
 
 pub block-returns-in_err-symbol-clause-reads : goal.block-returns-in_err-symbol-clause-reads
 block-returns-in_err-symbol-clause-reads t c =
@@ -671,12 +671,7 @@ alt-returns-then-is_none-clause-reads t c =
       | inl e3 ↦ c.in_ok-otherwise.ensures.reads hidden x (symbol RightBrace ∷ more) (otherwise_stands xs x more right) refl e3
       | inr cut ↦ hidden_could (omega (arith, cut.1, c.in_ok-otherwise.ensures.beyond_bracket cut.0))
     ] in
-    let no_branch = no_items c.in_ok-branches.branches.items (omega (
-      arith,
-      c.in_ok-branches.branches.ok.0,
-      zero_length _
-          (sym c.is_empty.ensures ∙ c.if-is_empty.true),
-    )) in
+    let no_branch = c.is_empty.ensures.0 c.if-is_empty.true in
     let no_else = not_some c.in_ok-otherwise.otherwise (c.is_none.ensures ∙ ap not c.if-is_none.true) in
     let same = c.in_ok-otherwise.ensures.none no_else ∙ c.in_ok-branches.ensures.none no_branch in
     let h : AllHidden hidden c.symbol.new.self.rest.now = alt_hidden hidden xs x more c.symbol.new.self.rest.now some e2 (same_could (sym same) e4) in

@@ -49,8 +49,8 @@ decreases-block l = 8 * length l.self.now.rest.now + 2
 
 abbrev pub invariant-statements-more : goal.invariant-statements-more
 invariant-statements-more l = record {
-  tokens : ahead l.fn.self.rest.now ≡ statements_lexemes l.statements.items ++ ahead l.self.rest.now;
-  grammatical : GoesOver l.fn.self (statements_parts l.statements.items) l.self;
+  tokens : ahead l.fn.self.rest.now ≡ statements_lexemes l.statements ++ ahead l.self.rest.now;
+  grammatical : GoesOver l.fn.self (statements_parts l.statements) l.self;
   seen : (hidden : ℕ) (xs : List Statement) (more : List Lexeme) → AllStand (statements_parts xs) more → is_end_ahead l.is_case more ≡ true →
       CouldBe hidden l.fn.self.rest.now (statements_lexemes xs ++ more)
       → RemainAllSeen statement_lexemes statement_part (λ _. Unit {0}) hidden more l.self.rest.now;
@@ -59,7 +59,7 @@ invariant-statements-more l = record {
   beyond_start : is_name_in (token_at l.fn.self.rest.now 0) ≡ true → token_at l.fn.self.rest.now 1 ≡ Some (symbol Dot) →
       token_at l.fn.self.rest.now 2 ≡ Some (word Start) → IsSameOrBeyond 3 l.fn.self l.self;
   shorter : length l.self.rest.now ≤ length l.fn.self.rest.now;
-  lines : PassesNoted l.fn.self.rest.now (noted_in_order (map statement_notes l.statements.items)) l.self.rest.now;
+  lines : PassesNoted l.fn.self.rest.now (noted_in_order (map statement_notes l.statements)) l.self.rest.now;
 }
 
 abbrev pub decreases-statements-more : goal.decreases-statements-more
@@ -67,14 +67,14 @@ decreases-statements-more l = length l.self.rest.now
 
 abbrev pub invariant-branches-more : goal.invariant-branches-more
 invariant-branches-more l = record {
-  tokens : ahead l.fn.self.rest.now ≡ branches_lexemes l.branches.items ++ ahead l.self.rest.now;
-  grammatical : GoesOver l.fn.self (branches_parts l.branches.items) l.self;
+  tokens : ahead l.fn.self.rest.now ≡ branches_lexemes l.branches ++ ahead l.self.rest.now;
+  grammatical : GoesOver l.fn.self (branches_parts l.branches) l.self;
   seen : (hidden : ℕ) (xs : List Branch) (more : List Lexeme) → AllStand (branches_parts xs) more → is_branch_ahead more ≡ false →
       CouldBe hidden l.fn.self.rest.now (branches_lexemes xs ++ more)
       → RemainAllSeen branch_lexemes branch_part (λ _. Unit {0}) hidden more l.self.rest.now;
-  none : l.branches.items ≡ [] → l.self ≡ l.fn.self;
+  none : l.branches ≡ [] → l.self ≡ l.fn.self;
   shorter : length l.self.rest.now ≤ length l.fn.self.rest.now;
-  lines : PassesNoted l.fn.self.rest.now (noted_in_order (map branch_notes l.branches.items)) l.self.rest.now;
+  lines : PassesNoted l.fn.self.rest.now (noted_in_order (map branch_notes l.branches)) l.self.rest.now;
 }
 
 abbrev pub decreases-branches-more : goal.decreases-branches-more

@@ -33,32 +33,32 @@ use Rattle.tp_syntax.proofs.cursor.Parser.+template.Goals as goal
 
 pub templates-more-preserved : goal.templates-more-preserved
 templates-more-preserved t c = record {
-  tokens = rw c.in_ok-push-2.ensures.items
-      (push_read template_lexemes c.more.templates.items c.in_ok-next.next _ _ _ _
+  tokens = rw c.in_ok-push-2.ensures.ok
+      (push_read template_lexemes c.more.templates c.in_ok-next.next _ _ _ _
       c.more.invariant.some c.more.invariant.tokens c.more-test.ensures.yes c.in_ok-next.ensures.tokens);
-  grammatical = rw c.in_ok-push-2.ensures.items
-      (push_right is_template c.more.templates.items c.in_ok-next.next c.more.invariant.grammatical c.in_ok-next.ensures.grammatical);
-  some = rw c.in_ok-push-2.ensures.items (simp length-append (omega arith));
+  grammatical = rw c.in_ok-push-2.ensures.ok
+      (push_right is_template c.more.templates c.in_ok-next.next c.more.invariant.grammatical c.in_ok-next.ensures.grammatical);
+  some = rw c.in_ok-push-2.ensures.ok (simp length-append (omega arith));
   shorter = omega (arith, c.more.invariant.shorter, c.more-test.ensures.shorter, c.in_ok-next.ensures.shorter);
   forward = λ all tail. c.in_ok-next.ensures.forward all (c.more-test.ensures.forward all (c.more.invariant.forward all tail));
   seen = λ hidden xs more right stops could.
-      let y = some_item is_template c.more.templates.items c.more.invariant.some c.more.invariant.grammatical in
+      let y = some_item is_template c.more.templates c.more.invariant.some c.more.invariant.grammatical in
       let n = next_part_seen template_lexemes (λ x. is_template x ≡ true) hidden more _ _ y.0 y.1 (c.more.invariant.seen hidden xs more right stops could) c.more-test.ensures.passed stops in
       (n.2, n.3, c.in_ok-next.ensures.reads hidden n.0 _ n.1 n.4);
 }
 
 pub template_fields-more-preserved : goal.template_fields-more-preserved
 template_fields-more-preserved t c = record {
-  tokens = rw c.in_ok-push-2.ensures.items
-      (push_read template_field_lexemes c.more.fields.items c.in_ok-next.next _ _ _ _
+  tokens = rw c.in_ok-push-2.ensures.ok
+      (push_read template_field_lexemes c.more.fields c.in_ok-next.next _ _ _ _
       c.more.invariant.some c.more.invariant.tokens c.more-test.ensures.yes c.in_ok-next.ensures.tokens);
-  grammatical = rw c.in_ok-push-2.ensures.items
-      (push_right is_template_field c.more.fields.items c.in_ok-next.next c.more.invariant.grammatical c.in_ok-next.ensures.grammatical);
-  some = rw c.in_ok-push-2.ensures.items (simp length-append (omega arith));
+  grammatical = rw c.in_ok-push-2.ensures.ok
+      (push_right is_template_field c.more.fields c.in_ok-next.next c.more.invariant.grammatical c.in_ok-next.ensures.grammatical);
+  some = rw c.in_ok-push-2.ensures.ok (simp length-append (omega arith));
   shorter = omega (arith, c.more.invariant.shorter, c.more-test.ensures.shorter, c.in_ok-next.ensures.shorter);
   forward = λ all tail. c.in_ok-next.ensures.forward all (c.more-test.ensures.forward all (c.more.invariant.forward all tail));
   seen = λ hidden xs more right stops could.
-      let y = some_item is_template_field c.more.fields.items c.more.invariant.some c.more.invariant.grammatical in
+      let y = some_item is_template_field c.more.fields c.more.invariant.some c.more.invariant.grammatical in
       let n = next_part_seen template_field_lexemes (λ x. is_template_field x ≡ true) hidden more _ _ y.0 y.1 (c.more.invariant.seen hidden xs more right stops could) c.more-test.ensures.passed stops in
       (n.2, n.3, c.in_ok-next.ensures.reads hidden n.0 _ n.1 n.4);
   beyond = λ field. omega (arith, c.more.invariant.beyond field, c.more-test.ensures.shorter, c.in_ok-next.ensures.shorter);
@@ -99,13 +99,13 @@ pub complement-returns-clause-grammatical : goal.complement-returns-clause-gramm
 complement-returns-clause-grammatical t c = template_complement _ ∙ c.in_ok-templates.ensures.grammatical
 
 pub template_entries-returns-then-has_symbol-clause-grammatical : goal.template_entries-returns-then-has_symbol-clause-grammatical
-template_entries-returns-then-has_symbol-clause-grammatical t c = rw (template_list, c.new.ensures.items) refl
+template_entries-returns-then-has_symbol-clause-grammatical t c = rw (template_list, c.new.ensures) refl
 
 pub template_entries-returns-then-is_field-clause-grammatical : goal.template_entries-returns-then-is_field-clause-grammatical
 template_entries-returns-then-is_field-clause-grammatical t c = template_record _ ∙ c.in_ok-fields.ensures.grammatical
 
 pub template_entries-returns-clause-grammatical : goal.template_entries-returns-clause-grammatical
-template_entries-returns-clause-grammatical t c = template_list _ ∙ each_of_one (map is_template c.in_ok-templates.templates.items) c.in_ok-templates.ensures.grammatical
+template_entries-returns-clause-grammatical t c = template_list _ ∙ each_of_one (map is_template c.in_ok-templates.templates) c.in_ok-templates.ensures.grammatical
 
 pub template_field-returns-clause-grammatical : goal.template_field-returns-clause-grammatical
 template_field-returns-clause-grammatical t c = template_field_out _ ∙ c.in_ok-template.ensures.grammatical
@@ -144,7 +144,7 @@ templates-returns-in_err-first-clause-reads t c =
 pub templates-returns-in_err-next-clause-reads : goal.templates-returns-in_err-next-clause-reads
 templates-returns-in_err-next-clause-reads t c =
     λ hidden xs more right stops could.
-    let y = some_item is_template c.more.templates.items c.more.invariant.some c.more.invariant.grammatical in
+    let y = some_item is_template c.more.templates c.more.invariant.some c.more.invariant.grammatical in
     let n = next_part_seen template_lexemes (λ x. is_template x ≡ true) hidden more _ _ y.0 y.1 (c.more.invariant.seen hidden xs more right stops could) c.more-test.ensures.passed stops in
     handed_seen hidden c.from_residual-in_err-next.result _ _ c.from_residual-in_err-next.ensures.1 (c.in_err-next.ensures.reads hidden n.0 _ n.1 n.4)
 
@@ -163,7 +163,7 @@ template_fields-returns-in_err-first-clause-reads t c =
 pub template_fields-returns-in_err-next-clause-reads : goal.template_fields-returns-in_err-next-clause-reads
 template_fields-returns-in_err-next-clause-reads t c =
     λ hidden xs more right stops could.
-    let y = some_item is_template_field c.more.fields.items c.more.invariant.some c.more.invariant.grammatical in
+    let y = some_item is_template_field c.more.fields c.more.invariant.some c.more.invariant.grammatical in
     let n = next_part_seen template_field_lexemes (λ x. is_template_field x ≡ true) hidden more _ _ y.0 y.1 (c.more.invariant.seen hidden xs more right stops could) c.more-test.ensures.passed stops in
     handed_seen hidden c.from_residual-in_err-next.result _ _ c.from_residual-in_err-next.ensures.1 (c.in_err-next.ensures.reads hidden n.0 _ n.1 n.4)
 
@@ -180,7 +180,7 @@ template_fields-returns-in_err-first-clause-beyond t c =
 pub template_fields-returns-in_err-next-clause-beyond : goal.template_fields-returns-in_err-next-clause-beyond
 template_fields-returns-in_err-next-clause-beyond t c =
     λ field.
-    let y = some_item is_template_field c.more.fields.items c.more.invariant.some c.more.invariant.grammatical in
+    let y = some_item is_template_field c.more.fields c.more.invariant.some c.more.invariant.grammatical in
     handed_as (StandAtLeast 2 c.args.self.now) c.from_residual-in_err-next.result _ _ c.from_residual-in_err-next.ensures.1
     (ahead_stands 2 c.args.self.now (length c.args.self.now.rest.now - 2) _ (omega (arith, c.more.invariant.beyond field))
     (c.in_err-next.ensures.reads (length c.args.self.now.rest.now - 2 + 1) y.0 [] y.1

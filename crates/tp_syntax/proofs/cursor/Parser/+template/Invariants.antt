@@ -36,9 +36,9 @@ decreases-template_field l = 4 * length l.self.now.rest.now + 2
 
 abbrev pub invariant-templates-more : goal.invariant-templates-more
 invariant-templates-more l = record {
-  tokens : ahead l.fn.self.rest.now ≡ by_commas (map template_lexemes l.templates.items) ++ ahead l.self.rest.now;
-  grammatical : one_and_each (map is_template l.templates.items) ≡ true;
-  some : 0 < length l.templates.items;
+  tokens : ahead l.fn.self.rest.now ≡ by_commas (map template_lexemes l.templates) ++ ahead l.self.rest.now;
+  grammatical : one_and_each (map is_template l.templates) ≡ true;
+  some : 0 < length l.templates;
   seen : (hidden : ℕ) (xs : List Template) (more : List Lexeme) → one_and_each (map is_template xs) ≡ true → Stops more
       → CouldBe hidden l.fn.self.rest.now (by_commas (map template_lexemes xs) ++ more) → RemainSeen template_lexemes (λ x. is_template x ≡ true) hidden more l.self.rest.now;
   shorter : length l.self.rest.now < length l.fn.self.rest.now;
@@ -50,9 +50,9 @@ decreases-templates-more l = length l.self.rest.now
 
 abbrev pub invariant-template_fields-more : goal.invariant-template_fields-more
 invariant-template_fields-more l = record {
-  tokens : ahead l.fn.self.rest.now ≡ by_commas (map template_field_lexemes l.fields.items) ++ ahead l.self.rest.now;
-  grammatical : one_and_each (map is_template_field l.fields.items) ≡ true;
-  some : 0 < length l.fields.items;
+  tokens : ahead l.fn.self.rest.now ≡ by_commas (map template_field_lexemes l.fields) ++ ahead l.self.rest.now;
+  grammatical : one_and_each (map is_template_field l.fields) ≡ true;
+  some : 0 < length l.fields;
   seen : (hidden : ℕ) (xs : List TemplateField) (more : List Lexeme) → one_and_each (map is_template_field xs) ≡ true → Stops more
       → CouldBe hidden l.fn.self.rest.now (by_commas (map template_field_lexemes xs) ++ more) → RemainSeen template_field_lexemes (λ x. is_template_field x ≡ true) hidden more l.self.rest.now;
   beyond : BeginsField l.fn.self.rest.now → 2 + length l.self.rest.now ≤ length l.fn.self.rest.now;

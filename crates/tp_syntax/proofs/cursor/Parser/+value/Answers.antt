@@ -30,32 +30,32 @@ use Rattle.tp_syntax.proofs.cursor.Parser.+value.Goals as goal
 
 pub values-more-preserved : goal.values-more-preserved
 values-more-preserved t c = record {
-  tokens = rw c.in_ok-push-2.ensures.items
-      (push_read value_lexemes c.more.values.items c.in_ok-next.next _ _ _ _
+  tokens = rw c.in_ok-push-2.ensures.ok
+      (push_read value_lexemes c.more.values c.in_ok-next.next _ _ _ _
       c.more.invariant.some c.more.invariant.tokens c.more-test.ensures.yes c.in_ok-next.ensures.tokens);
-  grammatical = rw c.in_ok-push-2.ensures.items
-      (push_right is_value c.more.values.items c.in_ok-next.next c.more.invariant.grammatical c.in_ok-next.ensures.grammatical);
-  some = rw c.in_ok-push-2.ensures.items (simp length-append (omega arith));
+  grammatical = rw c.in_ok-push-2.ensures.ok
+      (push_right is_value c.more.values c.in_ok-next.next c.more.invariant.grammatical c.in_ok-next.ensures.grammatical);
+  some = rw c.in_ok-push-2.ensures.ok (simp length-append (omega arith));
   shorter = omega (arith, c.more.invariant.shorter, c.more-test.ensures.shorter, c.in_ok-next.ensures.shorter);
   forward = λ all tail. c.in_ok-next.ensures.forward all (c.more-test.ensures.forward all (c.more.invariant.forward all tail));
   seen = λ hidden xs more right stops could.
-      let y = some_item is_value c.more.values.items c.more.invariant.some c.more.invariant.grammatical in
+      let y = some_item is_value c.more.values c.more.invariant.some c.more.invariant.grammatical in
       let n = next_part_seen value_lexemes (λ x. is_value x ≡ true) hidden more _ _ y.0 y.1 (c.more.invariant.seen hidden xs more right stops could) c.more-test.ensures.passed stops in
       (n.2, n.3, c.in_ok-next.ensures.reads hidden n.0 _ n.1 n.4);
 }
 
 pub value_fields-more-preserved : goal.value_fields-more-preserved
 value_fields-more-preserved t c = record {
-  tokens = rw c.in_ok-push-2.ensures.items
-      (push_read value_field_lexemes c.more.fields.items c.in_ok-next.next _ _ _ _
+  tokens = rw c.in_ok-push-2.ensures.ok
+      (push_read value_field_lexemes c.more.fields c.in_ok-next.next _ _ _ _
       c.more.invariant.some c.more.invariant.tokens c.more-test.ensures.yes c.in_ok-next.ensures.tokens);
-  grammatical = rw c.in_ok-push-2.ensures.items
-      (push_right is_value_field c.more.fields.items c.in_ok-next.next c.more.invariant.grammatical c.in_ok-next.ensures.grammatical);
-  some = rw c.in_ok-push-2.ensures.items (simp length-append (omega arith));
+  grammatical = rw c.in_ok-push-2.ensures.ok
+      (push_right is_value_field c.more.fields c.in_ok-next.next c.more.invariant.grammatical c.in_ok-next.ensures.grammatical);
+  some = rw c.in_ok-push-2.ensures.ok (simp length-append (omega arith));
   shorter = omega (arith, c.more.invariant.shorter, c.more-test.ensures.shorter, c.in_ok-next.ensures.shorter);
   forward = λ all tail. c.in_ok-next.ensures.forward all (c.more-test.ensures.forward all (c.more.invariant.forward all tail));
   seen = λ hidden xs more right stops could.
-      let y = some_item is_value_field c.more.fields.items c.more.invariant.some c.more.invariant.grammatical in
+      let y = some_item is_value_field c.more.fields c.more.invariant.some c.more.invariant.grammatical in
       let n = next_part_seen value_field_lexemes (λ x. is_value_field x ≡ true) hidden more _ _ y.0 y.1 (c.more.invariant.seen hidden xs more right stops could) c.more-test.ensures.passed stops in
       (n.2, n.3, c.in_ok-next.ensures.reads hidden n.0 _ n.1 n.4);
   beyond = λ field. omega (arith, c.more.invariant.beyond field, c.more-test.ensures.shorter, c.in_ok-next.ensures.shorter);
@@ -80,13 +80,13 @@ pub value-returns-in_ok-name-in-Name-clause-grammatical : goal.value-returns-in_
 value-returns-in_ok-name-in-Name-clause-grammatical t c = value_name _
 
 pub value_entries-returns-then-has_symbol-clause-grammatical : goal.value_entries-returns-then-has_symbol-clause-grammatical
-value_entries-returns-then-has_symbol-clause-grammatical t c = rw (value_list, c.new.ensures.items) refl
+value_entries-returns-then-has_symbol-clause-grammatical t c = rw (value_list, c.new.ensures) refl
 
 pub value_entries-returns-then-is_field-clause-grammatical : goal.value_entries-returns-then-is_field-clause-grammatical
 value_entries-returns-then-is_field-clause-grammatical t c = value_record _ ∙ c.in_ok-fields.ensures.grammatical
 
 pub value_entries-returns-clause-grammatical : goal.value_entries-returns-clause-grammatical
-value_entries-returns-clause-grammatical t c = value_list _ ∙ each_of_one (map is_value c.in_ok-values.values.items) c.in_ok-values.ensures.grammatical
+value_entries-returns-clause-grammatical t c = value_list _ ∙ each_of_one (map is_value c.in_ok-values.values) c.in_ok-values.ensures.grammatical
 
 pub value_field-returns-clause-grammatical : goal.value_field-returns-clause-grammatical
 value_field-returns-clause-grammatical t c = value_field_out _ ∙ c.in_ok-value.ensures.grammatical
@@ -125,7 +125,7 @@ values-returns-in_err-first-clause-reads t c =
 pub values-returns-in_err-next-clause-reads : goal.values-returns-in_err-next-clause-reads
 values-returns-in_err-next-clause-reads t c =
     λ hidden xs more right stops could.
-    let y = some_item is_value c.more.values.items c.more.invariant.some c.more.invariant.grammatical in
+    let y = some_item is_value c.more.values c.more.invariant.some c.more.invariant.grammatical in
     let n = next_part_seen value_lexemes (λ x. is_value x ≡ true) hidden more _ _ y.0 y.1 (c.more.invariant.seen hidden xs more right stops could) c.more-test.ensures.passed stops in
     handed_seen hidden c.from_residual-in_err-next.result _ _ c.from_residual-in_err-next.ensures.1 (c.in_err-next.ensures.reads hidden n.0 _ n.1 n.4)
 
@@ -144,7 +144,7 @@ value_fields-returns-in_err-first-clause-reads t c =
 pub value_fields-returns-in_err-next-clause-reads : goal.value_fields-returns-in_err-next-clause-reads
 value_fields-returns-in_err-next-clause-reads t c =
     λ hidden xs more right stops could.
-    let y = some_item is_value_field c.more.fields.items c.more.invariant.some c.more.invariant.grammatical in
+    let y = some_item is_value_field c.more.fields c.more.invariant.some c.more.invariant.grammatical in
     let n = next_part_seen value_field_lexemes (λ x. is_value_field x ≡ true) hidden more _ _ y.0 y.1 (c.more.invariant.seen hidden xs more right stops could) c.more-test.ensures.passed stops in
     handed_seen hidden c.from_residual-in_err-next.result _ _ c.from_residual-in_err-next.ensures.1 (c.in_err-next.ensures.reads hidden n.0 _ n.1 n.4)
 
@@ -161,7 +161,7 @@ value_fields-returns-in_err-first-clause-beyond t c =
 pub value_fields-returns-in_err-next-clause-beyond : goal.value_fields-returns-in_err-next-clause-beyond
 value_fields-returns-in_err-next-clause-beyond t c =
     λ field.
-    let y = some_item is_value_field c.more.fields.items c.more.invariant.some c.more.invariant.grammatical in
+    let y = some_item is_value_field c.more.fields c.more.invariant.some c.more.invariant.grammatical in
     handed_as (StandAtLeast 2 c.args.self.now) c.from_residual-in_err-next.result _ _ c.from_residual-in_err-next.ensures.1
     (ahead_stands 2 c.args.self.now (length c.args.self.now.rest.now - 2) _ (omega (arith, c.more.invariant.beyond field))
     (c.in_err-next.ensures.reads (length c.args.self.now.rest.now - 2 + 1) y.0 [] y.1

@@ -30,9 +30,9 @@ decreases-value_field l = 4 * length l.self.now.rest.now + 1
 
 abbrev pub invariant-values-more : goal.invariant-values-more
 invariant-values-more l = record {
-  tokens : ahead l.fn.self.rest.now ≡ by_commas (map value_lexemes l.values.items) ++ ahead l.self.rest.now;
-  grammatical : one_and_each (map is_value l.values.items) ≡ true;
-  some : 0 < length l.values.items;
+  tokens : ahead l.fn.self.rest.now ≡ by_commas (map value_lexemes l.values) ++ ahead l.self.rest.now;
+  grammatical : one_and_each (map is_value l.values) ≡ true;
+  some : 0 < length l.values;
   seen : (hidden : ℕ) (xs : List Value) (more : List Lexeme) → one_and_each (map is_value xs) ≡ true → Stops more
       → CouldBe hidden l.fn.self.rest.now (by_commas (map value_lexemes xs) ++ more) → RemainSeen value_lexemes (λ x. is_value x ≡ true) hidden more l.self.rest.now;
   shorter : length l.self.rest.now < length l.fn.self.rest.now;
@@ -44,9 +44,9 @@ decreases-values-more l = length l.self.rest.now
 
 abbrev pub invariant-value_fields-more : goal.invariant-value_fields-more
 invariant-value_fields-more l = record {
-  tokens : ahead l.fn.self.rest.now ≡ by_commas (map value_field_lexemes l.fields.items) ++ ahead l.self.rest.now;
-  grammatical : one_and_each (map is_value_field l.fields.items) ≡ true;
-  some : 0 < length l.fields.items;
+  tokens : ahead l.fn.self.rest.now ≡ by_commas (map value_field_lexemes l.fields) ++ ahead l.self.rest.now;
+  grammatical : one_and_each (map is_value_field l.fields) ≡ true;
+  some : 0 < length l.fields;
   seen : (hidden : ℕ) (xs : List ValueField) (more : List Lexeme) → one_and_each (map is_value_field xs) ≡ true → Stops more
       → CouldBe hidden l.fn.self.rest.now (by_commas (map value_field_lexemes xs) ++ more) → RemainSeen value_field_lexemes (λ x. is_value_field x ≡ true) hidden more l.self.rest.now;
   beyond : BeginsField l.fn.self.rest.now → 2 + length l.self.rest.now ≤ length l.fn.self.rest.now;

@@ -14,8 +14,8 @@ use Rattle.tp_syntax.proofs.cursor.Parser.arguments.Given as goal
 
 abbrev pub invariant-more : goal.invariant-more
 invariant-more l = record {
-  tokens : ahead l.fn.self.rest.now ≡ arguments_lexemes l.arguments.items ++ ahead l.self.rest.now;
-  some : 0 < length l.arguments.items;
+  tokens : ahead l.fn.self.rest.now ≡ arguments_lexemes l.arguments ++ ahead l.self.rest.now;
+  some : 0 < length l.arguments;
   shorter : length l.self.rest.now < length l.fn.self.rest.now;
   forward : GoesForward l.fn.self l.self;
   seen : (hidden : ℕ) (xs : List ComponentName) (more : List Lexeme) → first more ≡ Some (symbol RightParen) → CouldBe hidden l.fn.self.rest.now (arguments_lexemes xs ++ more)

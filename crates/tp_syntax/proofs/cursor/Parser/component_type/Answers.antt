@@ -16,7 +16,7 @@ use Rattle.tp_syntax.proofs.FirstTokensStand.{memory_alone, own_could}
 use Rattle.tp_syntax.proofs.cursor.Parser.component_type.Goals as goal
 
 pub returns-clause-grammatical : goal.returns-clause-grammatical
-returns-clause-grammatical c = between_parts (map port_declaration_part c.in_ok-ports.ports.items) _ _ c.in_ok-ports.ensures.grammatical
+returns-clause-grammatical c = between_parts (map port_declaration_part c.in_ok-ports.ports) _ _ c.in_ok-ports.ensures.grammatical
 
 pub returns-clause-lines : goal.returns-clause-lines
 unfolding component_type_notes
@@ -137,7 +137,7 @@ returns-in_err-ports-clause-reads c =
     let e3 = c.in_ok-name.ensures.reads hidden _ _ e2 in
     let e4 = c.in_ok-symbol.ensures.reads hidden _ e3 in
     handed_seen hidden c.from_residual-in_err-ports.result _ _ c.from_residual-in_err-ports.ensures.1
-    (c.in_err-ports.ensures.reads hidden x.ports.items _ (ports_stand x more right) refl e4)
+    (c.in_err-ports.ensures.reads hidden x.ports _ (ports_stand x more right) refl e4)
 
 pub returns-in_err-symbol-2-clause-reads : goal.returns-in_err-symbol-2-clause-reads
 unfolding component_type_lexemes
@@ -148,7 +148,7 @@ returns-in_err-symbol-2-clause-reads c =
     let e2 = c.in_ok-word-2.ensures.reads hidden _ e1 in
     let e3 = c.in_ok-name.ensures.reads hidden _ _ e2 in
     let e4 = c.in_ok-symbol.ensures.reads hidden _ e3 in
-    let e5 = c.in_ok-ports.ensures.reads hidden x.ports.items _ (ports_stand x more right) refl e4 in
+    let e5 = c.in_ok-ports.ensures.reads hidden x.ports _ (ports_stand x more right) refl e4 in
     handed_seen hidden c.from_residual-in_err-symbol-2.result _ _ c.from_residual-in_err-symbol-2.ensures.1
     (c.in_err-symbol-2.ensures.reads hidden more e5)
 
@@ -161,7 +161,7 @@ returns-clause-reads c =
     let e2 = c.in_ok-word-2.ensures.reads hidden _ e1 in
     let e3 = c.in_ok-name.ensures.reads hidden _ _ e2 in
     let e4 = c.in_ok-symbol.ensures.reads hidden _ e3 in
-    let e5 = c.in_ok-ports.ensures.reads hidden x.ports.items _ (ports_stand x more right) refl e4 in
+    let e5 = c.in_ok-ports.ensures.reads hidden x.ports _ (ports_stand x more right) refl e4 in
     c.in_ok-symbol-2.ensures.reads hidden more e5
 
 pub returns-in_err-word-2-clause-reads : goal.returns-in_err-word-2-clause-reads

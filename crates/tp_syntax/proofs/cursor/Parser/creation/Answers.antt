@@ -40,6 +40,18 @@ returns-in_err-created-clause-reads c =
     let e4 = c.in_ok-symbol.ensures.reads hidden _ e3 in
     handed_seen hidden c.from_residual-in_err-created.result _ _ c.from_residual-in_err-created.ensures.1 (c.in_err-created.ensures.reads hidden _ _ e4)
 
+pub returns-clause-reads : goal.returns-clause-reads
+unfolding setup_action_lexemes
+returns-clause-reads c =
+    λ hidden x more could.
+    let e1 = c.in_ok-word.ensures.reads hidden _ could in
+    let e2 = c.in_ok-type_name.ensures.reads hidden _ _ e1 in
+    let e3 = c.in_ok-name.ensures.reads hidden _ _ e2 in
+    let e4 = c.in_ok-symbol.ensures.reads hidden _ e3 in
+    let e5 = c.in_ok-created.ensures.reads hidden _ _ e4 in
+    let e6 = c.in_ok-symbol-2.ensures.reads hidden _ e5 in
+    c.in_ok-word-2.ensures.reads hidden more e6
+
 pub returns-in_err-symbol-2-clause-reads : goal.returns-in_err-symbol-2-clause-reads
 unfolding setup_action_lexemes
 returns-in_err-symbol-2-clause-reads c =

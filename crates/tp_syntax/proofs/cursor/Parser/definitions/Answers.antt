@@ -20,13 +20,13 @@ use Rattle.tp_syntax.proofs.cursor.Parser.definitions.Goals as goal
 
 pub more-preserved : goal.more-preserved
 more-preserved c = record {
-  tokens = rw c.in_ok-push.ensures.items
-      (push_read_all definition_lexemes c.more.definitions.items c.in_ok-definition.definition _ _ _ c.more.invariant.tokens c.in_ok-definition.ensures.tokens);
-  grammatical = rw c.in_ok-push.ensures.items
-      (between_push definition_part c.more.definitions.items c.in_ok-definition.definition _ _ _ c.more.invariant.grammatical (iff_false c.is_symbol_at.ensures c.more-test.true) c.in_ok-definition.ensures.grammatical);
+  tokens = rw c.in_ok-push.ensures.ok
+      (push_read_all definition_lexemes c.more.definitions c.in_ok-definition.definition _ _ _ c.more.invariant.tokens c.in_ok-definition.ensures.tokens);
+  grammatical = rw c.in_ok-push.ensures.ok
+      (between_push definition_part c.more.definitions c.in_ok-definition.definition _ _ _ c.more.invariant.grammatical (iff_false c.is_symbol_at.ensures c.more-test.true) c.in_ok-definition.ensures.grammatical);
   shorter = omega (arith, c.more.invariant.shorter, c.in_ok-definition.ensures.shorter);
-  lines = rw c.in_ok-push.ensures.items
-      (passes_push definition_notes c.more.definitions.items c.in_ok-definition.definition c.more.invariant.lines c.in_ok-definition.ensures.lines);
+  lines = rw c.in_ok-push.ensures.ok
+      (passes_push definition_notes c.more.definitions c.in_ok-definition.definition c.more.invariant.lines c.in_ok-definition.ensures.lines);
   seen = λ hidden xs more stand brace could.
       elim (next_or_hidden definition_lexemes definition_part (λ _. Unit {0}) hidden (symbol RightBrace) more _ refl brace definition_begins (iff_false c.is_symbol_at.ensures c.more-test.true) (c.more.invariant.seen hidden xs more stand brace could)) [
         | inl n ↦ (n.2, n.3, n.4, c.in_ok-definition.ensures.reads hidden n.0 _ n.5 n.6)
@@ -37,10 +37,10 @@ more-preserved c = record {
 pub more-init : goal.more-init
 more-init c = record {
   tokens = first_of (search rules, grind (arith, common_steps));
-  grammatical = rw c.new-definitions.ensures.items (between_none _);
+  grammatical = rw c.new-definitions.ensures (between_none _);
   seen = λ hidden xs more stand brace could. (xs, all_any xs, stand, could);
   shorter = first_of (search rules, grind (arith, common_steps));
-  lines = rw c.new-definitions.ensures.items (passes_none _);
+  lines = rw c.new-definitions.ensures (passes_none _);
 }
 
 pub returns-in_err-definition-clause-reads : goal.returns-in_err-definition-clause-reads

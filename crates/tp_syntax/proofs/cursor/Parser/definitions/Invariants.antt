@@ -16,12 +16,12 @@ use Rattle.tp_syntax.proofs.cursor.Parser.definitions.Given as goal
 
 abbrev pub invariant-more : goal.invariant-more
 invariant-more l = record {
-  tokens : ahead l.fn.self.rest.now ≡ definitions_lexemes l.definitions.items ++ ahead l.self.rest.now;
-  grammatical : GoesOver l.fn.self (map definition_part l.definitions.items) l.self;
+  tokens : ahead l.fn.self.rest.now ≡ definitions_lexemes l.definitions ++ ahead l.self.rest.now;
+  grammatical : GoesOver l.fn.self (map definition_part l.definitions) l.self;
   seen : (hidden : ℕ) (xs : List Definition) (more : List Lexeme) → AllStand (map definition_part xs) more → first more ≡ Some (symbol RightBrace)
       → CouldBe hidden l.fn.self.rest.now (definitions_lexemes xs ++ more) → RemainAllSeen definition_lexemes definition_part (λ _. Unit {0}) hidden more l.self.rest.now;
   shorter : length l.self.rest.now ≤ length l.fn.self.rest.now;
-  lines : PassesNoted l.fn.self.rest.now (noted_in_order (map definition_notes l.definitions.items)) l.self.rest.now;
+  lines : PassesNoted l.fn.self.rest.now (noted_in_order (map definition_notes l.definitions)) l.self.rest.now;
 }
 
 abbrev pub decreases-more : goal.decreases-more

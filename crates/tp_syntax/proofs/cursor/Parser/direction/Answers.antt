@@ -37,7 +37,7 @@ returns-in_err-types-clause-reads c =
     let e0 = simp append_assoc at could in
     let e1 = c.in_ok-way.ensures.reads hidden x.way _ e0 in
     handed_seen hidden c.from_residual-in_err-types.result _ _ c.from_residual-in_err-types.ensures.1
-    (c.in_err-types.ensures.reads hidden x.types.items _ placed.0 (end_stops x.has_semicolon more placed.1) e1)
+    (c.in_err-types.ensures.reads hidden x.types _ placed.0 (end_stops x.has_semicolon more placed.1) e1)
 
 pub returns-in_err-has_semicolon-clause-reads : goal.returns-in_err-has_semicolon-clause-reads
 unfolding direction_lexemes
@@ -45,7 +45,7 @@ returns-in_err-has_semicolon-clause-reads c =
     λ hidden x more placed could.
     let e0 = simp append_assoc at could in
     let e1 = c.in_ok-way.ensures.reads hidden x.way _ e0 in
-    let e2 = c.in_ok-types.ensures.reads hidden x.types.items _ placed.0 (end_stops x.has_semicolon more placed.1) e1 in
+    let e2 = c.in_ok-types.ensures.reads hidden x.types _ placed.0 (end_stops x.has_semicolon more placed.1) e1 in
     handed_seen hidden c.from_residual-in_err-has_semicolon.result _ _ c.from_residual-in_err-has_semicolon.ensures.1
     (c.in_err-has_semicolon.ensures.reads hidden x.has_semicolon more placed.1 e2)
 
@@ -55,5 +55,5 @@ returns-clause-reads c =
     λ hidden x more placed could.
     let e0 = simp append_assoc at could in
     let e1 = c.in_ok-way.ensures.reads hidden x.way _ e0 in
-    let e2 = c.in_ok-types.ensures.reads hidden x.types.items _ placed.0 (end_stops x.has_semicolon more placed.1) e1 in
+    let e2 = c.in_ok-types.ensures.reads hidden x.types _ placed.0 (end_stops x.has_semicolon more placed.1) e1 in
     c.in_ok-has_semicolon.ensures.reads hidden x.has_semicolon more placed.1 e2

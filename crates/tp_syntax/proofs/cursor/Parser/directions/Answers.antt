@@ -25,11 +25,11 @@ more-preserved c = record {
         | inl n ↦ (n.2, n.3, n.4, c.in_ok-direction.ensures.reads hidden n.0 _ n.5 n.6)
         | inr h ↦ none_left_seen direction_lexemes direction_part (λ _. Unit {0}) hidden more _ (omega (arith, c.in_ok-direction.ensures.shorter))
       ];
-  none = rw c.in_ok-push.ensures.items (λ same. absurd (push_some c.more.directions.items c.in_ok-direction.direction same));
-  tokens = rw c.in_ok-push.ensures.items
-      (push_read_all direction_lexemes c.more.directions.items c.in_ok-direction.direction _ _ _ c.more.invariant.tokens c.in_ok-direction.ensures.tokens);
-  grammatical = rw c.in_ok-push.ensures.items
-      (between_push direction_part c.more.directions.items c.in_ok-direction.direction _ _ _ c.more.invariant.grammatical (iff_false c.is_symbol_at.ensures c.more-test.true) c.in_ok-direction.ensures.grammatical);
+  none = rw c.in_ok-push.ensures.ok (λ same. absurd (push_some c.more.directions c.in_ok-direction.direction same));
+  tokens = rw c.in_ok-push.ensures.ok
+      (push_read_all direction_lexemes c.more.directions c.in_ok-direction.direction _ _ _ c.more.invariant.tokens c.in_ok-direction.ensures.tokens);
+  grammatical = rw c.in_ok-push.ensures.ok
+      (between_push direction_part c.more.directions c.in_ok-direction.direction _ _ _ c.more.invariant.grammatical (iff_false c.is_symbol_at.ensures c.more-test.true) c.in_ok-direction.ensures.grammatical);
   shorter = omega (arith, c.more.invariant.shorter, c.in_ok-direction.ensures.shorter);
   forward = λ all tail. c.in_ok-direction.ensures.forward all (c.more.invariant.forward all tail);
 }
@@ -39,7 +39,7 @@ more-init c = record {
   seen = λ hidden xs more stand brace could. (xs, all_any xs, stand, could);
   none = λ _. refl;
   tokens = first_of (search rules, grind (arith, common_steps));
-  grammatical = rw c.new-directions.ensures.items (between_none _);
+  grammatical = rw c.new-directions.ensures (between_none _);
   shorter = first_of (search rules, grind (arith, common_steps));
   forward = λ all tail. tail;
 }

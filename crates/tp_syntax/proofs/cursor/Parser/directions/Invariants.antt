@@ -15,9 +15,9 @@ use Rattle.tp_syntax.proofs.cursor.Parser.directions.Given as goal
 
 abbrev pub invariant-more : goal.invariant-more
 invariant-more l = record {
-  tokens : ahead l.fn.self.rest.now ≡ directions_lexemes l.directions.items ++ ahead l.self.rest.now;
-  grammatical : GoesOver l.fn.self (map direction_part l.directions.items) l.self;
-  none : l.directions.items ≡ [] → l.self ≡ l.fn.self;
+  tokens : ahead l.fn.self.rest.now ≡ directions_lexemes l.directions ++ ahead l.self.rest.now;
+  grammatical : GoesOver l.fn.self (map direction_part l.directions) l.self;
+  none : l.directions ≡ [] → l.self ≡ l.fn.self;
   seen : (hidden : ℕ) (xs : List Direction) (more : List Lexeme) → AllStand (map direction_part xs) more → first more ≡ Some (symbol RightBrace) →
       CouldBe hidden l.fn.self.rest.now (directions_lexemes xs ++ more)
       → RemainAllSeen direction_lexemes direction_part (λ _. Unit {0}) hidden more l.self.rest.now;

@@ -20,16 +20,16 @@ use Rattle.tp_syntax.proofs.cursor.Parser.fields.Goals as goal
 pub more-preserved : goal.more-preserved
 more-preserved c = record {
   seen = λ hidden xs more close could.
-      let n = next_part_seen field_type_lexemes (λ _. Unit {0}) hidden more _ _ (item_of c.more.fields.items c.more.invariant.some) tt
+      let n = next_part_seen field_type_lexemes (λ _. Unit {0}) hidden more _ _ (item_of c.more.fields c.more.invariant.some) tt
       (c.more.invariant.seen hidden xs more close could) c.more-test.ensures.passed (ap ends_operation close) in
       (n.2, n.3, c.in_ok-next.ensures.reads hidden n.0 _ n.4);
-  tokens = rw c.in_ok-push-2.ensures.items
-      (push_read field_type_lexemes c.more.fields.items c.in_ok-next.next _ _ _ _
+  tokens = rw c.in_ok-push-2.ensures.ok
+      (push_read field_type_lexemes c.more.fields c.in_ok-next.next _ _ _ _
       c.more.invariant.some c.more.invariant.tokens c.more-test.ensures.yes c.in_ok-next.ensures.tokens);
-  some = rw c.in_ok-push-2.ensures.items (simp length-append (omega arith));
+  some = rw c.in_ok-push-2.ensures.ok (simp length-append (omega arith));
   shorter = omega (arith, c.more.invariant.shorter, c.more-test.ensures.shorter, c.in_ok-next.ensures.shorter);
-  lines = rw c.in_ok-push-2.ensures.items
-      (passes_comma field_type_notes c.more.fields.items c.in_ok-next.next c.more.invariant.some c.more.invariant.lines
+  lines = rw c.in_ok-push-2.ensures.ok
+      (passes_comma field_type_notes c.more.fields c.in_ok-next.next c.more.invariant.some c.more.invariant.lines
       (passes_one c.more-test.ensures.forward c.more-test.ensures.yes) c.in_ok-next.ensures.lines);
 }
 
@@ -44,14 +44,14 @@ more-init c = record {
   tokens = first_of (search rules, grind (arith, common_steps));
   some = first_of (search rules, grind (arith, common_steps));
   shorter = first_of (search rules, grind (arith, common_steps));
-  lines = rw (c.in_ok-push.ensures.items, c.new-fields.ensures.items) (passes_first field_type_notes c.in_ok-first.first c.in_ok-first.ensures.lines);
+  lines = rw (c.in_ok-push.ensures.ok, c.new-fields.ensures) (passes_first field_type_notes c.in_ok-first.first c.in_ok-first.ensures.lines);
 }
 
 pub returns-clause-lines : goal.returns-clause-lines
 returns-clause-lines c = passes_same (ap (λ (p : Parser). p.rest.now) c.more-test.ensures.no) c.more.invariant.lines
 
 pub returns-then-is_symbol_at-clause-lines : goal.returns-then-is_symbol_at-clause-lines
-returns-then-is_symbol_at-clause-lines c = rw c.new-fields.ensures.items (passes_none _)
+returns-then-is_symbol_at-clause-lines c = rw c.new-fields.ensures (passes_none _)
 
 pub returns-then-is_symbol_at-clause-reads : goal.returns-then-is_symbol_at-clause-reads
 returns-then-is_symbol_at-clause-reads c =
@@ -71,7 +71,7 @@ returns-in_err-first-clause-reads c =
 pub returns-in_err-next-clause-reads : goal.returns-in_err-next-clause-reads
 returns-in_err-next-clause-reads c =
     λ hidden xs more close could.
-    let n = next_part_seen field_type_lexemes (λ _. Unit {0}) hidden more _ _ (item_of c.more.fields.items c.more.invariant.some) tt
+    let n = next_part_seen field_type_lexemes (λ _. Unit {0}) hidden more _ _ (item_of c.more.fields c.more.invariant.some) tt
     (c.more.invariant.seen hidden xs more close could) c.more-test.ensures.passed (ap ends_operation close) in
     handed_seen hidden c.from_residual-in_err-next.result _ _ c.from_residual-in_err-next.ensures.1 (c.in_err-next.ensures.reads hidden n.0 _ n.4)
 

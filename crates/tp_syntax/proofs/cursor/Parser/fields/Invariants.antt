@@ -14,13 +14,13 @@ use Rattle.tp_syntax.proofs.cursor.Parser.fields.Given as goal
 
 abbrev pub invariant-more : goal.invariant-more
 invariant-more l = record {
-  tokens : ahead l.fn.self.rest.now ≡ field_types_lexemes l.fields.items ++ ahead l.self.rest.now;
-  some : 0 < length l.fields.items;
+  tokens : ahead l.fn.self.rest.now ≡ field_types_lexemes l.fields ++ ahead l.self.rest.now;
+  some : 0 < length l.fields;
   seen : (hidden : ℕ) (xs : List FieldType) (more : List Lexeme) → first more ≡ Some (symbol RightBrace) → CouldBe hidden l.fn.self.rest.now
       (field_types_lexemes xs ++ more)
       → RemainSeen field_type_lexemes (λ _. Unit {0}) hidden more l.self.rest.now;
   shorter : length l.self.rest.now < length l.fn.self.rest.now;
-  lines : PassesNoted l.fn.self.rest.now (noted_by_commas (map field_type_notes l.fields.items)) l.self.rest.now;
+  lines : PassesNoted l.fn.self.rest.now (noted_by_commas (map field_type_notes l.fields)) l.self.rest.now;
 }
 
 abbrev pub decreases-more : goal.decreases-more

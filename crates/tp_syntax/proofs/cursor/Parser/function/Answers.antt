@@ -14,8 +14,8 @@ use Rattle.tp_syntax.proofs.cursor.Parser.function.Goals as goal
 
 pub returns-clause-grammatical : goal.returns-clause-grammatical
 returns-clause-grammatical c =
-    let variables = map variable_part c.in_ok-variables.variables.items in
-    let statements = statements_parts c.in_ok-statements.statements.items in
+    let variables = map variable_part c.in_ok-variables.variables in
+    let statements = statements_parts c.in_ok-statements.statements in
     between_parts (variables ++ statements) _ _
     (between_then variables statements _ _ _ c.in_ok-variables.ensures.grammatical c.in_ok-statements.ensures.grammatical)
 
@@ -52,7 +52,7 @@ returns-in_err-parameters-clause-reads c =
     let e1 = c.in_ok-word.ensures.reads hidden _ e0 in
     let e2 = c.in_ok-name.ensures.reads hidden _ _ e1 in
     let e3 = c.in_ok-symbol.ensures.reads hidden _ e2 in
-    handed_seen hidden c.from_residual-in_err-parameters.result _ _ c.from_residual-in_err-parameters.ensures.1 (c.in_err-parameters.ensures.reads hidden x.parameters.items _ refl e3)
+    handed_seen hidden c.from_residual-in_err-parameters.result _ _ c.from_residual-in_err-parameters.ensures.1 (c.in_err-parameters.ensures.reads hidden x.parameters _ refl e3)
 
 pub returns-in_err-symbol-2-clause-reads : goal.returns-in_err-symbol-2-clause-reads
 returns-in_err-symbol-2-clause-reads c =
@@ -61,7 +61,7 @@ returns-in_err-symbol-2-clause-reads c =
     let e1 = c.in_ok-word.ensures.reads hidden _ e0 in
     let e2 = c.in_ok-name.ensures.reads hidden _ _ e1 in
     let e3 = c.in_ok-symbol.ensures.reads hidden _ e2 in
-    let e4 = c.in_ok-parameters.ensures.reads hidden x.parameters.items _ refl e3 in
+    let e4 = c.in_ok-parameters.ensures.reads hidden x.parameters _ refl e3 in
     handed_seen hidden c.from_residual-in_err-symbol-2.result _ _ c.from_residual-in_err-symbol-2.ensures.1 (c.in_err-symbol-2.ensures.reads hidden _ e4)
 
 pub returns-in_err-word-2-clause-reads : goal.returns-in_err-word-2-clause-reads
@@ -71,7 +71,7 @@ returns-in_err-word-2-clause-reads c =
     let e1 = c.in_ok-word.ensures.reads hidden _ e0 in
     let e2 = c.in_ok-name.ensures.reads hidden _ _ e1 in
     let e3 = c.in_ok-symbol.ensures.reads hidden _ e2 in
-    let e4 = c.in_ok-parameters.ensures.reads hidden x.parameters.items _ refl e3 in
+    let e4 = c.in_ok-parameters.ensures.reads hidden x.parameters _ refl e3 in
     let e5 = c.in_ok-symbol-2.ensures.reads hidden _ e4 in
     handed_seen hidden c.from_residual-in_err-word-2.result _ _ c.from_residual-in_err-word-2.ensures.1 (c.in_err-word-2.ensures.reads hidden _ e5)
 
@@ -82,7 +82,7 @@ returns-in_err-word-3-clause-reads c =
     let e1 = c.in_ok-word.ensures.reads hidden _ e0 in
     let e2 = c.in_ok-name.ensures.reads hidden _ _ e1 in
     let e3 = c.in_ok-symbol.ensures.reads hidden _ e2 in
-    let e4 = c.in_ok-parameters.ensures.reads hidden x.parameters.items _ refl e3 in
+    let e4 = c.in_ok-parameters.ensures.reads hidden x.parameters _ refl e3 in
     let e5 = c.in_ok-symbol-2.ensures.reads hidden _ e4 in
     let e6 = c.in_ok-word-2.ensures.reads hidden _ e5 in
     handed_seen hidden c.from_residual-in_err-word-3.result _ _ c.from_residual-in_err-word-3.ensures.1 (c.in_err-word-3.ensures.reads hidden _ e6)
@@ -94,7 +94,7 @@ returns-in_err-runs_on-clause-reads c =
     let e1 = c.in_ok-word.ensures.reads hidden _ e0 in
     let e2 = c.in_ok-name.ensures.reads hidden _ _ e1 in
     let e3 = c.in_ok-symbol.ensures.reads hidden _ e2 in
-    let e4 = c.in_ok-parameters.ensures.reads hidden x.parameters.items _ refl e3 in
+    let e4 = c.in_ok-parameters.ensures.reads hidden x.parameters _ refl e3 in
     let e5 = c.in_ok-symbol-2.ensures.reads hidden _ e4 in
     let e6 = c.in_ok-word-2.ensures.reads hidden _ e5 in
     let e7 = c.in_ok-word-3.ensures.reads hidden _ e6 in
@@ -107,7 +107,7 @@ returns-in_err-symbol-3-clause-reads c =
     let e1 = c.in_ok-word.ensures.reads hidden _ e0 in
     let e2 = c.in_ok-name.ensures.reads hidden _ _ e1 in
     let e3 = c.in_ok-symbol.ensures.reads hidden _ e2 in
-    let e4 = c.in_ok-parameters.ensures.reads hidden x.parameters.items _ refl e3 in
+    let e4 = c.in_ok-parameters.ensures.reads hidden x.parameters _ refl e3 in
     let e5 = c.in_ok-symbol-2.ensures.reads hidden _ e4 in
     let e6 = c.in_ok-word-2.ensures.reads hidden _ e5 in
     let e7 = c.in_ok-word-3.ensures.reads hidden _ e6 in
@@ -121,13 +121,13 @@ returns-in_err-variables-clause-reads c =
     let e1 = c.in_ok-word.ensures.reads hidden _ e0 in
     let e2 = c.in_ok-name.ensures.reads hidden _ _ e1 in
     let e3 = c.in_ok-symbol.ensures.reads hidden _ e2 in
-    let e4 = c.in_ok-parameters.ensures.reads hidden x.parameters.items _ refl e3 in
+    let e4 = c.in_ok-parameters.ensures.reads hidden x.parameters _ refl e3 in
     let e5 = c.in_ok-symbol-2.ensures.reads hidden _ e4 in
     let e6 = c.in_ok-word-2.ensures.reads hidden _ e5 in
     let e7 = c.in_ok-word-3.ensures.reads hidden _ e6 in
     let e8 = c.in_ok-runs_on.ensures.reads hidden _ _ e7 in
     let e9 = c.in_ok-symbol-3.ensures.reads hidden _ e8 in
-    handed_seen hidden c.from_residual-in_err-variables.result _ _ c.from_residual-in_err-variables.ensures.1 (c.in_err-variables.ensures.reads hidden x.variables.items _ (function_variables x more right) (statements_no_var x.statements.items (symbol RightBrace ∷ more) (λ h. cc h)) e9)
+    handed_seen hidden c.from_residual-in_err-variables.result _ _ c.from_residual-in_err-variables.ensures.1 (c.in_err-variables.ensures.reads hidden x.variables _ (function_variables x more right) (statements_no_var x.statements (symbol RightBrace ∷ more) (λ h. cc h)) e9)
 
 pub returns-in_err-statements-clause-reads : goal.returns-in_err-statements-clause-reads
 returns-in_err-statements-clause-reads c =
@@ -136,14 +136,14 @@ returns-in_err-statements-clause-reads c =
     let e1 = c.in_ok-word.ensures.reads hidden _ e0 in
     let e2 = c.in_ok-name.ensures.reads hidden _ _ e1 in
     let e3 = c.in_ok-symbol.ensures.reads hidden _ e2 in
-    let e4 = c.in_ok-parameters.ensures.reads hidden x.parameters.items _ refl e3 in
+    let e4 = c.in_ok-parameters.ensures.reads hidden x.parameters _ refl e3 in
     let e5 = c.in_ok-symbol-2.ensures.reads hidden _ e4 in
     let e6 = c.in_ok-word-2.ensures.reads hidden _ e5 in
     let e7 = c.in_ok-word-3.ensures.reads hidden _ e6 in
     let e8 = c.in_ok-runs_on.ensures.reads hidden _ _ e7 in
     let e9 = c.in_ok-symbol-3.ensures.reads hidden _ e8 in
-    let e10 = c.in_ok-variables.ensures.reads hidden x.variables.items _ (function_variables x more right) (statements_no_var x.statements.items (symbol RightBrace ∷ more) (λ h. cc h)) e9 in
-    handed_seen hidden c.from_residual-in_err-statements.result _ _ c.from_residual-in_err-statements.ensures.1 (c.in_err-statements.ensures.reads hidden x.statements.items _ (function_statements x more right) refl e10)
+    let e10 = c.in_ok-variables.ensures.reads hidden x.variables _ (function_variables x more right) (statements_no_var x.statements (symbol RightBrace ∷ more) (λ h. cc h)) e9 in
+    handed_seen hidden c.from_residual-in_err-statements.result _ _ c.from_residual-in_err-statements.ensures.1 (c.in_err-statements.ensures.reads hidden x.statements _ (function_statements x more right) refl e10)
 
 pub returns-in_err-symbol-4-clause-reads : goal.returns-in_err-symbol-4-clause-reads
 returns-in_err-symbol-4-clause-reads c =
@@ -152,14 +152,14 @@ returns-in_err-symbol-4-clause-reads c =
     let e1 = c.in_ok-word.ensures.reads hidden _ e0 in
     let e2 = c.in_ok-name.ensures.reads hidden _ _ e1 in
     let e3 = c.in_ok-symbol.ensures.reads hidden _ e2 in
-    let e4 = c.in_ok-parameters.ensures.reads hidden x.parameters.items _ refl e3 in
+    let e4 = c.in_ok-parameters.ensures.reads hidden x.parameters _ refl e3 in
     let e5 = c.in_ok-symbol-2.ensures.reads hidden _ e4 in
     let e6 = c.in_ok-word-2.ensures.reads hidden _ e5 in
     let e7 = c.in_ok-word-3.ensures.reads hidden _ e6 in
     let e8 = c.in_ok-runs_on.ensures.reads hidden _ _ e7 in
     let e9 = c.in_ok-symbol-3.ensures.reads hidden _ e8 in
-    let e10 = c.in_ok-variables.ensures.reads hidden x.variables.items _ (function_variables x more right) (statements_no_var x.statements.items (symbol RightBrace ∷ more) (λ h. cc h)) e9 in
-    let e11 = uncut (c.in_ok-statements.ensures.reads hidden x.statements.items _ (function_statements x more right) refl e10) in
+    let e10 = c.in_ok-variables.ensures.reads hidden x.variables _ (function_variables x more right) (statements_no_var x.statements (symbol RightBrace ∷ more) (λ h. cc h)) e9 in
+    let e11 = uncut (c.in_ok-statements.ensures.reads hidden x.statements _ (function_statements x more right) refl e10) in
     handed_seen hidden c.from_residual-in_err-symbol-4.result _ _ c.from_residual-in_err-symbol-4.ensures.1 (c.in_err-symbol-4.ensures.reads hidden more e11)
 
 pub returns-clause-reads : goal.returns-clause-reads
@@ -169,12 +169,12 @@ returns-clause-reads c =
     let e1 = c.in_ok-word.ensures.reads hidden _ e0 in
     let e2 = c.in_ok-name.ensures.reads hidden _ _ e1 in
     let e3 = c.in_ok-symbol.ensures.reads hidden _ e2 in
-    let e4 = c.in_ok-parameters.ensures.reads hidden x.parameters.items _ refl e3 in
+    let e4 = c.in_ok-parameters.ensures.reads hidden x.parameters _ refl e3 in
     let e5 = c.in_ok-symbol-2.ensures.reads hidden _ e4 in
     let e6 = c.in_ok-word-2.ensures.reads hidden _ e5 in
     let e7 = c.in_ok-word-3.ensures.reads hidden _ e6 in
     let e8 = c.in_ok-runs_on.ensures.reads hidden _ _ e7 in
     let e9 = c.in_ok-symbol-3.ensures.reads hidden _ e8 in
-    let e10 = c.in_ok-variables.ensures.reads hidden x.variables.items _ (function_variables x more right) (statements_no_var x.statements.items (symbol RightBrace ∷ more) (λ h. cc h)) e9 in
-    let e11 = uncut (c.in_ok-statements.ensures.reads hidden x.statements.items _ (function_statements x more right) refl e10) in
+    let e10 = c.in_ok-variables.ensures.reads hidden x.variables _ (function_variables x more right) (statements_no_var x.statements (symbol RightBrace ∷ more) (λ h. cc h)) e9 in
+    let e11 = uncut (c.in_ok-statements.ensures.reads hidden x.statements _ (function_statements x more right) refl e10) in
     c.in_ok-symbol-4.ensures.reads hidden more e11

@@ -16,7 +16,7 @@ use Rattle.tp_syntax.proofs.LinesOfPassedTokens.{passes_at, passes_next, passes_
 use Rattle.tp_syntax.proofs.cursor.Parser.module.Goals as goal
 
 pub returns-clause-grammatical : goal.returns-clause-grammatical
-returns-clause-grammatical c = between_parts (map definition_part c.in_ok-definitions.definitions.items) _ _ c.in_ok-definitions.ensures.grammatical
+returns-clause-grammatical c = between_parts (map definition_part c.in_ok-definitions.definitions) _ _ c.in_ok-definitions.ensures.grammatical
 
 pub returns-clause-lines : goal.returns-clause-lines
 returns-clause-lines c =
@@ -51,7 +51,7 @@ returns-in_err-definitions-clause-reads c =
     let e1 = c.in_ok-word.ensures.reads hidden _ e0 in
     let e2 = c.in_ok-name.ensures.reads hidden _ _ e1 in
     let e3 = c.in_ok-symbol.ensures.reads hidden _ e2 in
-    handed_seen hidden c.from_residual-in_err-definitions.result _ _ c.from_residual-in_err-definitions.ensures.1 (c.in_err-definitions.ensures.reads hidden x.definitions.items (symbol RightBrace ∷ (end_lexemes x.has_semicolon ++ more)) (parts_stand (map definition_part x.definitions.items) (symbol RightBrace ∷ (end_lexemes x.has_semicolon ++ more)) right refl) refl e3)
+    handed_seen hidden c.from_residual-in_err-definitions.result _ _ c.from_residual-in_err-definitions.ensures.1 (c.in_err-definitions.ensures.reads hidden x.definitions (symbol RightBrace ∷ (end_lexemes x.has_semicolon ++ more)) (parts_stand (map definition_part x.definitions) (symbol RightBrace ∷ (end_lexemes x.has_semicolon ++ more)) right refl) refl e3)
 
 pub returns-in_err-symbol-2-clause-reads : goal.returns-in_err-symbol-2-clause-reads
 returns-in_err-symbol-2-clause-reads c =
@@ -60,7 +60,7 @@ returns-in_err-symbol-2-clause-reads c =
     let e1 = c.in_ok-word.ensures.reads hidden _ e0 in
     let e2 = c.in_ok-name.ensures.reads hidden _ _ e1 in
     let e3 = c.in_ok-symbol.ensures.reads hidden _ e2 in
-    let e4 = c.in_ok-definitions.ensures.reads hidden x.definitions.items (symbol RightBrace ∷ (end_lexemes x.has_semicolon ++ more)) (parts_stand (map definition_part x.definitions.items) (symbol RightBrace ∷ (end_lexemes x.has_semicolon ++ more)) right refl) refl e3 in
+    let e4 = c.in_ok-definitions.ensures.reads hidden x.definitions (symbol RightBrace ∷ (end_lexemes x.has_semicolon ++ more)) (parts_stand (map definition_part x.definitions) (symbol RightBrace ∷ (end_lexemes x.has_semicolon ++ more)) right refl) refl e3 in
     handed_seen hidden c.from_residual-in_err-symbol-2.result _ _ c.from_residual-in_err-symbol-2.ensures.1 (c.in_err-symbol-2.ensures.reads hidden _ e4)
 
 pub returns-in_err-has_semicolon-clause-reads : goal.returns-in_err-has_semicolon-clause-reads
@@ -70,7 +70,7 @@ returns-in_err-has_semicolon-clause-reads c =
     let e1 = c.in_ok-word.ensures.reads hidden _ e0 in
     let e2 = c.in_ok-name.ensures.reads hidden _ _ e1 in
     let e3 = c.in_ok-symbol.ensures.reads hidden _ e2 in
-    let e4 = c.in_ok-definitions.ensures.reads hidden x.definitions.items (symbol RightBrace ∷ (end_lexemes x.has_semicolon ++ more)) (parts_stand (map definition_part x.definitions.items) (symbol RightBrace ∷ (end_lexemes x.has_semicolon ++ more)) right refl) refl e3 in
+    let e4 = c.in_ok-definitions.ensures.reads hidden x.definitions (symbol RightBrace ∷ (end_lexemes x.has_semicolon ++ more)) (parts_stand (map definition_part x.definitions) (symbol RightBrace ∷ (end_lexemes x.has_semicolon ++ more)) right refl) refl e3 in
     let e5 = c.in_ok-symbol-2.ensures.reads hidden _ e4 in
     handed_seen hidden c.from_residual-in_err-has_semicolon.result _ _ c.from_residual-in_err-has_semicolon.ensures.1 (c.in_err-has_semicolon.ensures.reads hidden x.has_semicolon more (ended_stands (first more) other) e5)
 
@@ -81,6 +81,6 @@ returns-clause-reads c =
     let e1 = c.in_ok-word.ensures.reads hidden _ e0 in
     let e2 = c.in_ok-name.ensures.reads hidden _ _ e1 in
     let e3 = c.in_ok-symbol.ensures.reads hidden _ e2 in
-    let e4 = c.in_ok-definitions.ensures.reads hidden x.definitions.items (symbol RightBrace ∷ (end_lexemes x.has_semicolon ++ more)) (parts_stand (map definition_part x.definitions.items) (symbol RightBrace ∷ (end_lexemes x.has_semicolon ++ more)) right refl) refl e3 in
+    let e4 = c.in_ok-definitions.ensures.reads hidden x.definitions (symbol RightBrace ∷ (end_lexemes x.has_semicolon ++ more)) (parts_stand (map definition_part x.definitions) (symbol RightBrace ∷ (end_lexemes x.has_semicolon ++ more)) right refl) refl e3 in
     let e5 = c.in_ok-symbol-2.ensures.reads hidden _ e4 in
     c.in_ok-has_semicolon.ensures.reads hidden x.has_semicolon more (ended_stands (first more) other) e5

@@ -1,5 +1,5 @@
 -- One more name of a port is read behind its comma.
-use Rattle.std.proofs.Common.{ap, arith, length-append, rules, string_bytes, length}
+use Rattle.std.proofs.Common.{ap, arith, length-append, rules, length}
 use Rattle.tp_syntax.specs.Definitions.{declared_name_lexemes}
 use Rattle.tp_syntax.proofs.ReadSequenceGrowth.{push_read}
 use Rattle.std.proofs.lemmas.Grind.{common_steps}
@@ -17,16 +17,16 @@ use Rattle.tp_syntax.proofs.cursor.Parser.names.Goals as goal
 pub more-preserved : goal.more-preserved
 more-preserved c = record {
   seen = λ hidden xs more some stops could.
-      let n = next_part_seen declared_name_lexemes (λ _. Unit {0}) hidden more _ _ (item_of c.more.names.items c.more.invariant.some) tt
+      let n = next_part_seen declared_name_lexemes (λ _. Unit {0}) hidden more _ _ (item_of c.more.names c.more.invariant.some) tt
       (c.more.invariant.seen hidden xs more some stops could) c.more-test.ensures.passed stops in
-      (n.2, n.3, c.in_ok-next.ensures.reads hidden (string_bytes n.0.name) _ n.4);
-  tokens = rw c.in_ok-push-2.ensures.items
-      (push_read declared_name_lexemes c.more.names.items c.in_ok-next.next _ _ _ _
+      (n.2, n.3, c.in_ok-next.ensures.reads hidden n.0.name _ n.4);
+  tokens = rw c.in_ok-push-2.ensures.ok
+      (push_read declared_name_lexemes c.more.names c.in_ok-next.next _ _ _ _
       c.more.invariant.some c.more.invariant.tokens c.more-test.ensures.yes c.in_ok-next.ensures.tokens);
-  some = rw c.in_ok-push-2.ensures.items (simp length-append (omega arith));
+  some = rw c.in_ok-push-2.ensures.ok (simp length-append (omega arith));
   shorter = omega (arith, c.more.invariant.shorter, c.more-test.ensures.shorter, c.in_ok-next.ensures.shorter);
-  lines = rw c.in_ok-push-2.ensures.items
-      (passes_comma declared_name_notes c.more.names.items c.in_ok-next.next c.more.invariant.some c.more.invariant.lines
+  lines = rw c.in_ok-push-2.ensures.ok
+      (passes_comma declared_name_notes c.more.names c.in_ok-next.next c.more.invariant.some c.more.invariant.lines
       (passes_one c.more-test.ensures.forward c.more-test.ensures.yes) c.in_ok-next.ensures.lines);
 }
 
@@ -34,11 +34,11 @@ pub more-init : goal.more-init
 more-init c = record {
   seen = λ hidden xs more some stops could.
       let n = first_part_seen declared_name_lexemes (λ _. Unit {0}) hidden xs more c.args.self.now.rest.now (all_any xs) some could in
-      (n.2, n.3, c.in_ok-first.ensures.reads hidden (string_bytes n.0.name) _ n.4);
+      (n.2, n.3, c.in_ok-first.ensures.reads hidden n.0.name _ n.4);
   tokens = first_of (search rules, grind (arith, common_steps));
   some = first_of (search rules, grind (arith, common_steps));
   shorter = first_of (search rules, grind (arith, common_steps));
-  lines = rw (c.in_ok-push.ensures.items, c.new-names.ensures.items) (passes_first declared_name_notes c.in_ok-first.first c.in_ok-first.ensures.lines);
+  lines = rw (c.in_ok-push.ensures.ok, c.new-names.ensures) (passes_first declared_name_notes c.in_ok-first.first c.in_ok-first.ensures.lines);
 }
 
 pub returns-clause-lines : goal.returns-clause-lines
@@ -49,15 +49,15 @@ returns-in_err-first-clause-reads c =
     λ hidden xs more some stops could.
     handed_seen hidden c.from_residual.result _ _ c.from_residual.ensures.1
     (let n = first_part_seen declared_name_lexemes (λ _. Unit {0}) hidden xs more c.args.self.now.rest.now
-    (all_any xs) some could in c.in_err-first.ensures.reads hidden (string_bytes n.0.name) _ n.4)
+    (all_any xs) some could in c.in_err-first.ensures.reads hidden n.0.name _ n.4)
 
 pub returns-in_err-next-clause-reads : goal.returns-in_err-next-clause-reads
 returns-in_err-next-clause-reads c =
     λ hidden xs more some stops could.
-    let n = next_part_seen declared_name_lexemes (λ _. Unit {0}) hidden more _ _ (item_of c.more.names.items c.more.invariant.some) tt
+    let n = next_part_seen declared_name_lexemes (λ _. Unit {0}) hidden more _ _ (item_of c.more.names c.more.invariant.some) tt
     (c.more.invariant.seen hidden xs more some stops could) c.more-test.ensures.passed stops in
     handed_seen hidden c.from_residual-in_err-next.result _ _ c.from_residual-in_err-next.ensures.1 (c.in_err-next.ensures.reads hidden
-    (string_bytes n.0.name) _ n.4)
+    n.0.name _ n.4)
 
 pub returns-clause-reads : goal.returns-clause-reads
 returns-clause-reads c =

@@ -14,13 +14,13 @@ use Rattle.tp_syntax.proofs.cursor.Parser.names.Given as goal
 
 abbrev pub invariant-more : goal.invariant-more
 invariant-more l = record {
-  tokens : ahead l.fn.self.rest.now ≡ declared_names_lexemes l.names.items ++ ahead l.self.rest.now;
-  some : 0 < length l.names.items;
+  tokens : ahead l.fn.self.rest.now ≡ declared_names_lexemes l.names ++ ahead l.self.rest.now;
+  some : 0 < length l.names;
   seen : (hidden : ℕ) (xs : List DeclaredName) (more : List Lexeme) → has_one xs ≡ true → Stops more → CouldBe hidden l.fn.self.rest.now
       (declared_names_lexemes xs ++ more)
       → RemainSeen declared_name_lexemes (λ _. Unit {0}) hidden more l.self.rest.now;
   shorter : length l.self.rest.now < length l.fn.self.rest.now;
-  lines : PassesNoted l.fn.self.rest.now (noted_by_commas (map declared_name_notes l.names.items)) l.self.rest.now;
+  lines : PassesNoted l.fn.self.rest.now (noted_by_commas (map declared_name_notes l.names)) l.self.rest.now;
 }
 
 abbrev pub decreases-more : goal.decreases-more

@@ -20,13 +20,13 @@ use Rattle.tp_syntax.proofs.cursor.Parser.parameters.Goals as goal
 
 pub more-preserved : goal.more-preserved
 more-preserved c = record {
-  tokens = rw c.in_ok-push-2.ensures.items
-      (push_read parameter_lexemes c.more.parameters.items c.in_ok-next.next _ _ _ _
+  tokens = rw c.in_ok-push-2.ensures.ok
+      (push_read parameter_lexemes c.more.parameters c.in_ok-next.next _ _ _ _
       c.more.invariant.some c.more.invariant.tokens c.more-test.ensures.yes c.in_ok-next.ensures.tokens);
-  some = rw c.in_ok-push-2.ensures.items (simp length-append (omega arith));
+  some = rw c.in_ok-push-2.ensures.ok (simp length-append (omega arith));
   shorter = omega (arith, c.more.invariant.shorter, c.more-test.ensures.shorter, c.in_ok-next.ensures.shorter);
-  lines = rw c.in_ok-push-2.ensures.items
-      (passes_comma parameter_notes c.more.parameters.items c.in_ok-next.next c.more.invariant.some c.more.invariant.lines
+  lines = rw c.in_ok-push-2.ensures.ok
+      (passes_comma parameter_notes c.more.parameters c.in_ok-next.next c.more.invariant.some c.more.invariant.lines
       (passes_one c.more-test.ensures.forward c.more-test.ensures.yes) c.in_ok-next.ensures.lines);
   seen = λ hidden xs more close could.
       let n = next_part_seen parameter_lexemes (λ _. Unit {0}) hidden more _ _ c.in_ok-next.next tt (c.more.invariant.seen hidden xs more close could) c.more-test.ensures.passed (ap ends_operation close) in
@@ -38,7 +38,7 @@ more-init c = record {
   tokens = first_of (search rules, grind (arith, common_steps));
   some = first_of (search rules, grind (arith, common_steps));
   shorter = first_of (search rules, grind (arith, common_steps));
-  lines = rw (c.in_ok-push.ensures.items, c.new-parameters.ensures.items) (passes_first parameter_notes c.in_ok-first.first c.in_ok-first.ensures.lines);
+  lines = rw (c.in_ok-push.ensures.ok, c.new-parameters.ensures) (passes_first parameter_notes c.in_ok-first.first c.in_ok-first.ensures.lines);
   seen = λ hidden xs more close could.
       elim (some_seen parameter_lexemes (λ _. Unit {0}) hidden xs (symbol RightParen) more _ (all_any xs) refl close (iff_false c.is_symbol_at.ensures c.if-is_symbol_at.false) could) [
         | inl n ↦ (n.2, n.3, c.in_ok-first.ensures.reads hidden n.0 _ n.4)
@@ -50,7 +50,7 @@ pub returns-clause-lines : goal.returns-clause-lines
 returns-clause-lines c = passes_same (ap (λ (p : Parser). p.rest.now) c.more-test.ensures.no) c.more.invariant.lines
 
 pub returns-then-is_symbol_at-clause-lines : goal.returns-then-is_symbol_at-clause-lines
-returns-then-is_symbol_at-clause-lines c = rw c.new-parameters.ensures.items (passes_none _)
+returns-then-is_symbol_at-clause-lines c = rw c.new-parameters.ensures (passes_none _)
 
 pub returns-in_err-first-clause-reads : goal.returns-in_err-first-clause-reads
 returns-in_err-first-clause-reads c =
@@ -63,7 +63,7 @@ returns-in_err-first-clause-reads c =
 pub returns-in_err-next-clause-reads : goal.returns-in_err-next-clause-reads
 returns-in_err-next-clause-reads c =
     λ hidden xs more close could.
-    let n = next_part_seen parameter_lexemes (λ _. Unit {0}) hidden more _ _ (item_of c.more.parameters.items c.more.invariant.some) tt (c.more.invariant.seen hidden xs more close could) c.more-test.ensures.passed (ap ends_operation close) in
+    let n = next_part_seen parameter_lexemes (λ _. Unit {0}) hidden more _ _ (item_of c.more.parameters c.more.invariant.some) tt (c.more.invariant.seen hidden xs more close could) c.more-test.ensures.passed (ap ends_operation close) in
     handed_seen hidden c.from_residual-in_err-next.result _ _ c.from_residual-in_err-next.ensures.1 (c.in_err-next.ensures.reads hidden n.0 _ n.4)
 
 pub returns-clause-reads : goal.returns-clause-reads

@@ -14,12 +14,12 @@ use Rattle.tp_syntax.proofs.cursor.Parser.parameters.Given as goal
 
 abbrev pub invariant-more : goal.invariant-more
 invariant-more l = record {
-  tokens : ahead l.fn.self.rest.now ≡ parameters_lexemes l.parameters.items ++ ahead l.self.rest.now;
-  some : 0 < length l.parameters.items;
+  tokens : ahead l.fn.self.rest.now ≡ parameters_lexemes l.parameters ++ ahead l.self.rest.now;
+  some : 0 < length l.parameters;
   seen : (hidden : ℕ) (xs : List Parameter) (more : List Lexeme) → first more ≡ Some (symbol RightParen) → CouldBe hidden l.fn.self.rest.now (parameters_lexemes xs ++ more)
       → RemainSeen parameter_lexemes (λ _. Unit {0}) hidden more l.self.rest.now;
   shorter : length l.self.rest.now < length l.fn.self.rest.now;
-  lines : PassesNoted l.fn.self.rest.now (noted_by_commas (map parameter_notes l.parameters.items)) l.self.rest.now;
+  lines : PassesNoted l.fn.self.rest.now (noted_by_commas (map parameter_notes l.parameters)) l.self.rest.now;
 }
 
 abbrev pub decreases-more : goal.decreases-more

@@ -7,5 +7,5 @@ use Rattle.tp_syntax.proofs.cursor.Parser.pattern.Goals as goal
 
 pub returns-in_ok-characters-in-Text-clause-grammatical : goal.returns-in_ok-characters-in-Text-clause-grammatical
 returns-in_ok-characters-in-Text-clause-grammatical c =
-    rw (template_pattern, c.in_ok-characters-in-Text.ensures.items, c.deref-in-Text.ensures.value)
+    rw (template_pattern, c.in_ok-characters-in-Text.ensures, c.deref-in-Text.ensures.value)
     (sym (ap (λ (cs : List ℕ). list_all is_plain cs) c.deref.ensures.value) ∙ sym c.is_pattern.ensures ∙ c.if-is_pattern.true)

@@ -58,7 +58,7 @@ returns-in_err-names-clause-reads c =
     let e1 = c.in_ok-word.ensures.reads hidden _ e0 in
     let e2 = c.in_ok-type_name.ensures.reads hidden _ _ e1 in
     handed_seen hidden c.from_residual-in_err-names.result _ _ c.from_residual-in_err-names.ensures.1
-    (c.in_err-names.ensures.reads hidden x.names.items _ placed.0 (end_stops x.has_semicolon more placed.1) e2)
+    (c.in_err-names.ensures.reads hidden x.names _ placed.0 (end_stops x.has_semicolon more placed.1) e2)
 
 pub returns-in_err-has_semicolon-clause-reads : goal.returns-in_err-has_semicolon-clause-reads
 unfolding port_declaration_lexemes
@@ -67,7 +67,7 @@ returns-in_err-has_semicolon-clause-reads c =
     let e0 = simp append_assoc at could in
     let e1 = c.in_ok-word.ensures.reads hidden _ e0 in
     let e2 = c.in_ok-type_name.ensures.reads hidden _ _ e1 in
-    let e3 = c.in_ok-names.ensures.reads hidden x.names.items _ placed.0 (end_stops x.has_semicolon more placed.1) e2 in
+    let e3 = c.in_ok-names.ensures.reads hidden x.names _ placed.0 (end_stops x.has_semicolon more placed.1) e2 in
     handed_seen hidden c.from_residual-in_err-has_semicolon.result _ _ c.from_residual-in_err-has_semicolon.ensures.1
     (c.in_err-has_semicolon.ensures.reads hidden x.has_semicolon more placed.1 e3)
 
@@ -78,5 +78,5 @@ returns-clause-reads c =
     let e0 = simp append_assoc at could in
     let e1 = c.in_ok-word.ensures.reads hidden _ e0 in
     let e2 = c.in_ok-type_name.ensures.reads hidden _ _ e1 in
-    let e3 = c.in_ok-names.ensures.reads hidden x.names.items _ placed.0 (end_stops x.has_semicolon more placed.1) e2 in
+    let e3 = c.in_ok-names.ensures.reads hidden x.names _ placed.0 (end_stops x.has_semicolon more placed.1) e2 in
     c.in_ok-has_semicolon.ensures.reads hidden x.has_semicolon more placed.1 e3

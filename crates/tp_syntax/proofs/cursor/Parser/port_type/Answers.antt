@@ -1,8 +1,8 @@
 -- A port type has a direction, and each but the last has its `;`.
-use Rattle.std.proofs.Common.{◌≡◌, ◌<◌, length, map, arith, append_assoc, append_assoc, refl}
+use Rattle.std.proofs.Common.{◌∙◌, map, arith, append_assoc, refl, sym, true≢false}
 use Rattle.std.proofs.lemmas.Bool.{and_from, and_parts}
 use Rattle.tp_syntax.specs.Grammar.{are_parts, direction_part, has_one}
-use Rattle.tp_syntax.proofs.PassedPartGrowth.{between_parts, has_one_of}
+use Rattle.tp_syntax.proofs.PassedPartGrowth.{between_parts, has_one_some}
 use Rattle.tp_syntax.proofs.FirstTokensAhead.{raw}
 use Rattle.tp_syntax.specs.Definitions.{port_type_lexemes}
 use Rattle.tp_syntax.proofs.DefinitionReading.{directions_stand}
@@ -11,16 +11,15 @@ use Rattle.tp_syntax.proofs.FirstTokensSeen.{handed_as, handed_seen}
 use Rattle.tp_syntax.proofs.TokensBeyond.{behind_stands, beyond_stands, wrong_stands}
 use Rattle.tp_syntax.specs.Stuck.{StandAtLeast}
 use Rattle.tp_token.specs.declared.word.Word.TheVariants as w
-use Rattle.tp_syntax.proofs.TypesSeen.{no_items, way_hidden}
+use Rattle.tp_syntax.proofs.TypesSeen.{way_hidden}
 use Rattle.tp_syntax.proofs.FirstTokensStand.{memory_alone, own_could}
 use Rattle.tp_syntax.proofs.cursor.Parser.port_type.Goals as goal
 
 pub returns-clause-grammatical : goal.returns-clause-grammatical
 returns-clause-grammatical c =
-    let some : 0 < length c.in_ok-directions.directions.items = grind arith in
-    and_from (has_one c.in_ok-directions.directions.items) (are_parts (map direction_part c.in_ok-directions.directions.items))
-    (has_one_of c.in_ok-directions.directions.items some)
-    (between_parts (map direction_part c.in_ok-directions.directions.items) _ _ c.in_ok-directions.ensures.grammatical)
+    and_from (has_one c.in_ok-directions.directions) (are_parts (map direction_part c.in_ok-directions.directions))
+    (has_one_some c.in_ok-directions.directions (λ none. true≢false (sym (c.is_empty.ensures.1 none) ∙ c.if-is_empty.false)))
+    (between_parts (map direction_part c.in_ok-directions.directions) _ _ c.in_ok-directions.ensures.grammatical)
 
 pub returns-in_err-word-clause-beyond : goal.returns-in_err-word-clause-beyond
 returns-in_err-word-clause-beyond c =
@@ -166,7 +165,7 @@ returns-in_err-directions-clause-reads c =
     let e4 = c.in_ok-word-3.ensures.reads hidden _ e3 in
     let e5 = c.in_ok-symbol.ensures.reads hidden _ e4 in
     handed_seen hidden c.from_residual-in_err-directions.result _ _ c.from_residual-in_err-directions.ensures.1
-    (c.in_err-directions.ensures.reads hidden x.directions.items _ (directions_stand x more right) refl e5)
+    (c.in_err-directions.ensures.reads hidden x.directions _ (directions_stand x more right) refl e5)
 
 pub returns-in_err-symbol-2-clause-reads : goal.returns-in_err-symbol-2-clause-reads
 unfolding port_type_lexemes
@@ -178,7 +177,7 @@ returns-in_err-symbol-2-clause-reads c =
     let e3 = c.in_ok-name.ensures.reads hidden _ _ e2 in
     let e4 = c.in_ok-word-3.ensures.reads hidden _ e3 in
     let e5 = c.in_ok-symbol.ensures.reads hidden _ e4 in
-    let e6 = c.in_ok-directions.ensures.reads hidden x.directions.items _ (directions_stand x more right) refl e5 in
+    let e6 = c.in_ok-directions.ensures.reads hidden x.directions _ (directions_stand x more right) refl e5 in
     handed_seen hidden c.from_residual-in_err-symbol-2.result _ _ c.from_residual-in_err-symbol-2.ensures.1
     (c.in_err-symbol-2.ensures.reads hidden more e6)
 
@@ -192,7 +191,7 @@ returns-clause-reads c =
     let e3 = c.in_ok-name.ensures.reads hidden _ _ e2 in
     let e4 = c.in_ok-word-3.ensures.reads hidden _ e3 in
     let e5 = c.in_ok-symbol.ensures.reads hidden _ e4 in
-    let e6 = c.in_ok-directions.ensures.reads hidden x.directions.items _ (directions_stand x more right) refl e5 in
+    let e6 = c.in_ok-directions.ensures.reads hidden x.directions _ (directions_stand x more right) refl e5 in
     c.in_ok-symbol-2.ensures.reads hidden more e6
 
 pub returns-then-is_empty-clause-reads : goal.returns-then-is_empty-clause-reads
@@ -205,10 +204,9 @@ returns-then-is_empty-clause-reads c =
     let e3 = c.in_ok-name.ensures.reads hidden _ _ e2 in
     let e4 = c.in_ok-word-3.ensures.reads hidden _ e3 in
     let e5 = c.in_ok-symbol.ensures.reads hidden _ e4 in
-    let e6 = c.in_ok-directions.ensures.reads hidden x.directions.items _ (directions_stand x more right) refl e5 in
-    let none : length c.in_ok-directions.directions.items ≡ 0 = grind arith in
-    let some = (and_parts (has_one x.directions.items) (are_parts (map direction_part x.directions.items)) right).0 in
-    way_hidden hidden x.directions.items more c.symbol.new.self c.directions.new.self some (c.in_ok-directions.ensures.none (no_items _ none)) e5 e6
+    let e6 = c.in_ok-directions.ensures.reads hidden x.directions _ (directions_stand x more right) refl e5 in
+    let some = (and_parts (has_one x.directions) (are_parts (map direction_part x.directions)) right).0 in
+    way_hidden hidden x.directions more c.symbol.new.self c.directions.new.self some (c.in_ok-directions.ensures.none (c.is_empty.ensures.0 c.if-is_empty.true)) e5 e6
 
 pub returns-in_err-word-2-clause-reads : goal.returns-in_err-word-2-clause-reads
 unfolding port_type_lexemes

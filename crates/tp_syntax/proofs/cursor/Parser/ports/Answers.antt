@@ -31,23 +31,23 @@ more-preserved c = record {
           c.in_ok-port_declaration.ensures.shorter,
         ))
       ];
-  tokens = rw c.in_ok-push.ensures.items
-      (push_read_all port_declaration_lexemes c.more.ports.items c.in_ok-port_declaration.port_declaration _ _ _
+  tokens = rw c.in_ok-push.ensures.ok
+      (push_read_all port_declaration_lexemes c.more.ports c.in_ok-port_declaration.port_declaration _ _ _
       c.more.invariant.tokens c.in_ok-port_declaration.ensures.tokens);
-  grammatical = rw c.in_ok-push.ensures.items
-      (between_push port_declaration_part c.more.ports.items c.in_ok-port_declaration.port_declaration _ _ _ c.more.invariant.grammatical (iff_false c.is_symbol_at.ensures c.more-test.true) c.in_ok-port_declaration.ensures.grammatical);
+  grammatical = rw c.in_ok-push.ensures.ok
+      (between_push port_declaration_part c.more.ports c.in_ok-port_declaration.port_declaration _ _ _ c.more.invariant.grammatical (iff_false c.is_symbol_at.ensures c.more-test.true) c.in_ok-port_declaration.ensures.grammatical);
   shorter = omega (arith, c.more.invariant.shorter, c.in_ok-port_declaration.ensures.shorter);
-  lines = rw c.in_ok-push.ensures.items
-      (passes_push port_declaration_notes c.more.ports.items c.in_ok-port_declaration.port_declaration c.more.invariant.lines c.in_ok-port_declaration.ensures.lines);
+  lines = rw c.in_ok-push.ensures.ok
+      (passes_push port_declaration_notes c.more.ports c.in_ok-port_declaration.port_declaration c.more.invariant.lines c.in_ok-port_declaration.ensures.lines);
 }
 
 pub more-init : goal.more-init
 more-init c = record {
   seen = λ hidden xs more stand brace could. (xs, all_any xs, stand, could);
   tokens = first_of (search rules, grind (arith, common_steps));
-  grammatical = rw c.new-ports.ensures.items (between_none _);
+  grammatical = rw c.new-ports.ensures (between_none _);
   shorter = first_of (search rules, grind (arith, common_steps));
-  lines = rw c.new-ports.ensures.items (passes_none _);
+  lines = rw c.new-ports.ensures (passes_none _);
 }
 
 pub returns-in_err-port_declaration-clause-reads : goal.returns-in_err-port_declaration-clause-reads

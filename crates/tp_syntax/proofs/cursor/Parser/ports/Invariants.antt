@@ -16,13 +16,13 @@ use Rattle.tp_syntax.proofs.cursor.Parser.ports.Given as goal
 
 abbrev pub invariant-more : goal.invariant-more
 invariant-more l = record {
-  tokens : ahead l.fn.self.rest.now ≡ port_declarations_lexemes l.ports.items ++ ahead l.self.rest.now;
-  grammatical : GoesOver l.fn.self (map port_declaration_part l.ports.items) l.self;
+  tokens : ahead l.fn.self.rest.now ≡ port_declarations_lexemes l.ports ++ ahead l.self.rest.now;
+  grammatical : GoesOver l.fn.self (map port_declaration_part l.ports) l.self;
   seen : (hidden : ℕ) (xs : List PortDeclaration) (more : List Lexeme) → AllStand (map port_declaration_part xs) more → first more ≡ Some
       (symbol RightBrace) → CouldBe hidden l.fn.self.rest.now (port_declarations_lexemes xs ++ more)
       → RemainAllSeen port_declaration_lexemes port_declaration_part (λ _. Unit {0}) hidden more l.self.rest.now;
   shorter : length l.self.rest.now ≤ length l.fn.self.rest.now;
-  lines : PassesNoted l.fn.self.rest.now (noted_in_order (map port_declaration_notes l.ports.items)) l.self.rest.now;
+  lines : PassesNoted l.fn.self.rest.now (noted_in_order (map port_declaration_notes l.ports)) l.self.rest.now;
 }
 
 abbrev pub decreases-more : goal.decreases-more

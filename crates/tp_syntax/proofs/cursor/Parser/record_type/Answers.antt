@@ -178,6 +178,18 @@ returns-in_err-symbol-2-clause-beyond_record c =
       c.in_ok-fields.ensures.shorter,
     )) c.in_err-symbol-2.ensures.place)
 
+pub returns-clause-reads : goal.returns-clause-reads
+unfolding record_type_lexemes
+returns-clause-reads c =
+    λ hidden x more could.
+    let e0 = simp append_assoc at could in
+    let e1 = c.in_ok-word.ensures.reads hidden _ e0 in
+    let e2 = c.in_ok-word-2.ensures.reads hidden _ e1 in
+    let e3 = c.in_ok-name.ensures.reads hidden _ _ e2 in
+    let e4 = c.in_ok-symbol.ensures.reads hidden _ e3 in
+    let e5 = c.in_ok-fields.ensures.reads hidden x.fields _ refl e4 in
+    c.in_ok-symbol-2.ensures.reads hidden more e5
+
 pub returns-in_err-word-2-clause-reads : goal.returns-in_err-word-2-clause-reads
 unfolding record_type_lexemes
 returns-in_err-word-2-clause-reads c =
@@ -215,7 +227,7 @@ returns-in_err-fields-clause-reads c =
     let e3 = c.in_ok-name.ensures.reads hidden _ _ e2 in
     let e4 = c.in_ok-symbol.ensures.reads hidden _ e3 in
     handed_seen hidden c.from_residual-in_err-fields.result _ _ c.from_residual-in_err-fields.ensures.1
-    (c.in_err-fields.ensures.reads hidden x.fields.items _ refl e4)
+    (c.in_err-fields.ensures.reads hidden x.fields _ refl e4)
 
 pub returns-in_err-symbol-2-clause-reads : goal.returns-in_err-symbol-2-clause-reads
 unfolding record_type_lexemes
@@ -226,6 +238,6 @@ returns-in_err-symbol-2-clause-reads c =
     let e2 = c.in_ok-word-2.ensures.reads hidden _ e1 in
     let e3 = c.in_ok-name.ensures.reads hidden _ _ e2 in
     let e4 = c.in_ok-symbol.ensures.reads hidden _ e3 in
-    let e5 = c.in_ok-fields.ensures.reads hidden x.fields.items _ refl e4 in
+    let e5 = c.in_ok-fields.ensures.reads hidden x.fields _ refl e4 in
     handed_seen hidden c.from_residual-in_err-symbol-2.result _ _ c.from_residual-in_err-symbol-2.ensures.1
     (c.in_err-symbol-2.ensures.reads hidden more e5)

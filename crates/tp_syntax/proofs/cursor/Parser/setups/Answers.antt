@@ -19,13 +19,13 @@ use Rattle.tp_syntax.proofs.cursor.Parser.setups.Goals as goal
 
 pub more-preserved : goal.more-preserved
 more-preserved c = record {
-  tokens = rw c.in_ok-push.ensures.items
-      (push_read_all setup_lexemes c.more.setups.items c.in_ok-setup.setup _ _ _ c.more.invariant.tokens c.in_ok-setup.ensures.tokens);
-  grammatical = rw c.in_ok-push.ensures.items
-      (between_push setup_part c.more.setups.items c.in_ok-setup.setup _ _ _ c.more.invariant.grammatical c.more-test.ensures.goes_on c.in_ok-setup.ensures.grammatical);
+  tokens = rw c.in_ok-push.ensures.ok
+      (push_read_all setup_lexemes c.more.setups c.in_ok-setup.setup _ _ _ c.more.invariant.tokens c.in_ok-setup.ensures.tokens);
+  grammatical = rw c.in_ok-push.ensures.ok
+      (between_push setup_part c.more.setups c.in_ok-setup.setup _ _ _ c.more.invariant.grammatical c.more-test.ensures.goes_on c.in_ok-setup.ensures.grammatical);
   shorter = omega (arith, c.more.invariant.shorter, c.in_ok-setup.ensures.shorter);
-  lines = rw c.in_ok-push.ensures.items
-      (passes_push setup_notes c.more.setups.items c.in_ok-setup.setup c.more.invariant.lines c.in_ok-setup.ensures.lines);
+  lines = rw c.in_ok-push.ensures.ok
+      (passes_push setup_notes c.more.setups c.in_ok-setup.setup c.more.invariant.lines c.in_ok-setup.ensures.lines);
   seen = λ hidden xs more stand other could.
       loop_passed setup_lexemes setup_part hidden more _ _ setup_begins (c.more.invariant.seen hidden xs more stand other could)
       (setup_passed hidden more _ _ (c.more-test.ensures.setup.0 refl) other (omega (arith, c.in_ok-setup.ensures.shorter)) c.in_ok-setup.ensures.beyond_variable) (c.in_ok-setup.ensures.reads hidden);
@@ -34,9 +34,9 @@ more-preserved c = record {
 pub more-init : goal.more-init
 more-init c = record {
   tokens = first_of (search rules, grind (arith, common_steps));
-  grammatical = rw c.new-setups.ensures.items (between_none _);
+  grammatical = rw c.new-setups.ensures (between_none _);
   shorter = first_of (search rules, grind (arith, common_steps));
-  lines = rw c.new-setups.ensures.items (passes_none _);
+  lines = rw c.new-setups.ensures (passes_none _);
   seen = λ hidden xs more stand other could. (xs, all_any xs, stand, could);
 }
 

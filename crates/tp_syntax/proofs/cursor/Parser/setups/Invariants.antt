@@ -15,10 +15,10 @@ use Rattle.tp_syntax.proofs.cursor.Parser.setups.Given as goal
 
 abbrev pub invariant-more : goal.invariant-more
 invariant-more l = record {
-  tokens : ahead l.fn.self.rest.now ≡ setups_lexemes l.setups.items ++ ahead l.self.rest.now;
-  grammatical : GoesOver l.fn.self (map setup_part l.setups.items) l.self;
+  tokens : ahead l.fn.self.rest.now ≡ setups_lexemes l.setups ++ ahead l.self.rest.now;
+  grammatical : GoesOver l.fn.self (map setup_part l.setups) l.self;
   shorter : length l.self.rest.now ≤ length l.fn.self.rest.now;
-  lines : PassesNoted l.fn.self.rest.now (noted_in_order (map setup_notes l.setups.items)) l.self.rest.now;
+  lines : PassesNoted l.fn.self.rest.now (noted_in_order (map setup_notes l.setups)) l.self.rest.now;
   seen : (hidden : ℕ) (xs : List SetupStatement) (more : List Lexeme) → AllStand (map setup_part xs) more → is_setup_ahead more ≡ false → CouldBe hidden l.fn.self.rest.now (setups_lexemes xs ++ more)
       → RemainAllSeen setup_lexemes setup_part (λ _. Unit {0}) hidden more l.self.rest.now;
 }

@@ -15,7 +15,7 @@ use Rattle.tp_syntax.proofs.cursor.Parser.start.Goals as goal
 pub returns-clause-lines : goal.returns-clause-lines
 unfolding start_lexemes
 returns-clause-lines c =
-    let arguments : List Lexeme = arguments_lexemes c.in_ok-arguments.arguments.items in
+    let arguments : List Lexeme = arguments_lexemes c.in_ok-arguments.arguments in
     let ending : List Lexeme = end_lexemes c.in_ok-has_semicolon.has_semicolon in
     let close : List Lexeme = symbol RightParen ∷ [] in
     let inner = unnoted_then arguments close (passes_unnoted (arguments) c.in_ok-arguments.ensures.forward c.in_ok-arguments.ensures.tokens) (passes_one c.in_ok-symbol-4.ensures.forward c.in_ok-symbol-4.ensures.tokens) in
@@ -92,7 +92,7 @@ returns-in_err-arguments-clause-reads c =
     let e4 = c.in_ok-symbol-2.ensures.reads hidden _ e3 in
     let e5 = c.in_ok-function.ensures.reads hidden _ _ e4 in
     let e6 = c.in_ok-symbol-3.ensures.reads hidden _ e5 in
-    handed_seen hidden c.from_residual-in_err-arguments.result _ _ c.from_residual-in_err-arguments.ensures.1 (c.in_err-arguments.ensures.reads hidden x.arguments.items _ refl e6)
+    handed_seen hidden c.from_residual-in_err-arguments.result _ _ c.from_residual-in_err-arguments.ensures.1 (c.in_err-arguments.ensures.reads hidden x.arguments _ refl e6)
 
 pub returns-in_err-symbol-4-clause-reads : goal.returns-in_err-symbol-4-clause-reads
 unfolding start_lexemes
@@ -105,7 +105,7 @@ returns-in_err-symbol-4-clause-reads c =
     let e4 = c.in_ok-symbol-2.ensures.reads hidden _ e3 in
     let e5 = c.in_ok-function.ensures.reads hidden _ _ e4 in
     let e6 = c.in_ok-symbol-3.ensures.reads hidden _ e5 in
-    let e7 = c.in_ok-arguments.ensures.reads hidden x.arguments.items _ refl e6 in
+    let e7 = c.in_ok-arguments.ensures.reads hidden x.arguments _ refl e6 in
     handed_seen hidden c.from_residual-in_err-symbol-4.result _ _ c.from_residual-in_err-symbol-4.ensures.1 (c.in_err-symbol-4.ensures.reads hidden _ e7)
 
 pub returns-in_err-symbol-5-clause-reads : goal.returns-in_err-symbol-5-clause-reads
@@ -119,7 +119,7 @@ returns-in_err-symbol-5-clause-reads c =
     let e4 = c.in_ok-symbol-2.ensures.reads hidden _ e3 in
     let e5 = c.in_ok-function.ensures.reads hidden _ _ e4 in
     let e6 = c.in_ok-symbol-3.ensures.reads hidden _ e5 in
-    let e7 = c.in_ok-arguments.ensures.reads hidden x.arguments.items _ refl e6 in
+    let e7 = c.in_ok-arguments.ensures.reads hidden x.arguments _ refl e6 in
     let e8 = c.in_ok-symbol-4.ensures.reads hidden _ e7 in
     handed_seen hidden c.from_residual-in_err-symbol-5.result _ _ c.from_residual-in_err-symbol-5.ensures.1 (c.in_err-symbol-5.ensures.reads hidden _ e8)
 
@@ -134,7 +134,7 @@ returns-in_err-has_semicolon-clause-reads c =
     let e4 = c.in_ok-symbol-2.ensures.reads hidden _ e3 in
     let e5 = c.in_ok-function.ensures.reads hidden _ _ e4 in
     let e6 = c.in_ok-symbol-3.ensures.reads hidden _ e5 in
-    let e7 = c.in_ok-arguments.ensures.reads hidden x.arguments.items _ refl e6 in
+    let e7 = c.in_ok-arguments.ensures.reads hidden x.arguments _ refl e6 in
     let e8 = c.in_ok-symbol-4.ensures.reads hidden _ e7 in
     let e9 = c.in_ok-symbol-5.ensures.reads hidden _ e8 in
     handed_seen hidden c.from_residual-in_err-has_semicolon.result _ _ c.from_residual-in_err-has_semicolon.ensures.1 (c.in_err-has_semicolon.ensures.reads hidden x.has_semicolon more placed.1 e9)
@@ -150,7 +150,7 @@ returns-clause-reads c =
     let e4 = c.in_ok-symbol-2.ensures.reads hidden _ e3 in
     let e5 = c.in_ok-function.ensures.reads hidden _ _ e4 in
     let e6 = c.in_ok-symbol-3.ensures.reads hidden _ e5 in
-    let e7 = c.in_ok-arguments.ensures.reads hidden x.arguments.items _ refl e6 in
+    let e7 = c.in_ok-arguments.ensures.reads hidden x.arguments _ refl e6 in
     let e8 = c.in_ok-symbol-4.ensures.reads hidden _ e7 in
     let e9 = c.in_ok-symbol-5.ensures.reads hidden _ e8 in
     c.in_ok-has_semicolon.ensures.reads hidden x.has_semicolon more placed.1 e9

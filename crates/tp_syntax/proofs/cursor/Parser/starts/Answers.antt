@@ -19,13 +19,13 @@ use Rattle.tp_syntax.proofs.cursor.Parser.starts.Goals as goal
 
 pub more-preserved : goal.more-preserved
 more-preserved c = record {
-  tokens = rw c.in_ok-push.ensures.items
-      (push_read_all start_lexemes c.more.starts.items c.in_ok-start.start _ _ _ c.more.invariant.tokens c.in_ok-start.ensures.tokens);
-  grammatical = rw c.in_ok-push.ensures.items
-      (between_push start_part c.more.starts.items c.in_ok-start.start _ _ _ c.more.invariant.grammatical c.more-test.ensures.goes_on c.in_ok-start.ensures.grammatical);
+  tokens = rw c.in_ok-push.ensures.ok
+      (push_read_all start_lexemes c.more.starts c.in_ok-start.start _ _ _ c.more.invariant.tokens c.in_ok-start.ensures.tokens);
+  grammatical = rw c.in_ok-push.ensures.ok
+      (between_push start_part c.more.starts c.in_ok-start.start _ _ _ c.more.invariant.grammatical c.more-test.ensures.goes_on c.in_ok-start.ensures.grammatical);
   shorter = omega (arith, c.more.invariant.shorter, c.in_ok-start.ensures.shorter);
-  lines = rw c.in_ok-push.ensures.items
-      (passes_push start_notes c.more.starts.items c.in_ok-start.start c.more.invariant.lines c.in_ok-start.ensures.lines);
+  lines = rw c.in_ok-push.ensures.ok
+      (passes_push start_notes c.more.starts c.in_ok-start.start c.more.invariant.lines c.in_ok-start.ensures.lines);
   seen = λ hidden xs more stand other could.
       loop_passed start_lexemes start_part hidden more _ _ start_begins (c.more.invariant.seen hidden xs more stand other could)
       (start_passed hidden more _ _ (c.more-test.ensures.start.0 refl) other (omega (arith, c.in_ok-start.ensures.shorter)) c.in_ok-start.ensures.beyond_start) (c.in_ok-start.ensures.reads hidden);
@@ -35,9 +35,9 @@ more-preserved c = record {
 pub more-init : goal.more-init
 more-init c = record {
   tokens = first_of (search rules, grind (arith, common_steps));
-  grammatical = rw c.new-starts.ensures.items (between_none _);
+  grammatical = rw c.new-starts.ensures (between_none _);
   shorter = first_of (search rules, grind (arith, common_steps));
-  lines = rw c.new-starts.ensures.items (passes_none _);
+  lines = rw c.new-starts.ensures (passes_none _);
   seen = λ hidden xs more stand other could. (xs, all_any xs, stand, could);
   none = λ no. refl;
 }

@@ -15,10 +15,10 @@ use Rattle.tp_syntax.proofs.cursor.Parser.starts.Given as goal
 
 abbrev pub invariant-more : goal.invariant-more
 invariant-more l = record {
-  tokens : ahead l.fn.self.rest.now ≡ starts_lexemes l.starts.items ++ ahead l.self.rest.now;
-  grammatical : GoesOver l.fn.self (map start_part l.starts.items) l.self;
+  tokens : ahead l.fn.self.rest.now ≡ starts_lexemes l.starts ++ ahead l.self.rest.now;
+  grammatical : GoesOver l.fn.self (map start_part l.starts) l.self;
   shorter : length l.self.rest.now ≤ length l.fn.self.rest.now;
-  lines : PassesNoted l.fn.self.rest.now (noted_in_order (map start_notes l.starts.items)) l.self.rest.now;
+  lines : PassesNoted l.fn.self.rest.now (noted_in_order (map start_notes l.starts)) l.self.rest.now;
   seen : (hidden : ℕ) (xs : List ComponentStart) (more : List Lexeme) → AllStand (map start_part xs) more → is_start_ahead more ≡ false → CouldBe hidden l.fn.self.rest.now (starts_lexemes xs ++ more)
       → RemainAllSeen start_lexemes start_part (λ _. Unit {0}) hidden more l.self.rest.now;
   none : is_name_in (token_at l.fn.self.rest.now 0) ≡ false → l.self ≡ l.fn.self;

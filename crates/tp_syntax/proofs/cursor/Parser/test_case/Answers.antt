@@ -15,10 +15,10 @@ use Rattle.tp_syntax.proofs.cursor.Parser.test_case.Goals as goal
 
 pub returns-clause-grammatical : goal.returns-clause-grammatical
 returns-clause-grammatical c =
-    let setups = map setup_part c.in_ok-setups.setups.items in
-    let starts = map start_part c.in_ok-starts.starts.items in
-    let variables = map variable_part c.in_ok-variables.variables.items in
-    let statements = statements_parts c.in_ok-statements.statements.items in
+    let setups = map setup_part c.in_ok-setups.setups in
+    let starts = map start_part c.in_ok-starts.starts in
+    let variables = map variable_part c.in_ok-variables.variables in
+    let statements = statements_parts c.in_ok-statements.statements in
     let done = all_done_parts c.in_ok-all_done.all_done in
     between_parts (setups ++ (starts ++ (variables ++ (statements ++ done)))) _ _
     (between_then setups (starts ++ (variables ++ (statements ++ done))) _ _ _ c.in_ok-setups.ensures.grammatical
@@ -141,7 +141,7 @@ returns-in_err-setups-clause-reads c =
     let e7 = c.in_ok-runs_on.ensures.reads hidden _ _ e6 in
     let e8 = c.in_ok-system.ensures.reads hidden x.system _ (λ h. cc h) e7 in
     let e9 = c.in_ok-symbol-3.ensures.reads hidden _ e8 in
-    handed_seen hidden c.from_residual-in_err-setups.result _ _ c.from_residual-in_err-setups.ensures.1 (c.in_err-setups.ensures.reads hidden x.setups.items (behind_setups x more) stands.setups (case_no_setup x more stands) e9)
+    handed_seen hidden c.from_residual-in_err-setups.result _ _ c.from_residual-in_err-setups.ensures.1 (c.in_err-setups.ensures.reads hidden x.setups (behind_setups x more) stands.setups (case_no_setup x more stands) e9)
 
 pub returns-in_err-starts-clause-reads : goal.returns-in_err-starts-clause-reads
 unfolding test_case_lexemes behaviour_lexemes
@@ -158,8 +158,8 @@ returns-in_err-starts-clause-reads c =
     let e7 = c.in_ok-runs_on.ensures.reads hidden _ _ e6 in
     let e8 = c.in_ok-system.ensures.reads hidden x.system _ (λ h. cc h) e7 in
     let e9 = c.in_ok-symbol-3.ensures.reads hidden _ e8 in
-    let e10 = c.in_ok-setups.ensures.reads hidden x.setups.items (behind_setups x more) stands.setups (case_no_setup x more stands) e9 in
-    handed_seen hidden c.from_residual-in_err-starts.result _ _ c.from_residual-in_err-starts.ensures.1 (starts_stuck hidden c.setups.new.self.rest.now _ (behind_setups x more) e10 (c.in_err-starts.ensures.reads hidden x.starts.items (behind_starts x more) stands.starts (case_no_start x more stands)) c.in_err-starts.ensures.none)
+    let e10 = c.in_ok-setups.ensures.reads hidden x.setups (behind_setups x more) stands.setups (case_no_setup x more stands) e9 in
+    handed_seen hidden c.from_residual-in_err-starts.result _ _ c.from_residual-in_err-starts.ensures.1 (starts_stuck hidden c.setups.new.self.rest.now _ (behind_setups x more) e10 (c.in_err-starts.ensures.reads hidden x.starts (behind_starts x more) stands.starts (case_no_start x more stands)) c.in_err-starts.ensures.none)
 
 pub returns-in_err-variables-clause-reads : goal.returns-in_err-variables-clause-reads
 unfolding test_case_lexemes behaviour_lexemes
@@ -176,9 +176,9 @@ returns-in_err-variables-clause-reads c =
     let e7 = c.in_ok-runs_on.ensures.reads hidden _ _ e6 in
     let e8 = c.in_ok-system.ensures.reads hidden x.system _ (λ h. cc h) e7 in
     let e9 = c.in_ok-symbol-3.ensures.reads hidden _ e8 in
-    let e10 = c.in_ok-setups.ensures.reads hidden x.setups.items (behind_setups x more) stands.setups (case_no_setup x more stands) e9 in
-    let e11 = starts_behind hidden c.setups.new.self.rest.now c.starts.new.self.rest.now (behind_setups x more) (behind_starts x more) e10 (c.in_ok-starts.ensures.reads hidden x.starts.items (behind_starts x more) stands.starts (case_no_start x more stands)) (λ no. ap (λ (p : Parser). p.rest.now) (c.in_ok-starts.ensures.none no)) in
-    handed_seen hidden c.from_residual-in_err-variables.result _ _ c.from_residual-in_err-variables.ensures.1 (variables_stuck hidden c.starts.new.self _ (behind_starts x more) e11 (c.in_err-variables.ensures.reads hidden x.variables.items (behind_variables x more) stands.variables (case_no_var x more)) c.in_err-variables.ensures.none c.in_err-variables.ensures.beyond_var c.in_err-variables.ensures.beyond_type c.in_err-variables.ensures.beyond_variable)
+    let e10 = c.in_ok-setups.ensures.reads hidden x.setups (behind_setups x more) stands.setups (case_no_setup x more stands) e9 in
+    let e11 = starts_behind hidden c.setups.new.self.rest.now c.starts.new.self.rest.now (behind_setups x more) (behind_starts x more) e10 (c.in_ok-starts.ensures.reads hidden x.starts (behind_starts x more) stands.starts (case_no_start x more stands)) (λ no. ap (λ (p : Parser). p.rest.now) (c.in_ok-starts.ensures.none no)) in
+    handed_seen hidden c.from_residual-in_err-variables.result _ _ c.from_residual-in_err-variables.ensures.1 (variables_stuck hidden c.starts.new.self _ (behind_starts x more) e11 (c.in_err-variables.ensures.reads hidden x.variables (behind_variables x more) stands.variables (case_no_var x more)) c.in_err-variables.ensures.none c.in_err-variables.ensures.beyond_var c.in_err-variables.ensures.beyond_type c.in_err-variables.ensures.beyond_variable)
 
 pub returns-in_err-statements-clause-reads : goal.returns-in_err-statements-clause-reads
 unfolding test_case_lexemes behaviour_lexemes
@@ -195,10 +195,10 @@ returns-in_err-statements-clause-reads c =
     let e7 = c.in_ok-runs_on.ensures.reads hidden _ _ e6 in
     let e8 = c.in_ok-system.ensures.reads hidden x.system _ (λ h. cc h) e7 in
     let e9 = c.in_ok-symbol-3.ensures.reads hidden _ e8 in
-    let e10 = c.in_ok-setups.ensures.reads hidden x.setups.items (behind_setups x more) stands.setups (case_no_setup x more stands) e9 in
-    let e11 = starts_behind hidden c.setups.new.self.rest.now c.starts.new.self.rest.now (behind_setups x more) (behind_starts x more) e10 (c.in_ok-starts.ensures.reads hidden x.starts.items (behind_starts x more) stands.starts (case_no_start x more stands)) (λ no. ap (λ (p : Parser). p.rest.now) (c.in_ok-starts.ensures.none no)) in
-    let e12 = variables_behind hidden c.starts.new.self.rest.now c.variables.new.self.rest.now (behind_starts x more) (behind_variables x more) e11 (c.in_ok-variables.ensures.reads hidden x.variables.items (behind_variables x more) stands.variables (case_no_var x more)) (λ no. ap (λ (p : Parser). p.rest.now) (c.in_ok-variables.ensures.none no)) c.in_ok-variables.ensures.beyond_var c.in_ok-variables.ensures.beyond_type c.in_ok-variables.ensures.beyond_variable in
-    handed_seen hidden c.from_residual-in_err-statements.result _ _ c.from_residual-in_err-statements.ensures.1 (statements_stuck hidden c.variables.new.self _ (behind_variables x more) e12 (c.in_err-statements.ensures.reads hidden x.statements.items (behind_statements x more) stands.statements (case_ends x more)) c.in_err-statements.ensures.beyond_name c.in_err-statements.ensures.beyond_dot c.in_err-statements.ensures.beyond_start)
+    let e10 = c.in_ok-setups.ensures.reads hidden x.setups (behind_setups x more) stands.setups (case_no_setup x more stands) e9 in
+    let e11 = starts_behind hidden c.setups.new.self.rest.now c.starts.new.self.rest.now (behind_setups x more) (behind_starts x more) e10 (c.in_ok-starts.ensures.reads hidden x.starts (behind_starts x more) stands.starts (case_no_start x more stands)) (λ no. ap (λ (p : Parser). p.rest.now) (c.in_ok-starts.ensures.none no)) in
+    let e12 = variables_behind hidden c.starts.new.self.rest.now c.variables.new.self.rest.now (behind_starts x more) (behind_variables x more) e11 (c.in_ok-variables.ensures.reads hidden x.variables (behind_variables x more) stands.variables (case_no_var x more)) (λ no. ap (λ (p : Parser). p.rest.now) (c.in_ok-variables.ensures.none no)) c.in_ok-variables.ensures.beyond_var c.in_ok-variables.ensures.beyond_type c.in_ok-variables.ensures.beyond_variable in
+    handed_seen hidden c.from_residual-in_err-statements.result _ _ c.from_residual-in_err-statements.ensures.1 (statements_stuck hidden c.variables.new.self _ (behind_variables x more) e12 (c.in_err-statements.ensures.reads hidden x.statements (behind_statements x more) stands.statements (case_ends x more)) c.in_err-statements.ensures.beyond_name c.in_err-statements.ensures.beyond_dot c.in_err-statements.ensures.beyond_start)
 
 pub returns-in_err-all_done-clause-reads : goal.returns-in_err-all_done-clause-reads
 unfolding test_case_lexemes behaviour_lexemes
@@ -215,10 +215,10 @@ returns-in_err-all_done-clause-reads c =
     let e7 = c.in_ok-runs_on.ensures.reads hidden _ _ e6 in
     let e8 = c.in_ok-system.ensures.reads hidden x.system _ (λ h. cc h) e7 in
     let e9 = c.in_ok-symbol-3.ensures.reads hidden _ e8 in
-    let e10 = c.in_ok-setups.ensures.reads hidden x.setups.items (behind_setups x more) stands.setups (case_no_setup x more stands) e9 in
-    let e11 = starts_behind hidden c.setups.new.self.rest.now c.starts.new.self.rest.now (behind_setups x more) (behind_starts x more) e10 (c.in_ok-starts.ensures.reads hidden x.starts.items (behind_starts x more) stands.starts (case_no_start x more stands)) (λ no. ap (λ (p : Parser). p.rest.now) (c.in_ok-starts.ensures.none no)) in
-    let e12 = variables_behind hidden c.starts.new.self.rest.now c.variables.new.self.rest.now (behind_starts x more) (behind_variables x more) e11 (c.in_ok-variables.ensures.reads hidden x.variables.items (behind_variables x more) stands.variables (case_no_var x more)) (λ no. ap (λ (p : Parser). p.rest.now) (c.in_ok-variables.ensures.none no)) c.in_ok-variables.ensures.beyond_var c.in_ok-variables.ensures.beyond_type c.in_ok-variables.ensures.beyond_variable in
-    let e13 = statements_behind hidden c.variables.new.self.rest.now c.statements.new.self.rest.now (behind_variables x more) (behind_statements x more) e12 (c.in_ok-statements.ensures.reads hidden x.statements.items (behind_statements x more) stands.statements (case_ends x more)) c.in_ok-statements.ensures.beyond_name c.in_ok-statements.ensures.beyond_dot c.in_ok-statements.ensures.beyond_start in
+    let e10 = c.in_ok-setups.ensures.reads hidden x.setups (behind_setups x more) stands.setups (case_no_setup x more stands) e9 in
+    let e11 = starts_behind hidden c.setups.new.self.rest.now c.starts.new.self.rest.now (behind_setups x more) (behind_starts x more) e10 (c.in_ok-starts.ensures.reads hidden x.starts (behind_starts x more) stands.starts (case_no_start x more stands)) (λ no. ap (λ (p : Parser). p.rest.now) (c.in_ok-starts.ensures.none no)) in
+    let e12 = variables_behind hidden c.starts.new.self.rest.now c.variables.new.self.rest.now (behind_starts x more) (behind_variables x more) e11 (c.in_ok-variables.ensures.reads hidden x.variables (behind_variables x more) stands.variables (case_no_var x more)) (λ no. ap (λ (p : Parser). p.rest.now) (c.in_ok-variables.ensures.none no)) c.in_ok-variables.ensures.beyond_var c.in_ok-variables.ensures.beyond_type c.in_ok-variables.ensures.beyond_variable in
+    let e13 = statements_behind hidden c.variables.new.self.rest.now c.statements.new.self.rest.now (behind_variables x more) (behind_statements x more) e12 (c.in_ok-statements.ensures.reads hidden x.statements (behind_statements x more) stands.statements (case_ends x more)) c.in_ok-statements.ensures.beyond_name c.in_ok-statements.ensures.beyond_dot c.in_ok-statements.ensures.beyond_start in
     handed_seen hidden c.from_residual-in_err-all_done.result _ _ c.from_residual-in_err-all_done.ensures.1 (done_stuck hidden c.statements.new.self _ (behind_statements x more) e13 (c.in_err-all_done.ensures.reads hidden x.all_done _ stands.all_done refl) c.in_err-all_done.ensures.beyond_all)
 
 pub returns-in_err-symbol-4-clause-reads : goal.returns-in_err-symbol-4-clause-reads
@@ -236,10 +236,10 @@ returns-in_err-symbol-4-clause-reads c =
     let e7 = c.in_ok-runs_on.ensures.reads hidden _ _ e6 in
     let e8 = c.in_ok-system.ensures.reads hidden x.system _ (λ h. cc h) e7 in
     let e9 = c.in_ok-symbol-3.ensures.reads hidden _ e8 in
-    let e10 = c.in_ok-setups.ensures.reads hidden x.setups.items (behind_setups x more) stands.setups (case_no_setup x more stands) e9 in
-    let e11 = starts_behind hidden c.setups.new.self.rest.now c.starts.new.self.rest.now (behind_setups x more) (behind_starts x more) e10 (c.in_ok-starts.ensures.reads hidden x.starts.items (behind_starts x more) stands.starts (case_no_start x more stands)) (λ no. ap (λ (p : Parser). p.rest.now) (c.in_ok-starts.ensures.none no)) in
-    let e12 = variables_behind hidden c.starts.new.self.rest.now c.variables.new.self.rest.now (behind_starts x more) (behind_variables x more) e11 (c.in_ok-variables.ensures.reads hidden x.variables.items (behind_variables x more) stands.variables (case_no_var x more)) (λ no. ap (λ (p : Parser). p.rest.now) (c.in_ok-variables.ensures.none no)) c.in_ok-variables.ensures.beyond_var c.in_ok-variables.ensures.beyond_type c.in_ok-variables.ensures.beyond_variable in
-    let e13 = statements_behind hidden c.variables.new.self.rest.now c.statements.new.self.rest.now (behind_variables x more) (behind_statements x more) e12 (c.in_ok-statements.ensures.reads hidden x.statements.items (behind_statements x more) stands.statements (case_ends x more)) c.in_ok-statements.ensures.beyond_name c.in_ok-statements.ensures.beyond_dot c.in_ok-statements.ensures.beyond_start in
+    let e10 = c.in_ok-setups.ensures.reads hidden x.setups (behind_setups x more) stands.setups (case_no_setup x more stands) e9 in
+    let e11 = starts_behind hidden c.setups.new.self.rest.now c.starts.new.self.rest.now (behind_setups x more) (behind_starts x more) e10 (c.in_ok-starts.ensures.reads hidden x.starts (behind_starts x more) stands.starts (case_no_start x more stands)) (λ no. ap (λ (p : Parser). p.rest.now) (c.in_ok-starts.ensures.none no)) in
+    let e12 = variables_behind hidden c.starts.new.self.rest.now c.variables.new.self.rest.now (behind_starts x more) (behind_variables x more) e11 (c.in_ok-variables.ensures.reads hidden x.variables (behind_variables x more) stands.variables (case_no_var x more)) (λ no. ap (λ (p : Parser). p.rest.now) (c.in_ok-variables.ensures.none no)) c.in_ok-variables.ensures.beyond_var c.in_ok-variables.ensures.beyond_type c.in_ok-variables.ensures.beyond_variable in
+    let e13 = statements_behind hidden c.variables.new.self.rest.now c.statements.new.self.rest.now (behind_variables x more) (behind_statements x more) e12 (c.in_ok-statements.ensures.reads hidden x.statements (behind_statements x more) stands.statements (case_ends x more)) c.in_ok-statements.ensures.beyond_name c.in_ok-statements.ensures.beyond_dot c.in_ok-statements.ensures.beyond_start in
     let e14 = done_behind hidden c.statements.new.self.rest.now c.all_done.new.self.rest.now (behind_statements x more) (symbol RightBrace ∷ more) e13 (c.in_ok-all_done.ensures.reads hidden x.all_done _ stands.all_done refl) c.in_ok-all_done.ensures.beyond_all in
     handed_seen hidden c.from_residual-in_err-symbol-4.result _ _ c.from_residual-in_err-symbol-4.ensures.1 (c.in_err-symbol-4.ensures.reads hidden more e14)
 
@@ -258,9 +258,9 @@ returns-clause-reads c =
     let e7 = c.in_ok-runs_on.ensures.reads hidden _ _ e6 in
     let e8 = c.in_ok-system.ensures.reads hidden x.system _ (λ h. cc h) e7 in
     let e9 = c.in_ok-symbol-3.ensures.reads hidden _ e8 in
-    let e10 = c.in_ok-setups.ensures.reads hidden x.setups.items (behind_setups x more) stands.setups (case_no_setup x more stands) e9 in
-    let e11 = starts_behind hidden c.setups.new.self.rest.now c.starts.new.self.rest.now (behind_setups x more) (behind_starts x more) e10 (c.in_ok-starts.ensures.reads hidden x.starts.items (behind_starts x more) stands.starts (case_no_start x more stands)) (λ no. ap (λ (p : Parser). p.rest.now) (c.in_ok-starts.ensures.none no)) in
-    let e12 = variables_behind hidden c.starts.new.self.rest.now c.variables.new.self.rest.now (behind_starts x more) (behind_variables x more) e11 (c.in_ok-variables.ensures.reads hidden x.variables.items (behind_variables x more) stands.variables (case_no_var x more)) (λ no. ap (λ (p : Parser). p.rest.now) (c.in_ok-variables.ensures.none no)) c.in_ok-variables.ensures.beyond_var c.in_ok-variables.ensures.beyond_type c.in_ok-variables.ensures.beyond_variable in
-    let e13 = statements_behind hidden c.variables.new.self.rest.now c.statements.new.self.rest.now (behind_variables x more) (behind_statements x more) e12 (c.in_ok-statements.ensures.reads hidden x.statements.items (behind_statements x more) stands.statements (case_ends x more)) c.in_ok-statements.ensures.beyond_name c.in_ok-statements.ensures.beyond_dot c.in_ok-statements.ensures.beyond_start in
+    let e10 = c.in_ok-setups.ensures.reads hidden x.setups (behind_setups x more) stands.setups (case_no_setup x more stands) e9 in
+    let e11 = starts_behind hidden c.setups.new.self.rest.now c.starts.new.self.rest.now (behind_setups x more) (behind_starts x more) e10 (c.in_ok-starts.ensures.reads hidden x.starts (behind_starts x more) stands.starts (case_no_start x more stands)) (λ no. ap (λ (p : Parser). p.rest.now) (c.in_ok-starts.ensures.none no)) in
+    let e12 = variables_behind hidden c.starts.new.self.rest.now c.variables.new.self.rest.now (behind_starts x more) (behind_variables x more) e11 (c.in_ok-variables.ensures.reads hidden x.variables (behind_variables x more) stands.variables (case_no_var x more)) (λ no. ap (λ (p : Parser). p.rest.now) (c.in_ok-variables.ensures.none no)) c.in_ok-variables.ensures.beyond_var c.in_ok-variables.ensures.beyond_type c.in_ok-variables.ensures.beyond_variable in
+    let e13 = statements_behind hidden c.variables.new.self.rest.now c.statements.new.self.rest.now (behind_variables x more) (behind_statements x more) e12 (c.in_ok-statements.ensures.reads hidden x.statements (behind_statements x more) stands.statements (case_ends x more)) c.in_ok-statements.ensures.beyond_name c.in_ok-statements.ensures.beyond_dot c.in_ok-statements.ensures.beyond_start in
     let e14 = done_behind hidden c.statements.new.self.rest.now c.all_done.new.self.rest.now (behind_statements x more) (symbol RightBrace ∷ more) e13 (c.in_ok-all_done.ensures.reads hidden x.all_done _ stands.all_done refl) c.in_ok-all_done.ensures.beyond_all in
     c.in_ok-symbol-4.ensures.reads hidden more e14

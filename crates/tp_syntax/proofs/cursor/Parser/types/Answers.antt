@@ -18,10 +18,10 @@ more-preserved c = record {
       let n = next_part_seen type_lexemes (λ _. Unit {0}) hidden more _ _ type_name.Integer tt (c.more.invariant.seen hidden xs more some stops could)
       c.more-test.ensures.passed stops in
       (n.2, n.3, c.in_ok-next.ensures.reads hidden n.0 _ n.4);
-  tokens = rw c.in_ok-push-2.ensures.items
-      (push_read type_lexemes c.more.types.items c.in_ok-next.next _ _ _ _
+  tokens = rw c.in_ok-push-2.ensures.ok
+      (push_read type_lexemes c.more.types c.in_ok-next.next _ _ _ _
       c.more.invariant.some c.more.invariant.tokens c.more-test.ensures.yes c.in_ok-next.ensures.tokens);
-  some = rw c.in_ok-push-2.ensures.items (simp length-append (omega arith));
+  some = rw c.in_ok-push-2.ensures.ok (simp length-append (omega arith));
   shorter = omega (arith, c.more.invariant.shorter, c.more-test.ensures.shorter, c.in_ok-next.ensures.shorter);
   forward = λ all tail. c.in_ok-next.ensures.forward all (c.more-test.ensures.forward all (c.more.invariant.forward all tail));
 }

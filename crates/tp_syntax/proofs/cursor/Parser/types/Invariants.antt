@@ -14,8 +14,8 @@ use Rattle.tp_syntax.proofs.cursor.Parser.types.Given as goal
 
 abbrev pub invariant-more : goal.invariant-more
 invariant-more l = record {
-  tokens : ahead l.fn.self.rest.now ≡ types_lexemes l.types.items ++ ahead l.self.rest.now;
-  some : 0 < length l.types.items;
+  tokens : ahead l.fn.self.rest.now ≡ types_lexemes l.types ++ ahead l.self.rest.now;
+  some : 0 < length l.types;
   seen : (hidden : ℕ) (xs : List TypeName) (more : List Lexeme) → has_one xs ≡ true → Stops more → CouldBe hidden l.fn.self.rest.now (types_lexemes xs ++ more)
       → RemainSeen type_lexemes (λ _. Unit {0}) hidden more l.self.rest.now;
   shorter : length l.self.rest.now < length l.fn.self.rest.now;

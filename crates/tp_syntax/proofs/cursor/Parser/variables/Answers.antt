@@ -32,14 +32,14 @@ more-preserved c = record {
       ];
   moved = inr (omega (arith, c.more.invariant.shorter, c.in_ok-variable.ensures.three));
   none = λ other. absurd (other (ap (λ (p : Parser). token_at p.rest.now 0) (sym (c.more.invariant.none other)) ∙ c.is_word_at.ensures.0 c.more-test.true));
-  tokens = rw c.in_ok-push.ensures.items
-      (push_read_all variable_lexemes c.more.variables.items c.in_ok-variable.variable _ _ _ c.more.invariant.tokens c.in_ok-variable.ensures.tokens);
-  grammatical = rw c.in_ok-push.ensures.items
-      (between_push variable_part c.more.variables.items c.in_ok-variable.variable _ _ _ c.more.invariant.grammatical (word_goes_on _ _
+  tokens = rw c.in_ok-push.ensures.ok
+      (push_read_all variable_lexemes c.more.variables c.in_ok-variable.variable _ _ _ c.more.invariant.tokens c.in_ok-variable.ensures.tokens);
+  grammatical = rw c.in_ok-push.ensures.ok
+      (between_push variable_part c.more.variables c.in_ok-variable.variable _ _ _ c.more.invariant.grammatical (word_goes_on _ _
       (c.is_word_at.ensures.0 c.more-test.true)) c.in_ok-variable.ensures.grammatical);
   shorter = omega (arith, c.more.invariant.shorter, c.in_ok-variable.ensures.shorter);
-  lines = rw c.in_ok-push.ensures.items
-      (passes_push variable_notes c.more.variables.items c.in_ok-variable.variable c.more.invariant.lines c.in_ok-variable.ensures.lines);
+  lines = rw c.in_ok-push.ensures.ok
+      (passes_push variable_notes c.more.variables c.in_ok-variable.variable c.more.invariant.lines c.in_ok-variable.ensures.lines);
 }
 
 pub more-init : goal.more-init
@@ -48,9 +48,9 @@ more-init c = record {
   moved = inl refl;
   none = λ _. refl;
   tokens = first_of (search rules, grind (arith, common_steps));
-  grammatical = rw c.new-variables.ensures.items (between_none _);
+  grammatical = rw c.new-variables.ensures (between_none _);
   shorter = first_of (search rules, grind (arith, common_steps));
-  lines = rw c.new-variables.ensures.items (passes_none _);
+  lines = rw c.new-variables.ensures (passes_none _);
 }
 
 pub returns-in_err-variable-clause-reads : goal.returns-in_err-variable-clause-reads
