@@ -19,8 +19,8 @@ fn kind_of(entry: &Entry) -> EntryKind
     ensures { result ≡ kind_of_entry entry.now }
 {
     match entry {
-        Entry::Arrive(_, env, _) => EntryKind::Came(env.sender),
-        Entry::Sent(route, _, _) => EntryKind::Sent(route.to.comp.0),
+        Entry::Arrive(_, env, _) => EntryKind::Came(env.sender()),
+        Entry::Sent(route, _, _) => EntryKind::Sent(route.id().to.comp.0),
         Entry::Verdict(_) | Entry::Failed(_) => EntryKind::Quiet,
         Entry::Took(..) | Entry::Found(..) | Entry::Dropped(..) | Entry::Else => EntryKind::Looked,
         Entry::Cleared(_) | Entry::Started(_) => EntryKind::Looked,

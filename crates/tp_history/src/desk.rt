@@ -14,6 +14,7 @@ ghost use Rattle.tp_history.specs.Desks.{adding, at_port, new_desk};
 ghost use Rattle.tp_history.specs.Lending.{ends_checked_at};
 
 use crate::entry::Entry;
+use crate::noted::{NotedEnvelope, NotedRoute};
 use crate::stamped::Stamped;
 use std::alloc::Global;
 use std::marker::Model;
@@ -57,7 +58,7 @@ impl Model for Desk {
 /// A history of so many entries gets room for [`MANY_ENTRIES`].
 const FEW_ENTRIES: usize = 32;
 
-/// 7 MiB of entries, which cost nothing until they are used.
+/// 6 MiB of entries, which cost nothing until they are used.
 const MANY_ENTRIES: usize = 131_072;
 
 /// Makes room for another entry. A history is moved once on its way to [`MANY_ENTRIES`], unless so
@@ -123,7 +124,7 @@ impl Desk {
         if reserve_entry(&mut self.log).is_err() {
             return Err((Memory, env));
         }
-        let Ok(noted) = env.copy(self.alloc) else {
+        let Ok(noted) = NotedEnvelope::copy_of(self.alloc, &env) else {
             return Err((Memory, env));
         };
         self.ports[port as usize].arrive(env)?;
@@ -149,7 +150,7 @@ impl Desk {
         let queue = &mut self.ports[port as usize];
         let noted = match queue.check(wanted, from) {
             None => return Ok(None),
-            Some(env) => env.copy(self.alloc)?,
+            Some(env) => NotedEnvelope::copy_of(self.alloc, env)?,
         };
         let taken = queue.take_top();
         self.log.push_reserved(Entry::Took(port, noted, branch));
@@ -174,7 +175,7 @@ impl Desk {
         let queue = &mut self.ports[port as usize];
         let noted = match queue.top() {
             None => return Ok(TriggerAnswer::Nothing),
-            Some(env) => env.copy(self.alloc)?,
+            Some(env) => NotedEnvelope::copy_of(self.alloc, env)?,
         };
         match queue.trigger(wanted, from) {
             TriggerAnswer::Took(env) => {
@@ -208,7 +209,7 @@ impl Desk {
         let Some(env) = self.ports[port as usize].check(wanted, from) else {
             return Ok(None);
         };
-        let noted = env.copy(self.alloc)?;
+        let noted = NotedEnvelope::copy_of(self.alloc, env)?;
         self.log.push_reserved(Entry::Found(port, noted, branch));
         Ok(Some(env))
     }
@@ -296,6 +297,9 @@ impl Desk {
         let Some(stamp) = self.stamp() else {
             return Err((Memory, message));
         };
+        let Some(way) = NotedRoute::of(route) else {
+            return Err((Memory, message));
+        };
         if reserve_entry(&mut self.log).is_err() {
             return Err((Memory, message));
         }
@@ -303,7 +307,7 @@ impl Desk {
         let Ok(noted) = put.copy(self.alloc) else {
             return Err((Memory, put.message));
         };
-        self.log.push_reserved(Entry::Sent(route, number, noted));
+        self.log.push_reserved(Entry::Sent(way, number, noted));
         self.clock = stamp;
         Ok(put)
     }

@@ -2,11 +2,9 @@
 ghost use Rattle.std.specs.Prelude.{◌≡◌};
 ghost use Rattle.tp_history.specs.History.{stamp_of};
 
+use crate::noted::{NotedEnvelope, NotedRoute};
 use crate::send_fault::SendFault;
 use crate::stamped::Stamped;
-use tp_config::port_type::RouteId;
-use tp_event::event::Env;
-use tp_value::message::Message;
 use tp_value::verdict::Verdict;
 
 /// One event at a component. The history of a component is the list of its entries, the oldest
@@ -15,15 +13,15 @@ use tp_value::verdict::Verdict;
 #[derive(Debug, Drop)]
 pub enum Entry {
     /// At this port a message arrived, with the stamp of its sending.
-    Arrive(u32, Env<Message>, u64),
+    Arrive(u32, NotedEnvelope, u64),
     /// At this port, in this branch, `receive`, or a `trigger` that matched, took the top message
     /// out (ES 201 873-1, 22.2.2, 22.2.3).
-    Took(u32, Env<Message>, usize),
+    Took(u32, NotedEnvelope, usize),
     /// At this port, in this branch, `check` found the top message, and left it (22.4).
-    Found(u32, Env<Message>, usize),
+    Found(u32, NotedEnvelope, usize),
     /// At this port, in this branch, a `trigger` that didn't match discarded the top message
     /// (22.2.3).
-    Dropped(u32, Env<Message>, usize),
+    Dropped(u32, NotedEnvelope, usize),
     /// `clear` emptied the queue of this port (22.5.1).
     Cleared(u32),
     /// `start` emptied the queue of this port and started the port (22.5.2).
@@ -33,7 +31,7 @@ pub enum Entry {
     /// `halt` was executed at this port, with or without an effect (22.5.4).
     Halted(u32),
     /// On this route the message of this number, from 0, was sent, with this stamp (22.2.1).
-    Sent(RouteId, u64, Stamped),
+    Sent(NotedRoute, u64, Stamped),
     Else,
     /// `setverdict` with this verdict (24.2).
     Verdict(Verdict),

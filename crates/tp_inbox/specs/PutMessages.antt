@@ -1,6 +1,5 @@
 -- The messages that were put on a route.
 use Rattle.std.specs.Prelude.{ℕ, cond, ◌==◌, ◌&&◌, List, [], ◌∷◌, map}
-use Rattle.tp_event.specs.declared.event.Env.{Env}
 use Rattle.tp_value.specs.declared.message.Message.{Message}
 use Rattle.tp_config.specs.declared.port_type.RouteId.{RouteId}
 use Rattle.tp_history.specs.declared.entry.Entry.{Entry}
@@ -13,11 +12,11 @@ use Rattle.tp_history.specs.History.{posted_on}
 abbrev pub messages_on : RouteId → List Posted → List Message
 messages_on r sent = map (λ (p : ℕ × Stamped). p.1.message) (posted_on r sent)
 
--- the message that comes to this port, if it comes on the route
-abbrev pub arrived_message : RouteId → ℕ → Env Message → List Message
-arrived_message r port env = cond ((r.to.port == port) && (r.source.0 == env.sender)) (env.msg ∷ []) []
+-- the message that comes to this port from this component, if it comes on the route
+abbrev pub arrived_message : RouteId → ℕ → ℕ → Message → List Message
+arrived_message r port sender m = cond ((r.to.port == port) && (r.source.0 == sender)) (m ∷ []) []
 
 -- the same of an entry
 abbrev pub message_of_entry : RouteId → Entry → List Message
-message_of_entry r (entry.Arrive port env stamp) = arrived_message r port env
+message_of_entry r (entry.Arrive port env stamp) = arrived_message r port env.sender env.msg
 message_of_entry r _ = []

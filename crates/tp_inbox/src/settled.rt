@@ -18,14 +18,15 @@ fn add_message(
     alloc: Global,
     route: RouteId,
     port: u32,
-    env: &Env<Message>,
+    sender: u32,
+    message: &Message,
     messages: &mut Vec<Message>,
 ) -> Result<(), Memory>
     ensures { OnOk result (messages.new.items
-        ≡ messages.old.items ++ arrived_message route port env.now) }
+        ≡ messages.old.items ++ arrived_message route port sender message.now) }
 {
-    if route.to.port == port && route.source.0 == env.sender {
-        messages.push(env.msg.copy(alloc)?)?;
+    if route.to.port == port && route.source.0 == sender {
+        messages.push(message.copy(alloc)?)?;
     }
     Ok(())
 }
@@ -40,7 +41,9 @@ fn add_entry(
         ≡ messages.old.items ++ message_of_entry route entry.now) }
 {
     match entry {
-        Entry::Arrive(port, env, _) => add_message(alloc, route, *port, env, messages),
+        Entry::Arrive(port, env, _) => {
+            add_message(alloc, route, *port, env.sender(), env.message(), messages)
+        }
         _ => Ok(()),
     }
 }
@@ -70,7 +73,7 @@ pub fn put_on_route(
 {
     let mut messages = messages_of(alloc, route, desk.log())?;
     for (port, env, _) in rest {
-        add_message(alloc, route, *port, env, &mut messages)?;
+        add_message(alloc, route, *port, env.sender, &env.msg, &mut messages)?;
     }
     Ok(messages)
 }

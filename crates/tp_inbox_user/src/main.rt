@@ -51,8 +51,8 @@ fn print_orders<R: Print>(rt: &R, guest: u32, desk: &Desk, rest: &Rest) -> io::R
     print!(rt; "guest {guest}:")?;
     for entry in desk.log() {
         if let Entry::Arrive(_, env, _) = entry {
-            if env.sender == guest {
-                print!(rt; " {}", env.number)?;
+            if env.sender() == guest {
+                print!(rt; " {}", env.number())?;
             }
         }
     }

@@ -1,12 +1,10 @@
 -- What is written piece by piece.
-use Rattle.std.proofs.Common.{◌≡◌, ℕ, zero, suc, ◌+◌, ◌<◌, ◌≤◌, true, false, cond, List, [], ◌∷◌, ◌++◌, Option, Some, None, take, length, get_or, codes, refl, ap, sym, ◌∙◌, subst, arith, add-one, append_assoc, inl, inr}
+use Rattle.std.proofs.Common.{◌≡◌, ℕ, ◌+◌, ◌<◌, true, false, cond, List, ◌++◌, Option, Some, None, take, length, codes, ap, sym, ◌∙◌, subst, arith, add-one, append_assoc, inl, inr}
 use Rattle.std.specs.Prelude.{All, slice_get}
 use Rattle.std.specs.List.{flat_map}
 use Rattle.tp_text.specs.declared.watched.Watched.{Watched}
 use Rattle.tp_text.specs.Watching.{Writes}
 use Rattle.tp_text.proofs.WatchedWriterGrowth.{one_more, writes_both}
-use Rattle.std.proofs.lemmas.Grind.{flat_map-append}
-use Rattle.std.proofs.lemmas.List.{append-nil, take_all}
 use Rattle.std.proofs.lemmas.Option.{get_or_from_slice_get, slice_get_cases}
 use Rattle.tp_value.specs.declared.types.Types.{Types}
 use Rattle.tp_value.specs.declared.message.Message.{Message}

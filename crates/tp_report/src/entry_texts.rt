@@ -7,16 +7,15 @@ ghost use Rattle.tp_report.specs.Lines.{arrival_text, entry_text, component_port
 ghost use Rattle.tp_report.specs.LineOpenings.{HasItsText};
 ghost use Rattle.tp_report.specs.Reports.{IsKnown};
 
-use crate::lines::{write_envelope, write_failure, write_port, write_sent, write_verdict};
+use crate::lines::{write_failure, write_noted, write_port, write_sent, write_verdict};
 use crate::opening::{Fate, KeptOpening, KeptOpenings};
 use crate::telling::Telling;
 use std::io::Write;
 use tp_config::port_type::{CompId, PortRef};
-use tp_event::event::Env;
 use tp_history::entry::Entry;
+use tp_history::noted::NotedEnvelope;
 use tp_play::test_case::TestCase;
 use tp_text::watched::{Watched, write_bytes};
-use tp_value::message::Message;
 
 fn at(comp: CompId, port: u32) -> PortRef
     ensures { result ≡ component_port comp port }
@@ -28,7 +27,7 @@ fn write_arrival<W: Write>(
     test_case: &TestCase,
     telling: Telling,
     port: PortRef,
-    env: &Env<Message>,
+    env: &NotedEnvelope,
     kept: &mut KeptOpening,
     out: &mut Watched<W>,
 )
@@ -41,7 +40,7 @@ fn write_arrival<W: Write>(
 {
     match telling {
         Telling::Report => {}
-        Telling::Trace => write_envelope(test_case, Fate::Came, port, env, kept, out),
+        Telling::Trace => write_noted(test_case, Fate::Came, port, env, kept, out),
     }
 }
 
@@ -66,16 +65,16 @@ fn write_entry<W: Write>(
     let received = &mut kept.received;
     match entry {
         Entry::Sent(route, number, stamped) => {
-            write_sent(test_case, *route, *number, &stamped.message, sent, out)
+            write_sent(test_case, route.id(), *number, &stamped.message, sent, out)
         }
         Entry::Took(port, env, _) => {
-            write_envelope(test_case, Fate::Took, at(comp, *port), env, received, out)
+            write_noted(test_case, Fate::Took, at(comp, *port), env, received, out)
         }
         Entry::Found(port, env, _) => {
-            write_envelope(test_case, Fate::Found, at(comp, *port), env, received, out)
+            write_noted(test_case, Fate::Found, at(comp, *port), env, received, out)
         }
         Entry::Dropped(port, env, _) => {
-            write_envelope(
+            write_noted(
                 test_case,
                 Fate::Dropped,
                 at(comp, *port),

@@ -16,6 +16,7 @@ use std::io::Write;
 use tp_config::port_type::{CompId, PortRef, RouteId};
 use tp_event::event::Env;
 use tp_history::ending::End;
+use tp_history::noted::NotedEnvelope;
 use tp_history::send_fault::SendFault;
 use tp_play::test_case::TestCase;
 use tp_text::watched::{Watched, write_bytes, write_number};
@@ -111,6 +112,28 @@ pub fn write_envelope<W: Write>(
 {
     let opening = Opening::At(fate, port, CompId(env.sender));
     write_line(test_case, opening, env.number, &env.msg, kept, out)
+}
+
+/// The same of an envelope in a history.
+pub fn write_noted<W: Write>(
+    test_case: &TestCase,
+    fate: Fate,
+    port: PortRef,
+    env: &NotedEnvelope,
+    kept: &mut KeptOpening,
+    out: &mut Watched<W>,
+)
+    requires port { IsPort test_case.now.config port }
+    requires sender { IsComponent test_case.now.config (sender_of env.now) }
+    requires kept { HasItsText test_case.now.config kept.old }
+    ensures written { Writes W.contents out.old out.new
+        (fate_word fate ++ line (port_name test_case.now.config port ∷ component_name
+        test_case.now.config (sender_of env.now) ∷ decimal env.now.number ∷ message_text
+        test_case.now.types env.now.msg ∷ [])) }
+    ensures kept { HasItsText test_case.now.config kept.new }
+{
+    let opening = Opening::At(fate, port, CompId(env.sender()));
+    write_line(test_case, opening, env.number(), env.message(), kept, out)
 }
 
 pub fn write_sent<W: Write>(

@@ -5,9 +5,9 @@ use Rattle.std.proofs.lemmas.List.{length-append}
 use Rattle.tp_text.specs.declared.text.ReadFault.{ReadFault}
 use Rattle.tp_text.specs.declared.text.ReadFault.TheVariants as read
 use Rattle.tp_text.specs.Reading.{TakesWithin}
-use Rattle.tp_trace.specs.declared.reading.TraceFault.{TraceFault}
-use Rattle.tp_trace.specs.declared.reading.TraceFault.TheVariants as trace
-use Rattle.tp_trace.specs.Faults.{IsFaultOf}
+use Rattle.tp_referee.specs.declared.reading.TraceFault.{TraceFault}
+use Rattle.tp_referee.specs.declared.reading.TraceFault.TheVariants as trace
+use Rattle.tp_referee.specs.Faults.{IsFaultOf}
 use Rattle.tp_referee.specs.declared.ruling.Ruling.{Ruling}
 use Rattle.tp_referee.specs.Rulings.{IsRulingOf}
 use Rattle.tpr.specs.declared.judging.JudgeFault.TheVariants as fault

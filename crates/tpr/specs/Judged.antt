@@ -7,9 +7,9 @@ use Rattle.tp_text.specs.Watching.{HasFailed, reader_left}
 use Rattle.tp_text.specs.declared.text.ReadFault.{ReadFault}
 use Rattle.tp_text.specs.declared.text.ReadFault.TheVariants as read_fault
 use Rattle.tp_refusal.specs.declared.refusal.Refusal.TheVariants as refusal
-use Rattle.tp_trace.specs.declared.reading.TraceFault.{TraceFault}
-use Rattle.tp_trace.specs.declared.reading.TraceFault.TheVariants as trace_fault
-use Rattle.tp_trace.specs.Faults.{IsFaultOf}
+use Rattle.tp_referee.specs.declared.reading.TraceFault.{TraceFault}
+use Rattle.tp_referee.specs.declared.reading.TraceFault.TheVariants as trace_fault
+use Rattle.tp_referee.specs.Faults.{IsFaultOf}
 use Rattle.tp_referee.specs.declared.ruling.Ruling.{Ruling}
 use Rattle.tp_referee.specs.Answers.{ruling_status, ruling_text}
 use Rattle.tp_referee.specs.Rulings.{IsRulingOf}

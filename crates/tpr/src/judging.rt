@@ -11,12 +11,12 @@ use crate::modes::{
 };
 use std::alloc::Global;
 use std::io::{Read, Write};
+use tp_referee::reading::{TRACE_LIMIT, TraceFault};
 use tp_referee::ruling::{Ruling, referee};
 use tp_referee::writing::write_ruling;
 use tp_refusal::refusal::Refusal;
 use tp_text::text::{ReadFault, read_within};
 use tp_text::watched::Watched;
-use tp_trace::reading::{TRACE_LIMIT, TraceFault};
 
 /// Why a text isn't judged.
 #[derive(Clone, Copy)]

@@ -1,5 +1,5 @@
 -- The queues and the clock keep to the history with the sending behind it.
-use Rattle.std.proofs.Common.{◌≡◌, ◌∙◌, ◌+◌, ◌<◌, ap, arith, max, refl, sym}
+use Rattle.std.proofs.Common.{◌≡◌, ◌∙◌, ◌+◌, ◌<◌, ap, arith, max, sym}
 use Rattle.tp_history.specs.declared.stamped.Stamped.{Stamped}
 use Rattle.tp_history.specs.declared.entry.Entry.TheVariants as entry
 use Rattle.tp_history.specs.Desks.{Journal}
@@ -17,4 +17,5 @@ invariant_of-self-2 c =
     let time = c.self.invariant.time in
     let later : c.in-Some.stamp ≡ max c.self.inside.clock c.in-Ok.noted.stamp = omega (arith, next, mine, time) in
     kept_by_note _ _ _ _ _ (entry.Sent c.args.route c.args.number c.in-Ok.noted) c.self.invariant tt timely later
-    (grown_by _ _ _ _ _ c.push_reserved.ensures.items c.reserve_entry.ensures.items refl)
+    (grown_by _ _ _ _ _ c.push_reserved.ensures.items c.reserve_entry.ensures.items
+    (ap (λ r. entry.Sent r c.args.number c.in-Ok.noted) c.in-Some-of.ensures))
