@@ -5,8 +5,8 @@ use Rattle.std.specs.Prelude.{All, Contains, slice_get}
 use Rattle.std.proofs.lemmas.Bool.{cases_lt}
 use Rattle.std.proofs.lemmas.List.Elements.{All-append, All-cons, All-nil, All-head, All-tail, Contains-append_cases}
 use Rattle.std.proofs.lemmas.List.Elements.{Contains-append_left, Contains-append_right}
-use Rattle.tp_order.specs.declared.demand.Demand.{Demand}
-use Rattle.tp_order.specs.Order.{IsBelow}
+use Rattle.tp_judge.specs.declared.demand.Demand.{Demand}
+use Rattle.tp_judge.specs.Order.{IsBelow}
 use Rattle.tp_judge.specs.declared.line.IndexedLine.{IndexedLine}
 use Rattle.tp_judge.specs.LinesByNumber.{lines_at}
 use Rattle.tp_judge.specs.Demands.{from_each, pairs}

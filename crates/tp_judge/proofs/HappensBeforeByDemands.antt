@@ -5,9 +5,9 @@ use Rattle.std.specs.Prelude.{All, Contains, slice_get}
 use Rattle.std.proofs.lemmas.List.Elements.{All-append, All-nil, All-filter, All-drop, All-contains}
 use Rattle.std.proofs.lemmas.List.Elements.{Contains-append_cases, Contains-append_left, Contains-append_right}
 use Rattle.std.proofs.lemmas.Option.{slice_get-get_or, slice_get_within}
-use Rattle.tp_order.specs.declared.demand.Demand.{Demand}
-use Rattle.tp_order.specs.Order.{IsBelow, IsListing, IsOrder, StandsBefore}
-use Rattle.tp_order.specs.Circle.{IsDemandedBefore, LeadsThrough}
+use Rattle.tp_judge.specs.declared.demand.Demand.{Demand}
+use Rattle.tp_judge.specs.Order.{IsBelow, IsListing, IsOrder, StandsBefore}
+use Rattle.tp_judge.specs.Circle.{IsDemandedBefore, LeadsThrough}
 use Rattle.tp_judge.specs.declared.line.IndexedLine.{IndexedLine}
 use Rattle.tp_judge.specs.declared.line.By.TheVariants as by
 use Rattle.tp_judge.specs.declared.trace.IndexedTrace.{IndexedTrace}

@@ -1,3 +1,12 @@
+pub mod CountsBelowBound
+pub mod NumberPlaceGrowth
+pub mod FreeNumberGrowth
+pub mod WaitsAfterDemandRemoval
+pub mod FreeNumbersBelowBound
+pub mod DemandRemovalSteps
+pub mod OrderSearchOutcomes
+pub mod WaitingNumbersHeldUp
+pub mod DemandPathsReachCircles
 pub mod ReferencedLinesGrowth
 pub mod BrokenPortReplays
 pub mod LeftMessagesByLine

@@ -6,7 +6,7 @@ use Rattle.std.specs.List.{filter_map}
 use Rattle.std.proofs.lemmas.Bool.{cases_lt, cases_order}
 use Rattle.std.proofs.lemmas.List.{take_all, take-append-drop, take-take}
 use Rattle.std.proofs.lemmas.Option.{slice_get_within}
-use Rattle.tp_order.specs.Order.{IsNumberAt, StandsBefore}
+use Rattle.tp_judge.specs.Order.{IsNumberAt, StandsBefore}
 use Rattle.tp_judge.specs.declared.line.Mention.{Mention}
 use Rattle.tp_judge.specs.declared.trace.IndexedTrace.{IndexedTrace}
 use Rattle.tp_judge.specs.Delivered.{Delivered}

@@ -3,7 +3,7 @@ use Rattle.std.proofs.Common.{◌≡◌, ◌⊎◌, inl, inr, ℕ, ◌+◌, ◌<
 use Rattle.std.proofs.Common.{arith}
 use Rattle.std.proofs.lemmas.Bool.{cases_eq}
 use Rattle.std.proofs.lemmas.Option.{none-some, same_Some}
-use Rattle.tp_order.specs.declared.demand.Demand.{Demand}
+use Rattle.tp_judge.specs.declared.demand.Demand.{Demand}
 use Rattle.tp_judge.specs.declared.line.Mention.{Mention}
 use Rattle.tp_judge.specs.declared.line.Act.TheVariants as act
 use Rattle.tp_judge.specs.declared.run_demands.Latest.{Latest}

@@ -2,8 +2,8 @@
 use Rattle.std.proofs.Common.{◌≡◌, ◌⊎◌, inl, inr, ℕ, zero, suc, ◌+◌, ◌-◌, ◌<◌, List, length, ap, sym, ◌∙◌, subst}
 use Rattle.std.proofs.Common.{add-zero, arith}
 use Rattle.std.specs.Prelude.{slice_index}
-use Rattle.tp_order.specs.declared.demand.Demand.{Demand}
-use Rattle.tp_order.specs.Circle.{IsCircle, LiesOnCircle}
+use Rattle.tp_judge.specs.declared.demand.Demand.{Demand}
+use Rattle.tp_judge.specs.Circle.{IsCircle, LiesOnCircle}
 use Rattle.tp_judge.specs.Latest.{DemandsLead}
 use Rattle.tp_judge.proofs.HappensBeforeByDemands.{leads_on}
 

@@ -7,9 +7,9 @@ use Rattle.std.proofs.lemmas.Bool.{leb-false}
 use Rattle.std.proofs.lemmas.List.Elements.{All-cons, All-from_get_or, All-get_or, All-nil}
 use Rattle.std.proofs.lemmas.List.FromFn.{get_or-range_with_len, length-range_with_len}
 use Rattle.std.proofs.lemmas.Option.{get_or_from_slice_get, slice_get-get_or, slice_get_within}
-use Rattle.tp_order.specs.declared.demand.Demand.{Demand}
-use Rattle.tp_order.specs.Places.{no_demand}
-use Rattle.tp_order.specs.Order.{IsBelow, IsListing, IsNumberAt, StandsBefore}
+use Rattle.tp_judge.specs.declared.demand.Demand.{Demand}
+use Rattle.tp_judge.specs.Places.{no_demand}
+use Rattle.tp_judge.specs.Order.{IsBelow, IsListing, IsNumberAt, StandsBefore}
 use Rattle.tp_judge.specs.declared.run_demands.Making.{Making}
 use Rattle.tp_judge.specs.declared.run_demands.Which.{Which}
 use Rattle.tp_judge.specs.declared.run_demands.Which.TheVariants as which

@@ -1,6 +1,6 @@
 -- Where a trace has a circle.
 use Rattle.std.specs.Prelude.{◌≡◌, ℕ, List}
-use Rattle.tp_order.specs.Circle.{IsCircle}
+use Rattle.tp_judge.specs.Circle.{IsCircle}
 use Rattle.tp_judge.specs.declared.place.Rule.TheVariants as rule
 use Rattle.tp_judge.specs.declared.place.UnlawfulPlace.{UnlawfulPlace}
 use Rattle.tp_judge.specs.declared.trace.IndexedTrace.{IndexedTrace}

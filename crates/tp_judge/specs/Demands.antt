@@ -1,7 +1,7 @@
 -- What an order of the lines has to meet.
 use Rattle.std.specs.Prelude.{ℕ, zero, suc, Bool, true, false, Option, Some, None, List, [], ◌∷◌, ◌++◌, drop, length}
 use Rattle.std.specs.Prelude.{slice_get}
-use Rattle.tp_order.specs.declared.demand.Demand.{Demand}
+use Rattle.tp_judge.specs.declared.demand.Demand.{Demand}
 use Rattle.tp_judge.specs.declared.line.IndexedLine.{IndexedLine}
 use Rattle.tp_judge.specs.declared.trace.IndexedTrace.{IndexedTrace}
 use Rattle.tp_judge.specs.Before.{section_of, sent_on, came_on}

@@ -1,8 +1,8 @@
 -- What components did last, and the demands of the lines so far.
 use Rattle.std.specs.Prelude.{◌≡◌, ◌<◌, ◌≤◌, ◌⊎◌, ℕ, Bool, true, nat_le, filter, Option, Some, None, List, [], ◌∷◌, All}
 use Rattle.std.specs.Prelude.{cond, length, slice_index_or}
-use Rattle.tp_order.specs.declared.demand.Demand.{Demand}
-use Rattle.tp_order.specs.Circle.{LeadsThrough}
+use Rattle.tp_judge.specs.declared.demand.Demand.{Demand}
+use Rattle.tp_judge.specs.Circle.{LeadsThrough}
 use Rattle.tp_judge.specs.declared.line.Mention.{Mention}
 use Rattle.tp_judge.specs.declared.line.Act.TheVariants as act
 use Rattle.tp_judge.specs.declared.line.IndexedLine.{IndexedLine}

@@ -1,3 +1,11 @@
+pub mod Order
+pub mod Circle
+pub mod Answer
+pub mod Places
+pub mod Counts
+pub mod Chains
+pub mod Progress
+pub mod AfterOrdering
 pub mod Lines
 pub mod LinesByNumber
 pub mod Replayed

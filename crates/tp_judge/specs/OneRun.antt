@@ -29,7 +29,7 @@
 use Rattle.std.specs.Prelude.{◌≡◌, ◌<◌, ◌≤◌, ◌+◌, ◌-◌, ◌==◌, ◌&&◌, ◌++◌, ℕ, Bool, true, false, Option, Some, None, List}
 use Rattle.std.specs.Prelude.{All, Contains, cond, length, take, slice_get, slice_index, option_and_then, unwrap_or}
 use Rattle.std.specs.List.{filter_map}
-use Rattle.tp_order.specs.Order.{IsNumberAt, StandsBefore}
+use Rattle.tp_judge.specs.Order.{IsNumberAt, StandsBefore}
 use Rattle.tp_judge.specs.declared.line.Mention.{Mention}
 use Rattle.tp_judge.specs.declared.line.Act.{Act}
 use Rattle.tp_judge.specs.declared.line.Act.TheVariants as act

@@ -7,14 +7,14 @@ ghost use Rattle.tp_judge.specs.Lawful.{AreWithin};
 ghost use Rattle.tp_judge.specs.OneRun.{IsLeastOf};
 ghost use Rattle.tp_judge.specs.RouteRows.{AreRouteRows};
 
+use crate::answer::Answer;
 use crate::delivery::RouteRows;
 use crate::demands::make_demands;
+use crate::order::order_or_circle;
 use crate::place::{Rule, UnlawfulPlace};
 use crate::text_order::stands_in_order;
 use crate::trace::IndexedTrace;
 use std::alloc::Global;
-use tp_order::answer::Answer;
-use tp_order::order::order_or_circle;
 use tp_refusal::memory::Memory;
 
 pub(crate) fn least(xs: &[usize]) -> usize

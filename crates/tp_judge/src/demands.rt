@@ -6,11 +6,11 @@ ghost use Rattle.tp_judge.specs.Lawful.{AreWithin};
 ghost use Rattle.tp_judge.specs.RouteRows.{AreRouteRows};
 
 use crate::delivery::RouteRows;
+use crate::demand::Demand;
 use crate::gathering::gather_rows;
 use crate::line::{By, IndexedLine};
 use crate::trace::IndexedTrace;
 use std::alloc::Global;
-use tp_order::demand::Demand;
 use tp_refusal::memory::Memory;
 
 fn add_pairs(
@@ -79,6 +79,7 @@ pub(crate) fn make_demands(
     requires rows { AreRouteRows trace.now rows.now }
     ensures { IfOk result (λ demands. demands.items ≡ demands_of trace.now) }
 {
+    // The clause lists the sections before the routes.
     let mut demands = sections_in_order(alloc, trace)?;
     for route in 0..trace.joined.len() {
         add_route(&mut demands, trace, rows, route)?;

@@ -4,13 +4,18 @@
 //! that an allocation was refused; only calls that can return it allocate.
 #![tactic(auto)]
 
+pub mod answer;
+mod chains;
+mod circle;
 mod circles;
 mod delivery;
+pub mod demand;
 mod demands;
 mod gathering;
 pub mod judging;
 pub mod line;
 pub mod one_run;
+pub mod order;
 pub mod place;
 mod ports;
 mod replaying;
@@ -19,3 +24,4 @@ mod run_demands;
 mod sendings;
 mod text_order;
 pub mod trace;
+mod waits;

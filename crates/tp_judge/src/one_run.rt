@@ -4,12 +4,12 @@ ghost use Rattle.tp_judge.specs.Delivered.{Delivered};
 ghost use Rattle.tp_judge.specs.Lawful.{AreLinesRouted, AreWithin};
 ghost use Rattle.tp_judge.specs.OneRun.{IsOneRun, IsOneRunAnswer};
 
+use crate::answer::Answer;
 use crate::circles::least;
+use crate::order::order_or_circle;
 use crate::run_demands::{Which, make_run_demands, make_those};
 use crate::trace::IndexedTrace;
 use std::alloc::Global;
-use tp_order::answer::Answer;
-use tp_order::order::order_or_circle;
 use tp_refusal::memory::Memory;
 
 /// The result of the search for one order of everything that the components did, with each message

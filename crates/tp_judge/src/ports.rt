@@ -72,11 +72,11 @@ fn left_place(
         (IsToldLeft h (lines_at left.now) (lines_at closing.now))
         (IsLeftBroken h (lines_at left.now) (lines_at closing.now))) }
 {
-    // Of an open section nothing is asked.
+    // An open section need not say what is left.
     let Some(closer) = closer else {
         return None;
     };
-    // Of these lines the clauses speak.
+    // Only the clauses mention these lines.
     let _ = closing;
     let count = queue.queued_len();
     let mut told = 0u64;

@@ -122,7 +122,7 @@ fn operate(queue: &mut Queue<MessageId>, act: Act)
         Act::Halted(_) => {
             queue.halt();
         }
-        // Each is named, so that an act at a port that is new isn't passed over.
+        // Each act is named, so that the compiler finds a new one.
         Act::Sent(_) | Act::Came(_) | Act::Took(_) | Act::Found(_) | Act::Dropped(_) => {}
         Act::Left(_) | Act::Else | Act::End | Act::Other => {}
     }

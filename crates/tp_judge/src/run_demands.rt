@@ -6,11 +6,11 @@ ghost use Rattle.tp_judge.specs.Latest.{after_arrival, after_own, demand_of, is_
 ghost use Rattle.tp_judge.specs.Lawful.{AreLinesRouted, AreWithin};
 ghost use Rattle.tp_judge.specs.Sendings.{AreSendingRows};
 
+use crate::demand::Demand;
 use crate::line::{Act, Mention};
 use crate::sendings::{gather_sendings, sending_place};
 use crate::trace::IndexedTrace;
 use std::alloc::Global;
-use tp_order::demand::Demand;
 use tp_refusal::memory::Memory;
 
 #[derive(Clone, Copy)]
@@ -82,6 +82,7 @@ fn add_own(
         ≡ (demands.old.items ++ filter (is_made which) (demand_of latest.own place))
         ++ filter (is_made which) (demand_of latest.unseen place)) }
 {
+    // The clause lists the demands in this order.
     add(demands, which, latest.own, place)?;
     add(demands, which, latest.unseen, place)?;
     let look = if looks { Some(place) } else { latest.look };
@@ -106,6 +107,7 @@ fn add_arrival(
         ≡ (demands.old.items ++ filter (is_made which) (demand_of latest.look sending))
         ++ filter (is_made which) (demand_of latest.sending sending)) }
 {
+    // The clause lists the demands in this order.
     add(demands, which, latest.look, sending)?;
     add(demands, which, latest.sending, sending)?;
     Ok(Latest {

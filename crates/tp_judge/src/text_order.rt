@@ -14,6 +14,7 @@ use crate::trace::IndexedTrace;
 fn are_ascending(lines: &[IndexedLine]) -> bool
     ensures { IsTrue result → AreAscending lines.now }
 {
+    // 64 bits, because one more than a line's number may need 33.
     let mut next = 0u64;
     for line in lines {
         let number = u64::from(line.number);

@@ -2,8 +2,8 @@
 use Rattle.std.proofs.Common.{◌≡◌, ℕ, zero, suc, ◌+◌, Bool, cond, true, false, Some, List, [], ◌∷◌, length, take}
 use Rattle.std.proofs.Common.{slice_get, refl, ap, ◌∙◌, arith}
 use Rattle.std.proofs.lemmas.Option.{same_Some}
-use Rattle.tp_trace.specs.Line.{Told, begins, passed, operated, otherwise, remarked, ended, resulted}
-use Rattle.tp_trace.specs.Tree.{names_of}
+use Rattle.tp_referee.specs.Line.{Told, begins, passed, operated, otherwise, remarked, ended, resulted}
+use Rattle.tp_referee.specs.Tree.{names_of}
 use Rattle.tp_referee.specs.declared.tables.Tables.{Tables}
 use Rattle.tp_referee.specs.Kept.{Keeps}
 use Rattle.tp_referee.specs.Numbering.{IsComponentNumber}

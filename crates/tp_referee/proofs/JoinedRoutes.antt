@@ -2,8 +2,8 @@
 use Rattle.std.proofs.Common.{◌≡◌, ℕ, Bool, true, Some, List, map, slice_get, Contains, ap, sym, ◌∙◌}
 use Rattle.std.specs.Prelude.{◌↔◌, IsTrue}
 use Rattle.std.proofs.lemmas.Option.{same_Some}
-use Rattle.tp_trace.specs.Line.{Told}
-use Rattle.tp_trace.specs.Tree.{names_of}
+use Rattle.tp_referee.specs.Line.{Told}
+use Rattle.tp_referee.specs.Tree.{names_of}
 use Rattle.tp_judge.specs.declared.trace.IndexedTrace.{IndexedTrace}
 use Rattle.tp_referee.specs.declared.tables.PortKey.{PortKey}
 use Rattle.tp_referee.specs.declared.tables.Tables.{Tables}

@@ -6,7 +6,7 @@ use Rattle.std.specs.List.{list_any}
 use Rattle.std.proofs.lemmas.List.{length_push}
 use Rattle.std.proofs.lemmas.Option.{same_Some, slice_get-map}
 use Rattle.indexmap.specs.IndexSet.{insert_key}
-use Rattle.tp_trace.proofs.SectionNamePlaces.{seen_at}
+use Rattle.tp_referee.proofs.SectionNamePlaces.{seen_at}
 use Rattle.tp_referee.specs.Kept.{AddsOnly, Keeps}
 
 pub kept_append : {X : Type 0} (xs ys : List X) → Keeps xs (xs ++ ys)

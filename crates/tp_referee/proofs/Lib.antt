@@ -1,3 +1,9 @@
+pub mod UniqueByteCuts
+pub mod MessagePartsFromBytes
+pub mod UniqueLineMeanings
+pub mod SectionNamePlaces
+pub mod LineSpansInText
+pub mod TraceLineGrowth
 pub mod KeySetGrowth
 pub mod PortAndRouteEquality
 pub mod SectionComponentsFirst

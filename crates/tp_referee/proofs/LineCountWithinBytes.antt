@@ -3,8 +3,8 @@ use Rattle.std.proofs.Common.{◌≡◌, ℕ, ◌+◌, ◌≤◌, Bool, true, fa
 use Rattle.std.specs.Prelude.{◌==◌}
 use Rattle.std.specs.List.{onto_first}
 use Rattle.tp_text.specs.Cutting.{lines_of}
-use Rattle.tp_trace.specs.Line.{Told, Spells}
-use Rattle.tp_trace.specs.Tree.{IsTraceOf}
+use Rattle.tp_referee.specs.Line.{Told, Spells}
+use Rattle.tp_referee.specs.Tree.{IsTraceOf}
 use Rattle.tp_referee.proofs.ZippedPrefixGrowth.{zip_length}
 
 first_longer : (b : ℕ) (lines : List (List ℕ)) → length (onto_first b lines) ≤ length lines + 1

@@ -8,9 +8,9 @@ use Rattle.std.proofs.lemmas.Option.{slice_get_within, slice_get-get_or}
 use Rattle.std.proofs.lemmas.List.Elements.{All-nil, All-cons, All-map}
 use Rattle.tp_event.specs.declared.operation.PortOperation.{PortOperation}
 use Rattle.tp_event.specs.declared.operation.PortOperation.TheVariants as operation
-use Rattle.tp_trace.specs.declared.line.MessageVerb.{MessageVerb}
-use Rattle.tp_trace.specs.declared.line.MessageVerb.TheVariants as fate
-use Rattle.tp_trace.specs.Line.{Told, begins, passed, operated, otherwise, remarked, ended, resulted}
+use Rattle.tp_referee.specs.declared.line.MessageVerb.{MessageVerb}
+use Rattle.tp_referee.specs.declared.line.MessageVerb.TheVariants as fate
+use Rattle.tp_referee.specs.Line.{Told, begins, passed, operated, otherwise, remarked, ended, resulted}
 use Rattle.tp_judge.specs.declared.line.Mention.{Mention}
 use Rattle.tp_judge.specs.declared.line.Act.{Act}
 use Rattle.tp_judge.specs.declared.line.Act.TheVariants as act

@@ -4,9 +4,9 @@ use Rattle.std.proofs.Common.{drop, slice_get, refl, ap, sym, ◌∙◌, subst, 
 use Rattle.std.specs.List.{AllZip}
 use Rattle.std.proofs.lemmas.List.Sums.{fold_push}
 use Rattle.std.proofs.lemmas.Option.{slice_get_within}
-use Rattle.tp_trace.specs.declared.form.TracePosition.TheVariants as stand
-use Rattle.tp_trace.specs.Line.{Told, begins, passed, operated, otherwise, remarked, ended, resulted}
-use Rattle.tp_trace.specs.Tree.{IsTrace, may_stand, names_of, place_behind, place_after}
+use Rattle.tp_referee.specs.declared.form.TracePosition.TheVariants as stand
+use Rattle.tp_referee.specs.Line.{Told, begins, passed, operated, otherwise, remarked, ended, resulted}
+use Rattle.tp_referee.specs.Tree.{IsTrace, may_stand, names_of, place_behind, place_after}
 use Rattle.tp_judge.specs.declared.line.IndexedLine.{IndexedLine}
 use Rattle.tp_referee.specs.declared.tables.Tables.{Tables}
 use Rattle.tp_referee.specs.Kept.{Keeps}

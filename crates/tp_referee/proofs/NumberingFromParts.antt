@@ -1,7 +1,7 @@
 -- The parts of a numbering, put together.
 use Rattle.std.proofs.Common.{◌≡◌, ◌+◌, ◌≤◌, Bool, List, length, map}
 use Rattle.std.specs.List.{AllZip}
-use Rattle.tp_trace.specs.Line.{Told}
+use Rattle.tp_referee.specs.Line.{Told}
 use Rattle.tp_judge.specs.declared.trace.IndexedTrace.{IndexedTrace}
 use Rattle.tp_judge.specs.Lawful.{AreLinesRouted, AreWithin}
 use Rattle.tp_referee.specs.declared.tables.PortKey.{PortKey}

@@ -6,9 +6,9 @@ use Rattle.std.proofs.lemmas.Bool.{cases_lt}
 use Rattle.std.proofs.lemmas.Option.{same_Some, slice_get_within, get_or_from_slice_get}
 use Rattle.tp_event.specs.declared.operation.PortOperation.{PortOperation}
 use Rattle.tp_event.specs.declared.operation.PortOperation.TheVariants as operation
-use Rattle.tp_trace.specs.declared.line.MessageVerb.{MessageVerb}
-use Rattle.tp_trace.specs.declared.line.MessageVerb.TheVariants as fate
-use Rattle.tp_trace.specs.Line.{Letter, Told, begins, passed, operated, otherwise, remarked, ended, resulted}
+use Rattle.tp_referee.specs.declared.line.MessageVerb.{MessageVerb}
+use Rattle.tp_referee.specs.declared.line.MessageVerb.TheVariants as fate
+use Rattle.tp_referee.specs.Line.{Letter, Told, begins, passed, operated, otherwise, remarked, ended, resulted}
 use Rattle.tp_judge.specs.declared.line.Act.{Act}
 use Rattle.tp_judge.specs.declared.line.Mention.{Mention}
 use Rattle.tp_judge.specs.declared.line.IndexedLine.{IndexedLine}

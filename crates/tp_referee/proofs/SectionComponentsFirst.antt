@@ -8,7 +8,7 @@ use Rattle.std.proofs.lemmas.List.{get_or-append_right, get_or_append_left, get_
 use Rattle.std.proofs.lemmas.List.Quantifiers.{position-Some}
 use Rattle.std.proofs.lemmas.Option.{same_Some, slice_get-get_or}
 use Rattle.std.proofs.lemmas.Slice.Eq.{bytes_eq-Decides}
-use Rattle.tp_trace.specs.Tree.{section_named}
+use Rattle.tp_referee.specs.Tree.{section_named}
 use Rattle.tp_referee.specs.Kept.{AddsOnly, AreOthers, Keeps}
 use Rattle.tp_referee.proofs.NumbersIdentifyNames.{once}
 

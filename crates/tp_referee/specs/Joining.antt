@@ -1,8 +1,8 @@
 -- Which components have a section, and which routes two.
 use Rattle.std.specs.Prelude.{◌≡◌, ◌↔◌, ℕ, Bool, true, Some, List, Contains, IsTrue, slice_get}
 use Rattle.std.specs.List.{AllZip}
-use Rattle.tp_trace.specs.Line.{Told}
-use Rattle.tp_trace.specs.Tree.{names_of}
+use Rattle.tp_referee.specs.Line.{Told}
+use Rattle.tp_referee.specs.Tree.{names_of}
 use Rattle.tp_referee.specs.declared.tables.RouteKey.{RouteKey}
 
 -- of each of these components whether it has a section

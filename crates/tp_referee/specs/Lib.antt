@@ -1,3 +1,8 @@
+pub mod Line
+pub mod Tree
+pub mod Spans
+pub mod Read
+pub mod Faults
 pub mod Kept
 pub mod Numbering
 pub mod OneToOne

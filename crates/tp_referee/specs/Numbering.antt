@@ -3,10 +3,10 @@ use Rattle.std.specs.Prelude.{◌≡◌, ◌≢◌, ◌+◌, ◌↔◌, ℕ, Som
 use Rattle.std.specs.List.{AllZip}
 use Rattle.tp_event.specs.declared.operation.PortOperation.{PortOperation}
 use Rattle.tp_event.specs.declared.operation.PortOperation.TheVariants as operation
-use Rattle.tp_trace.specs.declared.line.MessageVerb.{MessageVerb}
-use Rattle.tp_trace.specs.declared.line.MessageVerb.TheVariants as fate
-use Rattle.tp_trace.specs.Line.{Letter, Told, begins, passed, operated, otherwise, ended, resulted}
-use Rattle.tp_trace.specs.Tree.{names_of}
+use Rattle.tp_referee.specs.declared.line.MessageVerb.{MessageVerb}
+use Rattle.tp_referee.specs.declared.line.MessageVerb.TheVariants as fate
+use Rattle.tp_referee.specs.Line.{Letter, Told, begins, passed, operated, otherwise, ended, resulted}
+use Rattle.tp_referee.specs.Tree.{names_of}
 use Rattle.tp_judge.specs.declared.line.Mention.{Mention}
 use Rattle.tp_judge.specs.declared.line.Act.{Act}
 use Rattle.tp_judge.specs.declared.line.Act.TheVariants as act

@@ -1,8 +1,8 @@
 -- A numbering is one to one: two lines have one number exactly where they name the same.
 use Rattle.std.specs.Prelude.{◌≡◌, ◌↔◌, ℕ, Option, Some, None, List, slice_get}
-use Rattle.tp_trace.specs.declared.line.MessageVerb.{MessageVerb}
-use Rattle.tp_trace.specs.declared.line.MessageVerb.TheVariants as fate
-use Rattle.tp_trace.specs.Line.{Letter, Told, passed, operated}
+use Rattle.tp_referee.specs.declared.line.MessageVerb.{MessageVerb}
+use Rattle.tp_referee.specs.declared.line.MessageVerb.TheVariants as fate
+use Rattle.tp_referee.specs.Line.{Letter, Told, passed, operated}
 use Rattle.tp_judge.specs.declared.line.Act.{Act}
 use Rattle.tp_judge.specs.declared.line.Act.TheVariants as act
 use Rattle.tp_judge.specs.declared.line.Mention.{Mention}

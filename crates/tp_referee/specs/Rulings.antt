@@ -1,7 +1,7 @@
 -- What is said of a trace, and of a text.
 use Rattle.std.specs.Prelude.{◌≢◌, ℕ, List, [], All}
-use Rattle.tp_trace.specs.Line.{Told}
-use Rattle.tp_trace.specs.Tree.{IsTraceOf}
+use Rattle.tp_referee.specs.Line.{Told}
+use Rattle.tp_referee.specs.Tree.{IsTraceOf}
 use Rattle.tp_judge.specs.declared.place.UnlawfulPlace.{UnlawfulPlace}
 use Rattle.tp_judge.specs.declared.trace.IndexedTrace.{IndexedTrace}
 use Rattle.tp_judge.specs.Judged.{AreInOrder, IsLawful, IsUnlawfulPlace}

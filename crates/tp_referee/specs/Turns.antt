@@ -1,6 +1,6 @@
 -- How the tables grow, line by line.
 use Rattle.std.specs.Prelude.{◌≡◌, ◌+◌, ◌<◌, ◌≤◌, ℕ, Some, Bool, true, false, List, [], ◌∷◌, ◌++◌, length, slice_get, ⊤}
-use Rattle.tp_trace.specs.Line.{Told, begins, resulted}
+use Rattle.tp_referee.specs.Line.{Told, begins, resulted}
 use Rattle.tp_judge.specs.declared.line.Act.{Act}
 use Rattle.tp_judge.specs.declared.line.IndexedLine.{IndexedLine}
 use Rattle.tp_referee.specs.declared.tables.PortKey.{PortKey}

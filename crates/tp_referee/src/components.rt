@@ -1,13 +1,13 @@
 //! The components of a trace, each with a number.
 ghost use Rattle.std.specs.Prelude.{◌≡◌, ◌≢◌, ◌+◌, ◌<◌, ◌≤◌, ◌^◌, AllPairs, IfOk, OnOk, Some, length, slice_get};
-ghost use Rattle.tp_trace.specs.Tree.{names_of};
+ghost use Rattle.tp_referee.specs.Tree.{names_of};
 ghost use Rattle.tp_referee.specs.Kept.{Keeps};
 
+use crate::tree::Trace;
 use crate::words::NumberedWords;
 use std::alloc::Global;
 use std::marker::Model;
 use tp_refusal::memory::Memory;
-use tp_trace::tree::Trace;
 
 /// The names of components, no two of them equal: first those of the sections, in their order, then
 /// the others, by first occurrence. The trace has a table of the first already, so that none of
@@ -27,7 +27,7 @@ impl Drop for Components<'_> {
 
 impl<'t> Model for Components<'t> {
     ghost use Rattle.std.specs.Prelude.{ℕ, List, ◌++◌};
-    ghost use Rattle.tp_trace.specs.Tree.{names_of};
+    ghost use Rattle.tp_referee.specs.Tree.{names_of};
     ghost use Rattle.tp_referee.specs.Kept.{AreOthers};
 
     ghost Value = { List (List ℕ) };

@@ -1,15 +1,15 @@
 //! Routes with a section at both ends.
 ghost use Rattle.std.specs.Prelude.{◌≡◌, ◌↔◌, ◌<◌, ◌^◌, ℕ, Contains, IfOk, IsTrue, Some, List, length, map, slice_get};
 ghost use Rattle.std.specs.Prelude.{true};
-ghost use Rattle.tp_trace.specs.Tree.{names_of};
+ghost use Rattle.tp_referee.specs.Tree.{names_of};
 ghost use Rattle.tp_referee.specs.Kept.{Keeps};
 ghost use Rattle.tp_referee.specs.Joining.{AreSections, AreJoinedBy, IsJoinedBy};
 
 use crate::components::Components;
 use crate::tables::{PortKey, RouteKey};
+use crate::tree::Trace;
 use std::alloc::Global;
 use tp_refusal::memory::Memory;
-use tp_trace::tree::Trace;
 
 /// For each component, whether it has a section: those with one come first.
 pub fn sections_of(

@@ -4,10 +4,15 @@
 #![tactic(auto)]
 
 mod components;
+pub mod form;
 mod joining;
+pub mod line;
 pub mod numbering;
 mod numbers;
+mod read;
+pub mod reading;
 pub mod ruling;
 mod tables;
+pub mod tree;
 mod words;
 pub mod writing;

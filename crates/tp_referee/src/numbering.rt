@@ -1,7 +1,7 @@
 //! The lines of a trace, with numbers instead of names and messages.
 ghost use Rattle.std.specs.Prelude.{◌≡◌, ◌<◌, ◌≤◌, ◌+◌, IfOk, OnOk, length, slice_get};
 ghost use Rattle.std.specs.List.{AllZip};
-ghost use Rattle.tp_trace.specs.Tree.{IsTrace, names_of, told_of};
+ghost use Rattle.tp_referee.specs.Tree.{IsTrace, names_of, told_of};
 ghost use Rattle.tp_judge.specs.Lawful.{AreLinesRouted, AreWithin};
 ghost use Rattle.tp_referee.specs.Kept.{Keeps};
 ghost use Rattle.tp_referee.specs.Numbering.{IsComponentNumber, IsLine, IsNumberingOf, stands_of};
@@ -10,13 +10,13 @@ ghost use Rattle.tp_referee.specs.Turns.{KeepsNumbers, HasRoom, IsBegunBy, IsIns
 ghost use Rattle.tp_referee.specs.Turns.{size};
 
 use crate::joining::{joined_of, owners_of, sections_of};
+use crate::line::Line;
 use crate::tables::Tables;
+use crate::tree::Trace;
 use std::alloc::Global;
 use tp_judge::line::IndexedLine;
 use tp_judge::trace::IndexedTrace;
 use tp_refusal::memory::Memory;
-use tp_trace::line::Line;
-use tp_trace::tree::Trace;
 
 fn is_beginning(line: &Line<'_>) -> bool
     ensures { result ≡ is_beginning (told_of line.now) }
@@ -44,7 +44,7 @@ fn step<'t>(
     ensures whole { OnOk result (IsWhole tables.new) }
 {
     match line {
-        // The components of the sections have the numbers of these.
+        // The components that have a section are numbered first, in the order of their sections.
         Line::Component(_) => Ok(begun),
         Line::Result(_) => Ok(here),
         _ => {
@@ -79,6 +79,7 @@ fn number_lines<'t>(
     let mut begun = 0;
     for place in 0..trace.line_count() {
         let line = trace.line(place);
+        // `begun` counts the sections before this line, so it grows only after the step.
         here = step(tables, &mut lines, here, begun, place as u32 + 1, &line)?;
         if is_beginning(&line) {
             begun += 1;

@@ -1,17 +1,17 @@
 //! The ruling on the text of a trace.
 ghost use Rattle.std.specs.Prelude.{IfErr, IfOk};
-ghost use Rattle.tp_trace.specs.Faults.{IsFaultOf};
+ghost use Rattle.tp_referee.specs.Faults.{IsFaultOf};
 ghost use Rattle.tp_judge.specs.Lawful.{AreLinesRouted, AreWithin};
 ghost use Rattle.tp_referee.specs.Rulings.{IsNumberedText, IsRulingOf, IsRulingOn};
 
 use crate::numbering::number_trace;
+use crate::reading::{TraceFault, read_trace};
 use std::alloc::Global;
 use tp_judge::judging::judge;
 use tp_judge::one_run::{OneRun, one_run};
 use tp_judge::place::UnlawfulPlace;
 use tp_judge::trace::IndexedTrace;
 use tp_refusal::memory::Memory;
-use tp_trace::reading::{TraceFault, read_trace};
 
 #[derive(Drop)]
 pub enum Ruling {

@@ -1,20 +1,20 @@
 //! The tables of the numbers in a trace.
 ghost use Rattle.std.specs.Prelude.{◌≡◌, ◌<◌, ◌≤◌, [], IfOk, OnOk, Some, length, slice_get};
-ghost use Rattle.tp_trace.specs.Tree.{letter_of, names_of, told_of};
+ghost use Rattle.tp_referee.specs.Tree.{letter_of, names_of, told_of};
 ghost use Rattle.tp_referee.specs.Numbering.{AreTablesDistinct, IsAct, IsComponentNumber, IsMention, IsOperated};
 ghost use Rattle.tp_referee.specs.Numbering.{IsPassed, IsPortNumber, act_of, operation_act, receiver_of, sender_of};
 ghost use Rattle.tp_referee.specs.Turns.{KeepsNumbers, HasRoom, IsWhole, size};
 
 use crate::components::Components;
+use crate::line::{Line, MessageVerb, MessageWords};
 use crate::numbers::number_of;
+use crate::tree::Trace;
 use crate::words::NumberedWords;
 use indexmap::IndexSet;
 use std::alloc::Global;
 use tp_event::operation::PortOperation;
 use tp_judge::line::{Act, Mention, MessageId, Parcel};
 use tp_refusal::memory::Memory;
-use tp_trace::line::{Line, MessageVerb, MessageWords};
-use tp_trace::tree::Trace;
 
 /// A port: the number of its component, and that of its name among the names of ports.
 #[derive(Clone, Copy, PartialEq, Eq, Hash)]
@@ -119,6 +119,7 @@ impl<'t> Tables<'t> {
         requires { HasRoom 0 self.now }
         ensures { AreTablesDistinct self.now }
     {
+        // Each call is for its clause `distinct`.
         let _ = self.components.len();
         let _ = self.names.len();
         let _ = self.ports.len();

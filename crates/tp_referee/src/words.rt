@@ -1,5 +1,6 @@
 //! Words of a text, each with a number.
-ghost use Rattle.std.specs.Prelude.{◌≡◌, ◌≢◌, ◌+◌, ◌<◌, ◌≤◌, [], AllPairs, IfOk, OnErr, OnOk, Some, length, slice_get};
+ghost use Rattle.std.specs.Prelude.{◌≡◌, ◌≢◌, ◌+◌, ◌<◌, ◌≤◌, ◌∷◌, ◌++◌, ◌↔◌, [], AllPairs, Contains, IfOk, IsSome};
+ghost use Rattle.std.specs.Prelude.{MatchBool, OnErr, OnOk, Some, length, slice_get};
 ghost use Rattle.tp_referee.specs.Kept.{AddsOnly, Keeps};
 
 use crate::numbers::number_of;
@@ -30,6 +31,8 @@ impl<'t> Model for NumberedWords<'t> {
 }
 
 impl<'t> NumberedWords<'t> {
+    ghost use Rattle.tp_referee.specs.Tree.{section_named};
+
     pub fn new(alloc: Global) -> NumberedWords<'t>
         ensures { result ≡ [] }
     {
@@ -43,6 +46,29 @@ impl<'t> NumberedWords<'t> {
         ensures distinct { AllPairs (λ a b. a ≢ b) self.now }
     {
         self.words.len()
+    }
+
+    pub fn find(&self, word: &[u8]) -> Option<usize>
+        ensures place { result ≡ section_named self.now word.now }
+        ensures known { IsSome result ↔ Contains self.now word.now }
+    {
+        match self.words.get_index_of(word) {
+            Some(place) => Some(place),
+            None => None,
+        }
+    }
+
+    /// Returns whether the word is new.
+    pub fn add(&mut self, word: &'t [u8]) -> Result<bool, Memory>
+        ensures added { IfOk result (λ added. MatchBool added
+            (¬ Contains self.old word.now × (self.new ≡ self.old ++ word.now ∷ []))
+            (Contains self.old word.now)) }
+        ensures err { OnErr result (self.new ≡ self.old) }
+    {
+        let Ok((_, added)) = self.words.insert_full(word) else {
+            return Err(Memory);
+        };
+        Ok(added)
     }
 
     pub fn number(&mut self, word: &'t [u8]) -> Result<u32, Memory>

@@ -8,6 +8,7 @@ use tp_config::port_type::CompId;
 use tp_event::event::Env;
 use tp_history::desk::Desk;
 use tp_history::entry::Entry;
+use tp_history::noted::NotedRoute;
 use tp_history::send_fault::SendFault;
 use tp_history::stamped::Stamped;
 use tp_inbox::sender::Sender;
@@ -65,9 +66,10 @@ fn env(number: u32) -> Env<Message> {
 fn sent<R: AllocGlobal + Abort>(rt: &R, desk: &mut Desk) -> String {
     let stamp = desk.stamp().expect(rt, "a stamp");
     let message = integer(7);
+    let way = NotedRoute::of(route(0, 1, 0)).expect(rt, "a route");
     debug(
         rt,
-        desk.note(Entry::Sent(route(0, 1, 0), 0, Stamped { stamp, message })),
+        desk.note(Entry::Sent(way, 0, Stamped { stamp, message })),
     )
 }
 
@@ -160,19 +162,27 @@ const CALLS_OF_A_DESK: &[(DeskCall, &str)] = &[
 ];
 
 const LOG_OF_A_DESK: &[&str] = &[
-    "Arrive(0, Env { sender: 0, number: 0, msg: Message { ty: Integer, value: Int(0) } }, 0)",
-    "Arrive(0, Env { sender: 0, number: 1, msg: Message { ty: Integer, value: Int(1) } }, 1)",
-    "Arrive(0, Env { sender: 0, number: 2, msg: Message { ty: Integer, value: Int(2) } }, 2)",
-    "Arrive(0, Env { sender: 0, number: 3, msg: Message { ty: Integer, value: Int(3) } }, 3)",
-    "Found(0, Env { sender: 0, number: 0, msg: Message { ty: Integer, value: Int(0) } }, 2)",
-    "Took(0, Env { sender: 0, number: 0, msg: Message { ty: Integer, value: Int(0) } }, 1)",
-    "Dropped(0, Env { sender: 0, number: 1, msg: Message { ty: Integer, value: Int(1) } }, 3)",
-    "Took(0, Env { sender: 0, number: 2, msg: Message { ty: Integer, value: Int(2) } }, 0)",
+    "Arrive(0, NotedEnvelope { sender: 0, number: 0, \
+    message: Message { ty: Integer, value: Int(0) } }, 0)",
+    "Arrive(0, NotedEnvelope { sender: 0, number: 1, \
+    message: Message { ty: Integer, value: Int(1) } }, 1)",
+    "Arrive(0, NotedEnvelope { sender: 0, number: 2, \
+    message: Message { ty: Integer, value: Int(2) } }, 2)",
+    "Arrive(0, NotedEnvelope { sender: 0, number: 3, \
+    message: Message { ty: Integer, value: Int(3) } }, 3)",
+    "Found(0, NotedEnvelope { sender: 0, number: 0, \
+    message: Message { ty: Integer, value: Int(0) } }, 2)",
+    "Took(0, NotedEnvelope { sender: 0, number: 0, \
+    message: Message { ty: Integer, value: Int(0) } }, 1)",
+    "Dropped(0, NotedEnvelope { sender: 0, number: 1, \
+    message: Message { ty: Integer, value: Int(1) } }, 3)",
+    "Took(0, NotedEnvelope { sender: 0, number: 2, \
+    message: Message { ty: Integer, value: Int(2) } }, 0)",
     "Halted(0)",
     "Cleared(0)",
     "Stopped(0)",
     "Started(0)",
-    "Sent(RouteId { source: CompId(0), to: PortRef { comp: CompId(1), port: 0 } }, 0, \
+    "Sent(NotedRoute { source: 0, comp: 1, port: 0 }, 0, \
     Stamped { stamp: 4, message: Message { ty: Integer, value: Int(7) } })",
     "Else",
     "Verdict(Pass)",
@@ -184,6 +194,20 @@ fn refused_memory_leaves_a_desk_as_it_was(rt: HostRuntime) {
     let mut desk = desk(&rt);
     carries_out(&rt, &mut desk, CALLS_OF_A_DESK);
     is_noted(&rt, desk.log(), LOG_OF_A_DESK);
+    drop(desk);
+}
+
+#[test]
+fn number_without_room_is_refused(rt: HostRuntime) {
+    let mut desk = desk(&rt);
+    assert!(rt; desk.port_count() > 0);
+    let env = Env {
+        sender: 0,
+        number: 1 << 32,
+        msg: integer(7),
+    };
+    assert!(rt; desk.arrive(0, env, 1).is_err());
+    assert!(rt; desk.log().len() == 0);
     drop(desk);
 }
 
@@ -224,9 +248,9 @@ fn send_by_each<R: Wait + Abort>(rt: &R, desk: &mut Desk, senders: &mut [Sender]
 #[test]
 fn refused_memory_puts_and_notes_nothing(rt: HostRuntime) {
     const LOG: &[&str] = &[
-        "Sent(RouteId { source: CompId(0), to: PortRef { comp: CompId(1), port: 0 } }, 0, \
+        "Sent(NotedRoute { source: 0, comp: 1, port: 0 }, 0, \
         Stamped { stamp: 1, message: Message { ty: Integer, value: Int(1) } })",
-        "Sent(RouteId { source: CompId(0), to: PortRef { comp: CompId(1), port: 0 } }, 1, \
+        "Sent(NotedRoute { source: 0, comp: 1, port: 0 }, 1, \
         Stamped { stamp: 2, message: Message { ty: Integer, value: Int(2) } })",
     ];
     let (ends, floor) = two(&rt, ["p"].as_slice());

@@ -1,7 +1,6 @@
-//! Tests of the public calls of `tp_text`, `tp_token`, `tp_order`, `tp_port`, `tp_value`,
-//! `tp_config`, `tp_history`, `tp_floor` and `tp_inbox`. They are here, and not in the crates that
-//! they test, so that those are proved once. `writers` is also proved without the tests, because
-//! wrong bodies are tried without them.
+//! Tests of public calls of the other crates. They are here, and not in the crates that they test,
+//! so that those are proved once. `writers` is also proved without the tests, because wrong bodies
+//! are tried without them.
 #![tactic(auto)]
 
 #[cfg(test)]
@@ -25,7 +24,13 @@ mod partners;
 #[cfg(test)]
 mod ports;
 #[cfg(test)]
+mod programs;
+#[cfg(test)]
+mod searches;
+#[cfg(test)]
 mod showing;
+#[cfg(test)]
+mod surface;
 #[cfg(test)]
 mod templates;
 #[cfg(test)]

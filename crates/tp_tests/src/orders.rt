@@ -1,8 +1,8 @@
 //! Orders of numbers that meet demands, and circles where there is none.
 use std::process::Abort;
-use tp_order::answer::Answer;
-use tp_order::demand::{Demand, are_below};
-use tp_order::order::{order_of, order_or_circle};
+use tp_judge::answer::Answer;
+use tp_judge::demand::{Demand, are_below};
+use tp_judge::order::{order_of, order_or_circle};
 
 fn is_the_order<R: AllocGlobal + Abort>(
     rt: &R,

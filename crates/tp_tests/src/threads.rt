@@ -13,7 +13,6 @@ use std::thread;
 use std::thread::{Promise, PromisedHandle, Threads};
 use tp_config::config::Config;
 use tp_config::port_type::{CompId, Role};
-use tp_event::event::Env;
 use tp_history::entry::Entry;
 use tp_inbox::gathered::Rest;
 use tp_inbox::sender::Sender;
@@ -124,14 +123,10 @@ where
     })
 }
 
-/// The count with this message, if it is the next of this sender; the count as it was, if it is
-/// another sender's.
-fn counted(env: &Env<Message>, sender: u32, count: u64) -> Option<u64> {
-    if env.sender != sender {
-        return Some(count);
-    }
-    match env.msg.value {
-        Value::Int(n) if n.unsigned_abs() == count && env.number == count => {
+/// The count with this message, if its number is the next of its sender.
+fn counted(number: u64, message: &Message, count: u64) -> Option<u64> {
+    match message.value {
+        Value::Int(n) if n.unsigned_abs() == count && number == count => {
             Some(count.wrapping_add(1))
         }
         _ => None,
@@ -144,11 +139,15 @@ fn all_from(log: &[Entry], rest: &Rest, sender: u32) -> Option<u64> {
     let mut count = 0;
     for entry in log {
         if let Entry::Arrive(0, env, _) = entry {
-            count = counted(env, sender, count)?;
+            if env.sender() == sender {
+                count = counted(env.number(), env.message(), count)?;
+            }
         }
     }
     for (_, env, _) in rest {
-        count = counted(env, sender, count)?;
+        if env.sender == sender {
+            count = counted(env.number, &env.msg, count)?;
+        }
     }
     Some(count)
 }

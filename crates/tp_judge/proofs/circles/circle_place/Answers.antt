@@ -2,9 +2,9 @@
 use Rattle.std.proofs.Common.{◌≡◌, ℕ, List, get_or, sym, subst, refl, ◌∙◌}
 use Rattle.std.specs.Prelude.{All}
 use Rattle.std.proofs.lemmas.List.{get_or_default}
-use Rattle.tp_order.specs.declared.demand.Demand.{Demand}
-use Rattle.tp_order.specs.Circle.{IsCircle}
-use Rattle.tp_order.specs.Order.{IsBelow, IsOrder}
+use Rattle.tp_judge.specs.declared.demand.Demand.{Demand}
+use Rattle.tp_judge.specs.Circle.{IsCircle}
+use Rattle.tp_judge.specs.Order.{IsBelow, IsOrder}
 use Rattle.tp_judge.specs.Before.{LineHappensBefore}
 use Rattle.tp_judge.specs.Demands.{demands_of}
 use Rattle.tp_judge.specs.OneRun.{IsLeastOf}

@@ -2,7 +2,7 @@
 use Rattle.std.proofs.Common.{◌≡◌, ◌++◌, Some, false, true, ap, sym, subst, ◌∙◌, List, append-nil}
 use Rattle.std.specs.Prelude.{OnOk, slice_get}
 use Rattle.std.proofs.lemmas.Option.{slice_get-get_or}
-use Rattle.tp_order.specs.declared.demand.Demand.{Demand}
+use Rattle.tp_judge.specs.declared.demand.Demand.{Demand}
 use Rattle.tp_judge.specs.Before.{came_on, sent_on}
 use Rattle.tp_judge.specs.Demands.{pairs, route_demands, where_joined}
 use Rattle.tp_judge.specs.LinesByNumber.{lines_at}

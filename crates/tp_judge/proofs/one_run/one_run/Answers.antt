@@ -2,9 +2,9 @@
 use Rattle.std.proofs.Common.{◌≡◌, ◌<◌, ℕ, List, length, get_or, sym, subst, arith}
 use Rattle.std.specs.Prelude.{All}
 use Rattle.std.proofs.lemmas.List.Elements.{All-contains}
-use Rattle.tp_order.specs.declared.demand.Demand.{Demand}
-use Rattle.tp_order.specs.Circle.{IsCircle, LiesOnCircle}
-use Rattle.tp_order.specs.Order.{IsBelow, IsOrder}
+use Rattle.tp_judge.specs.declared.demand.Demand.{Demand}
+use Rattle.tp_judge.specs.Circle.{IsCircle, LiesOnCircle}
+use Rattle.tp_judge.specs.Order.{IsBelow, IsOrder}
 use Rattle.tp_judge.specs.declared.trace.IndexedTrace.{IndexedTrace}
 use Rattle.tp_judge.specs.OneRun.{IsLeastOf}
 use Rattle.tp_judge.proofs.OneRunDecision.{delayed_of, one_run_of, run_demands_below}

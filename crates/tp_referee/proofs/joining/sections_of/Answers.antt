@@ -3,7 +3,7 @@ use Rattle.std.proofs.Common.{◌+◌, ℕ, [], get_or, nat_lt, subst, sym, take
 use Rattle.std.specs.Prelude.{◌↔◌, Contains, IsTrue}
 use Rattle.std.proofs.lemmas.List.{take_all}
 use Rattle.std.proofs.lemmas.Option.{slice_get-get_or}
-use Rattle.tp_trace.specs.Tree.{names_of}
+use Rattle.tp_referee.specs.Tree.{names_of}
 use Rattle.tp_referee.specs.Joining.{AreSections}
 use Rattle.tp_referee.proofs.SectionComponentsFirst.{section_below}
 use Rattle.tp_referee.proofs.ZippedPrefixGrowth.{zip_next}

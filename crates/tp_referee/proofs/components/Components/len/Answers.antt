@@ -2,7 +2,7 @@
 use Rattle.std.proofs.Common.{◌≡◌, ◌≢◌, ◌++◌, length, subst, ap, arith}
 use Rattle.std.specs.Prelude.{AllPairs}
 use Rattle.std.proofs.lemmas.List.{length-append}
-use Rattle.tp_trace.specs.Tree.{names_of}
+use Rattle.tp_referee.specs.Tree.{names_of}
 use Rattle.tp_referee.proofs.SectionComponentsFirst.{apart_behind}
 use Rattle.tp_referee.proofs.components.Components.len.Goals as goal
 

@@ -2,8 +2,8 @@
 use Rattle.std.proofs.Common.{◌≡◌, ◌+◌, ◌++◌, ◌∙◌, Some, length, slice_get, subst, sym, ap, arith}
 use Rattle.std.proofs.lemmas.List.{length-append}
 use Rattle.std.proofs.lemmas.Option.{slice_get_within}
-use Rattle.tp_trace.specs.Tree.{names_of}
-use Rattle.tp_trace.proofs.SectionNamePlaces.{place_unknown}
+use Rattle.tp_referee.specs.Tree.{names_of}
+use Rattle.tp_referee.proofs.SectionNamePlaces.{place_unknown}
 use Rattle.tp_referee.specs.Kept.{Keeps}
 use Rattle.tp_referee.proofs.KeySetGrowth.{kept_append}
 use Rattle.tp_referee.proofs.SectionComponentsFirst.{kept_behind, section_there, still_others, there_behind}

@@ -1,7 +1,7 @@
 -- The ends of the route are those that the line tells.
 use Rattle.std.proofs.Common.{ℕ, arith, sym, subst, ◌<◌, length, []}
 use Rattle.std.proofs.lemmas.Option.{slice_get_within}
-use Rattle.tp_trace.specs.Tree.{letter_of}
+use Rattle.tp_referee.specs.Tree.{letter_of}
 use Rattle.tp_referee.specs.Numbering.{IsMention, receiver_of}
 use Rattle.tp_referee.proofs.NumberTableGrowth.{Grows-then, kept_length, receiver_below}
 use Rattle.tp_referee.proofs.tables.Tables.passed.Goals as goal

@@ -3,7 +3,7 @@ use Rattle.std.proofs.Common.{◌≢◌, subst}
 use Rattle.std.specs.Prelude.{AllPairs}
 use Rattle.std.specs.Str.{bytes_eq}
 use Rattle.std.proofs.lemmas.Slice.Eq.{bytes_eq-Decides}
-use Rattle.tp_trace.proofs.SectionNamePlaces.{views_apart}
+use Rattle.tp_referee.proofs.SectionNamePlaces.{views_apart}
 use Rattle.tp_referee.proofs.words.NumberedWords.len.Goals as goal
 
 pub returns-clause-distinct : goal.returns-clause-distinct
