@@ -6,15 +6,15 @@ rewrites() {
     while read -r part least; do
         at_least "$least" told "$room/rewrites_$part" tests/rewrites/rewrite_rules.py "$tpr" "$part"
     done <<'PARTS'
-table 182
-natural 89
-timed 10
+table 196
+natural 113
+timed 12
 same 59
 broken 14
 listed 60
 lines 2
 rows 219
-instead 165
+instead 170
 faults 112
 PARTS
     at_least 800 told "$room/rewrites_by_chance" tests/rewrites/chance/chance_rules.py
@@ -22,6 +22,7 @@ PARTS
     at_least 28 told "$room/rewrites_skipped" tests/rewrites/skipped_rules.py "$tpr"
     at_least 25 told "$room/rewrites_maps" tests/rewrites/map_rules.py "$tpr"
     at_least 4 told "$room/rewrites_command" tests/rewrites/command_rules.py "$tpr"
+    at_least 6 told "$room/rewrites_early" tests/rewrites/early_rules.py
 }
 
 # A second interpreter of the full language, what tools/rewrite makes of random programs, and what Titan makes of them.

@@ -18,12 +18,13 @@ sys.dont_write_bytecode = True
 
 import example_reports
 from rule_cases import must
-from tool_calls import EXAMPLES, ROOT, Group, case, onto_a_full_device, rules_must_hold, run, try_groups
+from tool_calls import EXAMPLES, ROOT, Group, case, onto_a_full_device, rules_must_hold, run, texts_in, try_groups
 
 CHART = ROOT / "tools" / "chart"
 LOGIN = EXAMPLES / "login_is_answered.expected"
 LONG_NAMES = 12
 WIDTH = {"COLUMNS": "90"}  # of a chart in letters
+PRINTED = texts_in("printed.texts")
 
 
 def charts_of_examples(folder: Path) -> None:
@@ -59,21 +60,6 @@ def rules_on_reports() -> None:
 
 # In other ways
 
-IN_LETTERS = """\
-halt_holds_back_what_comes_later: result error
-
-           mtc               a
-            |-- integer:1 -->| took p
-            |           [halted p]
-     took q |<-- integer:9 --|
-            |-- integer:2 --]. left p
-        end done        end waiting
-      verdict none     verdict none
-
-a: left p mtc 1 integer:2
-
-result error
-"""
 
 
 def charts_in_other_ways(folder: Path) -> None:
@@ -85,7 +71,7 @@ def charts_in_other_ways(folder: Path) -> None:
         rules_must_hold("chart", LOGIN, chart)
     with case("a chart in letters"):
         report = EXAMPLES / "halt_holds_back_what_comes_later.expected"
-        run(CHART, "--text", report, more=WIDTH).must_print(IN_LETTERS)
+        run(CHART, "--text", report, more=WIDTH).must_print(PRINTED["a chart in letters"])
     charts_of_emptied_ports(folder)
     chart_of_long_names(folder)
     charts_that_cannot_be(folder)
@@ -134,32 +120,6 @@ BEHIND = (
     f"component mtc|took q a 0 integer:9|cleared p|took p a 0 integer:1|{END}"
     f"component a|sent mtc.q 0 integer:9|sent mtc.p 0 integer:1|{END}result none|"
 )
-OF_FIRST = """\
-first: result none
-
- mtc a b
- discarded p |#-- integer:1 --| |
- [cleared p, discards 1] | |
- | |-- integer:5 -->| took p
- took p |<---------- integer:2 -----------|
- [cleared p] . .
- end done end done end done
- verdict none verdict none verdict none
-
-result none
-"""
-OF_BEHIND = """\
-behind: result none
-
- mtc a
- took q |<-- integer:9 --|
- [cleared p] |
- took p |<-- integer:1 --|
- end done end done
- verdict none verdict none
-
-result none
-"""
 
 
 def without_width(text: str) -> str:
@@ -173,16 +133,15 @@ def report_of(folder: Path, name: str, report: str) -> Path:
     return file
 
 
-def must_be_in_letters(report: Path, wanted: str, *words: str) -> None:
-    ended = run(CHART, "--text", *words, report, more=WIDTH)
-    ended._replace(printed=without_width(ended.text).encode()).must_print(without_width(wanted))
+def in_letters_case(name: str, report: Path, *words: str) -> None:
+    with case(name):
+        ended = run(CHART, "--text", *words, report, more=WIDTH)
+        ended._replace(printed=without_width(ended.text).encode()).must_print(without_width(PRINTED[name]))
 
 
 def charts_of_emptied_ports(folder: Path) -> None:
-    with case("a message that the first of two emptyings discards"):
-        must_be_in_letters(report_of(folder, "first", FIRST), OF_FIRST)
-    with case("a message that comes behind an emptying"):
-        must_be_in_letters(report_of(folder, "behind", BEHIND), OF_BEHIND)
+    in_letters_case("a message that the first of two emptyings discards", report_of(folder, "first", FIRST))
+    in_letters_case("a message that comes behind an emptying", report_of(folder, "behind", BEHIND))
 
 
 # Parts of charts: --only, --rows, --around and --fold
@@ -192,31 +151,6 @@ PART = (
     f"component a|took p mtc 0 integer:1|sent b.p 0 integer:1|{END}"
     f"component b|took p a 0 integer:1|sent mtc.p 0 integer:5|{END}result pass|"
 )
-OF_TWO_OF_THREE = """\
-part: result pass
-
- mtc b
- (2 of 3 components)
- [sent a.p 0 integer:1] |
- | [took p a 0 integer:1]
- took p |<-- integer:5 --|
- [set pass] .
- end done end done
- verdict pass verdict none
-
-result pass
-"""
-OF_ONE_ROW = """\
-part: result pass
-
- b
- (1 of 3 components, rows 2 to 2 of 4)
- [took p a 0 integer:1]
- end done
- verdict none
-
-result pass
-"""
 # Ten round trips, of which the sixth has another message.
 TRIPS = [f"integer:{int(number == 5)}" for number in range(10)]
 REPEATS = (
@@ -224,23 +158,6 @@ REPEATS = (
     f"component a|{''.join(f'took p mtc {at} {it}|sent mtc.p {at} {it}|' for at, it in enumerate(TRIPS))}{END}"
     "result none|"
 )
-OF_REPEATS = """\
-repeats: result none
-
- mtc a
- |-- integer:0 -->| took p
- took p |<-- integer:0 --|
- (the 2 rows above, 4 times more)
- |-- integer:1 -->| took p
- took p |<-- integer:1 --|
- |-- integer:0 -->| took p
- took p |<-- integer:0 --|
- (the 2 rows above, 3 times more)
- end done end done
- verdict none verdict none
-
-result none
-"""
 NO_PARTS = ("--only c", "--rows 5-9", "--around 5", "--around 17")
 WRONG_WORDS = (
     "--rows 3-2", "--rows 0-1", "--rows 3", "--around x", "--rows 1-2 --around 3", "--html --fold", "--html --text",
@@ -249,12 +166,9 @@ WRONG_WORDS = (
 
 def parts_of_charts(folder: Path) -> None:
     report, repeats = report_of(folder, "part", PART), report_of(folder, "repeats", REPEATS)
-    with case("a chart of two of three components"):
-        must_be_in_letters(report, OF_TWO_OF_THREE, "--only", "b,mtc")
-    with case("a chart of one row and one component"):
-        must_be_in_letters(report, OF_ONE_ROW, "--rows", "2-2", "--only", "b")
-    with case("a chart with repeats"):
-        must_be_in_letters(repeats, OF_REPEATS, "--fold")
+    in_letters_case("a chart of two of three components", report, "--only", "b,mtc")
+    in_letters_case("a chart of one row and one component", report, "--rows", "2-2", "--only", "b")
+    in_letters_case("a chart with repeats", repeats, "--fold")
     with case("the rows around a line"):
         run(CHART, "--text", "--around", "13", repeats, more=WIDTH).must_show(r"^    \(rows 2 to 20 of 20\)$")
     for words in NO_PARTS:

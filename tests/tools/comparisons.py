@@ -16,10 +16,11 @@ from pathlib import Path
 sys.dont_write_bytecode = True
 
 from example_reports import named
-from tool_calls import ROOT, Group, case, example_files, run, try_groups
+from tool_calls import ROOT, Group, case, example_files, run, texts_in, try_groups
 
 COMPARE = ROOT / "tools" / "compare"
 EQUAL_EXCEPT_FOR_THE_ORDER = "equal except for the order between senders\n"
+PRINTED = texts_in("printed.texts")
 
 
 def compared(name: str, status: int, printed: str, one: Path, other: Path) -> None:
@@ -29,58 +30,23 @@ def compared(name: str, status: int, printed: str, one: Path, other: Path) -> No
 
 # What it says of a report that differs
 
-TWO_ORDERS = f"""\
-{EQUAL_EXCEPT_FOR_THE_ORDER}mtc, open: which came first
-  - report A, line 4: took orders north 0 charstring:"stopped"
-  + report B, line 4: took orders south 0 charstring:"stopped"
-"""
-ANOTHER_VERDICT = """\
-different
-mtc, what it did by itself
-  - report A, line 4: set pass
-  + report B, line 4: set fail
-mtc, its verdict
-  - report A, line 9: verdict pass
-  + report B, line 9: verdict fail
-the result
-  - report A, line 17: result pass
-  + report B, line 17: result fail
-"""
-ANOTHER_MESSAGE = """\
-different
-mtc, what went to system.server
-  - report A, line 2: sent system.server 0 Request:{user := "ada", password := "guess"}
-  + report B, line 2: sent system.server 0 Request:{user := "ada", password := "guest"}
-system, what came from mtc at server
-  - report A, line 11: took server mtc 0 Request:{user := "ada", password := "guess"}
-  + report B, line 11: took server mtc 0 Request:{user := "ada", password := "guest"}
-"""
-SET_LATER = """\
-different
-mtc, the order of what it did
-  - report A, line 4: set pass
-  + report B, line 4: sent system.server 1 Request:{user := "ada", password := "secret"}
-"""
-OTHER_COMPONENTS = """\
-different
-the components
-  - report A, line 10: component system
-  + report B, line 9: component north
-"""
+
+def printed(name: str, status: int, one: Path, other: Path) -> None:
+    compared(name, status, PRINTED[name], one, other)
 
 
 def comparisons(folder: Path) -> None:
     login, one = named("login"), named("stop")
     lines = login.read_text(encoding="utf-8").splitlines(keepends=True)
     compared("a report with itself", 0, "equal\n", login, login)
-    compared("two orders", 0, TWO_ORDERS, one, one.with_suffix(".2"))
+    printed("two orders", 0, one, one.with_suffix(".2"))
     failed = [it.replace("pass", "fail", 1) if number in (4, 9, 17) else it for number, it in enumerate(lines, 1)]
-    compared("another verdict", 5, ANOTHER_VERDICT, login, written(folder / "failed", failed))
+    printed("another verdict", 5, login, written(folder / "failed", failed))
     guest = [it.replace("guess", "guest", 1) for it in lines]
-    compared("another message", 5, ANOTHER_MESSAGE, login, written(folder / "guest", guest))
+    printed("another message", 5, login, written(folder / "guest", guest))
     later = [*lines[:3], lines[4], lines[3], *lines[5:]]
-    compared("a verdict that is set later", 5, SET_LATER, login, written(folder / "later", later))
-    compared("other components", 5, OTHER_COMPONENTS, login, one)
+    printed("a verdict that is set later", 5, login, written(folder / "later", later))
+    printed("other components", 5, login, one)
 
 
 def written(file: Path, lines: list[str]) -> Path:

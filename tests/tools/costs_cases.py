@@ -2,7 +2,7 @@
 """tools/costs.py, on modules that are as old as the test says; tests/gate/gate_times.py; and what ./test says of its
 parts while they are at work (tests/gate/side_by_side.sh).
 
-    tests/tools/costs_cases.py [Costs.test_NAME..]
+    tests/tools/costs_cases.py
 
 It prints a line `passed NAME` for each case, or lines that begin with `FAILED: NAME`.
 """
@@ -13,15 +13,14 @@ import contextlib
 import os
 import pty
 import re
-import subprocess
 import sys
-import tempfile
-import unittest
-from pathlib import Path
-from types import TracebackType
-from typing import Union
 
-ROOT = Path(__file__).resolve().parents[2]
+sys.dont_write_bytecode = True
+
+from tool_calls import (
+    ROOT, Group, case, file_of, must_be, onto_a_full_device, room, run, says_usage, try_groups,
+)  # fmt: skip
+
 COSTS, TIMES = ROOT / "tools" / "costs.py", ROOT / "tests" / "gate" / "gate_times.py"
 USAGE = "usage: tools/costs.py CRATE_FOLDER [COUNT]\n"
 
@@ -84,174 +83,74 @@ await_all_parts
 AT_WORK = [f"test: 0 of 2 done; at work: quick (41 s the last time){it}" for it in ("", ", slow")]
 
 
-Raised = Union[tuple[type[BaseException], BaseException, TracebackType], tuple[None, None, None]]
-
-
-class Told(unittest.TestResult):
-    """What becomes of each case, told at once by the first line of its text."""
-
-    def addSuccess(self, test: unittest.TestCase) -> None:
-        print(f"passed {test.shortDescription()}", flush=True)
-
-    def addFailure(self, test: unittest.TestCase, err: Raised) -> None:
-        super().addFailure(test, err)
-        print(f"FAILED: {test.shortDescription() or test.id()}: {err[1]}", flush=True)
-
-    addError = addFailure
-
-
-class Case(unittest.TestCase):
-    """A folder of its own."""
-
-    def setUp(self) -> None:
-        room = tempfile.TemporaryDirectory()
-        self.addCleanup(room.cleanup)
-        self.room = Path(room.name)
-
-    def must(self, command: list[Union[str, Path]], status: int, printed: str, said: str) -> None:
-        ended = subprocess.run(
-            command, cwd=self.room, stdin=subprocess.DEVNULL, capture_output=True, text=True, check=False
-        )
-        self.assertEqual((ended.returncode, ended.stdout, ended.stderr), (status, printed, said))
-
-
-class Costs(Case):
-    """A crate that was checked, and one that wasn't."""
-
-    def setUp(self) -> None:
-        super().setUp()
-        kept = self.room / "made" / "out" / "incremental" / "kept"
-        for folder in (kept, self.room / "none" / "out" / "incremental"):
-            folder.mkdir(parents=True)
+def costs() -> None:
+    """What each function cost, in a crate that was checked and in one that wasn't."""
+    text = ast.get_docstring(ast.parse(COSTS.read_text(encoding="utf-8")), clean=False)
+    unchecked = "costs.py: no check has left a module in none/out/incremental\n"
+    with room() as folder:
+        kept = folder / "made" / "out" / "incremental" / "kept"
+        for made in (kept, folder / "none" / "out" / "incremental"):
+            made.mkdir(parents=True)
         for at, name in MODULES:
-            module = kept / f"Rattle-low{name}.oantt"
-            module.touch()
+            module = file_of(kept / f"Rattle-low{name}.oantt", "")
             os.utime(module, (1_000_000_000 + at,) * 2)
-
-    def test_each_function(self) -> None:
-        """what each function cost"""
-        self.must([COSTS, "made"], 0, ALL, "")
-
-    def test_dearest(self) -> None:
-        """the dearest alone"""
-        self.must([COSTS, "made", "1"], 0, DEAREST, "")
-
-    def test_unchecked(self) -> None:
-        """a crate that wasn't checked"""
-        self.must([COSTS, "none"], 1, "", "costs.py: no check has left a module in none/out/incremental\n")
-
-    def test_full_device(self) -> None:
-        """what each function cost, onto a full device"""
-        with open("/dev/full", "wb") as full:
-            ended = subprocess.run(
-                [COSTS, "made"], cwd=self.room, stdout=full, stderr=subprocess.PIPE, text=True, check=False
-            )
-        self.assertEqual((ended.returncode, ended.stderr), (3, "costs.py: the answer can't be written\n"))
-
-    def test_short_help(self) -> None:
-        """the help of costs.py, by -h"""
-        self.must([COSTS, "-h"], 0, self.help(), "")
-
-    def test_help(self) -> None:
-        """the help of costs.py, by --help"""
-        self.must([COSTS, "--help"], 0, self.help(), "")
-
-    def help(self) -> str:
-        """The text with which the tool begins."""
-        text = ast.get_docstring(ast.parse(COSTS.read_text(encoding="utf-8")), clean=False)
-        assert text
-        return text
-
-    def test_no_crate(self) -> None:
-        """no crate"""
-        self.must([COSTS], 4, "", USAGE)
-
-    def test_no_count(self) -> None:
-        """no count"""
-        self.must([COSTS, "made", "0"], 4, "", USAGE)
-
-    def test_three_words(self) -> None:
-        """three words"""
-        self.must([COSTS, "made", "1", "1"], 4, "", USAGE)
-
-    def test_no_option(self) -> None:
-        """an option that there isn't"""
-        self.must([COSTS, "--count", "1"], 4, "", USAGE)
+        for told, words, status, printed, said in (
+            ("what each function cost", "made", 0, ALL, ""),
+            ("the dearest alone", "made 1", 0, DEAREST, ""),
+            ("a crate that wasn't checked", "none", 1, "", unchecked),
+            ("the help of costs.py, by -h", "-h", 0, text, ""),
+            ("the help of costs.py, by --help", "--help", 0, text, ""),
+            ("no crate", "", 4, "", USAGE),
+            ("no count", "made 0", 4, "", USAGE),
+            ("three words", "made 1 1", 4, "", USAGE),
+            ("an option that there isn't", "--count 1", 4, "", USAGE),
+        ):
+            with case(told):
+                ended = run(COSTS, *words.split(), folder=folder)
+                must_be([ended.status, ended.text, ended.told], [status, printed, said])
+        with case("what each function cost, onto a full device"):
+            onto_a_full_device(COSTS, "made", folder=folder).must_say("costs.py: the answer can't be written", 3)
 
 
-class Times(Case):
+def times() -> None:
     """What each crate took of a gate, which is run once."""
-
-    gate: subprocess.CompletedProcess[str]
-    rows: list[list[str]]
-
-    @classmethod
-    def setUpClass(cls) -> None:
-        with tempfile.TemporaryDirectory() as room:
-            for folder in ("low", "high", "rt-edit-1"):
-                Path(room, folder).mkdir()
-            Path(room, "ci").write_text(CI, encoding="utf-8")
-            Path(room, "ci").chmod(0o755)
-            command = [sys.executable, "-B", str(TIMES), "times", "./ci"]
-            cls.gate = subprocess.run(
-                command, cwd=room, stdin=subprocess.DEVNULL, capture_output=True, text=True, check=False
-            )
-            table = Path(room, "times").read_text(encoding="utf-8").splitlines()
-        cls.rows = [row.split() for row in table[1:]]
-
-    def test_gate(self) -> None:
-        """the gate's output and status"""
-        self.assertEqual((self.gate.returncode, self.gate.stdout, self.gate.stderr), (3, "rt: ci\n", ""))
-
-    def test_each_crate(self) -> None:
-        """what was seen of each crate"""
-        seen = [[it if it == "-" else "some" if float(it) > 0 else "none" for it in row[1:]] for row in self.rows]
-        self.assertEqual([" ".join([row[0], *it]) for row, it in zip(self.rows, seen)], TOOK)
-
-    def test_no_command(self) -> None:
-        """no command"""
-        ended = subprocess.run([sys.executable, "-B", TIMES, "times"], capture_output=True, text=True, check=False)
-        self.assertEqual((ended.returncode, ended.stdout), (2, ""))
-        self.assertTrue(ended.stderr.startswith("usage: gate_times.py "), ended.stderr)
+    with room() as folder:
+        for name in ("low", "high", "rt-edit-1"):
+            (folder / name).mkdir()
+        file_of(folder / "ci", CI).chmod(0o755)
+        with case("the gate's output and status"):
+            run(sys.executable, "-B", TIMES, "times", "./ci", folder=folder).must_print("rt: ci\n", 3)
+        with case("what was seen of each crate"):
+            rows = [row.split() for row in (folder / "times").read_text(encoding="utf-8").splitlines()[1:]]
+            seen = [[it if it == "-" else "some" if float(it) > 0 else "none" for it in row[1:]] for row in rows]
+            must_be([" ".join([row[0], *it]) for row, it in zip(rows, seen)], TOOK)
+    with case("no command"):
+        run(sys.executable, "-B", TIMES, "times").must_hold(2, says_usage("gate_times.py"))
 
 
-class AtWork(Case):
+def parts_at_work() -> None:
     """Parts that run beside each other, after a run in which one of them took 41 seconds."""
+    with case("which parts are at work, and how long they took the last time"):
+        must_be(said(*pty.openpty())[0].splitlines(), AT_WORK)
+    with case("nothing is said of parts at work if standard error is no terminal"):
+        must_be(said(*os.pipe())[0], "")
+    with case("the times of parts that are kept for the next run"):
+        kept = re.sub(r"^(quick|slow) (?!41$)[0-9]+$", r"\1 some", said(*os.pipe())[1], flags=re.M)
+        must_be(sorted(kept.splitlines()), ["other 7", "quick some", "slow some"])
 
-    def setUp(self) -> None:
-        super().setUp()
-        self.times = self.room / "times"
-        self.times.write_text("other 7\nquick 41\n", encoding="utf-8")
 
-    def said(self, ours: int, theirs: int) -> str:
-        """What they say on standard error, of which these are the two ends."""
-        self.addCleanup(os.close, ours)
-        words = ["bash", "-c", PARTS, "parts", str(self.times)]
-        subprocess.run(words, cwd=ROOT, stdout=subprocess.DEVNULL, stderr=theirs, check=False)
+def said(ours: int, theirs: int) -> tuple[str, str]:
+    """What they say on standard error, of which these are the two ends, and the times that they leave."""
+    printed = b""
+    with room() as folder, open(ours, "rb", buffering=0) as ends:
+        last = file_of(folder / "times", "other 7\nquick 41\n")
+        run("bash", "-c", PARTS, "parts", last, folder=ROOT, stderr=theirs)
         os.close(theirs)
-        printed = b""
         with contextlib.suppress(OSError):  # how Linux tells the end of a terminal
-            while more := os.read(ours, 4096):
+            while more := ends.read(4096):
                 printed += more
-        return printed.decode()
-
-    def test_terminal(self) -> None:
-        """which parts are at work, and how long they took the last time"""
-        self.assertEqual(self.said(*pty.openpty()).splitlines(), AT_WORK)
-
-    def test_no_terminal(self) -> None:
-        """nothing is said of parts at work if standard error is no terminal"""
-        self.assertEqual(self.said(*os.pipe()), "")
-
-    def test_times(self) -> None:
-        """the times of parts that are kept for the next run"""
-        self.said(*os.pipe())
-        kept = re.sub(r"^(quick|slow) (?!41$)[0-9]+$", r"\1 some", self.times.read_text(encoding="utf-8"), flags=re.M)
-        self.assertEqual(sorted(kept.splitlines()), ["other 7", "quick some", "slow some"])
+        return printed.decode(), last.read_text(encoding="utf-8")
 
 
 if __name__ == "__main__":
-    loader, module, found = unittest.defaultTestLoader, sys.modules["__main__"], Told()
-    names = sys.argv[1:]
-    (loader.loadTestsFromNames(names, module) if names else loader.loadTestsFromModule(module)).run(found)
-    sys.exit(0 if found.testsRun and not found.failures else 1)
+    sys.exit(try_groups((Group(costs, 10, "costs"), Group(times, 3, "times"), Group(parts_at_work, 3, "parts at work"))))

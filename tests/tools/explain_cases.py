@@ -1,6 +1,6 @@
 #!/usr/bin/env python3
 """What tools/explain says of scripts that are refused: its number and line are those of `tpr check`, its place and its
-words were worked out by reading (explained_texts.py, explained/), and keep the rules of explain_rules.py.
+words were worked out by reading (data/explained.texts, explained/), and keep the rules of explain_rules.py.
 
     tests/tools/explain_cases.py PROGRAM TEXTS
 
@@ -18,16 +18,15 @@ import sys
 import tempfile
 from collections.abc import Callable
 from pathlib import Path
+from typing import NamedTuple
 
 sys.dont_write_bytecode = True
 
 import explain_rules
-from explained_texts import NUMBERS, PLACES
-from explained_words import BEGINNING, MANY_SENDS, SENTENCES, WARNINGS
 from rule_cases import must
 from tool_calls import (
     ROOT, Ended, Test, Tool, block_of, case, difference, file_of, judged, prints, prints_line, program_of, ruled, run,
-    says_alone, says_nothing, says_usage, shown, try_groups_of,
+    says_alone, says_nothing, says_usage, shown, texts_in, try_groups_of,
 )
 
 EXAMPLE = "examples/closed_counter_serves_no_order.ttcn"
@@ -46,6 +45,23 @@ LISTED = (
     "the message type is in the port's list of sent types, or for a receiving operation in its list of received types;"
     " in `sut` the two lists are exchanged"
 )
+
+
+class Explained(NamedTuple):
+    """A number or a script, in few words, and what is said of it."""
+
+    name: str
+    asked: str
+    told: str
+
+
+TEXTS = texts_in("explained.texts")
+
+
+def explained(kind: str) -> list[Explained]:
+    """The cases of this kind."""
+    texts = ((heading.partition(": "), text.partition("---\n")) for heading, text in TEXTS.items())
+    return [Explained(name, asked, told) for (of, _, name), (asked, _, told) in texts if of == kind]
 
 
 class Explaining:
@@ -155,19 +171,19 @@ def example(asked: Explaining) -> None:
 
 def numbers(asked: Explaining) -> None:
     """Two by which scripts are refused or end, and those by which none is."""
-    for it in NUMBERS:
-        asked.tool.case(it.name, ["--number", it.asked], 0, prints(it.told))
+    for it in explained("number"):
+        asked.tool.case(it.name, ["--number", it.asked.strip()], 0, prints(it.told))
 
 
 def places(asked: Explaining) -> None:
-    for it in PLACES:
+    for it in explained("place"):
         judged(it.name, asked.of_text(it.asked.encode()), 2, prints(it.told))
 
 
 def words(asked: Explaining) -> None:
     """What is said in the first line, and what is to be written instead."""
-    for it in SENTENCES:
-        ended = asked.of_text(f"{BEGINNING}{it.asked}".encode())
+    for it in explained("sentence"):
+        ended = asked.of_text(f"{TEXTS['beginning']}{it.asked}".encode())
         first, *others = ended.text.splitlines() or [""]
         told = "".join(f"{one}\n" for one in (first.partition(": refused ")[2], *others) if has_words(one, it.told))
         with case(it.name):
@@ -182,15 +198,18 @@ def has_words(line: str, told: str) -> bool:
 
 def warnings(asked: Explaining) -> None:
     """Of scripts that are accepted: no warning changes the status."""
-    for it in WARNINGS:
+    warnings = explained("warning")
+    for it in warnings:
         judged(it.name, asked.of_text(it.asked.encode()), 0, prints(f"FILE: accepted\n{it.told}"))
-    first = asked.of_text(WARNINGS[0].asked.encode(), "--short")
+    first = asked.of_text(warnings[0].asked.encode(), "--short")
     judged("warnings aren't told in short", first, 0, prints("FILE: accepted\n"))
-    [told] = json.loads(asked.of_text(WARNINGS[0].asked.encode(), "--json").printed)
+    [told] = json.loads(asked.of_text(warnings[0].asked.encode(), "--json").printed)
     sentences = [it["sentence"] for it in told["warnings"]]
-    wanted = re.findall("warning: (.*)", WARNINGS[0].told)
+    wanted = re.findall("warning: (.*)", warnings[0].told)
     ruled("warnings in JSON", must, sentences == wanted != [], f"{sentences}")
-    many = asked.of_text(MANY_SENDS.encode())
+    # One more than a warning for each of so many.
+    last = next(it for it in warnings if it.name == "a receiver that receives nothing")
+    many = asked.of_text(last.asked.replace("p.send(integer:2);", 25 * "p.send(integer:2); ").encode())
     judged("many warnings are counted", many, 0, lambda ended: ended.text.endswith("FILE: 5 more warnings\n"))
 
 

@@ -2,10 +2,10 @@
 """Pages in a real browser, looked at, clicked and typed in: what tools/chart --html makes of reports, and
 tools/suite --html of scripts.
 
-    pages.py FOLDER SUITES   each case is told by a line, `well NAME` or `wrong NAME: WHY`
+    tests/tools/pages.py FOLDER SUITES
 
-The first folder is for the pages of charts, the second has those of suites (page_suites.py). Where there is no browser
-the status is 3.
+The first folder is for the pages of charts, the second has those of suites (page_suites.py). It prints a line `passed NAME`
+for each case, or lines that begin with `FAILED: NAME`; where there is no browser `left out ..`.
 """
 import argparse
 import os
@@ -19,7 +19,7 @@ ROOT = os.path.dirname(os.path.dirname(os.path.dirname(os.path.realpath(__file__
 sys.path[:0] = [os.path.join(ROOT, "tools")]
 
 from browser import Browser, program
-from tool_calls import example
+from tool_calls import Group, case, example, must_be, try_groups
 from tpr_tools.chart.page import page_of
 from tpr_tools.chart.sequence import sequence_of
 from tpr_tools.report.reader import read_report
@@ -64,7 +64,6 @@ class Pages:
         self.folder = folder
         self.suites = suites
         self.browser = Browser()
-        self.wrong = 0
 
     def page(self, name: str, report: str) -> str:
         """The file of a page of a report, which is a file or a text."""
@@ -88,11 +87,8 @@ class Pages:
         self.browser.open(file, shows, place)
 
     def case(self, name: str, seen: object, wanted: object) -> None:
-        if seen == wanted:
-            print(f"well {name}")
-        else:
-            self.wrong += 1
-            print(f"wrong {name}: {seen!r}, and {wanted!r} is wanted")
+        with case(name):
+            must_be(seen, wanted)
 
     def is_quiet(self, name: str, file: str) -> None:
         """Nothing on the console, and nothing asked for but the page itself."""
@@ -307,15 +303,16 @@ def main() -> int:
     words.add_argument("suites", metavar="SUITES", help="where those of suites are")
     asked = words.parse_args()
     if program() is None:
-        return 3
+        print("left out charts and suites as pages: there is no chromium")
+        return 0
     pages = Pages(os.path.abspath(asked.folder), os.path.abspath(asked.suites))
-    of_charts = (pages.elements, pages.hiding, pages.choosing, pages.script_lines, pages.searching, pages.many)
+    of_charts = ((pages.elements, 8), (pages.hiding, 9), (pages.choosing, 12), (pages.script_lines, 1))
+    of_large_charts, of_suites = ((pages.searching, 10), (pages.many, 10)), ((pages.suite, 29), (pages.without_code, 3))
+    groups = (*of_charts, *of_large_charts, *of_suites, (pages.many_scripts, 4))
     try:
-        for case in (*of_charts, pages.suite, pages.without_code, pages.many_scripts):
-            case()
+        return try_groups(Group(it, least, it.__name__) for it, least in groups)
     finally:
         pages.browser.end()
-    return 1 if pages.wrong else 0
 
 
 if __name__ == "__main__":

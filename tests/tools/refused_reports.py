@@ -15,13 +15,15 @@ from pathlib import Path
 sys.dont_write_bytecode = True
 
 from example_reports import NAMED, named
-from refused_texts import CHANGED, refused_texts
-from rule_cases import must
+from rule_cases import must, read
 from tool_calls import EXAMPLES, ROOT, Group, case, rules_must_hold, run, try_groups
 
 CHART, COMPARE = ROOT / "tools" / "chart", ROOT / "tools" / "compare"
 GOLDEN = ROOT / "tests" / "golden"
 PING_PONG = str(EXAMPLES / "ping_pong.ttcn")
+LINES = read(str(ROOT / "tests" / "tools" / "data" / "refused.table")).split("\n")[:-1]
+# The report that is changed, or the kind of text; the line at which it is refused; the change, or the text.
+ROWS = [(kind, int(line), text) for kind, line, text in (it.split(" ", 2) for it in LINES if it[0] != "#")]
 
 
 class Texts:
@@ -68,7 +70,7 @@ def cut_report(texts: Texts, name: str, tool: str, *words: Path) -> None:
 
 def changed_reports(texts: Texts) -> None:
     """Each change is a script of `sed`."""
-    for name, line, change in CHANGED:
+    for name, line, change in (it for it in ROWS if it[0] in NAMED):
         with case(f"the report {name} with the change {change}"):
             changed = run("sed", "-e", change, named(name)).must_say_nothing().printed
             must(changed != named(name).read_bytes(), "nothing is changed")
@@ -102,9 +104,25 @@ def charts_of_refusals(texts: Texts) -> None:
             texts.must_be_refused(file, 1)
 
 
+def texts_of_many() -> tuple[tuple[int, str], ...]:
+    """Many of a kind: each bound, and one more."""
+    end = "end done|verdict none|"
+    components = "".join(f"component a{number}|{end}" for number in range(1, 64))
+    long, braces = "x" * 64, "{" * 32 + "}" * 32
+    return (
+        (0, f"component mtc|{end}{components}result none|"),
+        (193, f"component mtc|{end}{components}component b|{end}result none|"),
+        (0, f"component mtc|stopped {long}|{end}result none|"),
+        (2, f"component mtc|stopped x{long}|{end}result none|"),
+        (0, f"component mtc|sent mtc.p 0 T:{braces}|{end}left p mtc 0 T:{braces}|result none|"),
+        (2, f"component mtc|sent mtc.p 0 T:{{{braces}}}|{end}left p mtc 0 T:{{{braces}}}|result none|"),
+        (2, f"component mtc|took p mtc 100000 integer:1|{end}result none|"),
+    )
+
+
 def refusals_of_texts(texts: Texts) -> None:
     """In each a `|` stands for the end of a line."""
-    for line, text in refused_texts():
+    for line, text in (*((line, text) for name, line, text in ROWS if name not in NAMED), *texts_of_many()):
         with case(f"the text {text[:60]}"):
             texts.must_be_refused(texts.write(text, text.replace("|", "\n").encode()), line)
 

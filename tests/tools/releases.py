@@ -73,6 +73,7 @@ class Fault(NamedTuple):
 
 
 TREE, ARCHIVES, DEBIAN = (f"tpr_tools/release/{it}.py" for it in ("tree", "archives", "debian"))
+CONTROL = "tpr_tools/release/package/control"
 CHARTS = "tools/tpr_tools/chart/"
 OF_RELEASES = (
     Fault("no library of the tools", TREE, '"tools/costs.py"', f'"{CHARTS}"', f"/{CHARTS}page.py"),
@@ -89,7 +90,7 @@ OF_RELEASES = (
 def of_packages(version: str) -> tuple[Fault, ...]:
     return (
         Fault("no tool in the package", DEBIAN, r"^    entries = \[_pl.*", r"\g<0>[:1]", "./usr/lib/tpr/tools/chart"),
-        Fault("a package of another version", DEBIAN, "^Version: ", r"\g<0>1", f"Version: 1{version}"),
+        Fault("a package of another version", CONTROL, "^Version: ", r"\g<0>1", f"Version: 1{version}"),
         Fault("a link to nowhere", DEBIAN, r'\.\./lib/tpr/tpr"', '../lib/tpr"', "tpr -> ../lib/tpr"),
         Fault("a library of another machine", DEBIAN, '"usr/lib/x86_64-', '"usr/lib/i386-', "./usr/lib/i386-linux-"),
     )

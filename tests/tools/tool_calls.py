@@ -297,6 +297,12 @@ def file_of(path: Path, text: str) -> Path:
     return path
 
 
+def texts_in(name: str) -> dict[str, str]:
+    """The texts of a file of data/, each by its heading."""
+    _, *texts = re.split("(?m)^=== ", (ROOT / "tests" / "tools" / "data" / name).read_text(encoding="utf-8"))
+    return {heading: text for heading, _, text in (it.partition("\n") for it in texts)}
+
+
 def program_of(path: Path, *lines: str) -> str:
     """A program of these lines, for sh."""
     file_of(path, "".join(f"{line}\n" for line in ("#!/bin/sh", *lines))).chmod(0o755)

@@ -1,5 +1,6 @@
 # The tools of the test engineer: tools/chart and what it draws of a script (connections.py), tools/compare, tools/suite, the
-# commands of docs/CI.md (build_servers.py), and what they all refuse, or have in common (tool_words.py).
+# commands of docs/CI.md (build_servers.py), what they all refuse, or have in common (tool_words.py), and pages of charts
+# and suites in a real browser, where there is one (pages.py).
 
 tools() {
     mkdir -- "$room/charts" "$room/comparisons"
@@ -7,7 +8,8 @@ tools() {
     at_least $((small_scripts + 9)) told "$room/told_of_connections" tests/tools/connections.py
     at_least 241 refused_reports
     at_least 115 suites
-    pages
+    mkdir -- "$room/pages"
+    told "$room/told_of_pages" tests/tools/pages.py "$room/pages" "$room/suites/with_pages"
     at_least 16 told "$room/told_of_build_servers" tests/tools/build_servers.py "$tpr"
     at_least $((open_examples + 13)) told "$room/told_of_comparisons" tests/tools/comparisons.py "$room/comparisons"
     at_least 41 told "$room/told_of_words" tests/tools/tool_words.py

@@ -10,6 +10,7 @@ that begin with `FAILED: NAME`.
 from __future__ import annotations
 
 import argparse
+import json
 import re
 import sys
 import tempfile
@@ -22,7 +23,7 @@ import why_rules
 from rule_cases import must
 from tool_calls import (
     ROOT, Ended, Test, Tool, block_of, example_files, file_of, judged, prints, prints_line, ruled, run, says, says_alone,
-    says_nothing, says_usage, try_groups_of,
+    says_nothing, says_usage, texts_in, try_groups_of,
 )
 
 WHYS = Path("tests/tools/whys")
@@ -33,39 +34,12 @@ KITCHEN, LOGIN = "examples/closed_counter_serves_no_order", "examples/login_is_a
 HALT = "examples/halt_holds_back_what_comes_later"
 REFUSED = "tests/golden/refused_scripts/script_cut_inside_an_alt.ttcn"
 COLUMNS = "70"  # of a chart in letters
+PRINTED = texts_in("printed.texts")
 
-LISTED = """\
-line          report
-   5          component mtc
-   7 -> 10    sent mtc.q 0 integer:1
-   8          halted q
-   9 -> left  sent mtc.q 1 integer:2
-  10 <- 7     took q mtc 0 integer:1
-  11          end waiting
-              verdict none
-     <- 9     left q mtc 1 integer:2
-              result error
-
-"""  # of BEHIND_THE_MARK
 SUMMARY = f"""\
 {IN_A_TURN}   7 statements, all of them reached
 {FOR_EACH_OTHER}  6 statements, 4 never reached: lines 7 and 15-16
 2 scripts: 13 statements, 4 never reached
-"""
-CHART = """\
-halt_holds_back_what_comes_later: result error
-
-              mtc                    a
-               |-- integer:1 (17) -->| took p (7)
-               |              [halted p (8)]
-   took q (17) |<-- integer:9 (9) ---|
-               |-- integer:2 (17) --]. left p
-           end done          end waiting (10)
-         verdict none          verdict none
-
-a: left p mtc 1 integer:2
-
-result error
 """
 
 
@@ -124,7 +98,7 @@ def ends_with(line: str) -> Test:
 
 def one_script(asked: Reasoning) -> None:
     script, case = str(BEHIND_THE_MARK), asked.tool.case
-    listed = prints(LISTED + (ROOT / BEHIND_THE_MARK.with_suffix(".why")).read_text(encoding="utf-8"))
+    listed = prints(PRINTED["the lines of waits_behind_the_mark"] + (ROOT / BEHIND_THE_MARK.with_suffix(".why")).read_text(encoding="utf-8"))
     report = asked.report_of(script)
     case("a script that is run", [script], 0, listed)
     case("the same of its report", [script, report], 0, listed)
@@ -154,7 +128,7 @@ class Misfit(NamedTuple):
 
     name: str
     report: str
-    changes: tuple[tuple[str, str], ...]
+    changes: list[tuple[str, str]]
     line: int
     said: str
 
@@ -166,109 +140,8 @@ class Misfit(NamedTuple):
         return text
 
 
-MISFITS = (
-    Misfit(
-        "an entry is missing",
-        KITCHEN,
-        ((r"^halted.*\n", ""),),
-        10,
-        'chef: `sent mtc.bell 0 charstring:"we close"` doesn\'t fit the script: `halted counter` is next (line 10)',
-    ),
-    Misfit(
-        "another verdict",
-        KITCHEN,
-        ((r"^(set|verdict|result) pass", r"\1 fail"),),
-        14,
-        "chef: `set fail` doesn't fit the script: `set pass` is next (line 15)",
-    ),
-    Misfit(
-        "an else is missing",
-        KITCHEN,
-        ((r"^else\n", ""),),
-        13,
-        "chef: `set pass` doesn't fit the script: a message or `[else]` is next (lines 14-15)",
-    ),
-    Misfit(
-        "another value",
-        KITCHEN,
-        (("we close", "we closed"),),
-        3,
-        'mtc: `took bell chef 0 charstring:"we closed"` doesn\'t fit the script: this message doesn\'t match (line 25)',
-    ),
-    Misfit(
-        "a value that isn't sent",
-        KITCHEN,
-        (("number := 2", "number := 3"),),
-        4,
-        'mtc: `sent chef.counter 1 Order:{number := 3, dish := "soup, please"}` doesn\'t fit the script: '
-        '`sent chef.counter` of `Order:{number := 2, dish := "soup, please"}` is next (line 26)',
-    ),
-    Misfit(
-        "an entry too many",
-        KITCHEN,
-        (("^set pass\n", "set pass\nset pass\n"),),
-        15,
-        "chef: `set pass` doesn't fit the script: the body ends here",
-    ),
-    Misfit(
-        "an end too early",
-        KITCHEN,
-        ((r"^else\nset pass\n", ""), ("pass", "none")),
-        13,
-        "chef: `end done` doesn't fit the script: a message or `[else]` is next (lines 14-15)",
-    ),
-    Misfit(
-        "a wait where nothing waits",
-        KITCHEN,
-        ((r"^set pass\nend done\n", "set pass\nend waiting\n"), ("result pass", "result error")),
-        15,
-        "chef: `end waiting` doesn't fit the script: the body ends here",
-    ),
-    Misfit(
-        "another number of a failed send",
-        "tests/golden/sending/nobody_is_connected",
-        (("41", "42"),),
-        3,
-        "mtc: `failed 42` doesn't fit the script: `failed 41` is next (line 8)",
-    ),
-    Misfit(
-        "a message is taken that is found",
-        f"{WHYS}/found_and_discarded",
-        (("^found", "took"),),
-        7,
-        "a: `took p mtc 0 integer:1` doesn't fit the script: a message that is `found` is next (line 8)",
-    ),
-    Misfit(
-        "an open branch isn't chosen",
-        f"{WHYS}/open_branch",
-        (("^took q.*", "else"), ("^(verdict none\n)", "\\1left q mtc 0 integer:1\n")),
-        4,
-        "mtc: `else` doesn't fit the script: `integer:1` was at the top, and this branch open (line 9)",
-    ),
-    Misfit(
-        "a wait that is answered",
-        f"{WHYS}/answered",
-        (
-            ("^took.*\n", ""),
-            ("end done", "end waiting"),
-            ("^(verdict none\n)", "\\1left q mtc 0 integer:1\n"),
-            ("result none", "result error"),
-        ),
-        3,
-        "mtc: `end waiting` doesn't fit the script: `left q mtc 0 integer:1` is what it waits for (line 8)",
-    ),
-    Misfit(
-        "another component",
-        KITCHEN,
-        (("chef", "cook"),),
-        8,
-        "cook: `component cook` doesn't fit the script: the components of the script are mtc, chef",
-    ),
-)
-
-
 def misfits(asked: Reasoning) -> None:
-    for it in MISFITS:
+    for it in (Misfit(**row) for row in json.loads((ROOT / "tests/tools/data/misfits.json").read_bytes())):
         report = file_of(asked.room / "changed", it.changed())
         said = says(f"why: {report}, line {it.line}: {it.said}\n")
         asked.tool.case(it.name, [f"{it.report}.ttcn", report], 1, said)
@@ -307,7 +180,7 @@ def calls(asked: Reasoning) -> None:
 
 def is_drawn(ended: Ended) -> bool:
     """The chart in letters, but for how wide its spaces are."""
-    return in_letters(ended.text) == in_letters(CHART)
+    return in_letters(ended.text) == in_letters(PRINTED["a chart beside another script"])
 
 
 def in_letters(chart: str) -> str:

@@ -127,7 +127,7 @@ def build_if_wanted(root: str) -> None:
     lacks = "the program isn't built, or is older than its sources"
     takes = f"`./build` builds it, the first time in about {_minutes_of_a_first_build(build)} minutes"
     if not _is_wanted(f"{lacks}; {takes}. Build it now? [y/N] "):
-        raise Stop(NOT_BUILT, f"{lacks}: {takes}; TPR=PROGRAM names another program")
+        raise Stop(NOT_BUILT, f"{lacks}: {takes}; TPR={root}/try runs the sources without proofs")
     if ended([build]).returncode != 0:
         raise Stop(NOT_BUILT, f"{build} has not built the program")
 

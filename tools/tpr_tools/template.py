@@ -1,9 +1,9 @@
-"""Files in which `{name}` stands for a part of a page, and parts that are files themselves."""
+"""Files beside the modules: those in which `{name}` stands for a part, parts that are files themselves, and tables."""
 from __future__ import annotations
 
 import os
 import re
-from typing import Mapping
+from typing import Iterator, Mapping
 
 
 class Template:
@@ -19,3 +19,9 @@ class Template:
     def filled(self, name: str, parts: Mapping[str, str]) -> str:
         places = re.compile("{(%s)}" % "|".join(parts))
         return places.sub(lambda found: parts[found[1]], self.part(name))
+
+
+def rows_of(module: str, name: str) -> Iterator[list[str]]:
+    """The rows of a table beside the module, whose columns two spaces or more part. A line with a `#` is no row."""
+    with open(os.path.join(os.path.dirname(os.path.realpath(module)), name), encoding="utf-8") as opened:
+        yield from (re.split(" {2,}", line.strip()) for line in opened if not line.startswith("#"))

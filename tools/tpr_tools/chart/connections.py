@@ -11,7 +11,7 @@ from typing import Optional
 
 from ..script.case import Case, End
 from ..script.setup import MTC, SYSTEM
-from ..script.tree import Creation, Pair
+from ..script.tree import Pair
 from ..words import and_, counted
 from .geometry import SMALL, Text, escaped, pixels, width_of
 from .svg import picture
@@ -64,7 +64,7 @@ class Connections:
     joined: list[Joined] = field(default_factory=list)
 
     def __post_init__(self) -> None:
-        types = _types_of(self.case)
+        types = self.case.types
         for player in self.case.players:
             declared = self.case.names.ports_of(types[player.name])
             ports = {port: self.case.word(declared[port].type) for port in player.ports}
@@ -239,18 +239,6 @@ _CLASS = {"connected": "took", "mapped": "found"}
 
 def _port_text(port: tuple[str, str]) -> str:
     return f"{port[0]} : {port[1]}"
-
-
-def _types_of(case: Case) -> dict[str, str]:
-    """The type of each component."""
-    test_case = case.names.case
-    types = {MTC: case.word(test_case.runs_on)}
-    for creation in test_case.setups:
-        if isinstance(creation, Creation):
-            types[case.word(creation.name)] = case.word(creation.type)
-    if test_case.system is not None:
-        types[SYSTEM] = case.word(test_case.system)
-    return types
 
 
 def connections_of(case: Case) -> str:

@@ -170,10 +170,9 @@ class _Steps:
             self.place_row(number, row)
 
     def place_row(self, number: int, row: Row) -> None:
-        for place in (row.first, row.second):
-            if place is not None:
-                self.row_of[place] = number
-                self.last_rows[place.component] = number
+        for place in row.places():
+            self.row_of[place] = number
+            self.last_rows[place.component] = number
 
     def all(self) -> list[Step]:
         return [self.step(number, row) for number, row in enumerate(self.rows)]
@@ -242,13 +241,11 @@ class _Steps:
         return Badge(place.component, f"{entry.word} {entry.port}{told}{mark}", None)
 
     def numbers(self, row: Row) -> tuple[int, ...]:
-        places = [row.first] if row.second is None else [row.first, row.second]
-        return tuple(self.deliveries.entry(place).line.number for place in places)
+        return tuple(self.deliveries.entry(place).line.number for place in row.places())
 
     def lines(self, row: Row) -> str:
         """The lines of the report that the row stands for."""
-        places = [row.first] if row.second is None else [row.first, row.second]
-        told = [self.deliveries.told_line(place) for place in places]
+        told = [self.deliveries.told_line(place) for place in row.places()]
         for message in self.deliveries.discarded.get(row.first, [])[:_MOST_TOLD]:
             told.append(f"discards {self.deliveries.told_line(message.sent)}")
         return "\n".join(told)

@@ -1,10 +1,12 @@
 """Draws a chart as an SVG file."""
 from __future__ import annotations
 
+import os
 from dataclasses import replace
 from html import escape
 from typing import Optional
 
+from ..template import Template
 from .geometry import SMALL, Box, Line, Text, cut, cut_middle, escaped, pixels, width_of
 from .layout import (
     BESIDE_TITLE,
@@ -34,27 +36,7 @@ _COLOURS = {
     "plain": ("#ffffff", "#8c959f", "#24292f"),
 }
 
-_STYLE = """
-text { font-family: "DejaVu Sans Mono", Menlo, Consolas, monospace; font-size: 12px; fill: #1f2328 }
-.head { font-family: "Segoe UI", Helvetica, Arial, "DejaVu Sans", sans-serif; font-size: 18px; font-weight: 600 }
-.name { font-weight: 700; fill: #0a3069 }
-.small { font-size: 11px; fill: #57606a }
-.strip { font-size: 11px; fill: #6e7781; font-weight: 700 }
-.halo { paint-order: stroke; stroke: #ffffff; stroke-width: 4px; stroke-linejoin: round }
-.end { text-anchor: end }
-.middle { text-anchor: middle }
-.life { stroke: #b6bfc8; stroke-width: 1.5 }
-.ended { stroke-dasharray: 2 5 }
-.took, .found, .dropped, .left, .discarded { fill: none; stroke: #24292f; stroke-width: 1.4 }
-.found { stroke-dasharray: 5 4; stroke: #0550ae }
-.dropped { stroke: #a40e26 }
-.left { stroke: #7d4e00 }
-.discarded { stroke: #57606a }
-.box { fill: #ddf4ff; stroke: #54aeff }
-.foot { fill: #ffffff; stroke: #d0d7de }
-.parts { stroke: #cf222e; stroke-width: 1.5; stroke-dasharray: 7 4 }
-.where { font-size: 11px; fill: #cf222e; font-weight: 700 }
-"""
+_STYLE = Template(os.path.dirname(os.path.realpath(__file__))).part("chart.css")
 
 # The ends of arrows: the name, a size, how far the drawing reaches beyond the end, and the drawing.
 _SHAPES = (
@@ -106,7 +88,7 @@ def picture(width: float, height: float, title: str, description: str, body: lis
         f'viewBox="0 0 {wide} {high}" role="img" aria-labelledby="chart-title chart-description" '
         f'xml:space="preserve">\n<title id="chart-title">{escaped(title)}</title>\n'
         f'<desc id="chart-description">{escaped(description)}</desc>\n'
-        f"<style>{_STYLE}</style>\n<defs>\n{markers}\n</defs>\n"
+        f"<style>\n{_STYLE}</style>\n<defs>\n{markers}\n</defs>\n"
         f'<rect width="{wide}" height="{high}" rx="8" fill="#ffffff"/>'
     )
     return "\n".join([opening, *body, "</svg>"]) + "\n"

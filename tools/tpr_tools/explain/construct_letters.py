@@ -7,7 +7,7 @@ from typing import Optional
 from ..script.constructs import Construct
 from ..script.cursor import GrammarFault
 from ..script.tokens import Text
-from .construct_signs import Found, Signs
+from .construct_signs import Found, Signs, by_words
 
 _SIGNS = (
     (re.compile(r"=>"), Construct.NAMED_ARGUMENT),
@@ -20,19 +20,10 @@ _SIGNS = (
 )
 
 # The statements and definitions in which an expression stands, by their first word.
-_WITH_EXPRESSIONS = frozenset(
-    ["if", "else", "while", "do", "select", "const", "template", "log", "return", "modulepar"]
-)
+_WITH_EXPRESSIONS = frozenset("if else while do select const template log return modulepar".split())
 
 # The words behind which a bracket holds an expression.
-_BEFORE_BRACKETS = {
-    "if": Construct.IF,
-    "while": Construct.WHILE,
-    "select": Construct.SELECT,
-    "log": Construct.LOG,
-    "for": Construct.LOOP,
-    "match": Construct.MATCHING,
-}
+_BEFORE_BRACKETS = by_words("IF if, WHILE while, SELECT select, LOG log, LOOP for, MATCHING match")
 
 
 def construct_of_rest(text: Text, offset: int) -> Optional[Found]:

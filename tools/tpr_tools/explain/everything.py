@@ -13,10 +13,15 @@ _MOST_UNREADABLE = 20  # lines of one script
 
 def everything_of(file: str, data: Optional[bytes], said: str) -> list[Explanation]:
     """That of the program's answer first, and the others in the order of the text, none of them twice."""
-    first, *others = explanations_of(file, data, said)
-    if first.answer is Answer.REFUSED and data is not None and first.line != 0:
-        others += [it for it in further(file, data) if not any(is_same(it, one) for one in (first, *others))]
-    return [first, *sorted(others, key=lambda it: (it.line or 0, it.column or 0))]
+    told = list(explanations_of(file, data, said))
+    has_more = told[0].answer is Answer.REFUSED and data is not None and told[0].line != 0
+    return with_further(told, list(further(file, data or b"")) if has_more else [])
+
+
+def with_further(told: list[Explanation], listed: list[Explanation]) -> list[Explanation]:
+    """Those that are told, with those of a list that aren't told already."""
+    others = told[1:] + [it for it in listed if not any(is_same(it, one) for one in told)]
+    return [told[0], *sorted(others, key=lambda it: (it.line or 0, it.column or 0))]
 
 
 def is_same(listed: Explanation, other: Explanation) -> bool:

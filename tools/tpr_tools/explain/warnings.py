@@ -8,12 +8,13 @@ from __future__ import annotations
 import functools
 from typing import Iterator, NamedTuple, Optional, Union
 
+from ..report.messages import Plain
 from ..script.case import Case, Player
 from ..script.checks import check_script
-from ..script.forms import Plain, Test
+from ..script.forms import Test
 from ..script.setup import SYSTEM
 from ..script.tokens import Text
-from ..script.tree import Alt, Control, Loop, Message, Receive, Send, Statement, Value, ValueKind
+from ..script.tree import Control, Message, Receive, Send, operations_in
 from ..words import and_
 
 Operation = Union[Send, Receive]
@@ -52,26 +53,12 @@ def warnings_of(text: Text) -> list[Finding]:
     return sorted(dict.fromkeys(found), key=lambda it: it.place)
 
 
-def operations_of(statements: list[Statement]) -> Iterator[Union[Operation, Control]]:
-    """All sends, receiving operations and port operations, those of branches and loops too."""
-    for statement in statements:
-        if isinstance(statement, Loop):
-            yield from operations_of(statement.block)
-        elif isinstance(statement, Alt):
-            for branch in statement.branches:
-                yield branch.receive
-                yield from operations_of(branch.block)
-            yield from operations_of(statement.otherwise.block if statement.otherwise else [])
-        elif isinstance(statement, (Send, Receive, Control)):
-            yield statement
-
-
 class _Player:
     """A component, and what it does."""
 
     def __init__(self, case: Case, player: Player):
         self.case, self.player = case, player
-        self.operations = [*operations_of(player.statements())]
+        self.operations = operations_in(player.statements())
         self.variables = {case.word(it) for it in player.variables()}
         self.looked = 0  # how many receiving operations were looked at for a message
         self.read: dict[str, list[_Template]] = {}  # by their ports, as far as they were looked at
@@ -92,6 +79,9 @@ class _Player:
                 leads_nowhere.add(port)
             elif isinstance(operation, Send):
                 yield from self.of_send(operation, port, players)
+            elif port not in leads_nowhere and self.hears_nobody(port, players):
+                yield self.not_played(operation, port)
+                leads_nowhere.add(port)
 
     def partners(self, port: str) -> list[tuple[str, str]]:
         return self.case.partners.get((self.player.name, port), [])
@@ -100,6 +90,15 @@ class _Player:
         comes = "a send through it fails" if isinstance(operation, Send) else "no message ever arrives there"
         sentence = f"the port `{port}` of `{self.player.name}` is never connected or mapped, so {comes}"
         return Finding(operation.port, sentence)
+
+    def hears_nobody(self, port: str, players: dict[str, _Player]) -> bool:
+        """Whether only the system can send there, and no function plays it."""
+        partners = {component for component, _ in self.partners(port)}
+        return partners == {SYSTEM} and players[SYSTEM].player.body is None
+
+    def not_played(self, operation: Operation, port: str) -> Finding:
+        mapped = f"the port `{port}` of `{self.player.name}` is mapped to `{SYSTEM}`, which no function `sut` plays"
+        return Finding(operation.port, f"{mapped}, so no message ever arrives there")
 
     def of_send(self, send: Send, port: str, players: dict[str, _Player]) -> Iterator[Finding]:
         """What it is to: a component that the port doesn't lead to; or receivers of which one never takes it."""
@@ -117,7 +116,7 @@ class _Player:
             partners = [it for it in partners if it[0] == to]
         elif send.to is None and len(partners) > 1:
             return
-        if send.message is not None and not _has_name(send.message.value):
+        if send.message is not None and not self.case.forms.has_loop_variable(send.message.value):
             for component, there in partners:
                 yield from players[component].never_takes(send.message, there, self.player.name)
 
@@ -160,9 +159,5 @@ class _Player:
         if operation.message is None:
             return _Template(sender, None, None)
         type_name, value = self.case.word(operation.message.type), operation.message.value
-        return _Template(sender, type_name, None if _has_name(value) else self.case.forms.test_of(value, type_name))
-
-
-def _has_name(value: Value) -> bool:
-    """Whether it depends on a loop variable."""
-    return value.kind is ValueKind.NAME or any(_has_name(member) for member in value.members)
+        is_known = not self.case.forms.has_loop_variable(value)
+        return _Template(sender, type_name, self.case.forms.test_of(value, type_name) if is_known else None)

@@ -11,7 +11,6 @@ from .frames import Json
 from .positions import Lines
 
 ERROR, WARNING = 1, 2
-_MOST = 200  # constructs of one text: an editor gains nothing from more
 
 
 @dataclass
@@ -52,9 +51,12 @@ def found_in(lines: Lines, explanations: list[Explanation]) -> list[Found]:
 
 
 def _refusal(lines: Lines, it: Explanation) -> Found:
+    """A construct besides those of the program's answer is a warning, which has its clause as its code."""
+    span = lines.whole_line(it.line or 1)
+    if it.number is None:
+        return _of_places(lines, Found(span, WARNING, it.code(), it.message()), it.places)
     more = [f"rule: {rule.value}{_standard(clauses_of(rule))}" for rule in it.rules]
     more += [_standard(it.clause), it.own_reading]
-    span = lines.whole_line(it.line or 1)
     found = Found(span, ERROR, it.code(), it.message(), "\n\n".join(text for text in more if text))
     return _of_places(lines, found, it.places)
 
@@ -68,22 +70,3 @@ def _of_places(lines: Lines, found: Found, places: list[Shown]) -> Found:
     found.span = spans[0] if spans else found.span
     found.related = [(span, it.label or "here") for span, it in zip(spans[1:], places[1:])]
     return found
-
-
-def with_constructs(lines: Lines, found: list[Found], listed: list[Json]) -> list[Found]:
-    """Adds what the worker listed. The first fault is often a construct that is listed too: it isn't shown twice."""
-    added = list(found)
-    for it in listed[:_MOST]:
-        span = lines.told(it["line"], it["column"], it["length"])
-        same = next((one for one in found if _is_same(one, span, it["message"].partition("\n")[0])), None)
-        if same is None:
-            message = "\n".join(text for text in (it["message"], it["rewriting"]) if text)
-            added.append(Found(span, WARNING, it["code"], message))
-        elif it["rewriting"] and it["rewriting"] not in same.message:
-            same.message += f"\n{it['rewriting']}"
-    return added
-
-
-def _is_same(one: Found, span: Json, sentence: str) -> bool:
-    is_named = one.span["start"]["line"] == span["start"]["line"] and one.message.startswith(sentence)
-    return is_named or one.span["start"] == span["start"]

@@ -47,7 +47,7 @@ class Lines:
         offset = self.offset_told(line, column)
         line = bisect_right(self.starts, offset) - 1
         end = max(offset, min(offset + length, self.end(line)))
-        return {"start": self.position(offset), "end": self.position(end)}
+        return self.region(offset, end)
 
     def region(self, start: int, end: int) -> Json:
         return {"start": self.position(start), "end": self.position(end)}

@@ -16,7 +16,7 @@ from pathlib import Path
 from typing import Any, BinaryIO, Callable, Optional, Union
 
 from . import frames
-from .diagnostics import explained, found_in, with_constructs
+from .diagnostics import Found, explained, found_in
 from .documents import SHOW_RUNS, Document, Held, verdict_told
 from .frames import Json, Refused, Writer
 from .hovering import definition_of, flat, hover_of, symbols_of
@@ -258,12 +258,10 @@ class Server:
 
     def _checked(self, document: Document, job: Job) -> None:
         said = job.printed.removesuffix("\n")
-        if re.fullmatch(r"accepted|refused [^\n]+", said):
-            self._publish(document, said)
-            return
-        self.program_fails = True
-        self._log(f"tpr check failed, so the server checks the script by itself: {said[:200] or job.why}")
-        self._publish(document, None)
+        self.program_fails = not re.fullmatch(r"accepted|refused [^\n]+", said)
+        if self.program_fails:
+            self._log(f"tpr check failed, so the server checks the script by itself: {said[:200] or job.why}")
+        self._publish(document, None if self.program_fails else said)
 
     def _publish(self, document: Document, said: Optional[str]) -> None:
         """Shows the diagnostics, and starts what needs the answer."""
@@ -272,7 +270,7 @@ class Server:
         document.is_accepted = explanations[0].number is None
         self._send_diagnostics(document)
         if not document.is_accepted:
-            command = self._tool("lsp", "--work", "constructs", document.file)
+            command = self._tool("lsp", "--work", "constructs", document.file, said or "")
             self._start(document, "constructs", self._listed, _LISTING_SECONDS, *command)
         elif said is not None:
             self._start(document, "verdicts", self._decided, None, self.program, "verdicts")
@@ -292,7 +290,7 @@ class Server:
 
     def _listed(self, document: Document, job: Job) -> None:
         if listed := _listed(job):
-            document.found = with_constructs(document.lines, document.found, listed)
+            document.found = [Found(**it) for it in listed]
             self._send_diagnostics(document)
 
     def _decided(self, document: Document, job: Job) -> None:

@@ -6,11 +6,13 @@ import os
 import re
 import subprocess
 from collections import Counter
+from dataclasses import asdict
 from pathlib import Path
 from typing import Callable
 
 from .. import command
-from ..explain.everything import further
+from ..explain.everything import further, is_same, with_further
+from ..explain.explanation import Explanation
 from ..report.deliveries import Place
 from ..report.reader import read_report
 from ..report.report import NotAReport, Sent
@@ -22,32 +24,41 @@ from ..script.tokens import Text
 from ..why.annotated import Done
 from ..why.walk import DoesNotFit
 from ..why.ways import Ways
+from .diagnostics import explained, found_in
 from .frames import Json
+from .positions import Lines
 
+_MOST_LISTED = 200  # constructs of one text: an editor gains nothing from more
 _MOST_WAYS = 4  # that are named at one line
 _MOST_FILES = 1000  # of a folder
 _IMPORT, _MODULE = re.compile(rb"\bimport\s+from\s+(\w+)"), re.compile(rb"\bmodule\s+(\w+)")
 
 
-def constructs(file: str, data: bytes) -> list[Json]:
-    """Each construct that the profile lacks, what to write instead, and whether tools/rewrite carries it over."""
-    listed = list(further(file, data))
+def constructs(file: str, said: str, data: bytes) -> list[Json]:
+    """The faults of a text and each construct that the profile lacks, with what to write instead, and whether
+    tools/rewrite carries it over."""
+    listed = list(further(file, data))[:_MOST_LISTED]
     told = refused_of([Source(*it) for it in _with_imported(file, data).items()])
     refused = {(it.line, it.column): it.reason for it in told if it.file == file}
     reasons = {line: reason for (line, _), reason in refused.items()}
     elsewhere = next((it.text() for it in told if not refused), None)
     on_line = Counter(one.line for one in listed if one.construct)
-    found: list[Json] = []
-    for one in listed:
+
+    def carried(one: Explanation) -> str:
         # A reason at another place of the line is meant if nothing else there is listed.
         nearby = reasons.get(one.line or 0) if on_line[one.line] == 1 else None
         reason = refused.get((one.line or 0, one.column or 0), nearby) or elsewhere
-        rewriting = "" if told else "tools/rewrite carries it over"
         if reason is not None:
-            rewriting = f"tools/rewrite can't carry it over: {reason}"
-        row = {"line": one.line, "column": one.column, "length": one.places[0].position.length, "code": one.code()}
-        found.append({**row, "message": one.message(), "rewriting": rewriting if one.construct else ""})
-    return found
+            return f"\ntools/rewrite can't carry it over: {reason}"
+        return "" if told else "\ntools/rewrite carries it over"
+
+    explanations = with_further(explained(file, data, said), listed)
+    found = found_in(Lines(data.decode()), explanations)
+    of_one = {id(it): it for it in listed}
+    for shown, explanation in zip(found, explanations):
+        same = of_one.get(id(explanation)) or next((it for it in listed if is_same(it, explanation)), None)
+        shown.message += carried(same) if same is not None and same.construct else ""
+    return [asdict(it) for it in found]
 
 
 def _with_imported(file: str, data: bytes) -> dict[str, bytes]:
@@ -103,10 +114,10 @@ def _label(texts: list[str]) -> str:
 
 
 def work(task: list[str]) -> int:
-    """`constructs FILE`, or `ways PROGRAM SECONDS`."""
+    """`constructs FILE ANSWER`, or `ways PROGRAM SECONDS`."""
     data = command.read_bytes(None)
     tasks: dict[str, Callable[[], list[Json]]] = {
-        "constructs": lambda: constructs(task[1], data),
+        "constructs": lambda: constructs(task[1], task[2], data),
         "ways": lambda: ways(task[1], float(task[2]), data),
     }
     command.write_out(json.dumps(command.on_large_stack(tasks[task[0]])))

@@ -11,6 +11,7 @@ from dataclasses import replace
 from datetime import datetime, timezone
 
 from ..command import NOT_BUILT, REFUSED, Stop, with_installed_names
+from ..template import Template
 
 from .archives import ar_of, gzip_of, tar_of
 from .port_library import EXAMPLES, LIBRARY, PKG_CONFIG, below_usr
@@ -32,92 +33,20 @@ _PACKAGES = {
 }
 _OF_THE_KERNEL = "linux-vdso.so.1"
 
-_CONTROL = """\
-Package: tpr
-Version: {version}
-Section: devel
-Priority: optional
-Architecture: amd64
-Maintainer: {maintainer}
-Installed-Size: {kilobytes}
-Depends: {depends}
-Description: message ports of TTCN-3 test components, proved
- The part of a TTCN-3 executor (ETSI ES 201 873) through which parallel test
- components talk: message ports, their queues, and start, stop, halt and clear.
- It checks and runs scripts, and replays what happens at one port. It is proved
- that no message which the report of a run calls sent is lost, doubled, put
- before an earlier one from the same component, or taken from behind a halt.
- .
- With it come tools that say what is wrong in a script, run many scripts, and
- draw and compare reports. They are not proved.
-"""
-
-_LIBRARY_CONTROL = """\
-Package: libtp-port-dev
-Version: {version}
-Section: libdevel
-Priority: optional
-Architecture: amd64
-Multi-Arch: same
-Maintainer: {maintainer}
-Installed-Size: {kilobytes}
-Depends: libc6-dev
-Description: queue of a TTCN-3 message port for C and C++, proved
- The queue of one message port of a TTCN-3 executor (ETSI ES 201 873), with
- start, stop, halt and clear, as a static library with headers for C11 and
- C++17. Its functions are proved to keep the rules of the standard in every
- history. The headers are not proved.
-"""
-
-_COPYRIGHT = """\
-Format: https://www.debian.org/doc/packaging-manuals/copyright-format/1.0/
-Upstream-Name: tpr
-Comment: The program has parts of the crates crossbeam_queue, crossbeam_utils,
- indexmap, itoa and thiserror in it, each of which is under MIT or Apache-2.0.
-
-Files: *
-Copyright: 2026 the authors of tpr
-License: Apache-2.0
-
-License: Apache-2.0
- The text stands in LICENSE beside this file, and on Debian systems in
- /usr/share/common-licenses/Apache-2.0.
-"""
-
-_CHANGES = """\
-{package} ({version}) unstable; urgency=medium
-
-  * What has changed stands in CHANGELOG.md.
-
- -- {maintainer}  {date}
-"""
-
-# Below the title of README.md.
-_OF_THE_PACKAGE = """
-This is the copy of the Debian package, which names the commands as they are installed. `./build`, `./test`, `./try` and
-`crates/` are in the repository alone, and need not be run: the package has the programs that they make.
-"""
-
-# What lintian reports and is meant to be so.
-_OVERRIDES = """\
-# README.md links to it, and not each system has Debian's common licences.
-tpr: extra-license-file [usr/share/doc/tpr/LICENSE]
-# It is the program that the gate tried, byte by byte.
-tpr: unstripped-binary-or-object [usr/lib/tpr/tpr]
-tpr: unstripped-binary-or-object [usr/lib/tpr/tpr_ordered]
-"""
+# Texts of a package.
+_TEXTS = Template(os.path.join(os.path.dirname(os.path.realpath(__file__)), "package"))
 
 
 def package_of(release: Release) -> bytes:
     entries = _placed(release)
-    return _package(_control_of(release, entries), entries, release.time)
+    depends = ", ".join([*_libraries_of(release.programs), f"python3 (>= {_OLDEST_PYTHON})"])
+    return _package(_control_of(release, entries, "control", depends=depends), entries, release.time)
 
 
 def library_package_of(release: Release) -> bytes:
     """The library for C and C++ with its headers, where a compiler looks for them."""
     entries = _placed_library(release)
-    facts = {"version": release.version, "maintainer": release.maintainer}
-    return _package(_LIBRARY_CONTROL.format(kilobytes=_kilobytes_of(entries), **facts), entries, release.time)
+    return _package(_control_of(release, entries, "control_of_library"), entries, release.time)
 
 
 def _package(control: str, entries: list[Entry], time: int) -> bytes:
@@ -137,13 +66,10 @@ def _below_a_dot(entries: list[Entry]) -> list[Entry]:
 
 def _placed(release: Release) -> list[Entry]:
     """The files where a package has them, links to the commands, and what Debian asks for."""
-    facts = {"package": "tpr", "version": release.version, "maintainer": release.maintainer}
-    changes = _CHANGES.format(date=_date_of(release.time), **facts).encode()
     entries = [_place(it) for it in release.entries]
     entries += [
-        Entry(f"{_DOCS}/changelog.gz", gzip_of(changes)),
-        Entry(f"{_DOCS}/copyright", _COPYRIGHT.encode()),
-        Entry("usr/share/lintian/overrides/tpr", _OVERRIDES.encode()),
+        *_of_debian(release, "tpr", _DOCS),
+        Entry("usr/share/lintian/overrides/tpr", _TEXTS.part("overrides").encode()),
         Entry("usr/bin/tpr", target="../lib/tpr/tpr"),
         # For --version, which looks beside the tools.
         Entry(f"{_HOME}/VERSION", f"{release.version}\n".encode()),
@@ -168,7 +94,7 @@ def _with_installed_names(path: str, data: bytes) -> bytes:
     text = with_installed_names(data.decode("utf-8", "surrogateescape"))
     if path == "README.md":
         title, _, rest = text.partition("\n")
-        text = f"{title}\n{_OF_THE_PACKAGE}{rest}"
+        text = f"{title}\n{_TEXTS.part('of_the_readme')}{rest}"
     return text.encode("utf-8", "surrogateescape")
 
 
@@ -181,23 +107,24 @@ def _date_of(time: int) -> str:
     return datetime.fromtimestamp(time, timezone.utc).strftime("%a, %d %b %Y %H:%M:%S +0000")
 
 
-def _control_of(release: Release, entries: list[Entry]) -> str:
-    return _CONTROL.format(
-        version=release.version,
-        maintainer=release.maintainer,
-        kilobytes=_kilobytes_of(entries),
-        depends=", ".join([*_libraries_of(release.programs), f"python3 (>= {_OLDEST_PYTHON})"]),
-    )
+def _control_of(release: Release, entries: list[Entry], name: str, **more: str) -> str:
+    kilobytes = sum((len(it.data) + 1023) // 1024 for it in entries)
+    facts = {"version": release.version, "maintainer": release.maintainer, "kilobytes": str(kilobytes)}
+    return _TEXTS.filled(name, {**facts, **more})
 
 
-def _kilobytes_of(entries: list[Entry]) -> int:
-    return sum((len(it.data) + 1023) // 1024 for it in entries)
+def _of_debian(release: Release, package: str, docs: str) -> list[Entry]:
+    """What Debian asks for beside the documents of a package."""
+    facts = {"package": package, "version": release.version, "maintainer": release.maintainer}
+    changes = _TEXTS.filled("changelog", {**facts, "date": _date_of(release.time)})
+    copyright = _TEXTS.part("copyright").encode()
+    return [Entry(f"{docs}/changelog.gz", gzip_of(changes.encode())), Entry(f"{docs}/copyright", copyright)]
 
 
 def _placed_library(release: Release) -> list[Entry]:
     """Its files where a package has them, with its page and what Debian asks for."""
-    facts = {"package": "libtp-port-dev", "version": release.version, "maintainer": release.maintainer}
-    docs = f"usr/share/doc/{facts['package']}"
+    package = "libtp-port-dev"
+    docs = f"usr/share/doc/{package}"
     places = {LIBRARY: f"{_LIBRARIES}/libtp_port.a", PKG_CONFIG: f"{_LIBRARIES}/pkgconfig/tp_port.pc"}
     places.update((it, f"{docs}/{it}") for it in EXAMPLES)
     entries = [replace(it, path=places.get(it.path, f"usr/{it.path}")) for it in release.library]
@@ -206,8 +133,7 @@ def _placed_library(release: Release) -> list[Entry]:
     page = next((it for it in release.entries if it.path == _PAGE_OF_LIBRARY), None)
     if page is not None:
         entries.append(Entry(f"{docs}/EMBEDDING.md", _with_installed_names(page.path, page.data)))
-    changes = _CHANGES.format(date=_date_of(release.time), **facts).encode()
-    entries += [Entry(f"{docs}/changelog.gz", gzip_of(changes)), Entry(f"{docs}/copyright", _COPYRIGHT.encode())]
+    entries += _of_debian(release, package, docs)
     return sorted(entries, key=lambda it: it.path)
 
 

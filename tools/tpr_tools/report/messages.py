@@ -1,18 +1,24 @@
 """The text of a message: the name of its type, `:` and its value."""
 from __future__ import annotations
 
+import functools
 import re
+from typing import Any, Optional, Union
 
 from ..words import is_name
+
+# A value: of a record or a record of its members, in their order.
+Plain = Union[int, bool, str, tuple[Any, ...]]
 
 # As many brackets as a script may have open at once.
 MOST_BRACKETS = 32
 
 _INTEGER = re.compile(r"0|-?[1-9][0-9]{0,18}")
 _BOOLEAN = re.compile(r"true|false")
-_CHARSTRING = re.compile(r'"(?:[ !#-~]|"")*"')
+_CHARSTRING = re.compile(r'"((?:[ !#-~]|"")*)"')
 _FIELD = re.compile(r"([A-Za-z][A-Za-z0-9_]*) := ")
-_BASE_TYPES = {"integer": _INTEGER, "boolean": _BOOLEAN, "charstring": _CHARSTRING}
+_BASE_TYPES = {"integer": int, "boolean": bool, "charstring": str}
+_LONGEST_KNOWN = 2_000
 
 
 class _NoValue(Exception):
@@ -21,53 +27,57 @@ class _NoValue(Exception):
 
 def is_message(text: str) -> bool:
     """Whether the text is one of a message. `-` stands for a value that hasn't its type."""
-    if text == "-":
-        return True
-    name, colon, value = text.partition(":")
-    if not colon:
-        return False
-    if name in _BASE_TYPES:
-        return _is_whole(value) and _BASE_TYPES[name].fullmatch(value) is not None
-    return is_name(name) and value.startswith("{") and _is_whole(value)
+    return text == "-" or value_of(text) is not None
 
 
-def _is_whole(value: str) -> bool:
+def value_of(text: str) -> Optional[Plain]:
+    """The value that a message has; None if the text is none of a message."""
+    # A message comes twice at least, and most of them often.
+    return _known(text) if len(text) < _LONGEST_KNOWN else _value_of(text)
+
+
+def _value_of(text: str) -> Optional[Plain]:
+    name, colon, told = text.partition(":")
     try:
-        return _value(value, 0, 0) == len(value)
+        value, end = _value(told, 0, 0)
     except _NoValue:
-        return False
+        return None
+    has_type = type(value) is _BASE_TYPES[name] if name in _BASE_TYPES else is_name(name) and type(value) is tuple
+    return value if colon and has_type and end == len(told) else None
 
 
-def _value(text: str, place: int, depth: int) -> int:
-    """The place behind the value that stands at the place."""
+_known = functools.lru_cache(maxsize=20_000)(_value_of)
+
+
+def _value(text: str, place: int, depth: int) -> tuple[Plain, int]:
+    """The value that stands at the place, and the place behind it."""
     if text.startswith("{", place):
         return _braces(text, place, depth + 1)
-    for form in (_CHARSTRING, _BOOLEAN):
-        if found := form.match(text, place):
-            return found.end()
+    if found := _CHARSTRING.match(text, place):
+        return found[1].replace('""', '"'), found.end()
+    if found := _BOOLEAN.match(text, place):
+        return found[0] == "true", found.end()
     found = _INTEGER.match(text, place)
     if found is None or not -(2**63) <= int(found[0]) < 2**63:
         raise _NoValue
-    return found.end()
+    return int(found[0]), found.end()
 
 
-def _braces(text: str, place: int, depth: int) -> int:
-    """The place behind a record or a record of, which begins at the place."""
+def _braces(text: str, place: int, depth: int) -> tuple[Plain, int]:
+    """The record or the record of that begins at the place, and the place behind it."""
     if depth > MOST_BRACKETS:
         raise _NoValue
     if text.startswith("{}", place):
-        return place + 2
+        return (), place + 2
     has_fields = _FIELD.match(text, place + 1) is not None
-    place += 1
-    while True:
-        if has_fields:
-            place = _behind_field(text, place)
-        place = _value(text, place, depth)
-        if text.startswith("}", place):
-            return place + 1
-        if not text.startswith(", ", place):
+    members: list[Plain] = []
+    while not text.startswith("}", place):
+        if not text.startswith(", " if members else "{", place):
             raise _NoValue
-        place += 2
+        place += 2 if members else 1
+        member, place = _value(text, _behind_field(text, place) if has_fields else place, depth)
+        members.append(member)
+    return tuple(members), place + 1
 
 
 def _behind_field(text: str, place: int) -> int:

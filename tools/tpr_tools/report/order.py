@@ -35,6 +35,9 @@ class Row:
     first: Place
     second: Optional[Place] = None
 
+    def places(self) -> list[Place]:
+        return [self.first] if self.second is None else [self.first, self.second]
+
 
 def rows_of(deliveries: Deliveries) -> list[Row]:
     """All entries in an order that the ports allow, and by which entries messages were discarded is

@@ -178,22 +178,13 @@ def _received(line: Line) -> Optional[Received]:
     return Received(line, word, port, sender, int(digits), message)
 
 
-# Messages that were read: each comes twice at least, and most of them often.
-_KNOWN: set[str] = set()
-_LONGEST_KNOWN, _MOST_KNOWN = 2_000, 20_000
-
-
 def _check_message(line: Line, port: str, number: str, message: str) -> None:
     if not is_name(port):
         raise NotAReport(line.number, f"{_short(port)} isn't the name of a port")
     if int(number) >= MOST_ON_A_ROUTE:
         raise NotAReport(line.number, f"no message has the number {number}")
-    if message in _KNOWN:
-        return
     if not is_message(message):
         raise NotAReport(line.number, f"{_short(message)} isn't a message")
-    if len(message) < _LONGEST_KNOWN and len(_KNOWN) < _MOST_KNOWN:
-        _KNOWN.add(message)
 
 
 def _operation(line: Line) -> Optional[Operation]:
@@ -201,10 +192,6 @@ def _operation(line: Line) -> Optional[Operation]:
     if found is None or not is_name(found[2]):
         return None
     return Operation(line, found[1], found[2])
-
-
-def _otherwise(line: Line) -> Optional[Otherwise]:
-    return Otherwise(line) if line.text == "else" else None
 
 
 def _verdict_set(line: Line) -> Optional[VerdictSet]:
@@ -232,7 +219,7 @@ _ENTRIES: dict[str, Callable[[Line], Optional[Entry]]] = {
     "started": _operation,
     "stopped": _operation,
     "halted": _operation,
-    "else": _otherwise,
+    "else": lambda line: Otherwise(line) if line.text == "else" else None,
     "set": _verdict_set,
     "failed": _failed,
 }

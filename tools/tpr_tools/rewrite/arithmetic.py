@@ -3,13 +3,13 @@ from __future__ import annotations
 
 from typing import Callable, Optional
 
-from .predefined import CONVERSIONS, ENCODING
+from .predefined import BITWISE, CONVERSIONS, ENCODING, MOVING, all_ones_of, bitwise, moved
 from .refusing import refuse
 from .tokens import Token
 from .values import Digits, Elements, Form, Mark, same
 
 _NUMBERS = ("+", "-", "*", "/", "mod", "rem")
-_ORDERED = ("<", ">", "<=", ">=")
+ORDERED = ("<", ">", "<=", ">=")
 
 
 def computed(sign: str, left: Form, right: Form, at: Token) -> Form:
@@ -28,11 +28,12 @@ def computed(sign: str, left: Form, right: Form, at: Token) -> Form:
         assert isinstance(left, int) and isinstance(right, int)
         if sign in _NUMBERS:
             return _number(sign, left, right, at)
-        if sign in _ORDERED:
+        if sign in ORDERED:
             return {"<": left < right, ">": left > right, "<=": left <= right, ">=": left >= right}[sign]
     if isinstance(left, float) and isinstance(right, float):
         return _of_floats(sign, left, right, at)
-    refuse(at, f"`{sign}` isn't computed of these")
+    found = bitwise(sign, left, right) if sign in BITWISE else moved(sign, left, right) if sign in MOVING else None
+    return found if found is not None else refuse(at, f"`{sign}` isn't computed of these")
 
 
 def _is_number(form: Form) -> bool:
@@ -56,11 +57,13 @@ def _number(sign: str, left: int, right: int, at: Token) -> int:
 
 
 def _of_floats(sign: str, left: float, right: float, at: Token) -> Form:
-    if sign in _ORDERED:
+    if sign in ORDERED:
         return {"<": left < right, ">": left > right, "<=": left <= right, ">=": left >= right}[sign]
     if sign in ("+", "-", "*"):
         return {"+": left + right, "-": left - right, "*": left * right}[sign]
-    refuse(at, f"`{sign}` isn't computed of floats")
+    if sign == "/" and right != 0:
+        return left / right
+    refuse(at, f"`{sign}` isn't computed of these floats")
 
 
 def inverted(sign: str, value: Form, at: Token) -> Form:
@@ -69,7 +72,8 @@ def inverted(sign: str, value: Form, at: Token) -> Form:
         return not value
     if sign in ("-", "+") and isinstance(value, (int, float)) and not isinstance(value, bool):
         return -value if sign == "-" else value
-    refuse(at, f"`{sign}` isn't computed of this")
+    found = bitwise("xor4b", value, all_ones_of(value)) if sign == "not4b" else None
+    return found if found is not None else refuse(at, f"`{sign}` isn't computed of this")
 
 
 def length_of(value: Form) -> Optional[int]:

@@ -55,7 +55,7 @@ class Asker(BracesReader):
         if value is Mark.LOST:
             raise Refusal(node.at, "")
         if word == "enum2int":
-            return self._number_of(value, type, node.at)
+            return self.number_of(value, type or self._only_type_of(value), node.at)
         if word == "istemplatekind":
             return self._is_of_kind(value, self.evaluate(node.arguments[1].value, path, scope), node.at)
         if word == "valueof":
@@ -80,10 +80,17 @@ class Asker(BracesReader):
             refuse(at, "whether this is present isn't known here")
         return True
 
-    def _number_of(self, value: Form, type: Optional[Type], at: Token) -> Form:
+    def _only_type_of(self, value: Form) -> Optional[Type]:
+        """The only enumerated type that has this value."""
+        named = [name for name, one in self.types.definitions.items() if isinstance(one.body, tree.EnumBody)]
+        found = [type for type in (self.types.named(name, self.types.definitions[name].at) for name in named)
+                 if isinstance(value, Enumerated) and value.word in type.root.names]
+        return found[0] if len(found) == 1 else None
+
+    def number_of(self, value: Form, type: Optional[Type], at: Token) -> Form:
         self.settled(value, at)
         if not isinstance(value, Enumerated) or type is None or value.word not in type.root.numbers:
-            refuse(at, "`enum2int` isn't computed of this")
+            refuse(at, "the number of this enumerated value isn't known here")
         return type.root.numbers[value.word]
 
     def of_number(self, number: Form, type: Optional[Type], at: Token) -> Form:

@@ -8,10 +8,10 @@ from . import tree
 from .emitted import Verdict
 from .hoisting import Communicates, calls_in, key_of
 from .labels import lost_label
-from .paths import Exit, Key, Path, Scope, Slot, State, joined
+from .paths import Exit, Key, Path, Scope, Slot, Split, State, joined
 from .refusing import Refusal, refuse, refuse_open, refuse_silently
 from .run import members_of
-from .sorting import Sorted
+from .sorting import MOST_OF_TREE, Sorted
 from .templates import look_at_restricted
 from .tokens import Token
 from .tree import Declared, Expression, Leaving, Statement
@@ -390,6 +390,7 @@ class Follower(ListFollower):
         above = paths[0].fork if len(paths) == 1 else None
         may_sort = len(paths) == 1
         while paths:
+            written = self.run.written
             if len(paths) == 1 and paths[0].exit is Exit.ON:
                 if before is not None and before == paths[0].state:
                     refuse_open(loop.at, "this loop never ends: a turn of it leaves all as it was")
@@ -410,8 +411,24 @@ class Follower(ListFollower):
                 ways = [*(Sorted(one, False) for one in finished), *(Sorted(one, True) for one in paths)]
                 ways = self.sorted(ways, above, loop.at)
                 finished, paths = ([way.path for way in ways if way.goes_on is so] for so in (False, True))
+            if len(paths) > 1 and self.run.written > MOST_OF_TREE and step is not None:
+                left = self._turns_left(condition, step, Path([], paths[0].state.copy(), None), scope)
+                self.run.look_ahead(loop.at, left * (self.run.written - written))
         self.frames.pop()
         return finished
+
+    def _turns_left(self, condition: Expression, step: Statement, path: Path, scope: Scope) -> int:
+        """How many turns a `for` still has, if its block changes nothing that its head asks for."""
+        count, open_now = 0, (len(self.frames), len(self.results), self.depth)
+        try:
+            while count < MOST_OF_TREE and self.evaluate(condition, path, scope) is True:
+                (path,) = self.follow(step, path, scope)
+                count += 1
+        except (Refusal, Split):
+            # What is asked for isn't known.
+            self._close(open_now)
+            return 0
+        return count
 
     def _asked_of(self, condition: Expression, path: Path, scope: Scope) -> list[tuple[Path, bool]]:
         """On each way, whether the condition of a loop holds; what it calls is followed before."""

@@ -365,7 +365,7 @@ class Chooser(Expander):
         if self.run.sorts and len(senders) > 1 and -1 not in senders and leaf.guard.how is not Receiving.CHECK:
             symbol = Symbol(leaf.guard.number, None, Wild.ANY, "")
             symbol.facts = leaf.facts
-            raise Split(symbol, SENDER, ComponentValue(senders[0]), leaf.guard.at)
+            raise Split(symbol, SENDER, [ComponentValue(senders[0])], leaf.guard.at)
 
     def _split_at_once(self, received: Received, at: Token) -> None:
         """Where ways are sorted, each value has a branch: ways with the same value agree, and with the same template don't."""

@@ -6,9 +6,9 @@ from typing import Iterable, Optional, Protocol
 
 from .emitted import Message, Who
 from .evaluating import SENDER
-from .flowing import ENDLESS, Flows, Span, part_at
+from .flowing import ENDLESS, Flows, part_at
 from .messages import Messages
-from .paths import End, Path
+from .paths import End, Path, Span
 from .tree import Receiving
 from .types import Type
 from .values import Coming, ComponentValue, Facts, matches

@@ -6,13 +6,16 @@ from typing import Optional
 from . import tree
 from .choosing import Chooser
 from .emitted import Operated, Sent, Ticked, Told, Verdict
+from .flowing import Flows
 from .paths import ActiveDefault, Created, End, Exit, Joined, Path, Scope, Started, peers
 from .refusing import Refusal, refuse, refuse_open
 from .run import Run
 from .tokens import Token
 from .tree import Any, Expression, Finding, Joining, PortAct
 from .types import Kind, Type
-from .values import ComponentValue, DefaultValue, Form, Mark, PortValue, Reference, TimerValue
+from .values import (
+    Coming, ComponentValue, DefaultValue, Form, Mark, PortValue, Received, Reference, Symbol, TimerValue,
+)
 
 SYSTEM = -1
 MOST_COMPONENTS = 64
@@ -57,11 +60,29 @@ class Behaviour(Chooser):
         port = self.port_of(statement.port, path, scope)
         message = self.message(statement.message, port, path, scope)
         self._use(port, statement.at, path)
-        if statement.to_all or not statement.to:
-            self.emit(path, Sent(statement.at, port, message, None, statement.to_all))
-        for node in statement.to:
-            self.emit(path, Sent(statement.at, port, message, self.who(node, path, scope), False))
+        sent = [Sent(statement.at, port, message, self.who(node, path, scope), False) for node in statement.to]
+        for one in sent or [Sent(statement.at, port, message, None, statement.to_all)]:
+            self.emit(path, one)
+            if self.flows is not None:
+                self._note_sent(one, self.flows, path)
         return [path]
+
+    def _note_sent(self, sent: Sent, flows: Flows, path: Path) -> None:
+        """What can come by it, at each place on its routes that it may have."""
+        own = End(self.own, sent.port)
+        ends = list(dict.fromkeys(self.peers_of(sent.port, path)))
+        if isinstance(sent.to, Symbol):
+            known = {one.sender.component for one in sent.to.coming}
+            ends = [end for end in ends if end.component in known]
+        elif sent.to is not None:
+            ends = [end for end in ends if end.component == sent.to]
+        is_sure = sent.to_all or len(ends) == 1 or isinstance(sent.to, int)
+        form, type = sent.message.form, sent.message.type.root
+        forms = [one.form for one in form.symbol.coming] if isinstance(form, Received) else [form]
+        for end in ends:
+            low, high = path.state.sent.get((own, end), (0, 0))
+            flows.add((own, end), (low, high), [Coming(own, type, one) for one in forms])
+            path.state.sent[own, end] = (low + 1 if is_sure else low, high + 1)
 
     def _use(self, port: str, at: Token, path: Path) -> None:
         if port in path.state.left:

@@ -4,7 +4,7 @@ from __future__ import annotations
 from typing import Optional, Union
 
 from . import tree
-from .arithmetic import PREDEFINED, computed, inverted, predefined
+from .arithmetic import ORDERED, PREDEFINED, computed, inverted, predefined
 from .asking import ASKING, Asker
 from .fitting import open_alternatives, opened, template_at
 from .paths import Key, Path, Scope, Slot, Split
@@ -116,6 +116,9 @@ class Evaluator(Asker):
         if isinstance(node, tree.PatternOf):
             text = self.evaluate(node.text, path, scope)
             return self.pattern(text, node.at)
+        if isinstance(node, tree.OtherMatching) and node.word == "length":
+            bounds = [self._limit(item, path, scope) for item in node.items[1:]]
+            return self.of_length(node.at, self.evaluate(node.items[0], path, scope, type), bounds[0], bounds[-1], type)
         if isinstance(node, tree.OtherMatching):
             items = [self.evaluate(item, path, scope, type) for item in node.items]
             return self.other_matching(node, items, type)
@@ -297,6 +300,8 @@ class Evaluator(Asker):
             return self._compared(node, left, right)
         for value, side in ((left, node.left), (right, node.right)):
             self.look_at_value(value, side.at)
+        if type is not None and type.kind is Kind.ENUM and node.sign in ORDERED:
+            left, right = (self.number_of(value, type, node.at) for value in (left, right))
         return computed(node.sign, left, right, node.at)
 
     def look_at_value(self, value: Form, at: Token) -> None:
@@ -345,7 +350,7 @@ class Evaluator(Asker):
         fact = symbol.facts.get((steps, template))
         if fact is not None:
             return fact
-        raise Split(symbol, steps, template, at)
+        raise Split(symbol, steps, [template], at)
 
     def truth(self, value: Form, at: Token) -> bool:
         if isinstance(value, Received):

@@ -7,7 +7,7 @@ from typing import Iterator, Optional
 
 from . import tree
 from .components import SYSTEM, Behaviour
-from .flowing import Flows, flow_from
+from .flowing import Flows
 from .emitted import Came, Code, EndTold, Emitted, Got, GotDone, GotEnd, Operated, Sent, Ticked, Told, Verdict, Ways
 from .labels import lost_label
 from .paths import End, Exit, Joined, Path, Started, State, peers
@@ -87,12 +87,12 @@ def follow(run: Run, case: tree.TestCase) -> Followed:
 def _follow_flows(run: Run, case: tree.TestCase, flows: Flows) -> Followed:
     """All behaviours, anew until they send nothing more that isn't known to come."""
     for _ in range(MOST_KNOWN_ROUNDS):
-        run.begin()
+        run.begin(case.at)
+        flows.has_grown = False
         followed = _follow_once(run, case)
         if not is_closed(run, followed):
             raise NotClosed()
-        is_new = [flow_from(part.number, part.code, followed.joins, flows) for part in followed.parts]
-        if not any(is_new):
+        if not flows.has_grown:
             return followed
     refuse(case.at, f"what the components send goes on and on: after {MOST_KNOWN_ROUNDS} rounds there is more")
 

@@ -203,7 +203,7 @@ class Expander(Closed):
             refuse(node.at, "which component is meant isn't known here")
         if len(left) == 1:
             return left[0]
-        raise Split(symbol, SENDER, ComponentValue(left[0]), node.at)
+        raise Split(symbol, SENDER, [ComponentValue(left[0])], node.at)
 
     def _wanted(self, event: tree.Receive, port: str, path: Path, scope: Scope) -> Optional[Message]:
         if event.template is None:

@@ -43,7 +43,7 @@ _TABLE = (
     (r"pattern|length|range|bound that|modifier|`@|redirect|decoded|subset|superset", _PLAIN),
     (r"asked by the test case|connected with itself and|an altstep that has parameters|has a behaviour already"
      r"|part of a variable|may be gone by then|array of ports|has at most", _PLAIN),
-    (r"the (index|size of the array|template|type of the component) isn't known|a value isn't known|is compared with"
+    (r"the (index|size of the array|template|type of the component|number of this enumerated value) isn't known|a value isn't known|is compared with"
      r"|this is present|this element is open|what kind of template", _KNOWN),
     (r"never ends|ever ends it", "write a `for` with as many turns as are needed, or a branch that ends it"),
     (r"which (component|port|default|ports)|this redirect|who is meant", "name it by a variable that is set before the run"),

@@ -8,6 +8,7 @@ from .program import Program
 from .refusing import refuse
 from .tokens import Token
 
+_WAITING = (tree.Receive, tree.Find)
 _PLAIN = (tree.SetVerdict, tree.Dropped, tree.Send, tree.Assignment, tree.Operate, tree.CallStatement)
 
 
@@ -33,7 +34,7 @@ class Interleaving:
     def _first_of(self, branch: tree.Branch) -> tree.Branch:
         known = self._split.get(id(branch))
         if known is None:
-            if branch.is_else or branch.guard is not None or not isinstance(branch.event, tree.Receive):
+            if branch.is_else or branch.guard is not None or not isinstance(branch.event, _WAITING):
                 refuse(branch.at, "a branch of an `interleave` has a receiving operation alone here")
             known = self._parts(branch.at, branch.event, list(branch.block.statements) if branch.block else [])
             for one, behind in zip(known, known[1:]):
@@ -43,9 +44,9 @@ class Interleaving:
         return known[0]
 
     def _parts(
-        self, at: Token, event: tree.Receive, statements: list[tree.Statement]
+        self, at: Token, event: tree.Receive | tree.Find, statements: list[tree.Statement]
     ) -> tuple[tree.Branch, ...]:
-        place = next((at for at, one in enumerate(statements) if isinstance(one, tree.Receive)), len(statements))
+        place = next((at for at, one in enumerate(statements) if isinstance(one, _WAITING)), len(statements))
         for statement in statements[:place]:
             self._look_at(statement)
             if isinstance(statement, tree.Declaration) and place < len(statements):
@@ -54,22 +55,21 @@ class Interleaving:
         if place == len(statements):
             return (found,)
         following = statements[place]
-        assert isinstance(following, tree.Receive)
+        assert isinstance(following, _WAITING)
         return (found, *self._parts(following.at, following, statements[place + 1 :]))
 
     def _look_at(self, statement: tree.Statement) -> None:
         """Nothing in it waits, or leaves it (20.4)."""
-        if isinstance(statement, tree.If):
-            blocks = [statement.then, *([statement.otherwise] if statement.otherwise else [])]
-            for inner in (one for block in blocks for one in block.statements):
+        if isinstance(statement, (tree.If, tree.Select)):
+            for inner in (one for block in blocks_of(statement) for one in block.statements):
                 self._look_at(inner)
         elif isinstance(statement, tree.Block):
             for inner in statement.statements:
                 self._look_at(inner)
         elif not isinstance(statement, (*_PLAIN, tree.Declaration)) or _ends_itself(statement):
             refuse(statement.at, "in an `interleave` a branch has no statement here that waits, turns or leaves it")
-        if any(self.program.communicates(name) for name in self.program.names_in(statement) if self._is_called(name)):
-            refuse(statement.at, "in a branch of an `interleave` no function is called here that communicates")
+        if any(self.program.waits(name) for name in self.program.names_in(statement) if self._is_called(name)):
+            refuse(statement.at, "in a branch of an `interleave` no function is called here that waits")
 
     def _is_called(self, name: str) -> bool:
         return name in self.program.functions or name in self.program.altsteps
@@ -77,3 +77,13 @@ class Interleaving:
 
 def _ends_itself(statement: tree.Statement) -> bool:
     return isinstance(statement, tree.Operate) and isinstance(statement.target, tree.Special)
+
+
+def blocks_of(statement: tree.Statement) -> list[tree.Block]:
+    if isinstance(statement, tree.Alt):
+        return [branch.block for branch in statement.branches if branch.block is not None]
+    if isinstance(statement, tree.If):
+        return [statement.then, *([statement.otherwise] if statement.otherwise else [])]
+    if isinstance(statement, tree.Select):
+        return [case.block for case in statement.cases]
+    return [statement.block] if isinstance(statement, (tree.For, tree.While)) else []

@@ -8,7 +8,7 @@ from . import tree
 from .emitted import Emitted, Got, GotDone, Verdict, Ways
 from .evaluating import Evaluator
 from .hoisting import Communicates, Hoister, expressions_of, key_of, names_beside
-from .interleaving import Interleaving
+from .interleaving import Interleaving, blocks_of
 from .labels import Labels, has_labels
 from .paths import Checkpoint, Exit, Fork, Key, Path, Scope, Slot, Split, checkpoint, joined
 from .refusing import Refusal
@@ -93,7 +93,8 @@ class ListFollower(Evaluator, Hoister):
         self.run.step(split.at)
         point = points.pop()
         number = split.symbol.number
-        self.plans = {key: plan for key, plan in self.plans.items() if key <= number}
+        while self.plans and next(reversed(self.plans)) > number:
+            self.plans.popitem()
         facts = list(split.symbol.facts.items())
         self.plans[number] = _extended(self.plans.get(number), facts, split)
         self.counted, self.run.written = point.counted, point.statements
@@ -156,11 +157,13 @@ class ListFollower(Evaluator, Hoister):
     def _look_within(self, statement: Statement, path: Path, scope: Scope) -> None:
         """Of what is refused as a whole, what can't be carried over in it either; nothing of it is written."""
         open_now = (len(self.frames), len(self.results), self.depth)
-        for block in _blocks_of(statement):
-            inner = Path([], path.state.copy(), None)
+        for block in blocks_of(statement):
+            inner, scope_within = Path([], path.state.copy(), None), self.new_scope(scope)
             self.frames.append(self.program.names_in(statement))
+            if isinstance(statement, tree.For):
+                self._lose(statement.first, inner, scope_within)
             try:
-                self.statements(block.statements, inner, self.new_scope(scope))
+                self.statements(block.statements, inner, scope_within)
             except (Refusal, Split):
                 # It hangs on what is refused already.
                 pass
@@ -232,6 +235,7 @@ class ListFollower(Evaluator, Hoister):
             self.flush(path, statement.at)
         self.run.write(statement.at)
         self.run.has_waited = self.run.has_waited or isinstance(statement, (Got, Ways))
+        self.run.has_forked = self.run.has_forked or isinstance(statement, Ways)
         path.code.append(statement)
 
     def flush(self, path: Path, at: Token) -> None:
@@ -250,20 +254,17 @@ class ListFollower(Evaluator, Hoister):
         raise NotImplementedError
 
 
-def _blocks_of(statement: Statement) -> list[tree.Block]:
-    if isinstance(statement, tree.Alt):
-        return [branch.block for branch in statement.branches if branch.block is not None]
-    if isinstance(statement, tree.If):
-        return [statement.then, *([statement.otherwise] if statement.otherwise else [])]
-    if isinstance(statement, tree.Select):
-        return [case.block for case in statement.cases]
-    return [statement.block] if isinstance(statement, (tree.For, tree.While)) else []
+def _asked_first(split: Split, template: Form, no: Plan) -> Plan:
+    """The plan that asks for this template, and goes on with the other where it isn't matched."""
+    return (split.steps, template, None, no)
 
 
 def _extended(plan: Plan, facts: list[tuple[tuple[tuple[int, ...], Form], bool]], split: Split) -> Plan:
-    """The plan, with what is asked now at the end of the branch that the facts are of."""
+    """The plan, with all that is asked now at the end of the branch that the facts are of."""
     if plan is None:
-        return (split.steps, split.template, None, None)
+        for template in reversed(split.templates):
+            plan = _asked_first(split, template, plan)
+        return plan
     steps, template, yes, no = plan
     is_yes = facts[0][1]
     if is_yes:

@@ -6,7 +6,7 @@ from __future__ import annotations
 
 from dataclasses import dataclass, field, replace
 from enum import Enum
-from typing import Callable, Iterable, Optional
+from typing import Callable, Hashable, Iterable, Optional, TypeVar
 
 from . import tree
 from .emitted import Code
@@ -15,6 +15,9 @@ from .types import Type
 from .values import End as End, Form, Mark, Reference, Symbol
 
 Key = tuple[int, str]
+Route = tuple[End, End]
+Span = tuple[int, int]
+Counted = TypeVar("Counted", bound=Hashable)
 
 
 @dataclass(frozen=True)
@@ -95,10 +98,12 @@ class State:
     left: frozenset[str] = frozenset()
     taken: tuple[tuple[str, int], ...] = ()
     # How many messages it took at the least and at the most, by its port and the port that they were sent from.
-    got: dict[tuple[str, End], tuple[int, int]] = field(default_factory=dict)
+    got: dict[tuple[str, End], Span] = field(default_factory=dict)
+    # How many it may have sent on each route. A turn of a loop that only sends leaves all else as it was.
+    sent: dict[Route, Span] = field(default_factory=dict, compare=False)
 
     def copy(self) -> State:
-        return replace(self, variables=dict(self.variables), got=dict(self.got))
+        return replace(self, variables=dict(self.variables), got=dict(self.got), sent=dict(self.sent))
 
     def setup(self) -> tuple[object, ...]:
         """All but the variables and what is counted."""
@@ -257,20 +262,28 @@ def common(group: list[Path], live: frozenset[str]) -> State:
     counts = [dict(path.state.taken) for path in group]
     ports = set(counts[0]).intersection(*counts[1:])
     state.taken = tuple(sorted((port, min(count[port] for count in counts)) for port in ports))
-    keys = dict.fromkeys(key for path in group for key in path.state.got)
-    spans = {key: [path.state.got.get(key, (0, 0)) for path in group] for key in keys}
-    state.got = {key: (min(low for low, _ in of), max(high for _, high in of)) for key, of in spans.items()}
+    state.got = _spans_of_all([path.state.got for path in group])
+    state.sent = _spans_of_all([path.state.sent for path in group])
     worst = {path.state.verdict for path in group}
     state.verdict = worst.pop() if len(worst) == 1 else "none"
     return state
 
 
+def _spans_of_all(several: list[dict[Counted, Span]]) -> dict[Counted, Span]:
+    """What holds on each of several ways."""
+    found: dict[Counted, Span] = {}
+    for key in dict.fromkeys(key for one in several for key in one):
+        spans = [one.get(key, (0, 0)) for one in several]
+        found[key] = (min(low for low, _ in spans), max(high for _, high in spans))
+    return found
+
+
 class Split(Exception):
     """How it goes on hangs on a part of what was received: the message gets a branch for each case."""
 
-    def __init__(self, symbol: Symbol, steps: tuple[int, ...], template: Form, at: Token):
+    def __init__(self, symbol: Symbol, steps: tuple[int, ...], templates: Iterable[Form], at: Token):
         super().__init__("a branch for each case")
         self.symbol = symbol
         self.steps = steps
-        self.template = template
+        self.templates = tuple(templates)
         self.at = at

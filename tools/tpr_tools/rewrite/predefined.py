@@ -95,6 +95,12 @@ def _integer_to_universal(values: list[Form]) -> Optional[Form]:
     return chr(number) if is_char and isinstance(number, int) else None
 
 
+def _quadruple(values: list[Form]) -> Optional[Form]:
+    """`char(group, plane, row, cell)`, a character by its place in ISO/IEC 10646."""
+    places = [value for value in values if isinstance(value, int) and not isinstance(value, bool) and 0 <= value < 256]
+    return _integer_to_universal([int.from_bytes(bytes(places), "big")]) if len(places) == len(values) else None
+
+
 def _char_to_octets(values: list[Form]) -> Optional[Form]:
     text = values[0]
     if not isinstance(text, str) or any(ord(letter) > 127 for letter in text):
@@ -214,13 +220,48 @@ def _replaced(values: list[Form]) -> Optional[Form]:
     return _of_parts(whole, cut[0] + new + cut[2]) if is_alike and cut is not None and new is not None else None
 
 
+BITWISE: dict[str, Callable[[int, int], int]] = {"and4b": int.__and__, "or4b": int.__or__, "xor4b": int.__xor__}
+MOVING = ("<<", ">>", "<@", "@>")
+
+
+def bitwise(sign: str, left: Form, right: Form) -> Optional[Form]:
+    """Of two strings of bits, hex digits or octets that are equally long (7.1.4)."""
+    if not isinstance(left, Digits) or not isinstance(right, Digits) or len(left.digits) != len(right.digits):
+        return None
+    base = 2 if left.letter == "B" else 16
+    digits = (f"{BITWISE[sign](int(a, base), int(b, base)):X}" for a, b in zip(left.digits, right.digits))
+    return Digits("".join(digits), left.letter) if left.letter == right.letter else None
+
+
+def all_ones_of(form: Form) -> Form:
+    """As long as this one."""
+    if not isinstance(form, Digits):
+        return form
+    return Digits(("1" if form.letter == "B" else "F") * len(form.digits), form.letter)
+
+
+def moved(sign: str, left: Form, right: Form) -> Optional[Form]:
+    """Shifted, with zeros in the free places, or rotated (7.1.6, 7.1.7)."""
+    parts = _parts_of(left)
+    if parts is None or not isinstance(right, int) or isinstance(right, bool):
+        return None
+    count = right if sign.startswith("<") else -right
+    if sign in ("<@", "@>"):
+        turn = count % len(parts) if parts else 0
+        return _of_parts(left, parts[turn:] + parts[:turn])
+    if not isinstance(left, Digits):
+        return None
+    zeros = ("00" if left.letter == "O" else "0",) * min(abs(count), len(parts))
+    return _of_parts(left, parts[count:] + zeros if count > 0 else (zeros + parts)[: len(parts)])
+
+
 def _conversions() -> dict[str, tuple[int, Computed]]:
     found: dict[str, tuple[int, Computed]] = {
         "char2int": (1, _char_to_integer), "int2char": (1, _integer_to_char), "char2oct": (1, _char_to_octets),
         "oct2char": (1, _octets_to_char), "unichar2int": (1, _char_to_integer), "int2unichar": (1, _integer_to_universal),
         "replace": (4, _replaced), "substr": (3, _part), "oct2unichar": (1, _octets_to_universal),
         "unichar2oct": (1, _universal_to_octets), "remove_bom": (1, _without_mark), "any2unistr": (1, _any_to_text),
-        "int2float": (1, _integer_to_float), "float2int": (1, _float_to_integer), "str2float": (1, _text_to_float),
+        "char": (4, _quadruple), "int2float": (1, _integer_to_float), "float2int": (1, _float_to_integer), "str2float": (1, _text_to_float),
     }
     for word, letter in _PLACES.items():
         found[f"{word}2int"] = (1, _to_integer)

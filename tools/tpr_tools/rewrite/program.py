@@ -11,10 +11,9 @@ from .types import Types
 _Body = Union[tree.Function, tree.Altstep, tree.TestCase, tree.TemplateDefinition, tree.Constant]
 
 
-# A function that has one of these does more than compute.
-_WRITING = frozenset(
-    "send receive trigger check alt interleave setverdict start stop halt clear done killed create connect map".split()
-)
+# A function that has one of these waits, and one that has one of the others does more than compute.
+_WAITING = frozenset("receive trigger check alt interleave done killed timeout".split())
+_WRITING = _WAITING | frozenset("send setverdict start stop halt clear create connect map".split())
 
 
 class Program:
@@ -31,7 +30,7 @@ class Program:
         self._types: dict[str, tree.TypeDefinition] = {}
         self._names: dict[int, frozenset[str]] = {}
         self._reached: dict[str, frozenset[str]] = {}
-        self._communicating: dict[str, bool] = {}
+        self._having: dict[tuple[str, frozenset[str]], bool] = {}
         self._timers: Optional[frozenset[str]] = None
         for source in sources:
             self._read(source)
@@ -119,19 +118,25 @@ class Program:
 
     def communicates(self, name: str) -> bool:
         """Whether a function, or one that it comes to, may do what is written."""
-        found = self._communicating.get(name)
+        return self._comes_to(name, _WRITING)
+
+    def waits(self, name: str) -> bool:
+        """Whether a function, or one that it comes to, may wait."""
+        return self._comes_to(name, _WAITING)
+
+    def _comes_to(self, name: str, words: frozenset[str]) -> bool:
+        found = self._having.get((name, words))
         if found is None:
             bodies = [word for word in self.reached_by(name) if self._has_body(word)]
-            found = any(self._writes(word) for word in [name, *bodies])
-            self._communicating[name] = found
+            found = self._having[name, words] = any(self._has(one, words) for one in [name, *bodies])
         return found
 
-    def _writes(self, name: str) -> bool:
+    def _has(self, name: str, words: frozenset[str]) -> bool:
         function = self.functions.get(name)
         if function is None or function.body is None:
             return name in self.altsteps
         start, end = function.body.span
-        return any(token.text in _WRITING for token in self._tokens[function.at.file][start:end])
+        return any(token.text in words for token in self._tokens[function.at.file][start:end])
 
     def reached_by(self, name: str) -> frozenset[str]:
         return self._reach(frozenset([name]))

@@ -121,7 +121,10 @@ class ExpressionReader(Cursor):
         if token.text in _SETS and token.kind is Kind.KEYWORD:
             self.take()
             self.note(_SETS[token.text], token)
-            return tree.OtherMatching(token, token.text, self.in_parentheses())
+            items = self.in_parentheses() if self.is_at("(") or token.text != "decmatch" else []
+            if token.text == "decmatch" and not self.is_at(")", ",", ";"):
+                items.append(self.expression())
+            return tree.OtherMatching(token, token.text, items)
         if token.kind is Kind.KEYWORD and self.ahead(1).text == "(":
             return tree.Name(self.take(), token.text)
         self.fail("a value is expected here")

@@ -117,14 +117,14 @@ def with_what_comes(before: Run, chosen: TestCase, files: list[str]) -> tuple[Ru
 def sorted_if_large(before: Run, chosen: TestCase, files: list[str]) -> tuple[Run, Optional[Lines]]:
     """The tree of all ways, and if that gets large or deep, a script in which ways that go on alike are written once. If that
     is refused for another reason than its size, it is the tree as far as it may grow."""
-    run = Run(before.program, before.parameters, before.options, flows=Flows(), may_sort=True)
+    run = before.anew(flows=Flows(), may_sort=True)
     lines = written(run, chosen, files)
     if lines is not None or not (run.is_large or any(_LARGE.search(one.reason) for one in run.refused.values())):
         return run, lines
-    found = Run(before.program, before.parameters, before.options, flows=Flows(), sorts=True)
+    found = before.anew(flows=Flows(), sorts=True)
     lines = written(found, chosen, files)
     if lines is None and run.is_large and not any(_LARGE.search(one.reason) for one in found.refused.values()):
-        found = Run(before.program, before.parameters, before.options, flows=Flows())
+        found = before.anew(flows=Flows())
         lines = written(found, chosen, files)
     return found, lines
 
@@ -133,7 +133,7 @@ def whole(before: Run, chosen: TestCase, files: list[str]) -> tuple[Run, Optiona
     """All that follows where it isn't known what can come, if much of it was left."""
     if not before.has_left:
         return before, None
-    run = Run(before.program, before.parameters, before.options)
+    run = before.anew()
     return run, written(run, chosen, files)
 
 

@@ -77,8 +77,9 @@ class Run:
     queued: set[Token] = field(default_factory=set)
     begun: float = field(default_factory=time.process_time)
     told_seconds: int = 0
-    # Whether anything was waited for: else what comes changes nothing.
+    # Whether anything was waited for: else what comes changes nothing. And whether a message decided how it goes on.
     has_waited: bool = False
+    has_forked: bool = False
     # Whether ways that go on alike are written once, and whether a script that gets large is left for that.
     sorts: bool = False
     may_sort: bool = False
@@ -115,7 +116,7 @@ class Run:
             self._stop(at, f"to follow the script to here takes more than {MOST_STEPS:,} steps")
 
     def _look_at_steps(self) -> None:
-        if self.steps > (MOST_OPEN_STEPS if self.open else MOST_FIRST_STEPS):
+        if self.steps > (MOST_OPEN_STEPS if self.open else MOST_FIRST_STEPS) and (self.open or self.has_forked):
             self.has_left = True
             raise TooMany()
 
@@ -139,25 +140,37 @@ class Run:
         if self.written > self.options.statements:
             self._stop(at, self._too_many())
 
-    def _too_many(self) -> str:
+    def look_ahead(self, at: Token, more: int) -> None:
+        """Ends early where a loop goes on to write so many more: twice as many as there may be, since ways also end."""
+        if self.written + more > 2 * self.options.statements:
+            self._stop(at, self._too_many(self.written + more))
+
+    def _too_many(self, wanted: int = 0) -> str:
         most = self.options.statements
         reason = f"more than {most:,} statements would be written"
-        if most >= MOST_STATEMENTS:
-            return f"{reason}, and a script of the profile has no more"
-        return f"{reason}: --statements {min(2 * most, MOST_STATEMENTS)} lets it write more"
+        if most >= MOST_STATEMENTS or wanted > 2 * MOST_STATEMENTS:
+            return f"{reason}, and a script of the profile has at most {MOST_STATEMENTS:,}"
+        return f"{reason}: --statements {min(max(2 * most, wanted), MOST_STATEMENTS)} lets it write more"
 
     def _stop(self, at: Token, reason: str) -> NoReturn:
         """What comes behind such a place isn't looked at."""
         self.tell(Refusal(at, reason, self.has_waited))
         raise TooMany()
 
-    def begin(self) -> None:
+    def anew(self, flows: Optional[Flows] = None, sorts: bool = False, may_sort: bool = False) -> Run:
+        """The same in another way, within the same seconds."""
+        found = Run(self.program, self.parameters, self.options, flows=flows, sorts=sorts, may_sort=may_sort)
+        found.begun, found.told_seconds = self.begun, self.told_seconds
+        return found
+
+    def begin(self, at: Token) -> None:
         """Forgets what an earlier round came to."""
         self.counted.clear()
         self.refused.clear()
         self.open.clear()
         self.lost = None
         self.steps = self.written = 0
+        self._look_at_time(at)
 
 
 @dataclass(frozen=True)

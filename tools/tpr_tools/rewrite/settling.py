@@ -29,7 +29,7 @@ class Settler(Shaper):
         return form
 
     def split(self, received: Received, at: Token, otherwise: str = COMPUTED) -> NoReturn:
-        """Asks for one of the values that it can have; the others are asked for when it isn't that."""
+        """Asks for each of the values that it can have."""
         symbol, steps = received.symbol, received.steps
         if self.flows is None:
             refuse_open(at, otherwise)
@@ -40,11 +40,9 @@ class Settler(Shaper):
         if len(values) > self.most_values:
             count = len(values)
             refuse(at, f"{otherwise}, and {count} values can come there: --values {count} splits it by them")
-        asked = values[0]
         type = symbol.type if isinstance(symbol.type, Type) else None
-        if steps != SENDER and narrowed_at(symbol.template, type, steps, asked) is None:
-            steps, asked = (), symbol.coming[0].form
-        raise Split(symbol, steps, asked, at)
+        asked = [one for one in values if steps == SENDER or narrowed_at(symbol.template, type, steps, one) is not None]
+        raise Split(symbol, steps, asked, at) if asked else Split(symbol, (), [symbol.coming[0].form], at)
 
 
 def _value_of(one: Coming, steps: tuple[int, ...]) -> Form:

@@ -13,7 +13,7 @@ from .reading_expressions import NOT_IN_PATTERNS
 from .refusing import Refusal, refuse
 from .tokens import Token
 from .tree import Direction, Expression
-from .types import Kind, Type
+from .types import UNIVERSAL, Kind, Type
 from .values import Elements, Form, IfPresent, Mark, Options, Reference, TextPattern, Wild, has_received, is_value
 
 _MOST_ORDERS = 24
@@ -91,7 +91,7 @@ class Shaper:
             return self.type_of(node.arguments[0].value, path, scope)
         base = {
             "int2str": "charstring", "lengthof": "integer", "str2int": "integer", "enum2int": "integer",
-            "remove_bom": "octetstring",
+            "remove_bom": "octetstring", "char": UNIVERSAL,
         }
         result = base.get(word) or (RESULTS.get(word.partition("2")[2]) if word in CONVERSIONS else None)
         return self.types.named(result, node.at) if result else None
@@ -190,33 +190,21 @@ class Shaper:
     def other_matching(self, node: tree.OtherMatching, items: list[Form], type: Optional[Type]) -> Form:
         if node.word == "ifpresent":
             return IfPresent(items[0])
-        if node.word == "length":
-            return self._of_length(node.at, items, type)
         refuse(node.at, f"`{node.word}` isn't carried over")
 
-    def _of_length(self, at: Token, items: list[Form], type: Optional[Type]) -> Form:
-        """`? length(2)`: as many `?` as there are elements, for each length one list."""
-        base, bounds = items[0], items[1:]
-        if is_value(base) and not isinstance(base, Mark):
-            return base
-        if base not in (Wild.ANY, Wild.ANY_OR_NONE) or type is None:
-            refuse(at, "a length behind this template isn't carried over")
-        low, high = bounds[0], bounds[-1]
-        if isinstance(low, bool) or not isinstance(low, int) or low < 0 or low > _MOST_LENGTHS:
+    def of_length(self, at: Token, base: Form, low: Optional[int], high: Optional[int], type: Optional[Type]) -> Form:
+        """`? length(2)`: as many `?` as there are elements, for each length one list. Without an upper bound it is None."""
+        if low is None or low < 0 or high is not None and high < low:
             refuse(at, "the length isn't known here")
-        if not isinstance(high, int):
-            refuse(at, "a length without an upper bound isn't carried over")
-        if high > _MOST_LENGTHS or high < low:
+        if max(low, high or 0) > _MOST_LENGTHS:
             refuse(at, f"lengths are carried over up to {_MOST_LENGTHS}")
-        forms = tuple(self._all_of_length(count, type, at) for count in range(low, high + 1))
-        return forms[0] if len(forms) == 1 else Options(forms)
-
-    def _all_of_length(self, count: int, type: Type, at: Token) -> Form:
-        if type.kind is Kind.CHARSTRING:
-            return TextPattern("?" * count) if count else ""
-        if type.kind is Kind.LIST:
-            return Elements(tuple(Wild.ANY for _ in range(count)))
-        refuse(at, "only a charstring or a record of has a length here")
+        signs = _signs_of(base, type)
+        if signs is None or signs.count(Wild.ANY_OR_NONE) > 1:
+            refuse(at, "a length behind this template isn't carried over")
+        forms = tuple(_of_signs(one, type) for one in _of_lengths(signs, low, high))
+        if not forms:
+            refuse(at, "a length behind this template isn't carried over: nothing matches both")
+        return base if is_value(base) else forms[0] if len(forms) == 1 else Options(forms)
 
     def with_permutations(self, node: tree.Braces, items: list[Form]) -> Form:
         """The elements; `permutation` among them stands for a list of all its orders."""
@@ -244,6 +232,40 @@ def look_at_restricted(form: Form, word: str, at: Token) -> None:
     is_so = {"present": not is_left_out, "omit": is_known, "value": is_known and form is not Mark.OMIT}
     if not is_so[word]:
         refuse(at, f"this isn't what `template({word})` allows, which is an error")
+
+
+def _signs_of(base: Form, type: Optional[Type]) -> Optional[list[Form]]:
+    """What a template of a charstring or of a record of has at each place; None of another template."""
+    if type is None or type.kind not in (Kind.CHARSTRING, Kind.LIST):
+        return None
+    if base in (Wild.ANY, Wild.ANY_OR_NONE):
+        return [Wild.ANY_OR_NONE]
+    if isinstance(base, TextPattern):
+        signs: dict[str, Form] = {"?": Wild.ANY, "*": Wild.ANY_OR_NONE}
+        return [signs.get(letter, letter) for letter in base.text]
+    if isinstance(base, Elements):
+        return list(base.items)
+    return list(base) if isinstance(base, str) else None
+
+
+def _of_lengths(signs: list[Form], low: int, high: Optional[int]) -> list[list[Form]]:
+    """With as many in place of its `*` as there may be; without an upper bound the `*` stays behind those there must be."""
+    if Wild.ANY_OR_NONE not in signs:
+        return [signs] if low <= len(signs) and (high is None or len(signs) <= high) else []
+    place, fixed = signs.index(Wild.ANY_OR_NONE), len(signs) - 1
+    before, behind = signs[:place], signs[place + 1 :]
+    any_one: list[Form] = [Wild.ANY]
+    if high is None:
+        return [before + any_one * max(0, low - fixed) + [Wild.ANY_OR_NONE] + behind]
+    return [before + any_one * (count - fixed) + behind for count in range(max(low, fixed), high + 1)]
+
+
+def _of_signs(signs: list[Form], type: Optional[Type]) -> Form:
+    if type is not None and type.kind is Kind.LIST:
+        return Elements(tuple(signs))
+    words = {Wild.ANY: "?", Wild.ANY_OR_NONE: "*"}
+    text = "".join(words[sign] if isinstance(sign, Wild) else str(sign) for sign in signs)
+    return TextPattern(text) if set(text) & {"?", "*"} else text
 
 
 def _orders_of(items: tuple[Form, ...], at: Token) -> list[tuple[Form, ...]]:

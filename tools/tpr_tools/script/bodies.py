@@ -26,8 +26,7 @@ def check_bodies(names: Names, setup: Setup) -> None:
     if total > MOST_STATEMENTS:
         start = names.case.start
         sentence = (
-            f"the components' bodies have {total:,} statements in all, but at most {MOST_STATEMENTS:,} are"
-            " allowed"
+            f"the components' bodies have {total:,} statements in all, but at most {MOST_STATEMENTS:,} are allowed"
         )
         raise RuleFault(15, start, start, sentence, Rule.FEW_STATEMENTS)
 
@@ -101,10 +100,7 @@ class BodyRules:
         name = self.names.word(place)
         port = self.ports.get(name)
         if port is None:
-            sentence = (
-                f"`{self.runs_on}` has no port `{name}`{nearest(name, self.ports)}: it has"
-                f" {listed(self.ports)}"
-            )
+            sentence = f"`{self.runs_on}` has no port `{name}`{nearest(name, self.ports)}: it has {listed(self.ports)}"
             if name in self.variables or name in self.parameters or name in self.components:
                 sentence = f"`{name}` isn't a port: `{self.runs_on}` has {listed(self.ports)}"
             fault = RuleFault(11, told, place, sentence, Rule.BODY_PORT)
@@ -196,10 +192,7 @@ class BodyRules:
         if type_name in allowed or self.names.is_unknown(type_name, *allowed):
             return
         name, verb = self.names.word(port.name), "sends" if is_sent else "receives"
-        sentence = (
-            f"`{name}` {verb} no `{type_name}`: its port type `{port_type}` lists"
-            f" {listed(allowed, 'nothing')}"
-        )
+        sentence = f"`{name}` {verb} no `{type_name}`: its port type `{port_type}` lists {listed(allowed, 'nothing')}"
         sentence += f" as `{way}`" + (": `sut` exchanges `in` and `out`" if self.is_sut else "")
         fault = RuleFault(14, told, place, sentence, Rule.LISTED)
         raise fault.beside(self.names.ports[port_type].name, "the port type")
@@ -289,7 +282,7 @@ class BodyRules:
     def _no_peer(self, number: int, told: int, place: int) -> RuleFault:
         name = self.names.word(place)
         known = [*self.parameters, *self.components]
-        sentence = (f"there is no component `{name}` here{nearest(name, known)}:" f" {listed(known + ['mtc', 'self'])}")
+        sentence = f"there is no component `{name}` here{nearest(name, known)}: {listed(known + ['mtc', 'self'])}"
         if name in self.loops:
             sentence = f"`{name}` is a loop variable, not a component"
         return RuleFault(number, told, place, sentence, Rule.PEER)

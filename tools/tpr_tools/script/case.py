@@ -49,9 +49,9 @@ class Case:
         for pair in self.names.case.setups:
             if isinstance(pair, Pair):
                 self._join(pair)
-        types = checked.setup.types
-        order = [name for name in types if name != SYSTEM] + [name for name in types if name == SYSTEM]
-        self.players = [self._player(checked, name, types[name]) for name in order]
+        self.types = checked.setup.types  # of the components, by their names
+        order = sorted(self.types, key=lambda name: name == SYSTEM)
+        self.players = [self._player(checked, name, self.types[name]) for name in order]
 
     @functools.cached_property
     def _lines(self) -> list[int]:

@@ -5,48 +5,16 @@ of a record of. What it is, its type says. The script is known to obey all rules
 """
 from __future__ import annotations
 
-import re
-from typing import Any, Callable, Optional, Union
+from typing import Any, Callable, Union
 
+from ..report.messages import Plain
 from .names import Names
 from .tree import ListType, Message, Value, ValueKind
 
-Plain = Union[int, bool, str, tuple[Any, ...]]
 Loops = dict[str, int]
 Test = Callable[[Any, Loops], bool]  # whether a value matches
 
-_TEXT = re.compile(r'"((?:[ !#-~]|"")*)"')
-_WORD = re.compile(r"true|false|-?[0-9]+")
-_FIELD = re.compile(r"[A-Za-z][A-Za-z0-9_]* := ")
 _ANY_NUMBER = object()  # a `*` among the tests of elements
-
-
-def value_of(text: str) -> Plain:
-    """The value that the text of a message says behind the `:`. It is known to be one."""
-    return _value_at(text, 0)[0]
-
-
-def _value_at(text: str, place: int) -> tuple[Plain, int]:
-    """The value that stands at the place, and the place behind it."""
-    if text[place] == "{":
-        return _members_at(text, place + 1)
-    if found := _TEXT.match(text, place):
-        return found[1].replace('""', '"'), found.end()
-    found = _WORD.match(text, place)
-    assert found is not None
-    word = found[0]
-    return (word == "true" if word in ("true", "false") else int(word)), found.end()
-
-
-def _members_at(text: str, place: int) -> tuple[tuple[Plain, ...], int]:
-    members: list[Plain] = []
-    while text[place] != "}":
-        place += 2 if text.startswith(", ", place) else 0
-        if found := _FIELD.match(text, place):
-            place = found.end()
-        member, place = _value_at(text, place)
-        members.append(member)
-    return tuple(members), place + 1
 
 
 def is_cut(tests: list[Any], items: Union[str, tuple[Plain, ...]], loops: Loops) -> bool:
@@ -76,25 +44,25 @@ class Forms:
     def __init__(self, names: Names):
         self.names = names
 
-    def fields_of(self, type_name: str) -> Optional[list[tuple[str, str]]]:
-        """The fields of a record with their types, in declared order, or None for a record of."""
-        definition = self.names.types[type_name]
+    def inner_of(self, type_name: str, number: int) -> list[tuple[str, str]]:
+        """The fields of a record with their types, in declared order; of a record of so many nameless elements."""
+        definition, word = self.names.types[type_name], self.names.word
         if isinstance(definition, ListType):
-            return None
-        word = self.names.word
+            return [("", word(definition.element))] * number
         return [(word(field.name), word(field.type)) for field in definition.fields]
 
     def members_of(self, form: Value, type_name: str) -> list[tuple[Value, str]]:
         """The members of a record or a record of with their types, in declared order."""
-        fields = self.fields_of(type_name)
-        if fields is None:
-            definition = self.names.types[type_name]
-            assert isinstance(definition, ListType)
-            return [(member, self.names.word(definition.element)) for member in form.members]
+        inner = self.inner_of(type_name, len(form.members))
         if form.kind is ValueKind.LIST:
-            return [(member, of) for member, (_, of) in zip(form.members, fields)]
+            return [(member, of) for member, (_, of) in zip(form.members, inner)]
         by_name = {self.names.word(name): member for name, member in zip(form.names, form.members)}
-        return [(by_name[name], of) for name, of in fields]
+        return [(by_name[name], of) for name, of in inner]
+
+    def braces(self, texts: list[str], type_name: str) -> str:
+        """The members, those of a record with their names."""
+        names = [name for name, _ in self.inner_of(type_name, len(texts))]
+        return "{" + ", ".join(f"{name} := {text}" if name else text for name, text in zip(names, texts)) + "}"
 
     # Values
 
@@ -125,14 +93,8 @@ class Forms:
             return str(value)
         if isinstance(value, str):
             return '"' + value.replace('"', '""') + '"'
-        fields = self.fields_of(type_name)
-        if fields is not None:
-            told = [f"{name} := {self.written(it, of)}" for (name, of), it in zip(fields, value)]
-        else:
-            definition = self.names.types[type_name]
-            assert isinstance(definition, ListType)
-            told = [self.written(it, self.names.word(definition.element)) for it in value]
-        return "{" + ", ".join(told) + "}"
+        inner = self.inner_of(type_name, len(value))
+        return self.braces([self.written(it, of) for it, (_, of) in zip(value, inner)], type_name)
 
     # Templates
 
@@ -185,15 +147,9 @@ class Forms:
             members = ", ".join(self.told(member, type_name, loops) for member in form.members)
             return f"complement ({members})" if kind is ValueKind.COMPLEMENT else f"({members})"
         if kind in (ValueKind.LIST, ValueKind.FIELDS):
-            return self._told_members(form, type_name, loops)
+            texts = [self.told(it, of, loops) for it, of in self.members_of(form, type_name)]
+            return self.braces(texts, type_name)
         return word(form.start)
-
-    def _told_members(self, form: Value, type_name: str, loops: Loops) -> str:
-        members = [self.told(it, of, loops) for it, of in self.members_of(form, type_name)]
-        fields = self.fields_of(type_name)
-        if fields is not None:
-            members = [f"{name} := {member}" for (name, _), member in zip(fields, members)]
-        return "{" + ", ".join(members) + "}"
 
 
 def _unquoted(token: str) -> str:

@@ -41,7 +41,7 @@ class MessageRules:
         elif kind is ValueKind.NAME:
             self._check_name(type_name, value)
         elif kind is ValueKind.ANY_OR_NONE:
-            sentence = ("`*` is only for elements of a record of: write `?` for any value of a" " field or an element")
+            sentence = "`*` is only for elements of a record of: write `?` for any value of a field or an element"
             raise self.fault(13, value.start, sentence).write("`?`")
         elif kind in (ValueKind.ONE_OF, ValueKind.COMPLEMENT):
             for member in value.members:
@@ -130,7 +130,7 @@ class MessageRules:
         for place in value.names:
             name = self.names.word(place)
             if name not in fields:
-                sentence = (f"`{type_name}` has no field `{name}`{nearest(name, fields)}: it has" f" {listed(fields)}")
+                sentence = f"`{type_name}` has no field `{name}`{nearest(name, fields)}: it has {listed(fields)}"
                 raise self.fault(13, place, sentence).beside(record.name, "the type")
             if name in given:
                 sentence = f"the field `{name}` is given twice"

@@ -177,7 +177,7 @@ class Names:
             sentence = "`sut` plays the system, so it can't have parameters"
             raise RuleFault(16, function.start, function.parameters[0].type, sentence, Rule.SUT)
         if self.word(function.runs_on) != system:
-            sentence = (f"`sut` plays the system, so it runs on `{system}`, not on" f" `{self.word(function.runs_on)}`")
+            sentence = f"`sut` plays the system, so it runs on `{system}`, not on `{self.word(function.runs_on)}`"
             fault = RuleFault(16, function.start, function.runs_on, sentence, Rule.SUT)
             raise fault.beside(self.case.system, "the type of the system")
 

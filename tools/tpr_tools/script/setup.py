@@ -64,7 +64,7 @@ class Setup:
             raise fault.beside(ports[name].name, "the port")
         if type_name not in self.names.components:
             what = self.names.kind_of(type_name)
-            sentence = ("there is no component type" f" `{type_name}`{nearest(type_name, self.names.components)}")
+            sentence = f"there is no component type `{type_name}`{nearest(type_name, self.names.components)}"
             sentence = f"`{type_name}` is {what}, not a component type" if what else sentence
             raise RuleFault(11, start, creation.type, sentence, Rule.CREATED_TYPE)
         created = self.names.word(creation.created)
@@ -100,8 +100,7 @@ class Setup:
         ports = self.names.ports_of(type_name)
         if port not in ports:
             sentence = (
-                f"`{component}` has no port `{port}`{nearest(port, ports)}: "
-                f"its type `{type_name}` has {listed(ports)}"
+                f"`{component}` has no port `{port}`{nearest(port, ports)}: its type `{type_name}` has {listed(ports)}"
             )
             fault = RuleFault(11, pair.start, end.port, sentence, Rule.KNOWN_PORT)
             raise fault.beside(self.names.components[type_name].name, "its type")
@@ -126,10 +125,7 @@ class Setup:
                 pair.first.component, "`self` is `mtc` in a test case"
             )
         if second in self.connected.get(first, {}):
-            sentence = (
-                f"`{told(first)}` and `{told(second)}` are connected already, and a connection goes"
-                " both ways"
-            )
+            sentence = f"`{told(first)}` and `{told(second)}` are connected already, and a connection goes both ways"
             fault = self._fault(27, pair, pair.first, sentence, Rule.NOT_YET)
             raise fault.beside(self.connected[first][second].start, "here")
         self._check_mapped(22, pair, first, second)
@@ -290,7 +286,7 @@ class Setup:
                     fault = RuleFault(18, creation.start, creation.name, sentence, Rule.ALL_STARTED)
                     raise fault.write(f"`{name}.start(FUNCTION());` after the setup")
         if self.created and not self.case.has_done:
-            sentence = (f"the test case creates {listed(self.created)}, but doesn't end with `all" " component.done`")
+            sentence = f"the test case creates {listed(self.created)}, but doesn't end with `all component.done`"
             fault = RuleFault(17, self.case.start, self.case.start, sentence, Rule.DONE)
             with self.names.faults:
                 raise fault.write("`all component.done;` as the last statement of the test case")

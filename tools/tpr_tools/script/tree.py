@@ -7,7 +7,7 @@ from __future__ import annotations
 
 from dataclasses import dataclass
 from enum import Enum
-from typing import Optional, Union
+from typing import Iterable, Iterator, Optional, Union
 
 
 class ValueKind(Enum):
@@ -227,3 +227,28 @@ class Module:
     start: int
     name: int
     definitions: list[Definition]
+
+
+def blocks_of(statement: Statement) -> list[list[Statement]]:
+    if isinstance(statement, Loop):
+        return [statement.block]
+    if not isinstance(statement, Alt):
+        return []
+    blocks = [branch.block for branch in statement.branches]
+    return blocks + ([statement.otherwise.block] if statement.otherwise else [])
+
+
+def statements_in(statements: Iterable[Statement]) -> Iterator[Statement]:
+    """All statements of a block, and of the blocks in it."""
+    for statement in statements:
+        yield statement
+        for block in blocks_of(statement):
+            yield from statements_in(block)
+
+
+def operations_in(statements: Iterable[Statement]) -> list[Union[Send, Receive, Control]]:
+    """All sends, receiving operations and port operations, those of branches too, in the order of the text."""
+    inside = [*statements_in(statements)]
+    branches = [branch.receive for it in inside if isinstance(it, Alt) for branch in it.branches]
+    found = [*branches, *(it for it in inside if isinstance(it, (Send, Receive, Control)))]
+    return sorted(found, key=lambda it: it.start)

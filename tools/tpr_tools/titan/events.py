@@ -28,16 +28,16 @@ class Joined(NamedTuple):
     """The port leads to this port of this component; None stands for the component itself."""
 
     port: str
-    component: Optional[str]
     far_port: str
+    component: Optional[str] = None
 
 
 class Parted(NamedTuple):
     """It leads there no more."""
 
     port: str
-    component: Optional[str]
     far_port: str
+    component: Optional[str] = None
 
 
 class Sent(NamedTuple):
@@ -84,21 +84,25 @@ class Unknown(Exception):
 
 
 _P = r"([^ ]+)"
-_OPERATION = re.compile(rf"Port {_P} was (started|stopped|halted|cleared)\.")
-_JOINED = re.compile(
-    rf"Port {_P} has (?:established the connection with (.+):([^ :]+) using transport type .+"
-    rf"|accepted the connection from (.+):([^ :]+))\."
-)
-_JOINED_LOCALLY = re.compile(rf"Port {_P} has established the connection with local port {_P}\.")
-_MAPPED = re.compile(rf"Port {_P} was mapped to (system):{_P}\.")
-_PARTED = re.compile(rf"Port {_P} was (?:disconnected|unmapped) from (.+):([^ :]+)\.")
-_PARTED_LOCALLY = re.compile(rf"Port {_P} has terminated the connection with local port {_P}\.")
-_REMOVED = re.compile(rf"Removing unterminated (?:connection|mapping) between port {_P} and (.+):([^ :]+)\.")
-_SENT = re.compile(rf"Sent on {_P} to (.+)")
 _FAILED = re.compile(rf"(?:.+: )?Dynamic test case error: Sending data on the connection of port {_P} to .+ failed\..*")
-_ENQUEUED = re.compile(rf"Message enqueued on {_P} from (.+) id ([0-9]+)")
-_SUCCEEDED = re.compile(rf"(Receive|Trigger|Check-receive) operation on port {_P} succeeded, .* id ([0-9]+)")
-_EXTRACTED = re.compile(rf"Message with id ([0-9]+) was extracted from the queue of {_P}\.")
+_PORT, _ENDS = r"(?P<port>[^ ]+)", r"(?P<component>.+):(?P<far_port>[^ :]+)"
+_LOCALLY = r"local port (?P<far_port>[^ ]+)\."
+# What an entry of each form is: the names in the form are those of the event.
+_FORMS: tuple[tuple[type[Event], str], ...] = (
+    (Operation, rf"Port {_PORT} was (?P<word>started|stopped|halted|cleared)\."),
+    (Joined, rf"Port {_PORT} has established the connection with {_LOCALLY}"),
+    (Joined, rf"Port {_PORT} has established the connection with {_ENDS} using transport type .+\."),
+    (Joined, rf"Port {_PORT} has accepted the connection from {_ENDS}\."),
+    (Joined, rf"Port {_PORT} was mapped to (?P<component>system):(?P<far_port>[^ ]+)\."),
+    (Parted, rf"Port {_PORT} was (?:disconnected|unmapped) from {_ENDS}\."),
+    (Parted, rf"Removing unterminated (?:connection|mapping) between port {_PORT} and {_ENDS}\."),
+    (Parted, rf"Port {_PORT} has terminated the connection with {_LOCALLY}"),
+    (Sent, rf"Sent on {_PORT} to (?P<rest>.+)"),
+    (Enqueued, rf"Message enqueued on {_PORT} from (?P<rest>.+) id (?P<id>[0-9]+)"),
+    (Succeeded, rf"(?P<how>Receive|Trigger|Check-receive) operation on port {_PORT} succeeded, .* id (?P<id>[0-9]+)"),
+    (Extracted, rf"Message with id (?P<id>[0-9]+) was extracted from the queue of {_PORT}\."),
+)
+_COMPILED = [(kind, re.compile(form)) for kind, form in _FORMS]
 
 # Of a port, and nothing that a trace says.
 _OF_NO_USE = re.compile(
@@ -125,35 +129,9 @@ def event_of(entry: Entry) -> Optional[Event]:
     is_of_a_port = entry.kind == "PORTEVENT" if entry.kind else _OF_A_PORT.match(entry.text) is not None
     if not is_of_a_port:
         return None
-    event = _of_connections(entry.text) or _of_messages(entry.text)
-    if event is None and not _OF_NO_USE.fullmatch(entry.text):
+    for kind, form in _COMPILED:
+        if found := form.fullmatch(entry.text):
+            return kind(**found.groupdict())
+    if not _OF_NO_USE.fullmatch(entry.text):
         raise Unknown
-    return event
-
-
-def _of_connections(text: str) -> Optional[Event]:
-    if found := _OPERATION.fullmatch(text):
-        return Operation(found[2], found[1])
-    if found := _JOINED_LOCALLY.fullmatch(text):
-        return Joined(found[1], None, found[2])
-    if found := _JOINED.fullmatch(text):
-        return Joined(found[1], found[2] or found[4], found[3] or found[5])
-    if found := _MAPPED.fullmatch(text):
-        return Joined(found[1], found[2], found[3])
-    if found := _PARTED.fullmatch(text) or _REMOVED.fullmatch(text):
-        return Parted(found[1], found[2], found[3])
-    if found := _PARTED_LOCALLY.fullmatch(text):
-        return Parted(found[1], None, found[2])
-    return None
-
-
-def _of_messages(text: str) -> Optional[Event]:
-    if found := _SENT.fullmatch(text):
-        return Sent(found[1], found[2])
-    if found := _ENQUEUED.fullmatch(text):
-        return Enqueued(found[1], found[2], found[3])
-    if found := _SUCCEEDED.fullmatch(text):
-        return Succeeded(found[1], found[2], found[3])
-    if found := _EXTRACTED.fullmatch(text):
-        return Extracted(found[2], found[1])
     return None

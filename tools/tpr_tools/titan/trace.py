@@ -75,12 +75,11 @@ class Section:
         if isinstance(event, Operation):
             self.lines.append(event)
         elif isinstance(event, Joined):
-            far = self.name if event.component is None else event.component
+            far = event.component or self.name
             self.joined.setdefault(event.port, set()).add((far, event.far_port))
             self.partners.setdefault(event.port, set()).add(far)
         elif isinstance(event, Parted):
-            far = self.name if event.component is None else event.component
-            self.joined.get(event.port, set()).discard((far, event.far_port))
+            self.joined.get(event.port, set()).discard((event.component or self.name, event.far_port))
         elif isinstance(event, Sent):
             self._send(event)
         elif isinstance(event, Failed):

@@ -14,9 +14,8 @@ from ..origins import Line, Origins, lines_told
 from ..report.report import Entry, Failed, Operation, Otherwise, Received, Sent, VerdictSet
 from ..script.case import Case
 from ..script.tokens import shown_lines
-from ..script.tree import Alt, Statement
+from ..script.tree import Alt, Statement, blocks_of
 from ..words import counted, shown
-from .standing import blocks_of
 from .walk import StopKind, Walk
 
 _MOST_TOLD = 4  # components beside one line

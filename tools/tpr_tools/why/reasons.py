@@ -1,15 +1,15 @@
 """Why the result of a report isn't `pass`: which verdict, which send, which wait."""
 from __future__ import annotations
 
-from typing import Callable, Iterable
+from typing import Callable
 
 from ..origins import lines_told
 from ..refusals import Refusal
 from ..report.deliveries import Place
 from ..report.report import Received
-from ..script.tree import Alt, Receive, Send, SetVerdict, Statement
+from ..script.tree import Receive, Send, SetVerdict, operations_in, statements_in
 from ..words import and_
-from .standing import Standing, statements_in
+from .standing import Standing
 from .walk import Chosen, Stop, StopKind, Turns, Walk
 from .ways import Ways, first_of_verdict
 
@@ -190,24 +190,14 @@ def _unset(ways: Ways, walk: Walk, stop: Stop, send: Send) -> str:
     names = [word(place) for place in (send.variable, send.to) if place is not None]
     name = next(it for it in names if it in stop.variables and stop.variables[it] is None)
     lines = set()
-    for receive in receives_in(walk.player.statements()):
-        if name in [word(it) for it in (receive.value_to, receive.sender_to) if it is not None]:
+    for receive in operations_in(walk.player.statements()):
+        sets = (receive.value_to, receive.sender_to) if isinstance(receive, Receive) else ()
+        if name in [word(it) for it in sets if it is not None]:
             lines.add(ways.case.line(receive.start))
     if not lines:
         return f"`{name}` has no value, and nothing in this body sets it"
-    sets = "sets" if len(lines) == 1 else "set"
-    return f"`{name}` has no value: {lines_told(lines)} {sets} it, but had received nothing before"
-
-
-def receives_in(statements: Iterable[Statement]) -> list[Receive]:
-    """All receiving operations, those of branches too."""
-    receives = []
-    for statement in statements_in(statements):
-        if isinstance(statement, Receive):
-            receives.append(statement)
-        elif isinstance(statement, Alt):
-            receives += [branch.receive for branch in statement.branches]
-    return receives
+    verb = "sets" if len(lines) == 1 else "set"
+    return f"`{name}` has no value: {lines_told(lines)} {verb} it, but had received nothing before"
 
 
 def _partners(ways: Ways, walk: Walk, send: Send) -> list[str]:

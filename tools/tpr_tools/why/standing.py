@@ -1,12 +1,12 @@
 """What a wait waits for, and what stood in the queues of its component in the end."""
 from __future__ import annotations
 
-from typing import Iterable, Iterator, Optional
+from typing import Optional
 
 from ..origins import Line
 from ..report.deliveries import Message, Route
 from ..report.report import Received
-from ..script.tree import Alt, Loop, Receive, Send, Statement
+from ..script.tree import Receive, Send, operations_in
 from .walk import Turns, Walk, Walker, Watched
 from .ways import Ways
 
@@ -175,8 +175,8 @@ class Standing:
         """A send of such a message that its component never came to, by the component and the line."""
         for walk in self.ways.walks:
             walker = Walker(self.case, walk.player, walk.component)
-            for send in sends_in(walk.player.statements()):
-                if send.start in walk.visits or send.message is None:
+            for send in operations_in(walk.player.statements()):
+                if not isinstance(send, Send) or send.start in walk.visits or send.message is None:
                     continue
                 if self.case.forms.has_loop_variable(send.message.value) or not self.leads(walker, send, name):
                     continue
@@ -191,26 +191,3 @@ class Standing:
         if send.to is not None and walker.is_to_one(send) and self.case.word(send.to) in walker.variables:
             return False
         return (self.component.name, name) in walker.routes(send)
-
-
-def sends_in(statements: Iterable[Statement]) -> Iterator[Send]:
-    for statement in statements_in(statements):
-        if isinstance(statement, Send):
-            yield statement
-
-
-def statements_in(statements: Iterable[Statement]) -> Iterator[Statement]:
-    """All statements of a block, and of the blocks in it."""
-    for statement in statements:
-        yield statement
-        for block in blocks_of(statement):
-            yield from statements_in(block)
-
-
-def blocks_of(statement: Statement) -> list[list[Statement]]:
-    if isinstance(statement, Loop):
-        return [statement.block]
-    if not isinstance(statement, Alt):
-        return []
-    blocks = [branch.block for branch in statement.branches]
-    return blocks + ([statement.otherwise.block] if statement.otherwise else [])

@@ -14,9 +14,10 @@ from typing import NamedTuple, Optional
 
 from ..origins import Line
 from ..refusals import Refusal
+from ..report.messages import value_of
 from ..report.report import Component, Entry, Failed, Operation, Otherwise, Received, Sent, VerdictSet
 from ..script.case import Case, End, Player
-from ..script.forms import Plain, Test, value_of
+from ..script.forms import Test
 from ..script.tree import Alt, Branch, Control, Loop, Receive, Send, SetVerdict, Statement
 
 # What the loop variables around a statement hold, the outermost first.
@@ -355,13 +356,13 @@ class Walker:
 
     def matches(self, receive: Receive, text: str) -> bool:
         assert receive.message is not None
-        type_name, _, value = text.partition(":")
+        type_name = text.partition(":")[0]
         if type_name != self.case.word(receive.message.type):
             return False
         test = self.tests.get(receive.start)
         if test is None:
             test = self.tests[receive.start] = self.case.forms.test_of(receive.message.value, type_name)
-        return test(_value(value), self.loops)
+        return test(value_of(text), self.loops)
 
     def redirect(self, receive: Receive, place: Optional[int]) -> None:
         """What was taken or found last sets the variables behind `->`."""
@@ -397,17 +398,3 @@ class Walker:
 
 class _Stopped(Exception):
     """The behaviour ended before its last statement."""
-
-
-# Values that were read: a message comes twice at least, and most of them often.
-_KNOWN: dict[str, Plain] = {}
-_MOST_KNOWN = 20_000
-
-
-def _value(text: str) -> Plain:
-    value = _KNOWN.get(text)
-    if value is None:
-        value = value_of(text)
-        if len(_KNOWN) < _MOST_KNOWN:
-            _KNOWN[text] = value
-    return value

@@ -1,0 +1,76 @@
+"""How soon tools/rewrite ends where a bound would be met, and how often it follows a script.
+
+    tests/rewrites/early_rules.py
+
+It prints a line `passed ..` or `FAILED: ..` for each case.
+"""
+from __future__ import annotations
+
+import os
+import sys
+from typing import NoReturn
+from unittest.mock import patch
+
+sys.path.insert(0, os.path.dirname(os.path.realpath(__file__)))
+
+from asking import PRELUDE, judged
+from tpr_tools.rewrite import following
+from tpr_tools.rewrite.rewriting import Rewritten, rewrite
+from tpr_tools.rewrite.run import Options, Run
+from tpr_tools.rewrite.tokens import Source, Token
+from tpr_tools.rewrite.tree import TestCase
+
+# Three components send numbers, and a fourth adds them up, so that it goes on in another way for each sum.
+SUMS = PRELUDE + """function f(integer n) runs on C { for (var integer i := 0; i < 6; i := i + 1) { p.send(n * 10 + i); } }
+testcase t() runs on C { var integer v, sum := 0; for (var integer i := 1; i < 4; i := i + 1) { var C c := C.create;
+connect(self:p, c:p); c.start(f(i)); } for (var integer i := 0; i < 18; i := i + 1) { p.receive(integer:?) -> value v;
+sum := sum * 2 + v; } if (sum > 0) { setverdict(pass); } all component.done; }
+}
+"""
+# It sends to itself, and computes with what comes back.
+TO_ITSELF = PRELUDE + """testcase t() runs on C { var integer v := 0; connect(self:p, self:q); for (var integer i := 0; i < TURNS; i := i + 1) {
+p.send(v); q.receive(integer:?) -> value v; v := (v + 1) mod 3; } }
+}
+"""
+PLAIN = PRELUDE + """testcase t() runs on C { connect(self:p, self:q); for (var integer i := 0; i < 5000; i := i + 1) { p.send(i); q.receive(i); } }
+}
+"""
+
+
+def main() -> None:
+    """What is beyond a bound is refused before the bound is met, and nothing is followed more often than it takes."""
+    found, stops, _ = counted(SUMS, Options(statements=8_000))
+    reasons = [one.reason for one in found.refused]
+    is_told = reasons == ["more than 8,000 statements would be written: --statements 61348 lets it write more"]
+    judged("a loop that would write too much is refused", is_told, f"{reasons}")
+    judged("it is refused before so much is written", stops[-1][0] < 8_000, f"{stops}")
+    found, stops, _ = counted(TO_ITSELF.replace("TURNS", "30000"), Options(seconds=1))
+    judged("what takes too long is refused", "takes more than 1 seconds" in found.refused[0].reason, f"{found.refused}")
+    judged("the seconds are those of all that is tried", stops[-1][1] - stops[0][1] < 3, f"{stops}")
+    found, _, rounds = counted(TO_ITSELF.replace("TURNS", "60"), Options())
+    judged("what a component sends to itself comes in the same round", not found.refused and rounds < 10, f"{rounds} rounds")
+    found, _, rounds = counted(PLAIN, Options())
+    is_whole = found.text.count("p.send") == 5000 and rounds == 1
+    judged("a loop on whose messages nothing hangs is followed to its end", is_whole, f"{found.refused} {rounds} rounds")
+
+
+def counted(text: str, options: Options) -> tuple[Rewritten, list[tuple[int, int]], int]:
+    """What comes of a script; what was written at each stop, and how often all was followed by then; and how often in all."""
+    stops: list[tuple[int, int]] = []
+    rounds: list[str] = []
+    stop, follow = Run._stop, following._follow_once
+
+    def noted(run: Run, at: Token, reason: str) -> NoReturn:
+        stops.append((run.written, len(rounds)))
+        stop(run, at, reason)
+
+    def followed(run: Run, case: TestCase) -> following.Followed:
+        rounds.append(case.name)
+        return follow(run, case)
+
+    with patch.object(Run, "_stop", noted), patch.object(following, "_follow_once", followed):
+        return rewrite([Source("t.ttcn", text.encode())], options=options), stops, len(rounds)
+
+
+if __name__ == "__main__":
+    main()
