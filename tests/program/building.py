@@ -17,7 +17,9 @@ from functools import partial
 sys.dont_write_bytecode = True
 
 from calling import Ended, wait_until
-from tree_of_crates import ALL, NAME, WITHOUT_RT, Tree, end_of, has_begun, is_gone, lines, try_in_a_tree
+from tree_of_crates import (
+    ALL, NAME, WITHOUT_RT, Tree, end_of, has_begun, is_gone, lines, try_in_a_tree, write_command,
+)
 
 BUILD = f"{NAME}/build"
 USAGE = "usage: ./build [tpr_ordered] [--jobs N] | ./build is_built | ./build lanes | ./build clear\n"
@@ -240,6 +242,29 @@ def killed_build(building: Building) -> None:
     building.cases.must_be("which begins with what was kept", (kept / "a file").exists(), True)
 
 
+HINT = "tpr: this is a report of `tpr run`; `tpr judge` needs a trace, which `tpr trace` prints\n"
+JUDGED = {
+    "a report": ("took p a 0 b\nresult none", HINT),
+    "a trace": ("came p a 0 b\ntook p a 0 b\nresult none", ""),
+    "a trace whose arrival is missing": ("took p a 0 b", ""),
+    "a text": ("else", ""),
+}
+
+
+def judged_reports(building: Building) -> None:
+    """`./tpr judge` recognises a report in place of a trace. The program gives the same answer to all texts here."""
+    tree, answer = building.tree, "unlawful Lost line 2\n"
+    judge, said = [f"{NAME}/tpr", "judge"], "cat: none: No such file or directory\n"
+    program = f"#!/bin/sh\ncat $2 >/dev/null\nprintf '{answer}'\nexit 2\n"
+    write_command(building.crates / "tpr/out/tpr", program)
+    for name, (text, hint) in JUDGED.items():
+        (tree.folder / "text").write_text(f"{text}\n")
+        piped = tree.call(judge, pieces=[f"{text}\n".encode()])
+        tree.must_end(f"judge is given {name} by a pipe", piped, 2, answer, hint)
+        tree.must_end(f"judge is given {name} as a file", tree.call([*judge, "text"]), 2, answer, hint)
+    tree.must_end("judge is given a missing file", tree.call([*judge, "none"]), 2, answer, said)
+
+
 # Each group, with how many cases it has at least. Each begins with the tree that the one before it leaves.
 GROUPS = (
     (first_build, 6),
@@ -250,6 +275,7 @@ GROUPS = (
     (failed_builds, 8),
     (interrupted_build, 7),
     (killed_build, 11),
+    (judged_reports, 9),
 )
 
 
