@@ -5,9 +5,10 @@
 //! In each of RUNS turns each program is run once, in the order given, with no input, and its output
 //! in the file OUTPUT. One line is printed for each program: its shortest wall time in nanoseconds,
 //! from the start to the end of the process; its least processor time in microseconds; its peak
-//! memory in KiB. What a program starts counts as its own: in the processor time the sum, in the
-//! memory the largest process. The memory of this driver, about 2 MiB, is the least that can be
-//! shown, since a process counts what its parent held when it was started.
+//! memory in KiB; its fewest page faults. What a program starts counts as its own: in the processor
+//! time and the page faults the sum, in the memory the largest process. The memory of this driver,
+//! about 2 MiB, is the least that can be shown, since a process counts what its parent held when it
+//! was started.
 
 use std::fs::File;
 use std::process::{Command, ExitCode, Stdio};
@@ -20,7 +21,9 @@ struct Usage {
     user_time: [i64; 2],
     system_time: [i64; 2],
     peak_memory: i64,
-    others: [i64; 13],
+    sizes: [i64; 3],
+    page_faults: [i64; 2],
+    others: [i64; 8],
 }
 
 extern "C" {
@@ -37,6 +40,7 @@ struct Cost {
     nanoseconds: u128,
     microseconds: i64,
     kibibytes: i64,
+    page_faults: i64,
 }
 
 impl Cost {
@@ -45,6 +49,7 @@ impl Cost {
             nanoseconds: self.nanoseconds.min(other.nanoseconds),
             microseconds: self.microseconds.min(other.microseconds),
             kibibytes: self.kibibytes.max(other.kibibytes),
+            page_faults: self.page_faults.min(other.page_faults),
         }
     }
 }
@@ -60,6 +65,7 @@ fn reap(process: i32, cost: &mut Cost) -> Option<i32> {
         cost.microseconds += 1_000_000 * seconds + microseconds;
     }
     cost.kibibytes = cost.kibibytes.max(usage.peak_memory);
+    cost.page_faults += usage.page_faults.iter().sum::<i64>();
     Some(status)
 }
 
@@ -71,6 +77,7 @@ fn run(words: &[String], output: &str) -> Result<Cost, String> {
         nanoseconds: 0,
         microseconds: 0,
         kibibytes: 0,
+        page_faults: 0,
     };
     let begun = Instant::now();
     let child = Command::new(program)
@@ -111,8 +118,8 @@ fn measure(words: &[String]) -> Result<(), String> {
     }
     for cost in costs.into_iter().flatten() {
         println!(
-            "{} {} {}",
-            cost.nanoseconds, cost.microseconds, cost.kibibytes
+            "{} {} {} {}",
+            cost.nanoseconds, cost.microseconds, cost.kibibytes, cost.page_faults
         );
     }
     Ok(())

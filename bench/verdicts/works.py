@@ -7,7 +7,8 @@ from typing import NamedTuple
 from statements import Alt, End, For, Operate, Program, Send, SetVerdict, Statement, Take, Variables, text_of
 
 HEADER = "module Work { type port P message { inout integer; } type component C { port P p, q; }"
-PASS = SetVerdict("pass")
+PASS, INCONC, FAIL = (SetVerdict(verdict) for verdict in ("pass", "inconc", "fail"))
+TO_ALL = "all component"
 
 
 class Work(NamedTuple):
@@ -55,15 +56,18 @@ def pairs(number: int, turns: int) -> Work:
 
 def star(number: int) -> Work:
     """`mtc` asks all workers and collects their answers."""
-    body: list[Statement] = [Send(1, "all component"), For(number, [Take(2)]), PASS]
+    body: list[Statement] = [Send(1, TO_ALL), For(number, [Take(2)]), PASS]
     return Work(body, [[Take(1), Send(2)]] * number, to_mtc(number))
 
 
-def two_phase_commit(number: int) -> Work:
-    """All vote yes (1), and are told to commit (3)."""
-    vote: list[Statement] = [Take(0), Send(1), Alt([Take(3, [PASS]), Take(block=[SetVerdict("fail")])])]
-    count = For(number, [Alt([Take(1), Take(block=[SetVerdict("inconc")])])])
-    return Work([Send(0, "all component"), count, Send(3, "all component")], [vote] * number, to_mtc(number))
+def two_phase_commit(number: int, against: int) -> Work:
+    """Each votes yes (1) or no (2). If nobody votes no, all are told to commit (3), and else to abort (4)."""
+    votes = [1] * (number - against) + [2] * against
+    others: list[list[Statement]] = [[Take(0), Send(it), Alt([Take(3, [PASS]), Take(4, [INCONC])])] for it in votes]
+    count: list[Statement] = [Send(3, TO_ALL)]
+    for left in range(number):
+        count = [Alt([Take(1, count), Take(2, [For(left, [Take()]), Send(4, TO_ALL)])])]
+    return Work([Send(0, TO_ALL), *count], others, to_mtc(number))
 
 
 def collector(number: int, messages: int) -> Work:
@@ -96,7 +100,7 @@ def halted(number: int) -> Work:
     echo: list[Statement] = [Take(into="nw"), Send("n", "w")]
     body: list[Statement] = [
         Variables("nw"),
-        Alt([Take(0, echo, kind="check"), Take(1, echo, kind="check")], [SetVerdict("inconc")]),
+        Alt([Take(0, echo, kind="check"), Take(1, echo, kind="check")], [INCONC]),
         Take(9, kind="trigger"),
         Operate("halt"),
         For(number, [Alt([Take(into="nw", block=[Send("n", "w")])], [])]),
@@ -107,22 +111,54 @@ def halted(number: int) -> Work:
     return Work(body, asks, to_mtc(number))
 
 
+def questions(number: int, turns: int, same: bool) -> Work:
+    """Each asks `mtc` so often, by the same number or by its own, and `mtc` repeats the number to its sender."""
+    asked = [1 if same else at for at in range(number)]
+    asks = [[For(turns, [Send(it), Alt([Take(it, [PASS]), Take(block=[FAIL])])])] for it in asked]
+    return Work([Variables("nw"), For(turns * number, [Take(into="nw"), Send("n", "w")])], asks, to_mtc(number))
+
+
 def barriers(number: int, rounds: int) -> Work:
-    """All meet so many times: `mtc` tells all of them when the last has come."""
-    body: list[Statement] = [For(rounds, [For(number, [Take(1)], "j"), Send(2, "all component")]), PASS]
-    return Work(body, [[For(rounds, [Send(1), Take(2)]), PASS]] * number, to_mtc(number))
+    """All meet twice in each round: `mtc` tells all of them when the last has come, and takes nothing else."""
+    come = [For(number, [Alt([Take(it), Take(block=[FAIL])])], "j") for it in (1, 3)]
+    body: list[Statement] = [For(rounds, [come[0], Send(2, TO_ALL), come[1], Send(4, TO_ALL)]), PASS]
+    return Work(body, [[For(rounds, [Send(1), Take(2), Send(3), Take(4)]), PASS]] * number, to_mtc(number))
+
+
+def races(number: int) -> Work:
+    """So many receivers, each with two senders of its own: what comes first decides."""
+    takes = Alt([Take(1, [PASS]), Take(2, [INCONC])])
+    links = [((at, "p"), (at + more, "p")) for at in range(1, 3 * number, 3) for more in (1, 2)]
+    return Work([], [[takes], [Send(1)], [Send(2)]] * number, links)
+
+
+def philosophers(number: int) -> Work:
+    """Each asks (1) for the fork on its left and then for that on its right, is given it (2), and gives both back (3)."""
+    eats: list[Statement] = [Send(1), Take(2), Send(1, port="q"), Take(2, port="q"), Send(3), Send(3, port="q"), PASS]
+
+    def given(port: str) -> list[Statement]:
+        return [Send(2, port=port), Take(3, port=port)]
+
+    def both(first: str, second: str) -> Take:
+        return Take(1, [*given(first), Take(1, port=second), *given(second)], port=first)
+
+    fork = Alt([both("p", "q"), both("q", "p")])
+    left = [((at + 1, "p"), (number + at + 1, "p")) for at in range(number)]
+    right = [((at + 1, "q"), (number + (at + 1) % number + 1, "q")) for at in range(number)]
+    return Work([], [eats] * number + [[fork]] * number, left + right)
 
 
 def two_groups(number: int) -> Work:
     """Two servers, each with so many clients that it answers by name. The groups have nothing to do with each other."""
     server: list[Statement] = [Variables("w"), For(number, [Take(into="w"), Send(2, "w")])]
+    client: list[Statement] = [Send(1), Take(2)]
     links = [((first, "p"), (first + at, "p")) for first in (1, number + 2) for at in range(1, number + 1)]
-    return Work([], [server, *[[Send(1), Take(2)]] * number] * 2, links)
+    return Work([], [server, *[client] * number] * 2, links)
 
 
 def heartbeats(number: int, beats: int) -> Work:
     """Each sends so many heartbeats, and then that it is done. `mtc` counts who is done, and drops heartbeats."""
-    done = Alt([Take(9, [SetVerdict("fail")]), Take(1, kind="trigger")])
+    done = Alt([Take(9, [FAIL]), Take(1, kind="trigger")])
     return Work([For(number, [done]), PASS], [[For(beats, [Send(0)]), Send(1), PASS]] * number, to_mtc(number))
 
 
@@ -133,24 +169,22 @@ def alone(turns: int) -> Work:
 
 NOTHING = Work([PASS], [], [])
 WORKS = {
-    "12 senders of one message": senders(12, True),
     "16 senders of one message": senders(16, True),
-    "8 senders of different messages": senders(8, False),
-    "2 pairs, 5 ping-pongs each": pairs(2, 5),
+    "30 senders of different messages": senders(30, False),
     "8 pairs, 5 ping-pongs each": pairs(8, 5),
-    "a star of 8": star(8),
     "a star of 16": star(16),
-    "two-phase commit, 8 participants": two_phase_commit(8),
-    "8 senders of 100 messages to one collector": collector(8, 100),
+    "8 senders of 100 messages": collector(8, 100),
     "a token 10 times round 62 components": token_round(62, 10),
-    "8 senders, taken in one order": fixed_order(8),
-    "12 senders, taken in one order": fixed_order(12),
     "60 senders, taken in one order": fixed_order(60),
-    "8 senders, answered by name": answered_by_name(8),
-    "12 senders, answered by name": answered_by_name(12),
     "60 senders, answered by name": answered_by_name(60),
-    "60 components, three barriers": barriers(60, 3),
     "two groups of 30, answered by name": two_groups(30),
+    "60 senders of two questions": questions(60, 2, True),
+    "8 senders of two questions, each with its own number": questions(8, 2, False),
+    "20 senders of one question, each with its own number": questions(20, 1, False),
+    "60 components at three barriers": barriers(60, 3),
     "60 senders of one heartbeat": heartbeats(60, 1),
+    "a two-phase commit of 14, of whom two vote no": two_phase_commit(14, 2),
+    "20 races of two senders each, apart": races(20),
+    "ten philosophers, who may block each other": philosophers(10),
     "4 senders, a halted port": halted(4),
 }
