@@ -82,7 +82,7 @@ def variants(source: str, name: str) -> frozenset[str]:
 
 def families() -> tuple[Family, ...]:
     operations = variants("crates/tp_event/src/operation.rt", "PortOperation")
-    lines = frozenset(named_in("crates/tp_trace/src/read.rt", r'b"(\w+)" => Some\(PortOperation::'))
+    lines = frozenset(named_in("crates/tp_referee/src/read.rt", r'b"(\w+)" => Some\(PortOperation::'))
     statuses = variants("crates/tp_event/src/event.rt", "Status")
     modes = frozenset(named_in("crates/tpr/src/line.rt", r'word == "(\w+)"'))
     reserved = frozenset(named_in("crates/tp_token/src/word.rt", r'\("(\w+)", Word::'))

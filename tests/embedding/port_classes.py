@@ -75,6 +75,7 @@ def main() -> int:
         "a port type with calls": refuses(calls, "My_Counter", "`My_Counter` of Kitchen.hh isn't a port type"),
         "a header that isn't there": refuses(None, "Bell", "Kitchen.hh can't be read"),
         "no header": "" if asked(plain, "--port", "Bell")[0] == 4 else "its status isn't 4",
+        "the help of --port": "" if "--port TYPE HEADER" in asked(None, "--port", "--help")[1] else "it isn't printed",
     }
     for name, why in wrong.items():
         print(f"FAILED: {name}: {why}" if why else f"passed {name}")

@@ -72,7 +72,8 @@ class Tools(Trying):
 def suites_build_nothing_unasked(tools: Tools) -> None:
     """Without a terminal a suite refuses; on one it asks."""
     tree, crates = tools.tree, tools.tree.crates
-    refused = f"suite: {tools.not_built}: {tools.builds}; TPR=PROGRAM names another program\n"
+    without = f"TPR={tree.path}/try runs the sources without proofs"
+    refused = f"suite: {tools.not_built}: {tools.builds}; {without}\n"
     tree.must_end("a suite of a program that isn't built", tree.call(SUITE), 1, "", refused)
     tools.cases.must_be("builds nothing", (tree.out / "built").exists(), False)
     question = f"{tools.not_built}; {tools.builds}. Build it now? [y/N] "

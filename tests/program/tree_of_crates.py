@@ -51,7 +51,8 @@ tpr_ordered: low side
 """
 SOURCES = ("src/lib.rt", "src/more.rt", "specs/Lib.antt", "proofs/Lib.antt")
 COMMANDS = (
-    "bash", "cat", "chmod", "env", "find", "mkdir", "mv", "readlink", "rm", "setsid", "sh", "sleep", "tail", "touch"
+    "bash", "cat", "chmod", "env", "find", "grep", "mkdir", "mktemp", "mv", "readlink", "rm", "setsid", "sh", "sleep",
+    "tail", "tee", "touch",
 )
 NAME = "a tree"
 # The folders of commands, by what is to be found there.

@@ -1,6 +1,7 @@
 """Scripts made by chance in which some components are alike: clients of one body, and a server that may answer by
-sender. So components can be exchanged, or just not: one has another body, `mtc` names some of them, or each sends a
-number of its own, which its receivers may tell apart. In some scripts there are two servers, each with clients of its
+sender, with a number or with the one that it took. So components can be exchanged, or just not: one has another body,
+`mtc` names some of them, or each sends a number of its own, which its receivers may tell apart, or waits for one, which
+the others may want too. In some scripts there are two servers, each with clients of its
 own, and the two groups have nothing to do with each other, unless `mtc` tells all of both."""
 from __future__ import annotations
 
@@ -12,7 +13,7 @@ SCRIPT = """module Alike {{
     type port P message {{ inout integer; }}
     type component C {{ port P p, q; }}
     {bodies}
-    function server() runs on C {{ var C w; {server} }}
+    function server() runs on C {{ var C w; var integer v; {server} }}
     testcase t() runs on C {{
         var C s := C.create; {created}
         {connected}
@@ -24,12 +25,14 @@ SCRIPT = """module Alike {{
 """
 ANSWERS = """for (var integer i := 0; i < {clients}; i := i + 1) {{
         p.receive(integer:?) -> sender w; p.send(integer:{last}) to w; }}"""
+ECHOES = """for (var integer i := 0; i < {clients}; i := i + 1) {{
+        p.receive(integer:?) -> value v sender w; p.send(v) to w; }}"""
 
 
 def taken(chance: random.Random, port: str, behind: str = "") -> str:
     """A receiving operation, of any number or of one."""
     operation = chance.choice(("receive", "receive", "receive", "trigger"))
-    wanted = chance.choice(("1", "1", "2", "?"))
+    wanted = chance.choice(("1", "1", "1", "2", "?", "?", "3"))
     return f"{port}.{operation}(integer:{wanted}){behind}"
 
 
@@ -37,7 +40,7 @@ def chosen(chance: random.Random, port: str) -> str:
     """An `alt` that tells numbers apart."""
     first, second = chance.choice(VERDICTS), chance.choice(VERDICTS)
     last = chance.choice(("", "", f"[] {port}.receive {{ setverdict({second}); }}", "[else] { }"))
-    return f"alt {{ [] {port}.receive(integer:{chance.choice('12')}) {{ setverdict({first}); }} {last} }}"
+    return f"alt {{ [] {port}.receive(integer:{chance.choice('1123')}) {{ setverdict({first}); }} {last} }}"
 
 
 def own_act(chance: random.Random) -> str:
@@ -77,16 +80,25 @@ def sending(number: str, body: str) -> str:
     return re.sub(r"send\(integer:\d\)", f"send(integer:{number})", body)
 
 
+def numbered(number: int, body: str) -> str:
+    """The body with this number in place of each 1."""
+    return body.replace("integer:1", f"integer:{number}")
+
+
 def own_bodies(chance: random.Random, clients: list[str], asks: str) -> list[str]:
-    """What the clients carry out: the same, but for one of them, or for the numbers that they send."""
+    """What the clients carry out: the same, but for one of them, or for the numbers that they send, or also want."""
     client = " ".join([asks, *(own_act(chance) for _ in range(chance.randint(1, 3)))])
     other = " ".join([asks, *(own_act(chance) for _ in range(chance.randint(1, 3)))])
     kind = chance.random()
     if kind < 0.2:
         odd = chance.choice(clients)
         return [other if it == odd else client for it in clients]
-    if kind < 0.5:
+    if kind < 0.4:
         return [sending(chance.choice("123"), client) for _ in clients]
+    if kind < 0.5:
+        return [numbered(chance.choice((3, 4)), client) for _ in clients]
+    if kind < 0.8:
+        return [numbered(number, client) for number, _ in enumerate(clients, 3)]
     return [client for _ in clients]
 
 
@@ -138,7 +150,7 @@ def some_alike_script(chance: random.Random) -> str:
     clients = [f"c{at}" for at in range(chance.choice((2, 2, 3)))]
     known = clients if chance.random() < 0.3 else []
     asks = "p.send(integer:1); q.send(integer:1);" if chance.random() < 0.8 else ""
-    answers = ANSWERS.format(clients=len(clients), last=chance.choice("12")) if asks else ""
+    answers = chance.choice((ANSWERS, ECHOES)).format(clients=len(clients), last=chance.choice("12")) if asks else ""
     bodies = own_bodies(chance, clients, asks)
     return SCRIPT.format(
         bodies=" ".join(f"function of_{it}() runs on C {{ {body} }}" for it, body in zip(clients, bodies)),

@@ -9,8 +9,9 @@
 The verdicts must be exactly those of every order, where the model comes through all of them; where it doesn't, none
 that it came to may be missing. The status, the number of states and the order of the lines must be as the manual
 says, and by each order that is printed the model must come to its verdict, and to an end. `random` does so with scripts
-made by chance that have few components, and `alike` with such in which some are alike. `limit` has scripts whose states are counted by hand, up to the limit and
-beyond, and scripts with too many templates times messages. `answers` looks whether answers that can't be are refused.
+made by chance that have few components, and `alike` with such in which some are alike. `limit` has scripts whose states
+are counted by hand, up to the limit and beyond, and scripts with too many templates times messages. `answers` looks
+whether answers that can't be are refused.
 
 Of each script it prints `passed 1 STATES SCRIPT`, `passed 0 STATES SCRIPT` where the model didn't come through all
 orders, or lines that begin with `FAILED: `, with the script. STATES is how many the program looked at. The last line
@@ -208,6 +209,48 @@ def paired(program: str, path: Path, value: str, turns: int, pairs: int) -> str:
     return f"passed of {pairs} pairs"
 
 
+# Clients that each ask with a number of their own, and wait for it. They are exchanged, with their numbers. So there is
+# a state for each number of clients that have asked.
+CLIENTS = (3, 8)
+ASKING = """p.send(integer:{0});
+        alt {{ [] p.receive(integer:{0}) {{ setverdict(pass); }} [] p.receive {{ setverdict(fail); }} }}"""
+ASKED = """module Asked {{
+    type port P message {{ inout integer; }}
+    type component C {{ port P p; }}
+    {bodies}
+    function server() runs on C {{
+        var C w; var integer v;
+        for (var integer i := 0; i < {number}; i := i + 1) {{
+            p.receive(integer:?) -> value v sender w; p.send(v) to w;
+        }}
+    }}
+    testcase t() runs on C {{
+        var C s := C.create; {created}
+        {connected}
+        s.start(server()); {started} all component.done;
+    }}
+}}
+"""
+
+
+def numbered(program: str, path: Path, number: int) -> str:
+    """The line for the script with so many clients."""
+    clients = range(number)
+    script = ASKED.format(
+        bodies=" ".join(f"function of_c{at}() runs on C {{ {ASKING.format(at)} }}" for at in clients),
+        number=number,
+        created=" ".join(f"var C c{at} := C.create;" for at in clients),
+        connected=" ".join(f"connect(s:p, c{at}:p);" for at in clients),
+        started=" ".join(f"c{at}.start(of_c{at}());" for at in clients),
+    )
+    path.write_text(script, encoding="latin-1")
+    status, printed = printed_of(program, path)
+    answer = read_answer(printed)
+    if answer is None or (answer.verdicts, answer.decided, answer.states, status) != (("pass",), True, number, 0):
+        return f"FAILED: of {number} clients the status is {status}, and it says {printed[:200]}"
+    return f"passed of {number} clients"
+
+
 # Answers that can't be
 
 REFUSED = (
@@ -279,6 +322,8 @@ def tell_made(asked: argparse.Namespace, folder: str) -> None:
             print(limited(asked.program, Path(folder, "looking.ttcn"), first, second), flush=True)
         for value, turns, pairs in PAIRS:
             print(paired(asked.program, Path(folder, "turning.ttcn"), value, turns, pairs), flush=True)
+        for number in CLIENTS:
+            print(numbered(asked.program, Path(folder, "asked.ttcn"), number), flush=True)
         return
     tell_each(asked.program, made_by_chance(asked.what, asked.seed, asked.number, folder))
 
