@@ -43,7 +43,7 @@ ONE_SIDE = "exactly one is a port of `system`"
 UNSURE = "a rule is broken, but explain doesn't find the place"
 LISTED = (
     "the message type is in the port's list of sent types, or for a receiving operation in its list of received types;"
-    " in `sut` the two lists are exchanged"
+    " in the function `sut` the two lists are swapped"
 )
 
 

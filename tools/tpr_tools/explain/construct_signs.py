@@ -1,7 +1,7 @@
 """Which construct of the full language stands where the profile's grammar ends.
 
-It is told by words and symbols at the place alone, from those that say most to those that say least (signs.table).
-Where none of them is a sign of a construct, nothing is said.
+Only words and symbols at that place count, those that say most first (signs.table). Where none of them is a sign of a
+construct, nothing is said.
 """
 from __future__ import annotations
 

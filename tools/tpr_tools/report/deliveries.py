@@ -1,7 +1,7 @@
 """Which entry belongs to which: each message from its sending to where it went.
 
-A connection's way is told by the sender, the receiver and the receiver's port: with the number it is
-one message. So `sent` on one side is matched with `took`, `found`, `dropped` and `left` on the other.
+The sender, the receiver and the receiver's port identify a route: with the number they identify one
+message. So `sent` on one side is matched with `took`, `found`, `dropped` and `left` on the other.
 A message that is none of these was discarded by a `cleared` or `started` of its port; by which one is
 settled where an order of all entries is sought (order.py).
 

@@ -7,7 +7,7 @@ arrows, and sends late what nobody waits for. At which ports an `else` looked, o
 that was chosen, isn't in a report, nor on which side of a mark a message is left: so an `else`, or a
 `halted`, may stand behind a sending that it missed.
 
-What an order must have is told by search.py. All that a component can do is done as it comes, since none
+search.py decides what an order must have. All that a component can do is done as it comes, since none
 of it can stand in the way of anything else, but for one thing: an emptying, where the port still has to
 discard what isn't sent yet. Those are put off until nothing else can be done. Where there are several
 then, each is tried. Where no order is found, what was read isn't a report of tpr.

@@ -64,7 +64,7 @@ class Rule(Enum):
     BODY_TYPE = "the message type is known"
     LISTED = (
         "the message type is in the port's list of sent types, or for a receiving operation in its list of"
-        " received types; in `sut` the two lists are exchanged"
+        " received types; in the function `sut` the two lists are swapped"
     )
     FITS = "the value or template fits the type"
     SENT_VARIABLE = (

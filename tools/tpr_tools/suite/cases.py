@@ -54,7 +54,7 @@ class Case:
         return all(run.is_wanted for run in self.runs)
 
     def worst(self) -> Run:
-        """The run that the case is told by: the worst of those that aren't wanted, else of all."""
+        """The run that stands for the case: the worst of those that aren't wanted, else of all."""
         unwanted = [run for run in self.runs if not run.is_wanted]
         return max(unwanted or self.runs, key=lambda run: (RESULTS.index(run.result), -run.number))
 
