@@ -43,9 +43,7 @@ OF_ONE = (
     "Answers|Borrow|Carried|Code|Given|Goals|Invariants|Key|Kinds|Laws|Layout|Lts|Met|Named|Proof"
     "|Reads|Statement|Symbol|The[A-Z][A-Za-z]*|Tie"
 )
-MODULE = re.compile(
-    r"Rattle-\w+?[-.](?:(?:proofs|specs)(?:\.contracts)?\.)?(?P<inner>.*?)(?:\.decls)?\.oantt"
-)
+MODULE = re.compile(r"Rattle-\w+?[-.](?:(?:proofs|specs)(?:\.contracts)?\.)?(?P<inner>.*?)(?:\.decls)?\.oantt")
 PART = re.compile(rf"\.(?:{OF_ONE})(?=[.-]|$).*")
 LINK = re.compile(r"(?:.*\.)?TheLinks\.\w+?-(?P<path>.+)")
 

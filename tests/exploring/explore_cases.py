@@ -26,10 +26,9 @@ import other_programs
 from explore_runs import DEPENDS, OVERTAKEN, PING_PONG, TELLS_PARTING, Exploring, begins_with, has_in_order, prints_file
 from judged import expected_beside
 from made_scripts import senders, stars
-from rule_cases import must
 from tool_calls import (
-    Ended, Test, Tool, file_of, judged, prints, prints_nothing, run, says_alone, says_nothing, try_groups_of,
-)
+    Ended, Test, Tool, file_of, judged, must, prints, prints_nothing, run, says_alone, says_nothing, try_groups_of,
+)  # fmt: skip
 
 # The first script of each pair has a verdict that depends on the schedule, and the second is its repaired twin.
 PAIRS = (

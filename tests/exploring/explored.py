@@ -41,8 +41,9 @@ from tpr_tools.explore.following import result_of, takes_step
 from tpr_tools.explore.forced_runs import ForcedRuns
 from tpr_tools.explore.forced_script import ForcedScript, forced_script
 from tpr_tools.model.bodies import TestCase
-from tpr_tools.model.reading import read_script, tokens_of
+from tpr_tools.model.reading import read_script
 from tpr_tools.model.run import Run
+from tpr_tools.script.tokens import Text
 
 MOST_COMPONENTS = 5  # of a script by chance
 ORDERS_BY_CHANCE = 5  # of each
@@ -201,7 +202,7 @@ def of_the_grammar(programs: Programs, seed: str, number: int) -> None:
     with tempfile.TemporaryDirectory() as folder:
         made = made_by_chance(seed, number, folder, some_grammar_script)
         tell_each(partial(looked_at_beside_a_run, programs), made)
-        tokens = "\n".join(" ".join(tokens_of(it.read_text("latin-1"))) for it in made)
+        tokens = "\n".join(" ".join(Text(it.read_bytes()).tokens) for it in made)
     for form, pattern in FORMS.items():
         print(f"passed {form}" if re.search(pattern, tokens) else f"FAILED: no script has {form}")
 

@@ -15,7 +15,7 @@ from pathlib import Path
 sys.path.append(str(Path(__file__).resolve().parents[1] / "orders"))
 
 from generator import IDLE, Maker, Place, indented, some_names
-from tpr_tools.model.reading import tokens_of
+from tpr_tools.script.tokens import Text
 
 RECORDS: dict[str, dict[str, str]] = {
     "R": {"i": "integer", "t": "charstring"},
@@ -195,7 +195,7 @@ def function_of(maker: GrammarMaker, name: str) -> str:
 
 def laid_out(text: str, chance: random.Random) -> str:
     """The same tokens in another layout, and without some of the semicolons that may be missing."""
-    tokens = tokens_of(text)
+    tokens = Text(text.encode()).tokens
     pieces = []
     for token, behind in zip(tokens, [*tokens[1:], ""]):
         if token == ";" and behind == "}" and chance.random() < 0.5:

@@ -23,8 +23,9 @@ from explore_runs import (
     parts_runs,
     tells_faults,
 )
-from rule_cases import must
-from tool_calls import ROOT, Ended, judged, prints, prints_nothing, program_of, ruled, run, says_alone, says_nothing
+from tool_calls import (
+    ROOT, Ended, judged, must, prints, prints_nothing, program_of, ruled, run, says_alone, says_nothing,
+)  # fmt: skip
 
 MOST_SECONDS = 60
 TAKES_SIGNALS = ("env", "--default-signal=HUP,INT,PIPE,TERM")  # before a command, so that it ignores none of them

@@ -2,8 +2,6 @@
 """What tools/lsp says over its protocol, frame by frame, and in a headless neovim where there is one.
 
     tests/lsp/language_server.py PROGRAM ORDERED
-
-It prints a line `passed NAME` for each case, `left out NAME: WHY`, or lines that begin with `FAILED: NAME`.
 """
 from __future__ import annotations
 
@@ -24,10 +22,8 @@ sys.dont_write_bytecode = True
 sys.path.insert(0, str(Path(__file__).resolve().parents[1] / "tools"))
 
 from client import PUBLISHED, ROOT, URI, Client, frame
-from rule_cases import must
-from tool_calls import Ended, Group, case, example, file_of, must_be, program_of, room, run, try_groups
+from tool_calls import Ended, Group, case, example, file_of, must, must_be, program_of, room, run, try_groups
 
-sys.path.append(str(ROOT / "tools"))
 from tpr_tools.words import RESERVED
 
 PROGRAM, ORDERED = sys.argv[1], sys.argv[2]

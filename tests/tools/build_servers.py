@@ -2,8 +2,6 @@
 """Each command of docs/CI.md, as its build server runs it: on scripts that are as expected, and on others.
 
     tests/tools/build_servers.py PROGRAM
-
-It prints a line `passed NAME` for each case, `left out NAME: WHY`, or lines that begin with `FAILED: NAME`.
 """
 from __future__ import annotations
 
@@ -20,8 +18,7 @@ from xml.etree import ElementTree
 
 sys.dont_write_bytecode = True
 
-from rule_cases import must
-from tool_calls import ROOT, Ended, Group, case, example, file_of, must_be, room, run, try_groups
+from tool_calls import ROOT, Ended, Group, case, example, file_of, must, must_be, room, run, try_groups
 
 PROGRAM = sys.argv[1]
 KITCHEN = example("closed_counter_serves_no_order.ttcn").read_text(encoding="utf-8")

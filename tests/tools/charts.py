@@ -3,22 +3,19 @@
 
     tests/tools/charts.py FOLDER
 
-All is written into the FOLDER. What a chart's text doesn't tell, tool_rules.py looks at. It prints a line `passed NAME`
-for each case, or lines that begin with `FAILED: NAME`.
+All is written into the FOLDER. What a chart's text doesn't tell, tool_rules.py looks at.
 """
 from __future__ import annotations
 
-import argparse
 import re
 import sys
-from functools import partial
 from pathlib import Path
 
 sys.dont_write_bytecode = True
 
 import example_reports
-from rule_cases import must
-from tool_calls import EXAMPLES, ROOT, Group, case, onto_a_full_device, rules_must_hold, run, texts_in, try_groups
+from tool_calls import EXAMPLES, ROOT, case, must, onto_a_full_device, ruled, run, texts_in, try_groups_of, words_of
+from tool_rules import check_charts, check_cuts, check_orders, check_parts, check_played, check_random, check_tried
 
 CHART = ROOT / "tools" / "chart"
 LOGIN = EXAMPLES / "login_is_answered.expected"
@@ -35,31 +32,24 @@ def charts_of_examples(folder: Path) -> None:
         with case(f"the chart of {report.name}"):
             chart.write_bytes(run(CHART, report).must_say_nothing().printed)
         both += [report, chart]
-    with case("the rules on all these charts"):
-        rules_must_hold("chart", *both)
+    ruled("the rules on all these charts", check_charts, *both)
 
 
-def charts_of_documents() -> None:
+def charts_of_documents(_: Path) -> None:
     for file in sorted((ROOT / "docs" / "charts").glob("*.svg")):
         with case(f"{file.name} is the chart of its example"):
             run(CHART, EXAMPLES / f"{file.stem}.expected").must_print(file.read_bytes())
 
 
-def rules_on_reports() -> None:
-    with case("the orders of the reports of the examples"):
-        rules_must_hold("orders", *example_reports.all_of_them())
-    with case("reports that are cut behind any of their bytes"):
-        rules_must_hold("cuts", *example_reports.small_ones())
-    with case("reports at random"):
-        rules_must_hold("random", "150")
-    with case("the charts' orders of 10,000 reports at random, played on the ports"):
-        rules_must_hold("played", "10000")
-    with case("small reports, of which all orders are tried"):
-        rules_must_hold("tried", "2000")
+def rules_on_reports(_: Path) -> None:
+    ruled("the orders of the reports of the examples", check_orders, *example_reports.all_of_them())
+    ruled("reports that are cut behind any of their bytes", check_cuts, *example_reports.small_ones())
+    ruled("reports at random", check_random, 150)
+    ruled("the charts' orders of 10,000 reports at random, played on the ports", check_played, 10000)
+    ruled("small reports, of which all orders are tried", check_tried, 2000)
 
 
 # In other ways
-
 
 
 def charts_in_other_ways(folder: Path) -> None:
@@ -68,7 +58,7 @@ def charts_in_other_ways(folder: Path) -> None:
         run(CHART, "--title", LOGIN.stem, input=LOGIN.read_bytes()).must_print(run(CHART, LOGIN).printed)
     with case("a chart with a title of signs"):
         chart.write_bytes(run(CHART, "--title", '<&"', LOGIN).must_say_nothing().printed)
-        rules_must_hold("chart", LOGIN, chart)
+        check_charts(LOGIN, chart)
     with case("a chart in letters"):
         report = EXAMPLES / "halt_holds_back_what_comes_later.expected"
         run(CHART, "--text", report, more=WIDTH).must_print(PRINTED["a chart in letters"])
@@ -177,24 +167,13 @@ def parts_of_charts(folder: Path) -> None:
     for words in WRONG_WORDS:
         with case(f"a chart asked with the words {words}"):
             run(CHART, *words.split(), report).must_complain("^usage: chart", 4)
-    with case("parts of charts at random"):
-        rules_must_hold("parts", "100")
+    ruled("parts of charts at random", check_parts, 100)
 
 
-def main() -> int:
-    words = argparse.ArgumentParser(description="What tools/chart makes of reports.")
-    words.add_argument("folder", metavar="FOLDER", type=Path, help="where all is written")
-    folder = words.parse_args().folder.resolve()
-    return try_groups(
-        [
-            Group(partial(charts_of_examples, folder), 1, "charts of examples"),
-            Group(charts_of_documents, 3, "charts of documents"),
-            Group(rules_on_reports, 5, "rules on reports"),
-            Group(partial(charts_in_other_ways, folder), 13, "charts in other ways"),
-            Group(partial(parts_of_charts, folder), 16, "parts of charts"),
-        ]
-    )
-
+GROUPS = (
+    (charts_of_examples, 1), (charts_of_documents, 3), (rules_on_reports, 5), (charts_in_other_ways, 13),
+    (parts_of_charts, 16),
+)  # fmt: skip
 
 if __name__ == "__main__":
-    sys.exit(main())
+    sys.exit(try_groups_of(Path(*words_of(__doc__, "FOLDER")).resolve(), GROUPS))

@@ -3,20 +3,17 @@
 
     tests/tools/comparisons.py FOLDER
 
-Reports are written into the FOLDER. It prints a line `passed NAME` for each case, or lines that begin with
-`FAILED: NAME`.
+Reports are written into the FOLDER.
 """
 from __future__ import annotations
 
-import argparse
 import sys
-from functools import partial
 from pathlib import Path
 
 sys.dont_write_bytecode = True
 
 from example_reports import named
-from tool_calls import ROOT, Group, case, example_files, run, texts_in, try_groups
+from tool_calls import ROOT, case, example_files, run, texts_in, try_groups_of, words_of
 
 COMPARE = ROOT / "tools" / "compare"
 EQUAL_EXCEPT_FOR_THE_ORDER = "equal except for the order between senders\n"
@@ -107,7 +104,6 @@ def comparisons_of_two_senders(folder: Path) -> None:
         compared(name, status, "".join([head, *lines]), reports[one], reports[other])
 
 
-
 # The reports of the examples
 
 
@@ -135,18 +131,7 @@ def pairs_of_examples() -> list[Path]:
     return [it for it in found if it.suffix == ".2"]
 
 
-def main() -> int:
-    words = argparse.ArgumentParser(description="What tools/compare says of reports.")
-    words.add_argument("folder", metavar="FOLDER", type=Path, help="where reports are written")
-    folder = words.parse_args().folder.resolve()
-    return try_groups(
-        [
-            Group(partial(comparisons, folder), 6, "comparisons"),
-            Group(partial(comparisons_of_two_senders, folder), 5, "comparisons of two senders"),
-            Group(partial(comparisons_of_examples, folder), 2, "comparisons of examples"),
-        ]
-    )
-
+GROUPS = ((comparisons, 6), (comparisons_of_two_senders, len(OF_TWO_SENDERS)), (comparisons_of_examples, 2))
 
 if __name__ == "__main__":
-    sys.exit(main())
+    sys.exit(try_groups_of(Path(*words_of(__doc__, "FOLDER")).resolve(), GROUPS))

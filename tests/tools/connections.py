@@ -1,24 +1,19 @@
 #!/usr/bin/env python3
-"""tools/chart --connections: each component, port and connection of a script is drawn, and no line runs through a
-component.
+"""tools/chart --connections: each component, port and connection of a script is drawn, and no line crosses a component.
 
     tests/tools/connections.py
-
-It prints a line `passed NAME` for each case, or lines that begin with `FAILED: NAME`.
 """
 from __future__ import annotations
 
 import re
 import sys
-import tempfile
 import xml.etree.ElementTree as xml
 from collections.abc import Iterator
 from pathlib import Path
 
 sys.dont_write_bytecode = True
 
-from rule_cases import Wrong, must
-from tool_calls import EXAMPLES, ROOT, Group, case, run, try_groups
+from tool_calls import EXAMPLES, ROOT, Wrong, case, must, room, run, try_groups_of
 from tool_rules import SVG, check_inside, number_of
 
 CHART = ROOT / "tools" / "chart"
@@ -57,7 +52,7 @@ def drawn(script: Path) -> xml.Element:
     return xml.fromstring(run(CHART, "--connections", script).must_say_nothing().printed)
 
 
-def connections_of_scripts() -> None:
+def connections_of_scripts(_: Path) -> None:
     for script in right_scripts():
         with case(f"the connections of {script.stem}"):
             must_be_drawn(drawn(script), script.read_text(encoding="latin-1"))
@@ -136,7 +131,7 @@ def connections_of_a_net(room: Path) -> None:
         run(CHART, "--connections", script).must_say(said, 2)
 
 
-def connections_that_cannot_be() -> None:
+def connections_that_cannot_be(_: Path) -> None:
     login = str(LOGIN)
     calls: tuple[list[str], ...] = ([], ["--only", "mtc", login], ["--script", login, login], ["--text", login])
     for words in (*calls, ["--title", "x", login]):
@@ -146,16 +141,8 @@ def connections_that_cannot_be() -> None:
         run(CHART, "--connections", EXAMPLES / "login_is_answered.expected").must_complain("the script is refused", 2)
 
 
-def main() -> int:
-    with tempfile.TemporaryDirectory() as room:
-        return try_groups(
-            [
-                Group(connections_of_scripts, len(right_scripts()), "connections of scripts"),
-                Group(lambda: connections_of_a_net(Path(room)), 3, "connections of a net"),
-                Group(connections_that_cannot_be, 6, "connections that can't be"),
-            ]
-        )
-
-
 if __name__ == "__main__":
-    sys.exit(main())
+    least = len(right_scripts())
+    with room() as folder:
+        groups = ((connections_of_scripts, least), (connections_of_a_net, 3), (connections_that_cannot_be, 6))
+        sys.exit(try_groups_of(folder, groups))

@@ -3,8 +3,6 @@
 parts while they are at work (tests/gate/side_by_side.sh).
 
     tests/tools/costs_cases.py
-
-It prints a line `passed NAME` for each case, or lines that begin with `FAILED: NAME`.
 """
 from __future__ import annotations
 
@@ -48,8 +46,8 @@ DEAREST = "".join(ALL.splitlines(keepends=True)[:2])
 # says that it took time of both kinds, however seldom a busy machine lets it be looked at.
 CI = r"""#!/usr/bin/env bash
 took() { # CRATE COLUMN
-    awk -v crate="$1" -v column="$2" '$1 == crate && $column > 0 && $(column + 1) > 0 { found = 1 } END { exit !found }' \
-        "$times" 2>/dev/null
+    awk -v crate="$1" -v column="$2" \
+        '$1 == crate && $column > 0 && $(column + 1) > 0 { found = 1 } END { exit !found }' "$times" 2>/dev/null
 }
 export times=$PWD/times
 export -f took
@@ -153,4 +151,5 @@ def said(ours: int, theirs: int) -> tuple[str, str]:
 
 
 if __name__ == "__main__":
-    sys.exit(try_groups((Group(costs, 10, "costs"), Group(times, 3, "times"), Group(parts_at_work, 3, "parts at work"))))
+    groups = ((costs, 10), (times, 3), (parts_at_work, 3))
+    sys.exit(try_groups(Group(it, least, it.__name__) for it, least in groups))

@@ -4,18 +4,15 @@ words were worked out by reading (data/explained.texts, explained/), and keep th
 
     tests/tools/explain_cases.py PROGRAM TEXTS
 
-TEXTS says how many texts the tables of tests/checking/ have that grammar.py and changes.py write. It prints a line
-`passed NAME` for each case, or lines that begin with `FAILED: NAME`.
+TEXTS says how many texts the tables of tests/checking/ have that grammar.py and changes.py write.
 """
 from __future__ import annotations
 
-import argparse
 import json
 import re
 import shlex
 import shutil
 import sys
-import tempfile
 from collections.abc import Callable
 from pathlib import Path
 from typing import NamedTuple
@@ -23,11 +20,10 @@ from typing import NamedTuple
 sys.dont_write_bytecode = True
 
 import explain_rules
-from rule_cases import must
 from tool_calls import (
-    ROOT, Ended, Test, Tool, block_of, case, difference, file_of, judged, prints, prints_line, program_of, ruled, run,
-    says_alone, says_nothing, says_usage, shown, texts_in, try_groups_of,
-)
+    ROOT, Ended, Test, Tool, block_of, case, difference, file_of, judged, must, prints, prints_line, program_of, room,
+    ruled, run, says_alone, says_nothing, says_usage, shown, texts_in, try_groups_of, words_of,
+)  # fmt: skip
 
 EXAMPLE = "examples/closed_counter_serves_no_order.ttcn"
 BROKEN_LINE = 26  # of the example, as README.md says
@@ -287,27 +283,12 @@ def at_length(asked: Explaining) -> None:
 
 
 GROUPS = (
-    (tables, 8),
-    (example, 4),
-    (numbers, 7),
-    (places, 10),
-    (words, 14),
-    (warnings, 12),
-    (texts_that_are_none, 6),
-    (calls, 7),
-    (other_answers, 11),
-    (at_length, 1),
-)
-
-
-def main() -> int:
-    words = argparse.ArgumentParser(description="What tools/explain says of scripts that are refused.")
-    words.add_argument("program", metavar="PROGRAM", help="the program that it asks")
-    words.add_argument("texts", metavar="TEXTS", type=int, help="how many texts the tables have at least")
-    asked = words.parse_args()
-    with tempfile.TemporaryDirectory() as room:
-        return try_groups_of(Explaining(asked.program, asked.texts, Path(room)), GROUPS)
+    (tables, 8), (example, 4), (numbers, 7), (places, 10), (words, 14), (warnings, 12), (texts_that_are_none, 6),
+    (calls, 7), (other_answers, 11), (at_length, 1),
+)  # fmt: skip
 
 
 if __name__ == "__main__":
-    sys.exit(main())
+    with room() as folder:
+        asked_program, least = words_of(__doc__, "PROGRAM", "TEXTS")
+        sys.exit(try_groups_of(Explaining(asked_program, int(least), folder), GROUPS))

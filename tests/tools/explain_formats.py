@@ -3,8 +3,6 @@
 quickfix, and the schema of SARIF.
 
     tests/tools/explain_formats.py PROGRAM
-
-It prints a line `passed NAME` for each case, `left out NAME: WHY`, or lines that begin with `FAILED: NAME`.
 """
 from __future__ import annotations
 
@@ -23,10 +21,8 @@ from urllib.parse import unquote, urlsplit
 
 sys.dont_write_bytecode = True
 
-from rule_cases import must
-from sarif_schema import SCHEMA
 from tool_calls import (
-    ROOT, Ended, Group, case, example, file_of, must_be, onto_a_full_device, program_of, room, run, try_groups,
+    ROOT, Ended, Group, case, example, file_of, must, must_be, onto_a_full_device, program_of, room, run, try_groups,
 )  # fmt: skip
 
 PROGRAM = sys.argv[1]
@@ -57,7 +53,7 @@ IN_VAIN = """module M {
 
 
 class Wanted(NamedTuple):
-    """A fault: its file, the text at its place, what is before it on its line, its code, and how its sentence begins."""
+    """A fault: its file, the text at its place, what is before it on its line, its code, how its sentence begins."""
 
     file: str
     line: int
@@ -74,7 +70,9 @@ def wanted_at(file: str, text: str, piece: str, inside: str, code: str, sentence
 
 WANTED = (
     wanted_at(NAMED, BROKEN, "chef:bel)", "bel", "11 Unknown", "`chef` has no port `bel` (did you mean `bell`?)"),
-    wanted_at(NAMED, BROKEN, "counter.send(charstring", "charstring", "14 Direction", "`counter` sends no `charstring`"),
+    wanted_at(
+        NAMED, BROKEN, "counter.send(charstring", "charstring", "14 Direction", "`counter` sends no `charstring`"
+    ),
     wanted_at(NAMED, BROKEN, "bell.send(Order", "Order", "14 Direction", "`bell` sends no `Order`"),
     wanted_at("full.ttcn", FULL, "log(", "(", "10 Syntax", "`log` isn't supported"),
     wanted_at("full.ttcn", FULL, "var float", "var", "ES 201 873-1, 19.14", "a declaration after statements isn't"),
@@ -241,16 +239,16 @@ def by_schema(room: Room) -> None:
     if importlib.util.find_spec("jsonschema") is None:
         print("left out the schema of SARIF: python3 has no jsonschema")
         return
-    judged_by(room, "what we read of the schema", SCHEMA)
-    whole = os.environ.get("SARIF_SCHEMA")
-    if whole is None:
-        print("left out the whole schema of SARIF: SARIF_SCHEMA doesn't name it (tests/tools/sarif_schema.py)")
-        return
-    judged_by(room, "the whole schema", json.loads(Path(whole).read_text(encoding="utf-8")))
+    judged_by(room, "what we read of the schema", ROOT / "tests" / "tools" / "data" / "sarif.schema.json")
+    if whole := os.environ.get("SARIF_SCHEMA"):
+        judged_by(room, "the whole schema", Path(whole))
+    else:
+        print("left out the whole schema of SARIF: SARIF_SCHEMA doesn't name it (data/sarif.schema.json)")
 
 
-def judged_by(room: Room, told: str, schema: Any) -> None:
+def judged_by(room: Room, told: str, file: Path) -> None:
     jsonschema: Any = importlib.import_module("jsonschema")
+    schema = json.loads(file.read_text(encoding="utf-8"))
     validator = jsonschema.validators.validator_for(schema, jsonschema.Draft7Validator)
     judge = validator(schema, format_checker=jsonschema.FormatChecker())
     validator.check_schema(schema)

@@ -4,14 +4,9 @@ from __future__ import annotations
 import json
 import os
 import re
-import sys
 from typing import Any
 
-ROOT = os.path.dirname(os.path.dirname(os.path.dirname(os.path.realpath(__file__))))
-sys.dont_write_bytecode = True
-sys.path.insert(0, os.path.join(ROOT, "tools"))
-
-from rule_cases import must, read
+from tool_calls import ROOT, must, read
 from tpr_tools.explain.explaining import explain, reading_of
 from tpr_tools.explain.explanation import Explanation
 from tpr_tools.refusals import SEND_FAULTS, Refusal

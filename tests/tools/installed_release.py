@@ -11,8 +11,7 @@ from pathlib import Path
 from typing import Optional
 
 from release_tree import Tree, in_the_package, tools_of
-from rule_cases import must
-from tool_calls import ROOT, Ended, case, difference, run, shown
+from tool_calls import ROOT, Ended, case, difference, must, run, shown
 
 BELL = "closed_counter_serves_no_order"
 NATURAL = ROOT / "tests" / "rewrites" / "natural" / "login_with_templates.ttcn"

@@ -11,9 +11,9 @@ import xml.etree.ElementTree as xml
 from collections.abc import Callable
 from pathlib import Path
 
-from rule_cases import must
 from suite_runs import ONE_PASS, SUITE, Suites, answer, kept, must_be_table
-from tool_calls import case, example, rules_must_hold
+from tool_calls import case, example, must, ruled
+from tool_rules import check_junit, interrupted, on_a_terminal
 
 LOGIN = "login_is_answered.expected"
 END = "end done|verdict none|"
@@ -81,8 +81,7 @@ def of_another_program(room: Path, tpr: str) -> None:
             "5 scripts: 1 fault, 1 stopped, 3 broken; 5 not as expected (*)",
         )
     took = time.monotonic() - began
-    with case("the JUnit file of what is no report"):
-        rules_must_hold("junit", it.file("told.xml"), "5", "0", "5")
+    ruled("the JUnit file of what is no report", check_junit, it.file("told.xml"), 5, 0, 5)
     with case("a script that hangs is stopped with all that it started"):
         must_be_gone(it.file("sleeper"))
     with case("a script that hangs is stopped soon"):
@@ -179,7 +178,7 @@ def suites_of_names(it: Suites) -> None:
         must(it.files_in("named") == wanted, f"there are {it.files_in('named')}")
     with case("no two cases of a JUnit file are alike"):
         it.run(it.another, "a.b", "a_b", "a.ttcn", "a", "--junit", "same.xml").must_say_nothing()
-        rules_must_hold("junit", it.file("same.xml"), "4", "0", "0")
+        check_junit(it.file("same.xml"), 4, 0, 0)
     strange = os.fsdecode(b"b\xff\n.ttcn")
     it.write(strange, f"cat {answer(LOGIN)}\n")
     with case("a name with a strange byte and a line feed"):
@@ -190,14 +189,14 @@ def suites_of_names(it: Suites) -> None:
 def suites_that_are_interrupted(it: Suites) -> None:
     it.write("hangs.ttcn", "touch hangs; sleep 100\n")
     words = ("--jobs", "1", "--junit", "cut.xml")
-    ended = it.rules("interrupted", "hangs", str(SUITE), *SCRIPTS[:2], "hangs.ttcn", *words, program=it.another)
+    ended = it.watched(interrupted, it.file("hangs"), SUITE, *SCRIPTS[:2], "hangs.ttcn", *words, program=it.another)
     with case("a suite that is interrupted"):
         ended.must_show("^interrupted, 2 of 3 scripts: 2 pass; 1 skipped$")
     with case("its status"):
         ended.must_show("^status 130$")
     with case("its JUnit file"):
         ended.must_say_nothing()
-        rules_must_hold("junit", it.file("cut.xml"), "3", "0", "0", "1")
+        check_junit(it.file("cut.xml"), 3, 0, 0, 1)
     with case("the script that was skipped"):
         (skipped,) = xml.parse(it.file("cut.xml")).iterfind(".//skipped/..")
         must(skipped.get("name") == "hangs", f"it is {skipped.get('name')}")
@@ -206,12 +205,12 @@ def suites_that_are_interrupted(it: Suites) -> None:
     it.file("asked").chmod(0o755)
     asked = str(it.file("asked"))
     explored = ("a.ttcn", "--explore", "--junit", "explored.xml")
-    ended = it.rules("interrupted", "explores", str(SUITE), *explored, program=asked)
+    ended = it.watched(interrupted, it.file("explores"), SUITE, *explored, program=asked)
     with case("the status of a suite that is interrupted while it explores"):
         ended.must_show("^status 130$")
     with case("its JUnit file, in which what wasn't explored is skipped"):
         ended.must_say_nothing()
-        rules_must_hold("junit", it.file("explored.xml"), "1", "0", "0", "1")
+        check_junit(it.file("explored.xml"), 1, 0, 0, 1)
 
 
 def suite_that_prints_at_once(it: Suites) -> None:
@@ -240,6 +239,6 @@ def suites_on_a_terminal(it: Suites) -> None:
         words = ("long.ttcn", "--times", "3", "--jobs", "1")
         told = "error in 2 of 3 runs, 1 pass; 2 different reports; mtc waits, report line 3, after: sent a.p 0"
         form = rf'{told} charstring:"x*\.\.' + "\r$"
-        it.rules("terminal", str(SUITE), *words, program=it.another).must_show(form)
+        it.watched(on_a_terminal, SUITE, *words, program=it.another).must_show(form)
     with case("a long reason elsewhere is whole"):
         it.run(it.another, "long.ttcn").must_show(f'after: sent a.p 0 charstring:"{long}"$', 5)

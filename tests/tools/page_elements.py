@@ -7,7 +7,7 @@ from typing import Optional
 from urllib.parse import unquote
 from xml.etree.ElementTree import Element, TreeBuilder
 
-from rule_cases import must
+from tool_calls import must
 
 VOID = ("meta", "link", "input", "img", "wbr")
 

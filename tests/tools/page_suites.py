@@ -10,9 +10,9 @@ import xml.etree.ElementTree as xml
 from pathlib import Path
 
 from page_elements import cell, each, links_must_hold, page_in, row_of, rows_of, text_in
-from rule_cases import must
 from suite_runs import SUITE, Suites, answer
-from tool_calls import ROOT, case, example, must_be, run
+from tool_calls import ROOT, case, example, must, must_be, run
+from tool_rules import interrupted
 
 MANY = 400
 MOST_BYTES = 1_500_000  # of the page of so many scripts
@@ -243,7 +243,7 @@ def page_of_an_interrupted_suite(it: Suites) -> None:
     it.file("hangs").unlink(missing_ok=True)
     scripts = ("each/passes.ttcn", "each/hangs.ttcn", "each/waits.ttcn")
     words = (*scripts, "--jobs", "1", "--html", "interrupted")
-    ended = it.rules("interrupted", "hangs", str(SUITE), *words, program=str(it.file("program")))
+    ended = it.watched(interrupted, it.file("hangs"), SUITE, *words, program=str(it.file("program")))
     with case("a suite with a page that is interrupted"):
         ended.must_show("^status 130$")
     with case("its page"):

@@ -1,25 +1,20 @@
 #!/usr/bin/env python3
-"""Pages in a real browser, looked at, clicked and typed in: what tools/chart --html makes of reports, and
-tools/suite --html of scripts.
+"""Pages in a real browser, looked at, clicked and typed in: what tools/chart --html makes of reports, and tools/suite
+--html of scripts.
 
     tests/tools/pages.py FOLDER SUITES
 
-The first folder is for the pages of charts, the second has those of suites (page_suites.py). It prints a line `passed NAME`
-for each case, or lines that begin with `FAILED: NAME`; where there is no browser `left out ..`.
+The first folder is for the pages of charts, the second has those of suites (page_suites.py).
 """
-import argparse
 import os
 import subprocess
 import sys
 from pathlib import Path
 
 sys.dont_write_bytecode = True
-ROOT = os.path.dirname(os.path.dirname(os.path.dirname(os.path.realpath(__file__))))
-
-sys.path[:0] = [os.path.join(ROOT, "tools")]
 
 from browser import Browser, program
-from tool_calls import Group, case, example, must_be, try_groups
+from tool_calls import ROOT, Group, case, example, must_be, try_groups, words_of
 from tpr_tools.chart.page import page_of
 from tpr_tools.chart.sequence import sequence_of
 from tpr_tools.report.reader import read_report
@@ -250,7 +245,8 @@ class Pages:
         for width in (1280, 400):
             ask("rows.forEach((row) => { row.open = true; })")
             browser.look(width, 800, scheme)
-            self.case(f"{scheme}, {width} wide: no wider", ask("document.documentElement.scrollWidth <= innerWidth"), True)
+            fits = ask("document.documentElement.scrollWidth <= innerWidth")
+            self.case(f"{scheme}, {width} wide: no wider", fits, True)
             self.case(f"{scheme}, {width} wide: no cells touch", ask("rowsOfTouchingCells()"), [])
             worst = ask("contrastsOfTexts()")[0]
             self.case(f"{scheme}, {width} wide: contrast", worst[0] >= LEAST_CONTRAST or worst, True)
@@ -273,7 +269,8 @@ class Pages:
         browser.click_on("label.refused")
         ask("location.hash = '#each/passes.ttcn'")
         browser.drawn()
-        self.case("a link to a row that is hidden shows it", ask("rows.filter((row) => row.open && !row.hidden).length"), 2)
+        open_rows = ask("rows.filter((row) => row.open && !row.hidden).length")
+        self.case("a link to a row that is hidden shows it", open_rows, 2)
         self.case("opened rows: the console is empty", browser.console, [])
 
     def without_code(self) -> None:
@@ -298,14 +295,10 @@ class Pages:
 
 
 def main() -> int:
-    words = argparse.ArgumentParser(description="Pages of charts and of suites, in a real browser.")
-    words.add_argument("folder", metavar="FOLDER", help="where the pages of charts are written")
-    words.add_argument("suites", metavar="SUITES", help="where those of suites are")
-    asked = words.parse_args()
     if program() is None:
         print("left out charts and suites as pages: there is no chromium")
         return 0
-    pages = Pages(os.path.abspath(asked.folder), os.path.abspath(asked.suites))
+    pages = Pages(*(os.path.abspath(it) for it in words_of(__doc__, "FOLDER", "SUITES")))
     of_charts = ((pages.elements, 8), (pages.hiding, 9), (pages.choosing, 12), (pages.script_lines, 1))
     of_large_charts, of_suites = ((pages.searching, 10), (pages.many, 10)), ((pages.suite, 29), (pages.without_code, 3))
     groups = (*of_charts, *of_large_charts, *of_suites, (pages.many_scripts, 4))

@@ -3,20 +3,18 @@
 
     tests/tools/refused_reports.py FOLDER
 
-They are written into the FOLDER. It prints a line `passed NAME` for each case, or lines that begin with `FAILED: NAME`.
+They are written into the FOLDER.
 """
 from __future__ import annotations
 
-import argparse
 import sys
-from functools import partial
 from pathlib import Path
 
 sys.dont_write_bytecode = True
 
 from example_reports import NAMED, named
-from rule_cases import must, read
-from tool_calls import EXAMPLES, ROOT, Group, case, rules_must_hold, run, try_groups
+from tool_calls import EXAMPLES, ROOT, case, must, read, run, try_groups_of, words_of
+from tool_rules import check_charts
 
 CHART, COMPARE = ROOT / "tools" / "chart", ROOT / "tools" / "compare"
 GOLDEN = ROOT / "tests" / "golden"
@@ -49,7 +47,7 @@ class Texts:
         else:
             chart = self.folder / "chart.svg"
             chart.write_bytes(ended.must_say_nothing().printed)
-            rules_must_hold("chart", file, chart)
+            check_charts(file, chart)
 
 
 def cut_reports(texts: Texts) -> None:
@@ -127,21 +125,10 @@ def refusals_of_texts(texts: Texts) -> None:
             texts.must_be_refused(texts.write(text, text.replace("|", "\n").encode()), line)
 
 
-def main() -> int:
-    words = argparse.ArgumentParser(description="Which reports the tools refuse.")
-    words.add_argument("folder", metavar="FOLDER", type=Path, help="where reports are written")
-    texts = Texts(words.parse_args().folder.resolve())
-    return try_groups(
-        [
-            Group(partial(cut_reports, texts), 66, "reports that are cut"),
-            Group(partial(changed_reports, texts), 96, "reports that are changed"),
-            Group(partial(traces_in_place_of_reports, texts), 3, "traces in place of reports"),
-            Group(partial(scripts_in_place_of_reports, texts), 3, "scripts in place of reports"),
-            Group(partial(charts_of_refusals, texts), 45, "charts of refusals"),
-            Group(partial(refusals_of_texts, texts), 28, "texts that are refused"),
-        ]
-    )
-
+GROUPS = (
+    (cut_reports, 66), (changed_reports, 96), (traces_in_place_of_reports, 3), (scripts_in_place_of_reports, 3),
+    (charts_of_refusals, 45), (refusals_of_texts, 28),
+)  # fmt: skip
 
 if __name__ == "__main__":
-    sys.exit(main())
+    sys.exit(try_groups_of(Texts(Path(*words_of(__doc__, "FOLDER")).resolve()), GROUPS))

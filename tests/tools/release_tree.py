@@ -8,8 +8,7 @@ from collections.abc import Iterator
 from pathlib import Path
 from typing import NamedTuple, Optional
 
-from tool_calls import ROOT, Ended, run
-from rule_cases import must
+from tool_calls import ROOT, Ended, must, run
 
 OF_THE_LIBRARY = tuple(f"embedding/{it}" for it in ("tp_port.h", "tp_port.hpp", "soup.c", "soup.cpp"))
 # The library where none is given: the releases are looked at, and no program is linked with it.
@@ -37,9 +36,7 @@ class Tree:
     def __init__(self, room: Path, program: Path, ordered: Path, library: Optional[Path] = None):
         self.room, self.program, self.ordered, self.library = room, program, ordered, library
         self.folder = room / "tree"
-        self.built, self.built_ordered = (
-            self.folder / "crates" / it / "out" / it for it in ("tpr", "tpr_ordered")
-        )
+        self.built, self.built_ordered = (self.folder / "crates" / it / "out" / it for it in ("tpr", "tpr_ordered"))
         self.built_library = self.folder / "out" / "port" / "lib" / "libtp_port.a"
         self.version = (ROOT / "VERSION").read_text(encoding="utf-8").partition("\n")[0]
 

@@ -4,12 +4,10 @@
     tests/tools/releases.py PROGRAM TPR_ORDERED FOLDER [LIBRARY]
 
 They are looked at, made of trees in which there is a fault, refused, installed into an empty root, and used there. All
-is written into the FOLDER. It prints a line `passed NAME` for each case, `left out NAME: WHY` for what this machine
-can't try, and lines that begin with `FAILED: NAME` for what is wrong.
+is written into the FOLDER.
 """
 from __future__ import annotations
 
-import argparse
 import hashlib
 import os
 import re
@@ -24,8 +22,7 @@ sys.dont_write_bytecode = True
 from installed_release import archive_is_used, library_is_used, manual_page, package_by_lintian, package_is_installed
 from release_contents import wrong_with
 from release_tree import COMMITTED, UNRELEASED, Made, Tree, names_of_all
-from rule_cases import must
-from tool_calls import ROOT, Ended, Group, case, run, shown, try_groups
+from tool_calls import ROOT, Ended, Group, case, must, run, shown, try_groups, words_of
 
 LAST_LINES = "the gate said\nexamples: 9 passed, 0 failed\n"
 
@@ -278,17 +275,12 @@ def groups(tree: Tree) -> list[Group]:
 
 
 def main() -> int:
-    words = argparse.ArgumentParser(description="What tools/release makes.")
-    words.add_argument("program", metavar="PROGRAM", type=Path)
-    words.add_argument("ordered", metavar="TPR_ORDERED", type=Path)
-    words.add_argument("folder", metavar="FOLDER", type=Path, help="where all is written")
-    words.add_argument("library", metavar="LIBRARY", type=Path, nargs="?", help="the library for C and C++")
-    asked = words.parse_args()
-    if not shutil.which("git") or asked.program.read_bytes()[:4] != b"\x7fELF":
+    *words, library = words_of(__doc__, "PROGRAM", "TPR_ORDERED", "FOLDER", "[LIBRARY]")
+    program, ordered, folder = (Path(it).resolve() for it in words)
+    if not shutil.which("git") or program.read_bytes()[:4] != b"\x7fELF":
         print("left out what tools/release makes, because there is no git, or TPR names no program of the machine")
         return 0
-    library = asked.library and asked.library.resolve()
-    tree = Tree(asked.folder.resolve(), asked.program.resolve(), asked.ordered.resolve(), library)
+    tree = Tree(folder, program, ordered, Path(library).resolve() if library else None)
     tree.make()
     return try_groups(groups(tree))
 

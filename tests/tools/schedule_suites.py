@@ -5,9 +5,9 @@ from __future__ import annotations
 import xml.etree.ElementTree as xml
 from pathlib import Path
 
-from rule_cases import must
 from suite_runs import Suites, answer, must_be_table
-from tool_calls import case, example, rules_must_hold
+from tool_calls import case, example, must, ruled
+from tool_rules import check_junit
 
 # Answers as `tpr verdicts` does, by the first word of the script's comment.
 PROGRAM = """if [ "$1" = queue ]; then exit 0; fi
@@ -58,8 +58,8 @@ def suites_of_verdicts(it: Suites, program: str) -> None:
             "3 scripts: 3 pass; 1 verdict depends on the schedule; 1 not as expected (*)",
             columns=("result", "verdicts"),
         )
-    with case("its JUnit file, in which a verdict that depends on the schedule is a failure"):
-        rules_must_hold("junit", it.file("verdicts.xml"), "3", "1", "0")
+    failure = "its JUnit file, in which a verdict that depends on the schedule is a failure"
+    ruled(failure, check_junit, it.file("verdicts.xml"), 3, 1, 0)
     with case("both orders stand in its text"):
         text = text_of(it.file("verdicts.xml"), "failure", "races")
         must(f"\n{RACES}\n\npass: mtc a mtc\nfail: a mtc mtc\n" in text, f"it is {text!r}")
@@ -108,14 +108,12 @@ def suites_that_get_no_answer(it: Suites, program: str) -> None:
             "1 script: 1 pass; 1 not as expected (*)",
             columns=("result", "verdicts"),
         )
-    with case("its JUnit file, in which this is an error"):
-        rules_must_hold("junit", it.file("broken.xml"), "1", "0", "1")
+    ruled("its JUnit file, in which this is an error", check_junit, it.file("broken.xml"), 1, 0, 1)
     with case("a suite for which tools/explore breaks off"):
         # The program accepts what is no script, so that the tool can't read it.
         ended = it.run(program, "steady.ttcn", "--explore", "--junit", "explored.xml")
         ended.must_show("failed \\* T  tools/explore failed: ended with status 1, .*Unreadable: ", 1)
-    with case("its JUnit file, in which this is an error too"):
-        rules_must_hold("junit", it.file("explored.xml"), "1", "0", "1")
+    ruled("its JUnit file, in which this is an error too", check_junit, it.file("explored.xml"), 1, 0, 1)
     script = example("broadcast_is_overtaken_by_an_answer.ttcn").read_text(encoding="ascii")
     it.write("twisted.ttcn", f"// twisted\n{script}")
     with case("a suite for which tools/explore finds a fault"):
@@ -130,7 +128,7 @@ def suite_that_explores(it: Suites) -> None:
         ended = it.run(it.tpr, "overtaken.ttcn", *words)
         ended.must_show(f"  pass or fail \\* T  .*{RACES}$", 5)
     with case("where the runs diverge stands in its JUnit file"):
-        rules_must_hold("junit", it.file("overtaken.xml"), "1", "1", "0")
+        check_junit(it.file("overtaken.xml"), 1, 1, 0)
         text = text_of(it.file("overtaken.xml"), "failure", "overtaken")
         parts = ("\npass: mtc a mtc a b b b\n", "\nWhere the runs diverge (pass and fail):\n  line 13: b took ")
         must(all(it in text for it in parts), f"it is {text!r}")

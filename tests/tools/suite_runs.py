@@ -6,10 +6,10 @@ import re
 import shlex
 import shutil
 import subprocess
+from collections.abc import Callable
 from pathlib import Path
 
-from rule_cases import must
-from tool_calls import ROOT, Ended, difference, example, program_of, python, run, shown
+from tool_calls import ROOT, Ended, Word, difference, example, must, program_of, run, shown
 
 SUITE = ROOT / "tools" / "suite"
 TIMES = "the runs took T, judging them T"
@@ -66,9 +66,9 @@ class Suites:
             [str(SUITE), *words], cwd=self.folder, env=variables, stdin=no, stdout=printed, stderr=no
         )
 
-    def rules(self, *words: str, program: str) -> Ended:
-        """What a rule of tool_rules.py prints of a command with this program."""
-        return python("tool_rules.py", *words, folder=self.folder, more={"TPR": program})
+    def watched(self, way: Callable[..., Ended], *words: Word, program: str) -> Ended:
+        """What comes of a command with this program, which is called in a way of tool_rules.py."""
+        return way(*words, cwd=self.folder, env={**os.environ, "TPR": program})
 
     def files_in(self, name: str) -> list[str]:
         """All files in a folder of it, by their paths there."""

@@ -9,7 +9,6 @@ or lines that begin with `FAILED: NAME`.
 """
 from __future__ import annotations
 
-import argparse
 import sys
 from functools import partial
 from pathlib import Path
@@ -20,8 +19,8 @@ import other_suites
 import page_suites
 import schedule_suites
 from suite_runs import SUITE, Suites, answer, kept, must_be_table
-from rule_cases import must
-from tool_calls import EXAMPLES, Group, case, example, onto_a_full_device, rules_must_hold, try_groups
+from tool_calls import EXAMPLES, Group, case, example, must, onto_a_full_device, ruled, try_groups, words_of
+from tool_rules import check_charts, check_junit, on_a_terminal
 
 NAMES = (
     "login_is_answered",
@@ -65,8 +64,7 @@ def suites_of_scripts(room: Path, tpr: str, called: str) -> None:
         must_be_table(ended, 0, login, none, "2 scripts: 1 none, 1 pass; all as expected")
     with case("a suite with every result"):
         must_be_table(it.run(tpr, "scripts", "--junit", "all.xml", "--keep", "kept"), 5, *EVERY_RESULT)
-    with case("the JUnit file of every result"):
-        rules_must_hold("junit", it.file("all.xml"), "7", "2", "3")
+    ruled("the JUnit file of every result", check_junit, it.file("all.xml"), 7, 2, 3)
     suites_that_keep(it)
     suites_that_want(it)
 
@@ -77,8 +75,7 @@ def suites_that_keep(it: Suites) -> None:
     none = it.file("kept/inner/none.ttcn/run1.none.report")
     with case("what is kept of every result"):
         must(passed.read_bytes() == example("login_is_answered.expected").read_bytes(), f"it isn't in {passed}")
-    with case("the chart that is kept"):
-        rules_must_hold("chart", passed, passed.with_suffix(".svg"))
+    ruled("the chart that is kept", check_charts, passed, passed.with_suffix(".svg"))
     with case("what is kept of a folder in it"):
         must(none.stat().st_size and none.with_suffix(".svg").stat().st_size, "a file is empty")
     with case("what is kept of a refusal"):
@@ -96,18 +93,17 @@ def suites_that_want(it: Suites) -> None:
         it.run(it.tpr, "scripts", "--want", every, "--jobs", "1").must_show("all as expected$")
     with case("a suite in which pass isn't wanted"):
         it.run(it.tpr, LOGIN, "--want", "fail", *of_xml).must_show(r"1 not as expected \(\*\)$", 5)
-    with case("its JUnit file"):
-        rules_must_hold("junit", xml, "1", "1", "0")
+    ruled("its JUnit file", check_junit, xml, 1, 1, 0)
     with case("a suite in which a refusal is wanted"):
         it.run(it.tpr, CUT, "--want", "refused", *of_xml).must_say_nothing(0)
-        rules_must_hold("junit", xml, "1", "0", "0")
+        check_junit(xml, 1, 0, 0)
     with case("a script that is named twice"):
         it.run(it.tpr, LOGIN, f"scripts/../{LOGIN}", LOGIN).must_show("^1 script:")
     with case("a script with signs in its name, 5 times"):
         strange = "scripts/a name & <signs>.ttcn"
         it.copy("login_is_answered.ttcn", strange)
         it.run(it.tpr, strange, "--times", "5", "--jobs", "5", *of_xml).must_say_nothing(0)
-        rules_must_hold("junit", xml, "1", "0", "0")
+        check_junit(xml, 1, 0, 0)
 
 
 def suites_that_cannot_be(room: Path, tpr: str) -> None:
@@ -133,7 +129,7 @@ def suites_that_cannot_be(room: Path, tpr: str) -> None:
     suites_that_are_asked_wrongly(it, file)
     with case("a line of progress on a terminal"):
         both = (file, str(example("script_cut_inside_an_alt.ttcn")))
-        it.rules("terminal", str(SUITE), *both, program=tpr).must_show("1 of 2 done, 0 not as expected; last ")
+        it.watched(on_a_terminal, SUITE, *both, program=tpr).must_show("1 of 2 done, 0 not as expected; last ")
 
 
 WRONG_WORDS = (
@@ -187,8 +183,7 @@ def suites_of_what_is_not_wanted(it: Suites) -> None:
             "system_under_test_answers.ttcn  fail * T  mtc set fail, report line 5, after: set pass",
             "3 scripts: 1 pass, 1 fail, 1 refused; 3 not as expected (*)",
         )
-    with case("its JUnit file, of what isn't wanted"):
-        rules_must_hold("junit", it.file("j.xml"), "3", "2", "1")
+    ruled("its JUnit file, of what isn't wanted", check_junit, it.file("j.xml"), 3, 2, 1)
 
 
 def suites_of_expected_reports(it: Suites) -> None:
@@ -217,15 +212,11 @@ def suites_of_wrong_wishes(it: Suites) -> None:
 
 
 def main() -> int:
-    words = argparse.ArgumentParser(description="What tools/suite says.")
-    words.add_argument("program", metavar="PROGRAM")
-    words.add_argument("called", metavar="CALLED", help="what is called on command lines")
-    words.add_argument("folder", metavar="FOLDER", type=Path, help="where all is written")
-    asked = words.parse_args()
-    room, tpr = asked.folder.resolve(), asked.program
+    tpr, called, folder = words_of(__doc__, "PROGRAM", "CALLED", "FOLDER")
+    room = Path(folder).resolve()
     return try_groups(
         [
-            Group(partial(suites_of_scripts, room, tpr, asked.called), 14, "suites of scripts"),
+            Group(partial(suites_of_scripts, room, tpr, called), 14, "suites of scripts"),
             Group(partial(other_suites.of_another_program, room, tpr), 8, "suites of another program"),
             Group(partial(suites_that_cannot_be, room, tpr), 19, "suites that can't be"),
             Group(partial(suites_of_what_is_wanted, room, tpr), 9, "suites of what is wanted"),

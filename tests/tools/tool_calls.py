@@ -5,6 +5,7 @@ lines that begin with `FAILED: NAME: ` if it raises.
 """
 from __future__ import annotations
 
+import argparse
 import difflib
 import json
 import os
@@ -21,11 +22,10 @@ from pathlib import Path
 from typing import Any, NamedTuple, Optional, TypeVar, Union
 
 ROOT = Path(__file__).resolve().parents[2]
-sys.path.append(str(ROOT / "tests" / "program"))
+sys.path += [str(ROOT / it) for it in ("tools", "tests/program", "tests/orders")]
 
 import example_files as example_files
 from example_files import example as example
-from rule_cases import Wrong, must
 
 EXAMPLES = ROOT / "examples"
 MOST_SECONDS = 900
@@ -35,6 +35,19 @@ SHOWN = 2000  # characters of what breaks a rule
 Asked = TypeVar("Asked")
 Text = Union[str, bytes]
 Word = Union[str, bytes, "os.PathLike[str]"]
+
+
+class Wrong(Exception):
+    """A rule is broken."""
+
+
+def must(holds: object, text: str) -> None:
+    if not holds:
+        raise Wrong(text)
+
+
+def read(file: Union[str, Path]) -> str:
+    return Path(file).read_text(encoding="utf-8")
 
 
 def bytes_of(text: Text) -> bytes:
@@ -142,16 +155,6 @@ def onto_a_full_device(*words: Word, **more: Any) -> Ended:
     """Runs a command whose answer can't be written."""
     with open("/dev/full", "wb") as full:
         return run(*words, stdout=full, **more)
-
-
-def python(script: str, *words: Word, **more: Any) -> Ended:
-    """Runs a script of this folder."""
-    return run("python3", "-B", ROOT / "tests" / "tools" / script, *words, **more)
-
-
-def rules_must_hold(*words: Word, **more: Any) -> None:
-    """What tool_rules.py looks at."""
-    python("tool_rules.py", *words, **more).must_print("")
 
 
 @dataclass(frozen=True)
@@ -279,6 +282,15 @@ def try_groups(groups: Iterable[Group]) -> int:
 def try_groups_of(asked: Asked, groups: Iterable[tuple[Callable[[Asked], None], int]]) -> int:
     """The same, of groups that are all tried with this."""
     return try_groups(Group(partial(attempt, asked), least, attempt.__name__) for attempt, least in groups)
+
+
+def words_of(described: Optional[str], *names: str) -> list[str]:
+    """The words of the command line, by their names. One in square brackets may be missing: it is empty then."""
+    words = argparse.ArgumentParser(description=(described or "").partition("\n\n")[0])
+    for name in names:
+        optional: dict[str, Any] = {"nargs": "?", "default": ""} if name.startswith("[") else {}
+        words.add_argument(name.strip("[]"), **optional)
+    return list(vars(words.parse_args()).values())
 
 
 # Files

@@ -1,21 +1,11 @@
-#!/usr/bin/env python3
-"""The rules on what tools/ prints, told apart from its own code, as far as a shell can't see them.
+"""The rules on what tools/ prints, told apart from its own code: charts are well-formed and show what their reports
+say, rows are an order that the ports allow, cut reports are refused, JUnit files are valid. Each raises what is wrong.
 
-    tool_rules.py chart REPORT SVG ..      each chart is well-formed, and shows what its report says
-    tool_rules.py orders REPORT..          played on the ports, the rows do what the report says
-    tool_rules.py played NUMBER            so do those of so many reports at random
-    tool_rules.py tried NUMBER             of so many small reports, right or changed, those are refused
-                                           of which no order at all is one that the ports allow
-    tool_rules.py cuts REPORT..            cut after any byte, a report is refused at that line
-    tool_rules.py random NUMBER            so many reports at random are read, drawn and compared
-    tool_rules.py parts NUMBER             so do parts of the charts of so many reports
-    tool_rules.py linear                   the time of an order goes with the lines, not the components
-    tool_rules.py junit XML T F E [S]      valid, with so many tests, failures, errors and skipped ones
-    tool_rules.py interrupted FILE COMMAND.. what it prints if Ctrl-C comes once there is the file
-    tool_rules.py terminal COMMAND..       what the command says on a terminal, its status at the end
-
-Each prints what is wrong and ends with status 1, or prints nothing and ends with status 0.
+Of commands that are interrupted, or run on a terminal, it tells what they print.
 """
+from __future__ import annotations
+
+import contextlib
 import functools
 import os
 import pty
@@ -26,17 +16,13 @@ import subprocess
 import sys
 import time
 import xml.etree.ElementTree as xml
-from collections.abc import Callable, Iterable
+from collections.abc import Iterable
+from pathlib import Path
 from typing import Any, Optional
 
-ROOT = os.path.dirname(os.path.dirname(os.path.dirname(os.path.realpath(__file__))))
-sys.dont_write_bytecode = True
-sys.path[:0] = [os.path.join(ROOT, "tools"), os.path.dirname(os.path.realpath(__file__))]
-
-from pages import report_of_many
 from played import Played, Small, Unplayable, changed, has_order
 from random_reports import Run
-from rule_cases import Wrong, must, read, try_one_of
+from tool_calls import Ended, Word, Wrong, must, read
 from tpr_tools.chart.letters import letters_of
 from tpr_tools.chart.part import Asked, part_of
 from tpr_tools.chart.sequence import Sequence, sequence_of
@@ -51,7 +37,7 @@ SVG = "{http://www.w3.org/2000/svg}"
 ENDS = ("took", "found", "dropped", "left")
 
 
-def check_charts(*files: str) -> None:
+def check_charts(*files: Path) -> None:
     for report, svg in zip(files[::2], files[1::2]):
         try:
             check_drawing(read(report), read(svg))
@@ -173,12 +159,12 @@ def check_legend(root: xml.Element) -> None:
     must(has_numbers <= ("#0" in texts), "what the number of a message means isn't told")
 
 
-def check_orders(*files: str) -> None:
+def check_orders(*files: Path) -> None:
     for file in files:
         check_order(read(file).encode(), file)
 
 
-def check_order(data: bytes, file: str) -> None:
+def check_order(data: bytes, file: object) -> None:
     """The rows are an order of all entries that the ports allow, and each message is discarded where it is
     told to be."""
     deliveries = deliveries_of(read_report(data))
@@ -194,15 +180,15 @@ def check_order(data: bytes, file: str) -> None:
         raise Wrong(f"{file}: {wrong}") from None
 
 
-def check_played(number: str) -> None:
-    for seed in range(int(number)):
+def check_played(number: int) -> None:
+    for seed in range(number):
         check_order(Run(seed).report().encode(), f"seed {seed}")
 
 
-def check_tried(number: str) -> None:
+def check_tried(number: int) -> None:
     """Each report of a small run, and three that differ from it in a line or two."""
     counts = {True: 0, False: 0, None: 0}
-    for seed in range(int(number)):
+    for seed in range(number):
         lines = Small(seed).lines()
         for text in (lines, *(changed(lines, f"{seed} {turn}") for turn in range(3))):
             has = has_order(text)
@@ -212,11 +198,11 @@ def check_tried(number: str) -> None:
             must(has is None or has != is_refused, f"seed {seed}: an order {has}, refused {is_refused}: {text}")
             if has:
                 check_order(data, f"seed {seed}: {text}")
-    least = int(number) // 2
+    least = number // 2
     must(counts[True] > least and counts[False] > least and counts[None] < least, f"too few were tried: {counts}")
 
 
-def check_cuts(*files: str) -> None:
+def check_cuts(*files: Path) -> None:
     for file in files:
         data = read(file).encode()
         for size in range(len(data)):
@@ -234,9 +220,9 @@ def refused_at(data: bytes) -> Optional[int]:
     return None
 
 
-def check_random(number: str) -> None:
+def check_random(number: int) -> None:
     refused = 0
-    for seed in range(int(number)):
+    for seed in range(number):
         text = Run(seed).report()
         report = read_report(text.encode())
         sequence = sequence_of(report, f"seed {seed}")
@@ -249,12 +235,12 @@ def check_random(number: str) -> None:
         must(compare(report, report).answer == EQUAL, f"seed {seed} differs from itself")
         if not re.search("^(cleared|started) ", text, re.M):
             refused += check_missing_lines(text, seed)
-    must(refused > 2 * int(number), f"only {refused} reports without a line were tried")
+    must(refused > 2 * number, f"only {refused} reports without a line were tried")
 
 
-def check_parts(number: str) -> None:
+def check_parts(number: int) -> None:
     """A part of a chart is drawn within its picture, and tells each entry of its components and rows."""
-    for seed in range(int(number)):
+    for seed in range(number):
         report = read_report(Run(seed).report().encode())
         whole = sequence_of(report, f"seed {seed}")
         chance = random.Random(seed)
@@ -295,22 +281,6 @@ def check_missing_lines(text: str, seed: int) -> int:
     return tried
 
 
-LEAST = 0.05  # a second's part, below which times say nothing
-
-
-def check_linear() -> None:
-    """Processor time of reading, matching and ordering: four times the lines take no more than eight times as
-    long, and 62 components no more than four times as long as two."""
-    times = {}
-    for components, rounds in ((2, 7_500), (62, 123), (62, 492)):
-        data = report_of_many(components, rounds).encode()
-        began = time.process_time()
-        rows_of(deliveries_of(read_report(data)))
-        times[components, rounds] = max(time.process_time() - began, LEAST)
-    must(times[62, 492] < 8 * times[62, 123], f"it isn't linear in the lines: {times}")
-    must(times[62, 123] < 4 * times[2, 7_500], f"it goes with the components: {times}")
-
-
 # The usual schema, as build servers read it. Of each element: the attributes that it must have, those
 # that it may have, and the elements that may stand in it.
 COUNTS = {"tests", "failures", "errors", "skipped"}
@@ -338,17 +308,18 @@ SECONDS = re.compile(r"[0-9]+\.[0-9]{3}")
 DATE = re.compile(r"[0-9]{4}-[01][0-9]-[0-3][0-9]T[0-2][0-9]:[0-5][0-9]:[0-5][0-9]")
 
 
-def check_junit(file: str, tests: str, failures: str, errors: str, skipped: str = "0") -> None:
+def check_junit(file: Path, tests: int, failures: int, errors: int, skipped: int = 0) -> None:
     root = xml.parse(file).getroot()
     must(root.tag == "testsuites", "it is no list of suites")
     for element in root.iter():
         check_element(element)
     check_counts(root, root.iter("testcase"))
-    must([root.get(name) for name in ("tests", "failures", "errors")] == [tests, failures, errors], f"{root.attrib}")
+    counts = [root.get(name) for name in ("tests", "failures", "errors")]
+    must(counts == [str(it) for it in (tests, failures, errors)], f"{root.attrib}")
     for suite in root:
         check_counts(suite, list(suite))
         must(number_of(suite, "skipped") == len(suite.findall("testcase/skipped")), "other cases are skipped")
-    must(skipped == str(len(list(root.iter("skipped")))), f"{skipped} cases are skipped")
+    must(skipped == len(list(root.iter("skipped"))), f"{skipped} cases are skipped")
     names = [(case.get("classname"), case.get("name")) for case in root.iter("testcase")]
     must(len(set(names)) == len(names), f"two cases are alike: {names}")
 
@@ -381,54 +352,26 @@ def check_counts(element: xml.Element, cases: Iterable[xml.Element]) -> None:
     must(counts == told, f"{element.tag} tells {told}, and has {counts}")
 
 
-def on_a_terminal(*command: str) -> None:
-    """Its standard output and error are a terminal. What is said there is printed."""
+def on_a_terminal(*command: Word, **how: Any) -> Ended:
+    """Its standard output and error are a terminal. What is said there, and at the end its status."""
     ours, theirs = pty.openpty()
-    with subprocess.Popen(command, stdin=subprocess.DEVNULL, stdout=theirs, stderr=theirs) as process:
+    said = b""
+    with subprocess.Popen(command, stdin=subprocess.DEVNULL, stdout=theirs, stderr=theirs, **how) as process:
         os.close(theirs)
-        said = b""
-        while True:
-            try:
-                more = os.read(ours, 4096)
-            except OSError:
-                break
-            if not more:
-                break
-            said += more
-    print(said.decode(), f"status {process.returncode}", sep="\n")
+        with open(ours, "rb", buffering=0) as ends, contextlib.suppress(OSError):  # the end of a terminal
+            while more := ends.read(4096):
+                said += more
+    return Ended(0, said + b"\nstatus %d\n" % process.returncode, b"")
 
 
-def interrupt(file: str, *command: str) -> None:
+def interrupted(file: Path, *command: Word, **how: Any) -> Ended:
     """As Ctrl-C does it, once the file is there. Ours is ignored, since a part of the gate runs so."""
     default = functools.partial(signal.signal, signal.SIGINT, signal.SIG_DFL)
-    with subprocess.Popen(command, stdout=subprocess.PIPE, preexec_fn=default) as process:
+    pipe = subprocess.PIPE
+    with subprocess.Popen(command, stdout=pipe, stderr=pipe, preexec_fn=default, **how) as process:
         until = time.monotonic() + 60
-        while not os.path.exists(file) and time.monotonic() < until:
+        while not file.exists() and time.monotonic() < until:
             time.sleep(0.05)
         process.send_signal(signal.SIGINT)
-        assert process.stdout is not None
-        printed = process.stdout.read().decode()
-    print(printed, f"status {process.returncode}", sep="")
-
-
-CHECKS: dict[str, Callable[..., None]] = {
-    "chart": check_charts,
-    "orders": check_orders,
-    "played": check_played,
-    "tried": check_tried,
-    "cuts": check_cuts,
-    "random": check_random,
-    "parts": check_parts,
-    "linear": check_linear,
-    "junit": check_junit,
-    "terminal": on_a_terminal,
-    "interrupted": interrupt,
-}
-
-
-def main() -> None:
-    try_one_of(CHECKS, "The rules on what the tools print.", (NotAReport, xml.ParseError))
-
-
-if __name__ == "__main__":
-    main()
+        printed, said = process.communicate()
+    return Ended(0, printed + b"status %d\n" % process.returncode, said)

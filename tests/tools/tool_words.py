@@ -2,8 +2,6 @@
 """What all tools have in common: what they do where nobody gets their words, and where memory is refused.
 
     tests/tools/tool_words.py
-
-It prints a line `passed NAME` for each case, or lines that begin with `FAILED: NAME`.
 """
 from __future__ import annotations
 
@@ -16,8 +14,7 @@ from pathlib import Path
 
 sys.dont_write_bytecode = True
 
-from rule_cases import must
-from tool_calls import ROOT, Group, case, onto_a_full_device, run, try_groups
+from tool_calls import ROOT, Group, case, must, onto_a_full_device, run, try_groups
 
 TOOLS = ("chart", "compare", "explain", "explore", "lsp", "release", "rewrite", "suite", "titan", "why")
 NEEDS_MUCH = """from tpr_tools import command

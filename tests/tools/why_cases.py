@@ -3,28 +3,25 @@
 
     tests/tools/why_cases.py PROGRAM
 
-The lines are held against a table worked out by hand, and against the model of runs (why_rules.py); the reasons and
-the annotated scripts against files worked out by hand, in whys/. It prints a line `passed NAME` for each case, or lines
-that begin with `FAILED: NAME`.
+The lines are held against a table worked out by hand, and against the model of runs (why_rules.py); the reasons and the
+annotated scripts against files worked out by hand, in whys/.
 """
 from __future__ import annotations
 
-import argparse
 import json
 import re
 import sys
-import tempfile
 from pathlib import Path
 from typing import NamedTuple
 
 sys.dont_write_bytecode = True
 
+import example_reports
 import why_rules
-from rule_cases import must
 from tool_calls import (
-    ROOT, Ended, Test, Tool, block_of, example_files, file_of, judged, prints, prints_line, ruled, run, says, says_alone,
-    says_nothing, says_usage, texts_in, try_groups_of,
-)
+    ROOT, Ended, Test, Tool, block_of, file_of, judged, must, prints, prints_line, read, room, ruled, run, says,
+    says_alone, says_nothing, says_usage, texts_in, try_groups_of, words_of,
+)  # fmt: skip
 
 WHYS = Path("tests/tools/whys")
 CAUSES = WHYS / "causes"
@@ -61,14 +58,10 @@ class Reasoning:
 # Lines and reasons, by the rules
 
 
-def reports_of_examples() -> list[str]:
-    files = [it for script in example_files.texts("ttcn") for it in example_files.answers(script)]
-    return [str(it) for it in files if it.read_bytes().startswith(b"component mtc\n")]
-
-
 def lines_of_reports(_: Reasoning) -> None:
     """Beside the model, and beside what was worked out by hand."""
-    reports, own = reports_of_examples(), [str(it) for it in sorted((ROOT / WHYS).glob("*.expected"))]
+    own = [str(it) for it in sorted((ROOT / WHYS).glob("*.expected"))]
+    reports = [str(it) for it in example_reports.all_of_them()]
     for it in (*reports, *own):
         ruled(f"the lines of {Path(it).name} are those of the model", why_rules.example_rule, it)
     by_hand = (str(ROOT / WHYS / "lines"), *reports, *own)
@@ -98,7 +91,8 @@ def ends_with(line: str) -> Test:
 
 def one_script(asked: Reasoning) -> None:
     script, case = str(BEHIND_THE_MARK), asked.tool.case
-    listed = prints(PRINTED["the lines of waits_behind_the_mark"] + (ROOT / BEHIND_THE_MARK.with_suffix(".why")).read_text(encoding="utf-8"))
+    why = read(ROOT / BEHIND_THE_MARK.with_suffix(".why"))
+    listed = prints(PRINTED["the lines of waits_behind_the_mark"] + why)
     report = asked.report_of(script)
     case("a script that is run", [script], 0, listed)
     case("the same of its report", [script, report], 0, listed)
@@ -217,25 +211,11 @@ def last_is_told(ended: Ended) -> bool:
 
 
 GROUPS = (
-    (lines_of_reports, 137),
-    (causes_of_results, 42),
-    (one_script, 6),
-    (several_scripts, 4),
-    (misfits, 13),
-    (bad_input, 6),
-    (calls, 6),
-    (charts, 4),
-    (at_length, 1),
-)
-
-
-def main() -> int:
-    words = argparse.ArgumentParser(description="What tools/why says of reports.")
-    words.add_argument("program", metavar="PROGRAM", help="the program that runs the scripts")
-    asked = words.parse_args()
-    with tempfile.TemporaryDirectory() as room:
-        return try_groups_of(Reasoning(asked.program, Path(room)), GROUPS)
+    (lines_of_reports, 137), (causes_of_results, 42), (one_script, 6), (several_scripts, 4), (misfits, 13),
+    (bad_input, 6), (calls, 6), (charts, 4), (at_length, 1),
+)  # fmt: skip
 
 
 if __name__ == "__main__":
-    sys.exit(main())
+    with room() as folder:
+        sys.exit(try_groups_of(Reasoning(words_of(__doc__, "PROGRAM")[0], folder), GROUPS))

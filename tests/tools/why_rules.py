@@ -1,26 +1,22 @@
-"""What tools/why says of reports, beside the model of runs in tools/tpr_tools/model, which shares no code with it, and
-beside what was worked out by hand. why_cases.py tries these rules."""
+"""What tools/why says of reports, beside the model of runs in tools/tpr_tools/model, which shares with it what reads
+scripts, and beside what was worked out by hand. why_cases.py tries these rules."""
 from __future__ import annotations
 
 import os
 import random
 import re
 import subprocess
-import sys
-from collections.abc import Callable, Iterable, Sequence
-from typing import NamedTuple, Optional, TypeVar
-
-ROOT = os.path.dirname(os.path.dirname(os.path.dirname(os.path.realpath(__file__))))
-sys.dont_write_bytecode = True
-sys.path[:0] = [os.path.join(ROOT, "tools"), os.path.join(ROOT, "tests", "orders")]
+from collections.abc import Iterable, Sequence
+from typing import NamedTuple, Optional
 
 from generator import some_script
 from judge import run_of
-from rule_cases import Wrong, must
+from tool_calls import Wrong, must
+from tpr_tools.explore.placed import Placed
 from tpr_tools.model.bodies import TestCase, Tried
-from tpr_tools.model.reading import TOKENS, Reader
+from tpr_tools.model.reading import Reader
 from tpr_tools.model.run import Act, Message, Run
-from tpr_tools.model.tree import Choice, Control, Guard, Setverdict, Variable
+from tpr_tools.model.tree import Control, Guard, Setverdict, Variable
 from tpr_tools.report.reader import read_report
 from tpr_tools.report.report import NotAReport
 from tpr_tools.script.case import Case
@@ -30,8 +26,6 @@ from tpr_tools.why.listed_ways import listing_of
 from tpr_tools.why.reasons import reasons_of
 from tpr_tools.why.walk import DoesNotFit
 from tpr_tools.why.ways import Ways
-
-Made = TypeVar("Made")
 
 RECEIVED = ("took", "found", "dropped", "left")
 
@@ -57,69 +51,6 @@ class ToolRow(NamedTuple):
     line: Optional[int]
     arrow: str
     other: str
-
-
-class Word(str):
-    """A token, or a line of a history, that knows its line in the script."""
-
-    line = 0
-
-
-def worded(text: str, line: int) -> Word:
-    word = Word(text)
-    word.line = line
-    return word
-
-
-# A script of the model, and the lines of its statements
-
-
-def lined_tokens(text: str) -> list[str]:
-    tokens: list[str] = []
-    place, line = 0, 1
-    while place < len(text):
-        found = TOKENS.match(text, place)
-        assert found is not None, text[place:]
-        if found.lastgroup != "gap":
-            tokens.append(worded(found.group(), line))
-        line += found.group().count("\n")
-        place = found.end()
-    return tokens
-
-
-class LinedReader(Reader):
-    """Keeps the line of each statement, receiving operation and `[else]` that it reads."""
-
-    def __init__(self, tokens: list[str]):
-        super().__init__(tokens)
-        self.lines: Lines = {}
-        self.elses: list[int] = []
-
-    def keep(self, read: Callable[[], Made]) -> Made:
-        line = getattr(self.ahead(), "line", 0)
-        made = read()
-        if made is not None:
-            self.lines[id(made)] = line
-        return made
-
-    def statement(self) -> object:
-        return self.keep(super().statement)
-
-    def guard(self) -> Guard:
-        return self.keep(super().guard)
-
-    def choice(self) -> Choice:
-        self.elses.append(0)
-        made = super().choice()
-        self.lines["else", id(made)] = self.elses.pop()
-        return made
-
-    def accept(self, *wanted: str) -> bool:
-        line = getattr(self.ahead(), "line", 0)
-        accepted = super().accept(*wanted)
-        if accepted and wanted == ("[", "else", "]"):
-            self.elses[-1] = line
-        return accepted
 
 
 class LinedRun(Run):
@@ -154,7 +85,7 @@ class LinedRun(Run):
         before = len(lines)
         made = super().act(who)
         for place in range(before, len(lines)):
-            lines[place] = worded(lines[place], self.line_of(statement, lines[place]))
+            lines[place] = Placed(lines[place], self.line_of(statement, lines[place]))
         return made
 
     def line_of(self, statement: object, text: str) -> int:
@@ -168,9 +99,10 @@ class LinedRun(Run):
 
 
 def lined_case(text: str) -> tuple[TestCase, Lines]:
-    reader = LinedReader(lined_tokens(text))
-    script = reader.module()
-    return TestCase(script), reader.lines
+    """A script of the model, and the lines of its statements."""
+    read = Text(text.encode("latin-1"))
+    reader = Reader(read)
+    return TestCase(reader.script), {node: read.lines[place] for node, place in reader.places.items()}
 
 
 def run_by_chance(run: LinedRun, chance: random.Random) -> LinedRun:
@@ -207,7 +139,7 @@ def rows_of_model(run: LinedRun) -> list[ModelRow]:
 
 def line_in_script(line: str) -> int:
     """That of a line of a history, which a run gave it."""
-    assert isinstance(line, Word), line
+    assert isinstance(line, Placed), line
     return line.line
 
 

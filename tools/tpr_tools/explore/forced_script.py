@@ -9,10 +9,10 @@ from __future__ import annotations
 
 from dataclasses import dataclass, field
 from itertools import count
-from typing import Iterator, Optional
+from typing import Optional
 
-from ..model.tree import EVERYONE, Choice, Function, Loop, Send, Variable
 from ..origins import Origins
+from ..script.tree import Body, ComponentStart, Function, Loop, Send, TestCase, statements_in
 from .placed import Placed, PlacedCase, placed_tokens
 
 Edits = dict[int, tuple[int, list[str]]]  # by the place of a token: how many are taken out, and what stands there
@@ -53,15 +53,6 @@ def forced_script(data: bytes) -> ForcedScript:
 
 
 @dataclass(frozen=True)
-class _Body:
-    """A function, or the test case, and the place of its first token. Its name is the next."""
-
-    start: int
-    function: Function
-    is_test_case: bool
-
-
-@dataclass(frozen=True)
 class _Runner:
     """A component that carries out a body, the components that the body's parameters mean, and the names that mean
     something else there than a component of the test case. `handed` are components with the parameters by which they
@@ -79,18 +70,11 @@ class _Writer:
     def __init__(self, tokens: list[Placed]):
         self.tokens = tokens
         self.case = PlacedCase(self.tokens)
-        self.read = self.case.script
-        self.bodies = [self.body(it) for it in self.case.bodies_from()]
+        self.bodies = [it for it in self.case.module.definitions if isinstance(it, (Function, TestCase))]
         self.edits: Edits = {}
         taken = set(self.tokens)
         self.new_names = (name for number in count(1) if (name := f"forced{number}") not in taken)
         self.turn = next(self.new_names)
-
-    def body(self, start: int) -> _Body:
-        is_test_case = self.tokens[start] == "testcase"
-        function = self.read.case if is_test_case else self.read.functions[self.tokens[start + 1]]
-        assert function is not None
-        return _Body(start, function, is_test_case)
 
     def script(self) -> ForcedScript:
         """The script with a loop without a turn at the end of each body."""
@@ -112,9 +96,9 @@ class _Writer:
 
     # The last step of a body
 
-    def last_step(self, body: _Body) -> Edits:
+    def last_step(self, body: Body) -> Edits:
         place = self.end_of(body)
-        if body.is_test_case:
+        if isinstance(body, TestCase):
             # Nothing stands behind `all component.done`, which is no step.
             place = next((at - 3 for at in range(place - 1, body.start, -1) if self.tokens[at] == "done"), place)
         begin = [] if self.tokens[place - 1] in ("{", "}", ";") else [";"]
@@ -126,7 +110,7 @@ class _Writer:
         """The first place of the symbol from there on."""
         return next(at for at in range(behind, len(self.tokens)) if self.tokens[at] == symbol)
 
-    def end_of(self, body: _Body) -> int:
+    def end_of(self, body: Body) -> int:
         """The place of the bracket that closes the body."""
         place = self.place_of("{", body.start)
         depth = 1
@@ -140,30 +124,35 @@ class _Writer:
     def split_sends(self) -> None:
         """Writes them anew: those of the test case in their place, and those of a function in a copy of it for
         each start, since each component has connections of its own."""
-        functions: dict[str, _Body] = {self.tokens[it.start + 1]: it for it in self.bodies if not it.is_test_case}
-        for body in self.bodies:
-            if body.is_test_case:
-                self.edits.update(self.split(body, _Runner(0, {}, set())))
-        for (component, function, given), place in zip(self.read.starts, self.case.started_at()):
-            self.split_start(functions[function], component, given, place)
+        functions = {self.tokens[it.name]: it for it in self.bodies if isinstance(it, Function)}
+        for case in (it for it in self.bodies if isinstance(it, TestCase)):
+            self.edits.update(self.split(case, _Runner(0, {}, set())))
+            for start in case.starts:
+                self.split_start(functions[self.tokens[start.function]], start)
 
-    def split_start(self, body: _Body, component: str, given: tuple[str, ...], started: int) -> None:
-        meant = [self.case.places["mtc" if it == "self" else it] for it in given]
-        arguments = dict(zip(body.function.parameters, meant))
-        runner = _Runner(self.case.places[component], arguments, hidden_in(body.function))
+    def split_start(self, body: Function, start: ComponentStart) -> None:
+        words = [self.tokens[it] for it in start.arguments]
+        meant = [self.case.places["mtc" if it == "self" else it] for it in words]
+        arguments = dict(zip((str(self.tokens[it.name]) for it in body.parameters), meant))
+        runner = _Runner(self.case.places[self.tokens[start.component]], arguments, self.hidden_in(body))
         edits = self.split(body, runner)
         if not edits:
             return
         name = next(self.new_names)
         behind = self.end_of(body) + 1
-        copied = {**edits, **self.last_step(body), body.start + 1: (1, [name])}
+        copied = {**edits, **self.last_step(body), body.name: (1, [name])}
         for other, parameter in runner.handed.items():
             named = str(self.case.names[other])
-            self.add_one(copied, body.start + 1, [str(dict(self.read.created)[named]), parameter])
-            self.add_one(self.edits, started, [named])
+            self.add_one(copied, body.name, [str(dict(self.case.script.created)[named]), parameter])
+            self.add_one(self.edits, start.function, [named])
         others = self.edits.get(behind, (0, []))[1]
         self.edits[behind] = (0, [*others, *self.written(body.start, behind, copied)])
-        self.edits[started] = (1, [name])
+        self.edits[start.function] = (1, [name])
+
+    def hidden_in(self, body: Function) -> set[str]:
+        """The names that mean something else in the body than a component of the test case."""
+        loops = [it.name for it in statements_in(body.statements) if isinstance(it, Loop)]
+        return {self.tokens[it] for it in loops + [it.name for it in body.parameters + body.variables]}
 
     def add_one(self, edits: Edits, name: int, words: list[str]) -> None:
         """Puts one parameter, or argument, more into the brackets behind the name."""
@@ -172,16 +161,16 @@ class _Writer:
         comma = [","] if new or self.tokens[place - 1] != "(" else []
         edits[place] = (0, [*new, *comma, *words])
 
-    def split(self, body: _Body, runner: _Runner) -> Edits:
+    def split(self, body: Body, runner: _Runner) -> Edits:
         edits: Edits = {}
-        for send in statements_in(body.function.block):
-            if not isinstance(send, Send) or send.receiver != EVERYONE:
+        for send in statements_in(body.statements):
+            if not isinstance(send, Send) or send.to is None or self.tokens[send.to] != "all":
                 continue
-            ends = self.case.partners.get((runner.component, send.port), [])
+            ends = self.case.partners.get((runner.component, self.tokens[send.port]), [])
             if len(ends) > 1:
-                start, behind = self.case.span(send)
                 names = [self.name_of(component, runner) for component, _ in ends]
-                edits[start] = (behind - start, self.sends_to(start, behind - len(("all", "component")), names))
+                taken_out = send.to + len(("all", "component")) - send.start
+                edits[send.start] = (taken_out, self.sends_to(send.start, send.to, names))
         return edits
 
     def sends_to(self, start: int, to: int, names: list[str]) -> list[str]:
@@ -206,22 +195,3 @@ class _Writer:
         if component not in runner.handed:
             runner.handed[component] = next(self.new_names)
         return runner.handed[component]
-
-
-def hidden_in(function: Function) -> set[str]:
-    """The names that mean something else in the body than a component of the test case."""
-    statements = list(statements_in(function.block))
-    names = {it.name for it in statements if isinstance(it, Variable)}
-    return names.union(function.parameters, (it.variable for it in statements if isinstance(it, Loop)))
-
-
-def statements_in(block: tuple[object, ...]) -> Iterator[object]:
-    """All statements, those of blocks too."""
-    for statement in block:
-        yield statement
-        if isinstance(statement, Choice):
-            for _, inner in statement.branches:
-                yield from statements_in(inner)
-            yield from statements_in(statement.otherwise or ())
-        if isinstance(statement, Loop):
-            yield from statements_in(statement.block)

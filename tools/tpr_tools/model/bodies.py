@@ -87,7 +87,7 @@ class TestCase:
 
     def __init__(self, script: Script):
         assert script.case is not None, "a script that is accepted has a test case"
-        self.script = script
+        self.script, self.forms = script, script.forms
         named = [("mtc", script.case.runs_on)] + script.created
         if script.system is not None:
             named.append(("system", script.system))

@@ -13,11 +13,9 @@ from dataclasses import dataclass, field
 from enum import Enum
 from typing import Any, TypeVar
 
-# A table alone: nothing else of the tools is used here.
 from ..refusals import Refusal
 from .bodies import Begun, Jump, TestCase, Tried, Turn
 from .tree import EVERYONE, Control, Guard, Send, Setverdict, Variable
-from .values import filled, matches, written
 
 It = TypeVar("It")
 
@@ -211,7 +209,7 @@ class Run:
         me = self.components[who]
         if me.ports[send.port].status != "started":
             return Refusal.NOT_SENDING
-        if send.type is None and self.held(me, send.message) is None:
+        if send.variable and self.held(me, send.variable) is None:
             return Refusal.UNSET_VARIABLE
         receiver = send.receiver
         if receiver is not None and receiver != EVERYONE and self.receiver(who, receiver) is None:
@@ -256,11 +254,12 @@ class Run:
 
     def message(self, me: Component, send: Send) -> tuple[str, Any]:
         """The type and the value that are sent."""
-        if send.type is None:
-            held = self.held(me, send.message)
-            assert held is not None, "a send of a variable without a value fails"
-            return held
-        return send.type, filled(send.message, send.type, self.case.script, me.loops)
+        if send.message is not None:
+            forms, type_name = self.case.forms, self.case.forms.names.word(send.message.type)
+            return type_name, forms.filled(send.message.value, type_name, me.loops)
+        held = self.held(me, send.variable)
+        assert held is not None, "a send of a variable without a value fails"
+        return held
 
     # Receiving operations (20.2, 22.2.2, 22.2.3, 22.4)
 
@@ -290,10 +289,7 @@ class Run:
         me, body = self.components[who], self.case.bodies[who]
         if guard.sender is not None and body.components[guard.sender] != top.sender:
             return False
-        if guard.type is None:
-            return True
-        same = guard.type == top.type
-        return same and matches(guard.template, top.value, top.type, self.case.script, me.loops)
+        return guard.template is None or guard.type == top.type and guard.template(top.value, me.loops)
 
     def get(self, me: Component, guard: Guard, top: Message) -> None:
         """Takes or finds a message, and sets what the redirect names."""
@@ -308,7 +304,7 @@ class Run:
     # The report
 
     def text(self, message: Message) -> str:
-        return f"{message.type}:{written(message.value, message.type, self.case.script)}"
+        return f"{message.type}:{self.case.forms.written(message.value, message.type)}"
 
     def note(self, me: Component, what: str, port: str, message: Message) -> None:
         me.lines.append(self.line(what, port, message))

@@ -1,51 +1,14 @@
-"""A script as plain lists: its definitions, statements, values and templates."""
+"""A script as plain lists: its components, their statements, and how they are joined."""
 from __future__ import annotations
 
 from dataclasses import dataclass, field
-from typing import Any
+
+from ..script.forms import Forms, Test
+from ..script.tree import Message
 
 EVERYONE = "all component"
 
-# A value or a template: an int, a bool, a str, a tuple of members, a dict by the names of fields, or a class below.
-Form = Any
 Block = tuple[object, ...]  # of statements
-
-
-@dataclass(frozen=True)
-class Name:
-    """A loop variable in a value or a template."""
-
-    name: str
-
-
-@dataclass(frozen=True)
-class Wild:
-    """`?`, which every value matches, or `*`, any number of elements."""
-
-    symbol: str
-
-
-@dataclass(frozen=True)
-class Either:
-    """`(a, b)`, where some member is matched, or `complement (a, b)`, where none is."""
-
-    members: tuple[Form, ...]
-    some: bool
-
-
-@dataclass(frozen=True)
-class Range:
-    """The integers from one bound to the other. None is infinity."""
-
-    lower: int | None
-    upper: int | None
-
-
-@dataclass(frozen=True)
-class Pattern:
-    """The charstrings that a pattern describes."""
-
-    text: str
 
 
 @dataclass(frozen=True)
@@ -55,7 +18,7 @@ class Guard:
     how: str
     port: str
     type: str | None
-    template: Form
+    template: Test | None
     sender: str | None
     value_into: str | None
     sender_into: str | None
@@ -70,11 +33,11 @@ class Variable:
 
 @dataclass(frozen=True)
 class Send:
-    """A send of a value under a type, or, without a type, of what a variable holds."""
+    """A send of a message, or of what a variable holds."""
 
     port: str
-    type: str | None
-    message: Form
+    message: Message | None
+    variable: str
     receiver: str | None
 
 
@@ -123,10 +86,9 @@ class Function:
 
 @dataclass
 class Script:
-    """What a script defines. Types that aren't in `records` or `lists` are the simple ones."""
+    """What a script defines. Its types are in `forms`."""
 
-    records: dict[str, tuple[tuple[str, str], ...]] = field(default_factory=dict)
-    lists: dict[str, str] = field(default_factory=dict)
+    forms: Forms
     component_types: dict[str, tuple[str, ...]] = field(default_factory=dict)
     functions: dict[str, Function] = field(default_factory=dict)
     case: Function | None = None

@@ -116,9 +116,7 @@ def _of_component(one: Component, other: Component) -> list[Difference]:
     return differences
 
 
-def _first_of(
-    what: str, ours: list[tuple[str, Line]], theirs: list[tuple[str, Line]]
-) -> Optional[Difference]:
+def _first_of(what: str, ours: list[tuple[str, Line]], theirs: list[tuple[str, Line]]) -> Optional[Difference]:
     """The first place where these differ, and how many others there are."""
     differ = [
         (mine and mine[1], yours and yours[1])
@@ -168,9 +166,7 @@ def _first_orders(one: Component, other: Component) -> list[Difference]:
     return [first for first in firsts if first and first.is_open]
 
 
-def _first_entry(
-    what: str, history: tuple[Entry, ...], others: tuple[Entry, ...]
-) -> Optional[Difference]:
+def _first_entry(what: str, history: tuple[Entry, ...], others: tuple[Entry, ...]) -> Optional[Difference]:
     """Where two histories first differ, and whether that is open."""
     for mine, yours in zip_longest(history, others):
         if mine is None or yours is None or mine.line.text != yours.line.text:

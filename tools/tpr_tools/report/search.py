@@ -62,9 +62,7 @@ class Search:
         names = {name: place for place, name in enumerate(deliveries.report.names())}
         self.queues = {key: _Queue(port, key[0]) for key, port in deliveries.ports.items()}
         none = _Queue(Port(), 0)
-        self.queue_of = [
-            self.queues.get((names[it.route.receiver], it.route.port), none) for it in deliveries.messages
-        ]
+        self.queue_of = [self.queues.get((names[it.route.receiver], it.route.port), none) for it in deliveries.messages]
         self.next = [0] * len(self.histories)
         self.left = sum(len(history) for history in self.histories)
         self.order: list[Place] = []

@@ -3,7 +3,6 @@ from __future__ import annotations
 
 import functools
 from dataclasses import dataclass
-from itertools import accumulate
 from typing import Optional
 
 from ..origins import Line, Origins
@@ -54,31 +53,24 @@ class Case:
         self.players = [self._player(checked, name, self.types[name]) for name in order]
 
     @functools.cached_property
-    def _lines(self) -> list[int]:
-        """The line of each token: how many ends of lines stand before it."""
-        offsets = [self.text.offset(place) for place in range(len(self.text.tokens))]
-        between = [self.text.letters.count("\n", *cut) for cut in zip([0, *offsets], offsets)]
-        return [count + 1 for count in accumulate(between)]
-
-    @functools.cached_property
     def _told(self) -> dict[int, Line]:
-        return {line: self.origins.line(line) for line in set(self._lines)}
+        return {line: self.origins.line(line) for line in set(self.text.lines)}
 
     def word(self, place: int) -> str:
         return self.names.word(place)
 
     def own_line(self, place: int) -> int:
         """The line at which a token stands."""
-        return self._lines[place]
+        return self.text.lines[place]
 
     def line(self, place: int) -> Line:
         """The line that it comes from: of a script that tools/rewrite wrote, one of what that was given."""
-        return self._told[self._lines[place]]
+        return self._told[self.text.lines[place]]
 
     def source(self, place: int) -> tuple[Line, int]:
         """What the statement or branch at a token comes from: a line, and the column there, or where it comes from
         nothing else the token itself."""
-        row = self.origins.row(self._lines[place])
+        row = self.origins.row(self.text.lines[place])
         return self.line(place), row.column if row else place
 
     def bodies(self) -> list[Body]:

@@ -5,6 +5,7 @@ the number behind the last one is the place of the text's end.
 """
 from __future__ import annotations
 
+import functools
 import re
 from dataclasses import dataclass
 from itertools import accumulate
@@ -88,6 +89,13 @@ class Text:
             ends = accumulate(map(len, _PIECE_WITH_GAP.findall(self.letters)))
             self.starts = [end - len(token) for end, token in zip(ends, self.tokens)]
         return self.starts[place] if place < len(self.starts) else len(self.letters)
+
+    @functools.cached_property
+    def lines(self) -> list[int]:
+        """The line of each token: how many ends of lines stand before it."""
+        offsets = [self.offset(place) for place in range(len(self.tokens))]
+        between = [self.letters.count("\n", *cut) for cut in zip([0, *offsets], offsets)]
+        return [count + 1 for count in accumulate(between)]
 
     def line(self, place: int) -> int:
         return self.letters.count("\n", 0, self.offset(place)) + 1

@@ -38,9 +38,7 @@ def prepare(folders: list[str]) -> None:
             raise Stop(NOT_WRITTEN, f"{folder} can't be made or written to: {error.strerror}") from None
 
 
-def keep(
-    run: Printed, judged: Judged, folder: str, number: int, title: str, marks: Optional[Marks]
-) -> tuple[str, ...]:
+def keep(run: Printed, judged: Judged, folder: str, number: int, title: str, marks: Optional[Marks]) -> tuple[str, ...]:
     """Writes the run's report and its chart, or what was printed in its place, and what was said."""
     base = os.path.join(folder, f"run{number}.{judged.result}")
     files = {f"{base}.printed" if judged.report is None else f"{base}.report": run.printed}
