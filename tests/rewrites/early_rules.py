@@ -27,6 +27,12 @@ connect(self:p, c:p); c.start(f(i)); } for (var integer i := 0; i < 18; i := i +
 sum := sum * 2 + v; } if (sum > 0) { setverdict(pass); } all component.done; }
 }
 """
+FOR = "for (var integer i := 0; i < 18; i := i + 1) { p.receive(integer:?) -> value v;\nsum := sum * 2 + v; }"
+# The same in loops that don't say at their head how many turns they have.
+OTHERS = {
+    "while": "while (n < 18) { p.receive(integer:?) -> value v; sum := sum * 2 + v; n := n + 1; }",
+    "do": "do { p.receive(integer:?) -> value v; sum := sum * 2 + v; n := n + 1; } while (n < 18);",
+}
 # It sends to itself, and computes with what comes back.
 TO_ITSELF = PRELUDE + """testcase t() runs on C { var integer v := 0; connect(self:p, self:q); for (var integer i := 0; i < TURNS; i := i + 1) {
 p.send(v); q.receive(integer:?) -> value v; v := (v + 1) mod 3; } }
@@ -44,6 +50,10 @@ def main() -> None:
     is_told = reasons == ["more than 8,000 statements would be written: --statements 61348 lets it write more"]
     judged("a loop that would write too much is refused", is_told, f"{reasons}")
     judged("it is refused before so much is written", stops[-1][0] < 8_000, f"{stops}")
+    for word, loop in OTHERS.items():
+        found, stops, _ = counted(SUMS.replace(FOR, loop).replace("sum := 0;", "sum := 0, n := 0;"), Options(statements=8_000))
+        is_told = [one.reason.partition(":")[0] for one in found.refused] == ["more than 8,000 statements would be written"]
+        judged(f"a `{word}` that would write too much is refused before it does", is_told and stops[-1][0] < 8_000, f"{stops}")
     found, stops, _ = counted(TO_ITSELF.replace("TURNS", "30000"), Options(seconds=1))
     judged("what takes too long is refused", "takes more than 1 seconds" in found.refused[0].reason, f"{found.refused}")
     judged("the seconds are those of all that is tried", stops[-1][1] - stops[0][1] < 3, f"{stops}")

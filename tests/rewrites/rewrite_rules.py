@@ -202,6 +202,8 @@ testcase t() runs on C { var C a := C.create; connect(self:p, a:p); a.start(f())
     is_once = sum("a backslash in a text" in line[1] for line in said) == 1
     queued = [line[0] for line in said if line[1].endswith("(--ended=queued)")]
     judged("a backslash is told of once", ended.status == 0 and is_once, ended.said)
+    notes = rewrite([Source("t", f'{PRELUDE}testcase t() runs on C {{ p.receive(charstring:pattern "x\\?"); }} }}'.encode())]).notes
+    judged("a backslash in a pattern isn't told of", not notes, f"{notes}")
     judged("each send to what may have ended is told of", queued == ["3:98", "3:113"], ended.said)
 
 

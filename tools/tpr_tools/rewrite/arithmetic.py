@@ -6,7 +6,7 @@ from typing import Callable, Optional
 from .predefined import BITWISE, CONVERSIONS, ENCODING, MOVING, all_ones_of, bitwise, moved
 from .refusing import refuse
 from .tokens import Token
-from .values import Digits, Elements, Form, Mark, same
+from .values import Digits, Elements, Fields, Form, Mark, same
 
 _NUMBERS = ("+", "-", "*", "/", "mod", "rem")
 ORDERED = ("<", ">", "<=", ">=")
@@ -99,14 +99,21 @@ def _number_of_text(values: list[Form]) -> Optional[Form]:
     return int(text) if isinstance(text, str) and is_number and len(text) < 20 else None
 
 
+def _size(values: list[Form]) -> Optional[Form]:
+    """Of a record, its fields that aren't left out."""
+    value = values[0]
+    return len(value.items) - value.items.count(Mark.OMIT) if isinstance(value, Fields) else length_of(value)
+
+
 # Each has an example in tests/rewrites/. What isn't listed isn't evaluated.
 PREDEFINED: dict[str, tuple[int, Callable[[list[Form]], Optional[Form]]]] = {
     "lengthof": (1, _length),
-    "sizeof": (1, _length),
+    "sizeof": (1, _size),
     "int2str": (1, _text_of_number),
     "str2int": (1, _number_of_text),
     **CONVERSIONS,
 }
+CODECS = ("encvalue", "decvalue", "encvalue_unichar", "decvalue_unichar", "encvalue_o", "decvalue_o")
 
 
 def predefined(word: str, values: list[Form], at: Token) -> Form:

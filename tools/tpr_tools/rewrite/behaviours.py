@@ -6,7 +6,7 @@ from typing import Callable, Optional
 
 from . import tree
 from .emitted import Verdict
-from .hoisting import Communicates, calls_in, key_of
+from .hoisting import Communicates, calls_in, key_of, steps_of
 from .labels import lost_label
 from .paths import Exit, Key, Path, Scope, Slot, Split, State, joined
 from .refusing import Refusal, refuse, refuse_open, refuse_silently
@@ -322,24 +322,31 @@ class Follower(ListFollower):
                 one.exit, one.result = Exit.RETURN, value
         return [one for one, _ in found]
 
-    def _if(self, statement: tree.If, path: Path, scope: Scope) -> list[Path]:
-        if self.truth(self.evaluate(statement.condition, path, scope), statement.condition.at):
-            return self.block(statement.then, path, scope)
-        return self.block(statement.otherwise, path, scope) if statement.otherwise else [path]
+    def _choose_block(self, statement: Statement, path: Path, scope: Scope) -> list[Path]:
+        block = self.chosen_block(statement, path, scope)
+        return self.block(block, path, scope) if block is not None else [path]
 
-    def _select(self, statement: tree.Select, path: Path, scope: Scope) -> list[Path]:
-        if statement.is_union:
-            return self._select_union(statement, path, scope)
+    def chosen_block(self, statement: Statement, path: Path, scope: Scope) -> Optional[tree.Block]:
+        """The block of an `if` or a `select` that is done, if one is."""
+        if isinstance(statement, tree.Select):
+            return (self._select_union if statement.is_union else self._select)(statement, path, scope)
+        if isinstance(statement, tree.Block):
+            return statement
+        assert isinstance(statement, tree.If)
+        is_so = self.truth(self.evaluate(statement.condition, path, scope), statement.condition.at)
+        return statement.then if is_so else statement.otherwise
+
+    def _select(self, statement: tree.Select, path: Path, scope: Scope) -> Optional[tree.Block]:
         type = self.type_of(statement.value, path, scope)
         value = self.evaluate(statement.value, path, scope, type)
         for case in statement.cases:
             if case.templates is None or any(
                 self._is_case(value, item, path, scope, type) for item in case.templates
             ):
-                return self.block(case.block, path, scope)
-        return [path]
+                return case.block
+        return None
 
-    def _select_union(self, statement: tree.Select, path: Path, scope: Scope) -> list[Path]:
+    def _select_union(self, statement: tree.Select, path: Path, scope: Scope) -> Optional[tree.Block]:
         """The first case that names the chosen alternative (19.3.2). Of what was received it may be open: each
         alternative that a case names gets a branch."""
         type = self.type_of(statement.value, path, scope)
@@ -351,8 +358,8 @@ class Follower(ListFollower):
         for case in statement.cases:
             names = [self._alternative(item, type) for item in case.templates or []]
             if case.templates is None or any(self.has_chosen(value, name, case.at) for name in names):
-                return self.block(case.block, path, scope)
-        return [path]
+                return case.block
+        return None
 
     def _alternative(self, item: Expression, type: Type) -> str:
         if not isinstance(item, tree.Name) or type.field_number(item.word) is None:
@@ -393,6 +400,10 @@ class Follower(ListFollower):
             written = self.run.written
             if len(paths) == 1 and paths[0].exit is Exit.ON:
                 if before is not None and before == paths[0].state:
+                    # What is asked of a component doesn't hold for good.
+                    self.is_looking = self.program.has_word("running") or self.program.has_word("alive")
+                    self.evaluate(condition, paths[0], scope) if self.is_looking else None
+                    self.is_looking = False
                     refuse_open(loop.at, "this loop never ends: a turn of it leaves all as it was")
                 before = paths[0].state.copy()
             turned: list[Path] = []
@@ -411,18 +422,22 @@ class Follower(ListFollower):
                 ways = [*(Sorted(one, False) for one in finished), *(Sorted(one, True) for one in paths)]
                 ways = self.sorted(ways, above, loop.at)
                 finished, paths = ([way.path for way in ways if way.goes_on is so] for so in (False, True))
-            if len(paths) > 1 and self.run.written > MOST_OF_TREE and step is not None:
-                left = self._turns_left(condition, step, Path([], paths[0].state.copy(), None), scope)
-                self.run.look_ahead(loop.at, left * (self.run.written - written))
+            if len(paths) > 1 and self.run.written > MOST_OF_TREE:
+                steps = [step] if step is not None else steps_of(condition, block)
+                left = self._turns_left(condition, steps, Path([], paths[0].state.copy(), None), scope)
+                # A `while` of so many turns may be ended by something else.
+                is_sure = step is not None or left < MOST_OF_TREE
+                self.run.look_ahead(loop.at, left * (self.run.written - written) if is_sure else 0)
         self.frames.pop()
         return finished
 
-    def _turns_left(self, condition: Expression, step: Statement, path: Path, scope: Scope) -> int:
-        """How many turns a `for` still has, if its block changes nothing that its head asks for."""
+    def _turns_left(self, condition: Expression, steps: list[Statement], path: Path, scope: Scope) -> int:
+        """How many turns a loop still has, if these alone change what its condition asks for."""
         count, open_now = 0, (len(self.frames), len(self.results), self.depth)
         try:
             while count < MOST_OF_TREE and self.evaluate(condition, path, scope) is True:
-                (path,) = self.follow(step, path, scope)
+                for step in steps:
+                    (path,) = self.follow(step, path, scope)
                 count += 1
         except (Refusal, Split):
             # What is asked for isn't known.
@@ -526,8 +541,8 @@ _FOLLOWED: dict[type, _Followed] = {
     tree.Assignment: Follower._assign,  # type: ignore[dict-item]
     tree.CallStatement: Follower._called,  # type: ignore[dict-item]
     tree.Block: Follower._block,  # type: ignore[dict-item]
-    tree.If: Follower._if,  # type: ignore[dict-item]
-    tree.Select: Follower._select,  # type: ignore[dict-item]
+    tree.If: Follower._choose_block,
+    tree.Select: Follower._choose_block,
     tree.For: Follower._for,  # type: ignore[dict-item]
     tree.While: Follower._while,  # type: ignore[dict-item]
     tree.Return: Follower._return,  # type: ignore[dict-item]

@@ -12,6 +12,7 @@ from .emitted import Code, Failed, Got, GotDone, GotEnd, Message, Ticked, Tickin
 from .evaluating import SENDER
 from .fitting import open_alternatives, type_at
 from .guards import Expander, Guard, is_repeat_alone, may_repeat
+from .interleaving import Opened
 from .labels import lost_label
 from .paths import Exit, Fork, Path, Scope, Split, checkpoint
 from .refusing import refuse, refuse_open
@@ -33,8 +34,7 @@ MOST_DEPTH = 14
 
 class Chooser(Expander):
     def choose(self, statement: tree.Alt, path: Path, scope: Scope) -> list[Path]:
-        branches = self.interleaving.branches_of(statement) if statement.is_interleave else statement.branches
-        return self._turn(statement, branches, path, scope, 0)
+        return self._turn(statement, self.opened_by(statement, scope), path, scope, 0)
 
     def receive(self, statement: tree.Receive | tree.Find, path: Path, scope: Scope) -> list[Path]:
         """A receiving operation that stands alone is an `alt` with it as its branch (20.2, 22.2.2)."""
@@ -42,7 +42,7 @@ class Chooser(Expander):
         return self.choose(tree.Alt(statement.at, [branch], False, statement.span), path, scope)
 
     def _turn(
-        self, statement: tree.Alt, branches: list[tree.Branch], path: Path, scope: Scope, count: int
+        self, statement: tree.Alt, branches: list[Opened], path: Path, scope: Scope, count: int
     ) -> list[Path]:
         """All that comes of an `alt`, turn by turn where ways are sorted; `count` says how often it was repeated."""
         if not self.run.sorts:
@@ -65,7 +65,7 @@ class Chooser(Expander):
         return finished
 
     def _apart(
-        self, statement: tree.Alt, branches: list[tree.Branch], path: Path, scope: Scope, count: int
+        self, statement: tree.Alt, branches: list[Opened], path: Path, scope: Scope, count: int
     ) -> list[Path]:
         """One turn on one way, anew where a message of this turn must be told apart."""
         begun, open_now = self.counted, (len(self.frames), len(self.results), self.depth)
@@ -78,13 +78,13 @@ class Chooser(Expander):
                 self._close(open_now)
 
     def _waited(
-        self, statement: tree.Alt, branches: list[tree.Branch], path: Path, scope: Scope, count: int
+        self, statement: tree.Alt, branches: list[Opened], path: Path, scope: Scope, count: int
     ) -> list[Path]:
         """One waiting of an `alt`, and what comes of it where ways aren't sorted."""
         most = MOST_TURNS if self.flows is None else MOST_KNOWN_TURNS
         if count > most:
             refuse_open(statement.at, f"this is repeated more than {most} times")
-        expansion = self.expand(branches, path, scope)
+        expansion = self.expand(branches, path)
         for guard in expansion.guards:
             guard.number = self.counted
             self.counted += 1
@@ -268,7 +268,7 @@ class Chooser(Expander):
     # Behind the operation
 
     def _follow_leaf(
-        self, statement: tree.Alt, branches: list[tree.Branch], leaf: Leaf, path: Path, scope: Scope, count: int
+        self, statement: tree.Alt, branches: list[Opened], leaf: Leaf, path: Path, scope: Scope, count: int
     ) -> list[Path]:
         guard = leaf.guard
         if leaf.is_never or leaf.is_barred:
@@ -309,7 +309,7 @@ class Chooser(Expander):
         return paths
 
     def _behind(
-        self, statement: tree.Alt, branches: list[tree.Branch], leaf: Leaf, path: Path, scope: Scope, count: int
+        self, statement: tree.Alt, branches: list[Opened], leaf: Leaf, path: Path, scope: Scope, count: int
     ) -> list[Path]:
         if path.exit is Exit.REPEAT:
             if self.run.sorts:
@@ -319,11 +319,14 @@ class Chooser(Expander):
         if path.exit is Exit.BREAK:
             path.exit = Exit.ON
             return [path]
-        is_own = statement.is_interleave and path.exit is Exit.ON and leaf.guard.source is not None
-        if not is_own:
+        if not statement.is_interleave or path.exit is not Exit.ON or leaf.guard.source is None:
             return [path]
-        rest = self.interleaving.left_by(leaf.guard.source, branches)
-        return self._turn(statement, rest, path, scope, 0) if rest else [path]
+        found: list[Path] = []
+        for one, rests in self.gone_on(branches[leaf.guard.source].behind, path):
+            is_left = one.exit is Exit.BREAK
+            one.exit = Exit.ON if is_left else one.exit
+            found += self._turn(statement, self.opened(rests), one, scope, 0) if rests and not is_left else [one]
+        return found
 
     def _redirect(self, leaf: Leaf, path: Path, scope: Scope) -> None:
         redirect, guard = leaf.guard.redirect, leaf.guard

@@ -5,7 +5,7 @@ from typing import Optional
 
 from . import tree
 from .choosing import Chooser
-from .emitted import Operated, Sent, Ticked, Told, Verdict
+from .emitted import Operated, Sent, StillRuns, Ticked, Told, Verdict
 from .flowing import Flows
 from .paths import ActiveDefault, Created, End, Exit, Joined, Path, Scope, Started, peers
 from .refusing import Refusal, refuse, refuse_open
@@ -155,10 +155,15 @@ class Behaviour(Chooser):
         refuse(node.at, f"`{node.word}` asks for something that is known only in a run")
 
     def _is_running(self, started: list[int], node: tree.Asked, path: Path) -> bool:
-        """Of components that were started: not if all of them surely have ended, and else it is open."""
-        if self.can_set_up and set(started) <= path.state.done | path.state.awaited:
+        """Of components that were started: not if all of them surely have ended. Else one must surely run, which is looked at
+        when all is followed; what is asked at each look at branches may end while these wait."""
+        left = frozenset(started) - path.state.done - path.state.awaited
+        if self.can_set_up and not left:
             return False
-        refuse(node.at, f"`{node.word}` asks for something that is known only in a run")
+        if not self.can_set_up or self.is_looking:
+            refuse(node.at, f"`{node.word}` asks for something that is known only in a run")
+        self.emit(path, StillRuns(node.at, node.word, left))
+        return True
 
     # Defaults
 
@@ -275,7 +280,7 @@ class Behaviour(Chooser):
             self.settled(slot.value, call.at, f"the argument for `{name}` isn't known before the run")
             if isinstance(slot.value, Reference):
                 refuse(call.at, f"the argument for `{name}` isn't known before the run")
-        is_told = bool(path.state.awaited) or any(not isinstance(one, (Verdict, Ticked)) for one in path.code)
+        is_told = bool(path.state.awaited) or any(not isinstance(one, (StillRuns, Verdict, Ticked)) for one in path.code)
         if is_told:
             self.emit(path, Told(statement.at, number))
         path.state.started += ((number, Started(body, tuple(bound), statement.at, is_told)),)

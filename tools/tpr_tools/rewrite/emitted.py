@@ -150,7 +150,16 @@ class Verdict:
     word: str
 
 
+@dataclass
+class StillRuns:
+    """It was asked whether one of these components runs, and said that it does: that must be sure. Nothing is written."""
+
+    at: Token
+    word: str
+    components: frozenset[int]
+
+
 Emitted = Union[
-    Sent, Got, GotDone, Told, Ways, Operated, Verdict, Failed, Ticked, Unstarted, GotEnd, EndTold, Went, Came
+    Sent, Got, GotDone, Told, Ways, Operated, Verdict, Failed, Ticked, Unstarted, GotEnd, EndTold, Went, Came, StillRuns
 ]
 Code = list[Emitted]

@@ -7,7 +7,7 @@ from collections import Counter
 from dataclasses import dataclass, field
 from typing import Iterable, Optional
 
-from .emitted import Came, Code, Failed, Got, GotDone, GotEnd, Sent, Way, Ways, Went
+from .emitted import Came, Code, Failed, Got, GotDone, GotEnd, Sent, StillRuns, Way, Ways, Went
 from .following import Followed, Part
 from .paths import End, peers
 from .reaching import Reach, TooFar
@@ -74,6 +74,8 @@ class EndedFinder:
         self.ends = {number: _ended(part.code, _Ended(Counter(), frozenset()), {}) for number, part in self.parts.items()}
         self.most = {number: _most_of(followed, number, part.code, Counter(), {}) for number, part in self.parts.items()}
         self.found: dict[tuple[Token, str], LateSend] = {}
+        # Where it was said that a component runs, which may have ended.
+        self.unsure: list[StillRuns] = []
         self.asked = 0
 
     def all(self) -> list[LateSend]:
@@ -89,6 +91,9 @@ class EndedFinder:
                 count_sent(walk.sent, self.followed, walk.part.number, statement)
             elif isinstance(statement, GotDone):
                 walk.done |= {statement.component}
+            elif isinstance(statement, StillRuns):
+                if all(self._may_have_ended(walk, number) for number in statement.components):
+                    self.unsure.append(statement)
             elif isinstance(statement, Went):
                 walk.went.setdefault(statement.number, []).append(walk)
                 return False
@@ -109,17 +114,19 @@ class EndedFinder:
             if part is None or end.component <= 0 or part.started is None or part.is_alive:
                 continue
             is_sure = end.component in walk.done
-            if is_sure or not self._is_before_end(walk, end.component, frozenset()) and self._may_have_ended(walk, end):
+            if is_sure or self._may_have_ended(walk, end.component):
                 late = LateSend(statement.at, part.hint, is_sure)
                 self.found.setdefault((statement.at, part.hint), late)
 
-    def _may_have_ended(self, walk: _Walk, end: End) -> bool:
+    def _may_have_ended(self, walk: _Walk, component: int) -> bool:
         """By what all components can have done by then."""
+        if self._is_before_end(walk, component, frozenset()):
+            return False
         self.asked += 1
         if self.asked > MOST_ASKED:
             return True
         try:
-            return Reach(self.followed, walk.part.number, walk.sent).may_end(end.component)
+            return Reach(self.followed, walk.part.number, walk.sent).may_end(component)
         except TooFar:
             return True
 

@@ -4,10 +4,11 @@ from __future__ import annotations
 from typing import Optional, Union
 
 from . import tree
-from .arithmetic import ORDERED, PREDEFINED, computed, inverted, predefined
+from .arithmetic import CODECS, ORDERED, PREDEFINED, computed, inverted, predefined
 from .asking import ASKING, Asker
 from .fitting import open_alternatives, opened, template_at
 from .paths import Key, Path, Scope, Slot, Split
+from .patterns import letters_between
 from .program import Program
 from .refusing import refuse, Refusal
 from .settling import SENDER as SENDER
@@ -17,7 +18,8 @@ from .tree import Expression, Sign
 from .types import Kind, Type
 from .values import (
     Bounds, Chosen, ComponentValue, Digits, DigitsPattern, Elements, Enumerated, Excluded, Fields, Form, Mark, Options,
-    Received, Reference, VerdictValue, Wild, decided, has_received, is_template, is_value, matches, may_be_left_out,
+    Received, Reference, Texts, VerdictValue, Wild, decided, has_received, has_texts, is_template, is_value, matches,
+    may_be_left_out,
 )
 
 _MOST_NESTED = 60
@@ -112,7 +114,7 @@ class Evaluator(Asker):
         if isinstance(node, tree.Complement):
             return Excluded(tuple(self.evaluate(item, path, scope, type) for item in node.items))
         if isinstance(node, tree.RangeOf):
-            return self._range(node, path, scope)
+            return self._range(node, path, scope, type)
         if isinstance(node, tree.PatternOf):
             text = self.evaluate(node.text, path, scope)
             return self.pattern(text, node.at)
@@ -267,7 +269,16 @@ class Evaluator(Asker):
         elif not isinstance(template, Chosen) or template.name != node.word:
             refuse(node.at, f"the alternative `{node.word}` isn't the chosen one")
 
-    def _range(self, node: tree.RangeOf, path: Path, scope: Optional[Scope]) -> Form:
+    def _range_of_letters(self, node: tree.RangeOf, path: Path, scope: Optional[Scope]) -> Form:
+        low, high = (self.settled(self.evaluate(item, path, scope), item.at) for item in (node.low, node.high))
+        is_so = isinstance(low, str) and isinstance(high, str) and len(low) == len(high) == 1 and low <= high
+        return Texts(letters_between(str(low), str(high))) if is_so else refuse(
+            node.at, "a range of characters has one character at each of its ends, the lower one first"
+        )
+
+    def _range(self, node: tree.RangeOf, path: Path, scope: Optional[Scope], type: Optional[Type]) -> Form:
+        if isinstance(node.low, tree.Literal) and isinstance(node.low.value, str) or type is not None and type.kind is Kind.CHARSTRING:
+            return self._range_of_letters(node, path, scope)
         low, high = (self._limit(item, path, scope) for item in (node.low, node.high))
         if low is not None and high is not None and low > high:
             refuse(node.at, "the range has its lower bound above its upper")
@@ -347,6 +358,8 @@ class Evaluator(Asker):
             known = decided(self.said_of(received), template)
             if known is not None:
                 return known
+        if has_texts(template):
+            self.split(received, at)
         fact = symbol.facts.get((steps, template))
         if fact is not None:
             return fact
@@ -374,6 +387,10 @@ class Evaluator(Asker):
 
     def _call(self, node: tree.Call, path: Path, scope: Optional[Scope]) -> Form:
         word = tree.word_called(node)
+        if word == "regexp":
+            return self._group(node, path, scope)
+        if word == "testcasename" and not node.arguments:
+            return self.program.case_name
         if word in PREDEFINED:
             values = [self.evaluate(item.value, path, scope) for item in node.arguments]
             for value in values:
@@ -387,9 +404,27 @@ class Evaluator(Asker):
             return self.called_value(node, path, scope)
         if word == "checkstate" and isinstance(node.called, tree.FieldOf):
             return self.has_state(node, node.called.value, path, scope)
+        if word in CODECS:
+            refuse(node.at, f"`{word}` needs a codec, and a run encodes and decodes nothing")
+        if word in ("rnd", "hostid"):
+            refuse(node.at, f"`{word}` asks for something that is known only in a run")
         if isinstance(node.called, tree.Name) and self.find(word, scope, path) is not None:
             refuse(node.at, f"`{word}` is called through a variable")
         refuse(node.at, f"the function `{word}` isn't evaluated")
+
+    def _group(self, node: tree.Call, path: Path, scope: Optional[Scope]) -> Form:
+        """`regexp`: what of a text matches a group of a pattern (C.4.1), where that is open in no other way."""
+        if len(node.arguments) != 3:
+            refuse(node.at, "`regexp` has another number of arguments")
+        text, pattern, number = (item.value for item in node.arguments)
+        if isinstance(pattern, tree.Name) and self.find(pattern.word, scope, path) is None and pattern.word in self.program.templates:
+            pattern = self.program.templates[pattern.word].body
+        pattern = pattern.value if isinstance(pattern, tree.Typed) else pattern
+        asked = [text, pattern.text if isinstance(pattern, tree.PatternOf) else pattern, number]
+        values = [self.evaluate(item, path, scope) for item in asked]
+        for value in values:
+            self.look_at_value(value, node.at)
+        return predefined("regexp", values, node.at)
 
     def called_value(self, node: tree.Call, path: Path, scope: Optional[Scope]) -> Form:
         refuse(node.at, "a function is called only in a body")

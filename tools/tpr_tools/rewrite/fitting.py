@@ -6,7 +6,7 @@ from typing import Iterable, Optional
 from .types import FieldOfType, Kind, Type
 from .values import (
     Bounds, Chosen, Digits, DigitsPattern, Elements, Enumerated, Excluded, Facts, Fields, Form, IfPresent, Mark,
-    Options, TextPattern, Wild,
+    Options, TextPattern, Texts, Wild,
 )
 
 LEAST, MOST = -(2**63), 2**63 - 1
@@ -37,7 +37,7 @@ def _fits_simple(form: Form, type: Type) -> bool:
         return isinstance(form, bool)
     if type.kind is Kind.CHARSTRING:
         text = form.text if isinstance(form, TextPattern) else form
-        return isinstance(text, str) and set(text) <= _SIGNS
+        return isinstance(form, Texts) or isinstance(text, str) and set(text) <= _SIGNS
     if type.kind is Kind.ENUM:
         return isinstance(form, Enumerated) and form.word in type.root.names
     is_of_digits = isinstance(form, (Digits, DigitsPattern)) and form.letter == type.root.name[0].upper()

@@ -8,6 +8,7 @@ from . import tree
 from .closed import Closed
 from .emitted import Message, Who
 from .evaluating import SENDER
+from .interleaving import Opened
 from .paths import ActiveDefault, Path, Scope, Split
 from .refusing import Refusal, refuse
 from .run import Reading
@@ -47,7 +48,8 @@ class Guard:
     # It waits for the end of the test case.
     is_end: bool = False
     index: Optional[Form] = None
-    source: Optional[tree.Branch] = None
+    # Its number among the branches that aren't of defaults.
+    source: Optional[int] = None
     number: int = 0
 
     @property
@@ -74,16 +76,16 @@ class Expansion:
 
 
 class Expander(Closed):
-    def expand(self, branches: list[tree.Branch], path: Path, scope: Scope) -> Expansion:
+    def expand(self, branches: list[Opened], path: Path) -> Expansion:
         """All branches in the order in which they are tried; behind one that is always open none is."""
         found = Expansion()
         self.is_looking = True
-        for branch in branches:
+        for number, opened in enumerate(branches):
             if not found.is_closed:
                 first = len(found.guards)
-                self._add(branch, path, scope, [], found)
+                self._add(opened.branch, path, opened.scope, [], found)
                 for guard in found.guards[first:]:
-                    guard.source = branch
+                    guard.source = number
         for default in reversed(path.state.defaults):
             if not found.is_closed:
                 self._add_default(default, path, found)

@@ -18,6 +18,7 @@ _TABLE = (
     (r"--values|--statements|--seconds", "give the option the number that is named, or split the test case"),
     (r"comes? after the end of|may come after the end", f"{_ORDER}; or give --ended=queued"),
     (r"give one with --param", "give the parameter's value with --param NAME=VALUE"),
+    (r"needs a codec", "send and receive the value itself, with its type"),
     (r"--encode", "give the option --encode"),
     (r"several test cases", "give the name of one with --case"),
     (r"isn't among the files", "give the module's file too"),

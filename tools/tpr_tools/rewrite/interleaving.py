@@ -1,89 +1,174 @@
-"""The branches of an `interleave`, whose blocks go on at each receiving operation in them (ES 201 873-1, 20.4)."""
+"""The branches of an `interleave`: each goes on to its own next wait, and all these are waited for at once (ES 201 873-1, 20.4).
+
+Nothing in a branch leaves it but a `break`, no loop and no function in it waits, and no `alt` in it has an `[else]` or an altstep.
+"""
 from __future__ import annotations
 
-from typing import Optional
+from dataclasses import dataclass
+from typing import NamedTuple, Optional
 
 from . import tree
+from .paths import Exit, Path, Scope
 from .program import Program
 from .refusing import refuse
-from .tokens import Token
+from .tree import Statement
 
+_PLAIN = (tree.SetVerdict, tree.Dropped, tree.Send, tree.Assignment, tree.Operate, tree.CallStatement, tree.Declaration)
 _WAITING = (tree.Receive, tree.Find)
-_PLAIN = (tree.SetVerdict, tree.Dropped, tree.Send, tree.Assignment, tree.Operate, tree.CallStatement)
+
+
+@dataclass(frozen=True)
+class Rest:
+    """What a branch still does: the lists that it is in with the place in each, the innermost last, and the branches of an
+    `interleave` in it that it stands at."""
+
+    lists: tuple[tuple[list[Statement], int, Scope], ...]
+    inner: tuple[Rest, ...] = ()
+
+    def behind(self, block: Optional[tree.Block], scope: Scope) -> Rest:
+        """Behind the statement that it stands at, or in a block of that."""
+        listed, at, own = self.lists[-1]
+        inside = ((block.statements, 0, scope),) if block is not None else ()
+        return Rest((*self.lists[:-1], (listed, at + 1, own), *inside))
+
+
+class Opened(NamedTuple):
+    """A branch that is waited for, in its scope. Of an `interleave` it has no block, and what all branches do behind it."""
+
+    branch: tree.Branch
+    scope: Scope
+    behind: tuple[Rest, ...] = ()
 
 
 class Interleaving:
-    """Each branch ends before the next receiving operation of its block, which is the branch in its place then."""
+    """What of a behaviour's follower is needed for it; it is a part of that."""
 
-    def __init__(self, program: Program):
-        self.program = program
-        self._split: dict[int, tuple[tree.Branch, ...]] = {}
-        self._behind: dict[int, tree.Branch] = {}
+    program: Program
+    _slices: dict[tuple[int, int, int], list[Statement]]
 
-    def branches_of(self, statement: tree.Alt) -> list[tree.Branch]:
-        return [self._first_of(branch) for branch in statement.branches]
+    def new_scope(self, above: Optional[Scope]) -> Scope:
+        raise NotImplementedError
 
-    def left_by(self, taken: Optional[tree.Branch], branches: list[tree.Branch]) -> list[tree.Branch]:
-        """What is still waited for when one was taken."""
-        found: list[tree.Branch] = []
-        for branch in branches:
-            behind = self._behind.get(id(branch)) if branch is taken else branch
-            found += [behind] if behind is not None else []
-        return found
+    def statements(self, listed: list[Statement], path: Path, scope: Scope) -> list[Path]:
+        raise NotImplementedError
 
-    def _first_of(self, branch: tree.Branch) -> tree.Branch:
-        known = self._split.get(id(branch))
-        if known is None:
+    def left(self, scope: Scope, paths: list[Path]) -> list[Path]:
+        raise NotImplementedError
+
+    def chosen_block(self, statement: Statement, path: Path, scope: Scope) -> Optional[tree.Block]:
+        raise NotImplementedError
+
+    def opened_by(self, statement: tree.Alt, scope: Scope) -> list[Opened]:
+        if not statement.is_interleave:
+            return [Opened(branch, scope) for branch in statement.branches]
+        for branch in statement.branches:
             if branch.is_else or branch.guard is not None or not isinstance(branch.event, _WAITING):
                 refuse(branch.at, "a branch of an `interleave` has a receiving operation alone here")
-            known = self._parts(branch.at, branch.event, list(branch.block.statements) if branch.block else [])
-            for one, behind in zip(known, known[1:]):
-                self._behind[id(one)] = behind
-            # The branch itself is kept, so that no other gets its number.
-            self._split[id(branch)] = (*known, branch)
-        return known[0]
+        for one in (one for block in blocks_of(statement) for one in block.statements):
+            self._look_at(one, (tree.Leaving.BREAK,))
+            if any(self.program.waits(name) for name in self.program.names_in(one) if self._is_called(name)):
+                refuse(one.at, "in a branch of an `interleave` no function is called here that waits")
+        return self.opened(self._rests_of(statement, scope))
 
-    def _parts(
-        self, at: Token, event: tree.Receive | tree.Find, statements: list[tree.Statement]
-    ) -> tuple[tree.Branch, ...]:
-        place = next((at for at, one in enumerate(statements) if isinstance(one, _WAITING)), len(statements))
-        for statement in statements[:place]:
-            self._look_at(statement)
-            if isinstance(statement, tree.Declaration) and place < len(statements):
-                refuse(statement.at, "in an `interleave` a variable is declared before what is received later here")
-        found = tree.Branch(at, None, False, event, tree.Block(at, statements[:place]))
-        if place == len(statements):
-            return (found,)
-        following = statements[place]
-        assert isinstance(following, _WAITING)
-        return (found, *self._parts(following.at, following, statements[place + 1 :]))
+    def _rests_of(self, statement: tree.Alt, scope: Scope) -> tuple[Rest, ...]:
+        alone = [tree.Alt(one.at, [one], False, statement.span) for one in statement.branches]
+        return tuple(Rest((([one], 0, self.new_scope(scope)),)) for one in alone)
 
-    def _look_at(self, statement: tree.Statement) -> None:
-        """Nothing in it waits, or leaves it (20.4)."""
-        if isinstance(statement, (tree.If, tree.Select)):
-            for inner in (one for block in blocks_of(statement) for one in block.statements):
-                self._look_at(inner)
-        elif isinstance(statement, tree.Block):
-            for inner in statement.statements:
-                self._look_at(inner)
-        elif not isinstance(statement, (*_PLAIN, tree.Declaration)) or _ends_itself(statement):
-            refuse(statement.at, "in an `interleave` a branch has no statement here that waits, turns or leaves it")
-        if any(self.program.waits(name) for name in self.program.names_in(statement) if self._is_called(name)):
-            refuse(statement.at, "in a branch of an `interleave` no function is called here that waits")
+    def opened(self, rests: tuple[Rest, ...]) -> list[Opened]:
+        """What is waited for, and how it goes on behind each."""
+        found: list[Opened] = []
+        for place, rest in enumerate(rests):
+            before, after = rests[:place], rests[place + 1 :]
+            for branch, scope, taken in self._waits_of(rest):
+                found.append(Opened(branch, scope, (*before, taken, *after)))
+        return found
+
+    def _waits_of(self, rest: Rest) -> list[tuple[tree.Branch, Scope, Rest]]:
+        if rest.inner:
+            return [(one.branch, one.scope, Rest(rest.lists, one.behind)) for one in self.opened(rest.inner)]
+        listed, at, scope = rest.lists[-1]
+        statement = listed[at]
+        if isinstance(statement, _WAITING):
+            return [(tree.Branch(statement.at, None, False, statement, None), scope, rest.behind(None, scope))]
+        assert isinstance(statement, tree.Alt)
+        return [
+            (tree.Branch(one.at, one.guard, False, one.event, None), scope, rest.behind(one.block, self.new_scope(scope)))
+            for one in statement.branches
+        ]
+
+    def gone_on(self, rests: tuple[Rest, ...], path: Path) -> list[tuple[Path, tuple[Rest, ...]]]:
+        """On each way, all branches that haven't ended, where they wait."""
+        ways: list[tuple[Path, tuple[Rest, ...]]] = [(path, ())]
+        for rest in rests:
+            ways = [(found, (*before, *more)) for one, before in ways for found, more in self._go_on(rest, one)]
+        return ways
+
+    def _go_on(self, rest: Rest, path: Path) -> list[tuple[Path, tuple[Rest, ...]]]:
+        if path.exit is not Exit.ON or not rest.lists:
+            return [(path, ())]
+        if rest.inner:
+            return [way for one, inner in self.gone_on(rest.inner, path) for way in self._go_within(rest, inner, one)]
+        listed, at, scope = rest.lists[-1]
+        end = next((place for place in range(at, len(listed)) if _waits_in(listed[place])), len(listed))
+        if end > at:
+            # Each part of a list is kept, so that no other gets its number.
+            part = self._slices.setdefault((id(listed), at, end), listed[at:end])
+            behind = Rest((*rest.lists[:-1], (listed, end, scope)))
+            return [way for one in self.statements(part, path, scope) for way in self._go_on(behind, one)]
+        if at == len(listed):
+            return self._go_on(Rest(rest.lists[:-1]), self.left(scope, [path])[0])
+        statement = listed[at]
+        if isinstance(statement, tree.Alt) and statement.is_interleave:
+            return [(path, (Rest(rest.lists, self._rests_of(statement, scope)),))]
+        if isinstance(statement, (*_WAITING, tree.Alt)):
+            return [(path, (rest,))]
+        return self._go_on(rest.behind(self.chosen_block(statement, path, scope), self.new_scope(scope)), path)
+
+    def _go_within(self, rest: Rest, inner: tuple[Rest, ...], path: Path) -> list[tuple[Path, tuple[Rest, ...]]]:
+        if not inner:
+            return self._go_on(rest.behind(None, rest.lists[-1][2]), path)
+        return [(path, (Rest(rest.lists, inner),))]
+
+    def _look_at(self, statement: Statement, leaving: tuple[tree.Leaving, ...]) -> None:
+        """A statement of a branch, which may leave it so: a `break` leaves the `interleave`, or a loop in it."""
+        is_interleave = isinstance(statement, tree.Alt) and statement.is_interleave
+        is_loop = isinstance(statement, (tree.For, tree.While))
+        is_left = isinstance(statement, tree.Leave) and statement.how in leaving
+        is_plain = isinstance(statement, _PLAIN) and not _ends_itself(statement) or is_left
+        if is_loop and _waits_in(statement) or not is_plain and not is_loop and not isinstance(statement, _WITH_BLOCKS):
+            refuse(statement.at, "in a branch of an `interleave` no loop waits, and nothing leaves it")
+        for branch in statement.branches if isinstance(statement, tree.Alt) else []:
+            has_guard = is_interleave and branch.guard is not None
+            if has_guard or not isinstance(branch.event, _WAITING):
+                refuse(branch.at, "in a branch of an `interleave` an `alt` has receiving operations alone here")
+        for inner in (one for block in blocks_of(statement) for one in block.statements):
+            self._look_at(inner, _OF_LOOP if is_loop else () if isinstance(statement, tree.Alt) else leaving)
 
     def _is_called(self, name: str) -> bool:
         return name in self.program.functions or name in self.program.altsteps
 
 
-def _ends_itself(statement: tree.Statement) -> bool:
+_OF_LOOP = (tree.Leaving.BREAK, tree.Leaving.CONTINUE)
+_WITH_BLOCKS = (*_WAITING, tree.Alt, tree.If, tree.Select, tree.Block)
+
+
+def _waits_in(statement: Statement) -> bool:
+    return isinstance(statement, (*_WAITING, tree.Alt)) or any(
+        _waits_in(one) for block in blocks_of(statement) for one in block.statements
+    )
+
+
+def _ends_itself(statement: Statement) -> bool:
     return isinstance(statement, tree.Operate) and isinstance(statement.target, tree.Special)
 
 
-def blocks_of(statement: tree.Statement) -> list[tree.Block]:
+def blocks_of(statement: Statement) -> list[tree.Block]:
     if isinstance(statement, tree.Alt):
         return [branch.block for branch in statement.branches if branch.block is not None]
     if isinstance(statement, tree.If):
         return [statement.then, *([statement.otherwise] if statement.otherwise else [])]
     if isinstance(statement, tree.Select):
         return [case.block for case in statement.cases]
+    if isinstance(statement, tree.Block):
+        return [statement]
     return [statement.block] if isinstance(statement, (tree.For, tree.While)) else []

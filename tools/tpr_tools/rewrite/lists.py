@@ -22,7 +22,7 @@ from .values import Form, Mark, PortValue, Reference
 Plan = Optional[tuple[tuple[int, ...], Form, "Plan", "Plan"]]
 
 
-class ListFollower(Evaluator, Hoister):
+class ListFollower(Evaluator, Hoister, Interleaving):
     """One behaviour. `ports` are its component's; `plans` says of a receive into which branches it is split."""
 
     def __init__(self, run: Run, own: int, type: Type, at: Token):
@@ -46,7 +46,7 @@ class ListFollower(Evaluator, Hoister):
         self.frames.append(frozenset().union(run.program.names_of_timers(), *map(run.program.reached_by, altsteps)))
         self._suffixes: dict[int, list[frozenset[str]]] = {}
         self.timers: dict[str, Token] = {}
-        self.interleaving = Interleaving(run.program)
+        self._slices = {}
 
     def begin(self, path: Path) -> None:
         """The component's ports and its variables, as they are when its behaviour begins."""

@@ -14,8 +14,8 @@ from .tokens import Token
 from .tree import Expression
 from .types import MESSAGES, FieldOfType, Kind, Type
 from .values import (
-    Chosen, ComponentValue, Elements, Fields, Form, Mark, Options, PortValue, Received, Wild, is_template, is_value,
-    matches,
+    Chosen, ComponentValue, Elements, Fields, Form, Mark, Options, PortValue, Received, Wild, has_texts, is_template,
+    is_value, matches,
 )
 
 
@@ -177,6 +177,8 @@ class Messages(Timers):
             refuse(node.at, f"`{declared.name}` allows less than the port's `{type.name}`")
         if not fits_type(form, type):
             refuse(node.at, f"this doesn't fit the type `{type.name}`")
+        if has_texts(form):
+            refuse(node.at, "more texts match this pattern, or this range of characters, than can be listed: give it a `length`")
         return Message(type, form)
 
     # Components

@@ -4,6 +4,7 @@ from __future__ import annotations
 import re
 from typing import Callable, Optional
 
+from .patterns import NotRead, group_of, read_pattern
 from .types import UNIVERSAL
 from .values import Digits, Elements, Form
 
@@ -255,13 +256,40 @@ def moved(sign: str, left: Form, right: Form) -> Optional[Form]:
     return _of_parts(left, parts[count:] + zeros if count > 0 else (zeros + parts)[: len(parts)])
 
 
+def _group(values: list[Form]) -> Optional[Form]:
+    """`regexp`, where the group can match in one way alone."""
+    text, pattern, number = values
+    if not isinstance(text, str) or not isinstance(pattern, str) or not isinstance(number, int) or isinstance(number, bool):
+        return None
+    try:
+        return group_of(text, read_pattern(pattern), number)
+    except NotRead:
+        return None
+
+
+def _encoding_of(values: list[Form]) -> Optional[Form]:
+    """By the mark of the byte order; what begins with the marks of two encodings is left to the reader."""
+    octets = values[0]
+    if not isinstance(octets, Digits) or octets.letter != "O" or octets.digits.startswith("FFFE0000"):
+        return None
+    marks = {"0000FEFF": "UTF-32BE", "EFBBBF": "UTF-8", "FEFF": "UTF-16BE", "FFFE": "UTF-16LE"}
+    found = next((name for mark, name in marks.items() if octets.digits.startswith(mark)), "")
+    if found:
+        return found
+    codes = bytes.fromhex(octets.digits)
+    # Of other texts without a mark a tool may also say that their encoding isn't known.
+    return "ASCII" if codes.isascii() else None
+
+
 def _conversions() -> dict[str, tuple[int, Computed]]:
     found: dict[str, tuple[int, Computed]] = {
         "char2int": (1, _char_to_integer), "int2char": (1, _integer_to_char), "char2oct": (1, _char_to_octets),
         "oct2char": (1, _octets_to_char), "unichar2int": (1, _char_to_integer), "int2unichar": (1, _integer_to_universal),
         "replace": (4, _replaced), "substr": (3, _part), "oct2unichar": (1, _octets_to_universal),
-        "unichar2oct": (1, _universal_to_octets), "remove_bom": (1, _without_mark), "any2unistr": (1, _any_to_text),
-        "char": (4, _quadruple), "int2float": (1, _integer_to_float), "float2int": (1, _float_to_integer), "str2float": (1, _text_to_float),
+        "unichar2oct": (1, _universal_to_octets), "remove_bom": (1, _without_mark), "get_stringencoding": (1, _encoding_of),
+        "regexp": (3, _group), "any2unistr": (1, _any_to_text),
+        "char": (4, _quadruple), "int2float": (1, _integer_to_float), "float2int": (1, _float_to_integer),
+        "str2float": (1, _text_to_float),
     }
     for word, letter in _PLACES.items():
         found[f"{word}2int"] = (1, _to_integer)

@@ -24,7 +24,10 @@ class Program:
         self.functions: dict[str, tree.Function] = {}
         self.altsteps: dict[str, tree.Altstep] = {}
         self.cases: dict[str, tree.TestCase] = {}
+        self.controlled: dict[str, list[tree.Constant]] = {}
         self.executed: list[Token] = []
+        # That of the test case that is followed.
+        self.case_name = ""
         self.modules: list[tree.Module] = []
         self._tokens: dict[str, list[Token]] = {}
         self._types: dict[str, tree.TypeDefinition] = {}
@@ -35,6 +38,10 @@ class Program:
         for source in sources:
             self._read(source)
         self._look_at_imports()
+        # Nothing else in a body has the name of a variable of the control part, so that one is a constant here.
+        alone = {name: found[0] for name, found in self.controlled.items() if len(found) == 1 and not self._is_defined(name)}
+        changing = [one for case in self.cases.values() for one in case.parameters if one.direction is not tree.Direction.IN]
+        self.constants.update({} if changing else alone)
         self.types = Types(self._types)
 
     def _read(self, source: Source) -> None:
@@ -47,6 +54,8 @@ class Program:
             self.modules.append(module)
             for definition in module.definitions:
                 self._add(definition)
+            for known in module.known:
+                self.controlled.setdefault(known.name, []).append(known)
         tokens = source.tokens
         for place, token in enumerate(tokens[:-2]):
             if token.text == "execute" and token.kind is Kind.KEYWORD:

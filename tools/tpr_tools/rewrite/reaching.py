@@ -6,6 +6,7 @@ from collections import Counter
 from typing import Optional
 
 from .emitted import Came, Code, Failed, Got, GotDone, GotEnd, Sent, Way, Ways, Went
+from .flowing import ENDLESS
 from .following import Followed
 from .paths import End, peers
 from .sending import Sends, What, count_sent, sum_of
@@ -119,7 +120,9 @@ class Reach:
         if found is None:
             end = End(number, port)
             ends = dict.fromkeys(peers(self.followed.joins, end))
-            found = sum(sum_of(self.sent[one.component], one.port, end, what) for one in ends if one.component in self.sent)
+            known = [one for one in ends if one.component in self.sent]
+            # Of what comes from outside the script nothing is known.
+            found = sum(sum_of(self.sent[one.component], one.port, end, what) for one in known) + ENDLESS * (len(ends) - len(known))
             self._supplies[key] = found
         return found
 

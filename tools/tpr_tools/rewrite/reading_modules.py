@@ -1,7 +1,8 @@
 """Reads modules and their definitions (ES 201 873-1, 8, 10, 15, 16); what can't be read is told."""
 from __future__ import annotations
 
-from typing import Callable, Optional
+from collections import Counter
+from typing import Callable, Optional, TypeVar
 
 from ..script.constructs import Construct
 
@@ -15,6 +16,9 @@ _BEGINS = (
     "type", "const", "template", "modulepar", "function", "altstep", "testcase", "import", "group",
     "signature", "external", "control", "friend", "public", "private",
 )
+
+
+Found = TypeVar("Found")
 
 
 class ModuleReader(StatementReader):
@@ -43,7 +47,7 @@ class ModuleReader(StatementReader):
             self.note(Construct.LANGUAGE, self.take())
             while self.accept(",") or self.token.kind is Kind.TEXT:
                 self.take() if self.token.kind is Kind.TEXT else None
-        module = tree.Module(at, name, [], [], [])
+        module = tree.Module(at, name, [], [], [], [])
         self.expect("{")
         self._definitions(module)
         self.expect("}")
@@ -279,13 +283,21 @@ class ModuleReader(StatementReader):
 
     def _control(self, module: tree.Module) -> None:
         self.note(Construct.CONTROL, self.take())
-        module.control += self._control_body().statements
+        start = self.place
+        module.control += self._control_body(module.known).statements
+        # What is set twice, or handed to a call, may have another value.
+        tokens = self.tokens[start : self.place]
+        set_there = Counter(token.text for token, behind in zip(tokens, tokens[1:]) if behind.text == ":=")
+        calls = [place for place, token in enumerate(tokens[:-1]) if token.kind is Kind.NAME and tokens[place + 1].text == "("]
+        handed = {token.text for place in calls if tokens[place - 2].text != "execute" for token in _in_brackets(tokens, place + 1)}
+        module.known = [one for one in module.known if set_there[one.name] == 1 and one.name not in handed]
 
-    def _control_body(self) -> tree.Block:
-        """What it holds is looked through for its `execute` alone."""
+    def _control_body(self, known: list[tree.Constant]) -> tree.Block:
+        """What it holds is looked through for its `execute` and its variables alone."""
         start = self.place
         at = self.token
         statements: list[tree.Statement] = []
+        types: dict[str, tree.TypeName] = {}
         depth = 0
         while self.token.kind is not Kind.END:
             token = self.take()
@@ -293,24 +305,45 @@ class ModuleReader(StatementReader):
             if token.text == "execute" and self.is_at("("):
                 self.note(Construct.EXECUTE, token)
                 statements.append(self._executed())
+            if depth == 1 and (token.text in ("var", "const") or token.text in types and self.is_at(":=")):
+                self.place -= 1
+                known += self._tried(lambda: self._known_there(types), [])
+                self.place += 1
             if depth == 0:
                 break
         return tree.Block(at, statements, (start, self.place))
 
     def _executed(self) -> tree.Statement:
         """The test case of an `execute`, with its arguments; what can't be read of it isn't looked at."""
-        start, noted, called, nested = self.place, len(self.noted), len(self.called), self.nested
         token = self.ahead(1)
-        call: tree.Expression = tree.Name(token, token.text)
+        return self._tried(self._execution, tree.CallStatement(token, tree.Name(token, token.text), (self.place, self.place)))
+
+    def _execution(self) -> tree.CallStatement:
+        start = self.place
+        self.expect("(")
+        name = self.name()
+        return tree.CallStatement(name, self._postfix(tree.Name(name, name.text)), (start + 1, self.place))
+
+    def _known_there(self, types: dict[str, tree.TypeName]) -> list[tree.Constant]:
+        """A variable that is set here; of those that are declared here the types."""
+        if self.token.text in types:
+            at = self.name()
+            self.expect(":=")
+            return [tree.Constant(at, at.text, types[at.text], self.expression(), False)]
+        declared = self.declaration()
+        types.update({one.name: declared.type for one in declared.variables if not one.sizes})
+        return []
+
+    def _tried(self, read: Callable[[], Found], otherwise: Found) -> Found:
+        """What is read here; where it can't be, something else. Nothing is noted of it, and it is read again."""
+        start, noted, called, nested = self.place, len(self.noted), len(self.called), self.nested
         try:
-            self.expect("(")
-            call = self._postfix(tree.Name(self.name(), token.text))
+            return read()
         except ReadFault:
-            pass
-        span = (start + 1, self.place)
-        self.place, self.nested = start, nested
-        del self.noted[noted:], self.called[called:]
-        return tree.CallStatement(token, call, span)
+            return otherwise
+        finally:
+            self.place, self.nested = start, nested
+            del self.noted[noted:], self.called[called:]
 
     def _friend(self, module: tree.Module) -> None:
         self.note(Construct.VISIBILITY, self.take())
@@ -318,6 +351,16 @@ class ModuleReader(StatementReader):
         self.name()
         while self.accept(","):
             self.name()
+
+
+def _in_brackets(tokens: list[Token], start: int) -> list[Token]:
+    """What stands behind a bracket, up to the one that closes it."""
+    depth = 0
+    for place in range(start, len(tokens)):
+        depth += {"(": 1, ")": -1}.get(tokens[place].text, 0)
+        if depth == 0:
+            return tokens[start:place]
+    return tokens[start:]
 
 
 _DEFINITIONS: dict[str, Callable[[ModuleReader, tree.Module], None]] = {

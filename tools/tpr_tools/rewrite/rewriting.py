@@ -47,6 +47,7 @@ def rewrite(
     chosen = program.chosen_case(case)
     if isinstance(chosen, str):
         return Rewritten(Lines(), sorted_places(program.faults) or [refused_at(nowhere, chosen)])
+    program.case_name = chosen.name
     values, wrong = expressions_of(parameters or {}, program)
     if wrong:
         return Rewritten(Lines(), sorted_places([*program.faults, *wrong]))
@@ -139,12 +140,15 @@ def whole(before: Run, chosen: TestCase, files: list[str]) -> tuple[Run, Optiona
 
 def look_at_sends(run: Run, followed: Followed) -> None:
     """A send to what has ended is refused, or told of where that is asked for."""
-    for late in EndedFinder(followed).all():
+    finder = EndedFinder(followed)
+    for late in finder.all():
         if run.options.queues_ended:
             run.notes.append(refused_at(late.at, f"{late.reason} (--ended=queued)"))
             run.queued.add(late.at)
         else:
             run.tell(Refusal(late.at, late.reason))
+    for asked in finder.unsure:
+        run.tell(Refusal(asked.at, f"`{asked.word}` asks for something that is known only in a run", True))
 
 
 def _backslashes(sources: list[Source]) -> list[Refused]:

@@ -7,6 +7,7 @@ from typing import Optional
 from . import tree
 from .emitted import Code
 from .paths import Key, Path, Scope, Slot, State
+from .patterns import Either, NotRead, Pattern, Row, Sign, Times, read_pattern
 from .predefined import CONVERSIONS, RESULTS
 from .program import Program
 from .reading_expressions import NOT_IN_PATTERNS
@@ -14,10 +15,12 @@ from .refusing import Refusal, refuse
 from .tokens import Token
 from .tree import Direction, Expression
 from .types import UNIVERSAL, Kind, Type
-from .values import Elements, Form, IfPresent, Mark, Options, Reference, TextPattern, Wild, has_received, is_value
+from .values import Elements, Form, IfPresent, Mark, Options, Reference, TextPattern, Texts, Wild, has_received, is_value
 
 _MOST_ORDERS = 24
 _MOST_LENGTHS = 40
+# The most texts that a pattern, or a range of characters, is listed as.
+_MOST_TEXTS = 100
 
 
 class Shaper:
@@ -87,11 +90,12 @@ class Shaper:
             return self.types.of(function.result, word)
         if word == "valueof" and node.arguments:
             return self.type_of(node.arguments[0].value, path, scope)
-        if word in ("substr", "replace") and node.arguments:
+        if word in ("substr", "replace", "regexp") and node.arguments:
             return self.type_of(node.arguments[0].value, path, scope)
         base = {
             "int2str": "charstring", "lengthof": "integer", "str2int": "integer", "enum2int": "integer",
-            "remove_bom": "octetstring", "char": UNIVERSAL,
+            "remove_bom": "octetstring", "char": UNIVERSAL, "testcasename": "charstring", "get_stringencoding": "charstring",
+            "sizeof": "integer",
         }
         result = base.get(word) or (RESULTS.get(word.partition("2")[2]) if word in CONVERSIONS else None)
         return self.types.named(result, node.at) if result else None
@@ -183,9 +187,16 @@ class Shaper:
     def pattern(self, text: Form, at: Token) -> Form:
         if not isinstance(text, str):
             refuse(at, "the text of a pattern is known before")
-        if NOT_IN_PATTERNS & set(text):
-            refuse(at, "a pattern has `?` and `*` here, and no other signs")
-        return TextPattern(text) if set(text) & {"?", "*"} else text
+        try:
+            pattern = read_pattern(text)
+        except NotRead:
+            refuse(at, "this pattern has a sign that isn't carried over, or a fault")
+        rows = _rows_of(pattern, None)
+        forms = [_of_signs(row, None) for row in rows or []]
+        if not forms or any(isinstance(form, Texts) for form in forms):
+            return Texts(pattern)
+        # A text whose signs were escaped isn't mixed up with one that has them.
+        return forms[0] if len(forms) == 1 and "\\" not in text else Options(tuple(forms))
 
     def other_matching(self, node: tree.OtherMatching, items: list[Form], type: Optional[Type]) -> Form:
         if node.word == "ifpresent":
@@ -198,10 +209,10 @@ class Shaper:
             refuse(at, "the length isn't known here")
         if max(low, high or 0) > _MOST_LENGTHS:
             refuse(at, f"lengths are carried over up to {_MOST_LENGTHS}")
-        signs = _signs_of(base, type)
-        if signs is None or signs.count(Wild.ANY_OR_NONE) > 1:
+        rows = _rows_of_form(base, type, high)
+        if rows is None or any(row.count(Wild.ANY_OR_NONE) > 1 for row in rows):
             refuse(at, "a length behind this template isn't carried over")
-        forms = tuple(_of_signs(one, type) for one in _of_lengths(signs, low, high))
+        forms = tuple(dict.fromkeys(_of_signs(one, type) for row in rows for one in _of_lengths(row, low, high)))
         if not forms:
             refuse(at, "a length behind this template isn't carried over: nothing matches both")
         return base if is_value(base) else forms[0] if len(forms) == 1 else Options(forms)
@@ -232,6 +243,68 @@ def look_at_restricted(form: Form, word: str, at: Token) -> None:
     is_so = {"present": not is_left_out, "omit": is_known, "value": is_known and form is not Mark.OMIT}
     if not is_so[word]:
         refuse(at, f"this isn't what `template({word})` allows, which is an error")
+
+
+_Rows = Optional[list[list[Form]]]
+
+
+def _rows_of(pattern: Pattern, most: Optional[int]) -> _Rows:
+    """What stands at each place of the texts that match, up to a length: a row for each; None where they are too many."""
+    if isinstance(pattern, Sign):
+        letters = pattern.letters
+        return [[Wild.ANY]] if letters is None else [[letter] for letter in sorted(letters) if " " <= letter <= "~"]
+    if isinstance(pattern, Either):
+        return _all_rows([_rows_of(part, most) for part in pattern.parts])
+    if isinstance(pattern, Times):
+        return _repeated(pattern, most)
+    found: _Rows = [[]]
+    for part in pattern.parts:
+        found = _behind(found, _rows_of(part, most), most)
+    return found
+
+
+def _all_rows(several: list[_Rows]) -> _Rows:
+    found: list[list[Form]] = []
+    for rows in several:
+        if rows is None:
+            return None
+        found += [row for row in rows if row not in found]
+    return found if len(found) <= _MOST_TEXTS else None
+
+
+def _behind(first: _Rows, second: _Rows, most: Optional[int]) -> _Rows:
+    if first is None or second is None or len(first) * len(second) > 100 * _MOST_TEXTS:
+        return None
+    rows = [one + other for one in first for other in second]
+    short = [row for row in rows if most is None or len(row) - row.count(Wild.ANY_OR_NONE) <= most]
+    return _all_rows([short])
+
+
+def _repeated(pattern: Times, most: Optional[int]) -> _Rows:
+    if pattern.high is None and pattern.part == Sign(None):
+        return [[*(Wild.ANY for _ in range(pattern.low)), Wild.ANY_OR_NONE]]
+    limit = pattern.high if pattern.high is not None else most
+    rows: _Rows = [[]]
+    found: list[_Rows] = []
+    if limit is None:
+        return None
+    inner = _rows_of(pattern.part, most)
+    for count in range(limit + 1):
+        if count >= pattern.low:
+            found.append(rows)
+        rows = _behind(rows, inner, most) if count < limit else rows
+        if not rows:
+            break
+    return _all_rows(found + ([None] if rows is None else []))
+
+
+def _rows_of_form(base: Form, type: Optional[Type], most: Optional[int]) -> _Rows:
+    if isinstance(base, Texts):
+        return _rows_of(base.pattern, most)
+    if isinstance(base, Options):
+        return _all_rows([_rows_of_form(item, type, most) for item in base.items])
+    signs = _signs_of(base, type)
+    return None if signs is None else [signs]
 
 
 def _signs_of(base: Form, type: Optional[Type]) -> Optional[list[Form]]:
@@ -265,7 +338,12 @@ def _of_signs(signs: list[Form], type: Optional[Type]) -> Form:
         return Elements(tuple(signs))
     words = {Wild.ANY: "?", Wild.ANY_OR_NONE: "*"}
     text = "".join(words[sign] if isinstance(sign, Wild) else str(sign) for sign in signs)
-    return TextPattern(text) if set(text) & {"?", "*"} else text
+    if not any(isinstance(sign, Wild) for sign in signs):
+        return text
+    if any(sign in NOT_IN_PATTERNS or sign in ("?", "*") for sign in signs):
+        patterns: dict[Form, Pattern] = {Wild.ANY: Sign(None), Wild.ANY_OR_NONE: Times(Sign(None), 0, None)}
+        return Texts(Row(tuple(patterns[sign] if isinstance(sign, Wild) else Sign(frozenset(str(sign))) for sign in signs)))
+    return TextPattern(text)
 
 
 def _orders_of(items: tuple[Form, ...], at: Token) -> list[tuple[Form, ...]]:

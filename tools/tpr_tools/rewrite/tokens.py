@@ -109,7 +109,8 @@ class Source:
         if kind is Kind.NAME and text in KEYWORDS:
             kind = Kind.KEYWORD
         self.tokens.append(Token(kind, text, line, column, self.file))
-        if kind is Kind.TEXT and "\\" in text and self.escaped is None:
+        is_of_pattern = len(self.tokens) > 1 and self.tokens[-2].text == "pattern"
+        if kind is Kind.TEXT and "\\" in text and self.escaped is None and not is_of_pattern:
             self.escaped = self.tokens[-1]
         if group == "BEGUN":
             self.begun.append(self.tokens[-1])

@@ -342,3 +342,5 @@ class Module(Node):
     definitions: list[Definition]
     imports: list[Name]
     control: list[Statement]
+    # The variables of the control part that have one value there, whatever is executed.
+    known: list[Constant]

@@ -9,6 +9,8 @@ from dataclasses import dataclass
 from enum import Enum
 from typing import NamedTuple, Optional, Union
 
+from .patterns import Pattern, fits_pattern
+
 
 class Wild(Enum):
     ANY = "?"
@@ -85,6 +87,13 @@ class Bounds:
 @dataclass(frozen=True)
 class TextPattern:
     text: str
+
+
+@dataclass(frozen=True)
+class Texts:
+    """Texts of a pattern of which the profile has none: it has no such signs, and too many match to list them."""
+
+    pattern: Pattern
 
 
 @dataclass(frozen=True)
@@ -173,13 +182,13 @@ class Received:
 
 Form = Union[
     int, bool, str, float, Wild, Mark, Fields, Elements, Enumerated, Chosen, Digits, Options, Excluded, Bounds,
-    TextPattern, DigitsPattern, IfPresent, ComponentValue, VerdictValue, DefaultValue, PortValue, TimerValue, Reference,
+    TextPattern, Texts, DigitsPattern, IfPresent, ComponentValue, VerdictValue, DefaultValue, PortValue, TimerValue, Reference,
     Received,
 ]
 
 # Of a message: whether the part at these steps matches.
 Facts = dict[tuple[tuple[int, ...], Form], bool]
-_OPEN = (Wild, Options, Excluded, Bounds, TextPattern, DigitsPattern, Received, IfPresent)
+_OPEN = (Wild, Options, Excluded, Bounds, TextPattern, Texts, DigitsPattern, Received, IfPresent)
 VERDICTS = ("none", "pass", "inconc", "fail", "error")
 
 
@@ -208,12 +217,21 @@ def is_template(form: Form) -> bool:
 
 
 def has_received(form: Form) -> bool:
-    if isinstance(form, Received):
+    return _has(form, Received)
+
+
+def has_texts(form: Form) -> bool:
+    """Whether it can't be written, since the texts that match can't be listed."""
+    return _has(form, Texts)
+
+
+def _has(form: Form, kind: type) -> bool:
+    if isinstance(form, kind):
         return True
     if isinstance(form, (Fields, Elements, Options, Excluded)):
-        return any(map(has_received, form.items))
+        return any(_has(item, kind) for item in form.items)
     if isinstance(form, (Chosen, IfPresent)):
-        return has_received(form.value if isinstance(form, Chosen) else form.form)
+        return _has(form.value if isinstance(form, Chosen) else form.form, kind)
     return False
 
 
@@ -242,6 +260,8 @@ def matches(value: Form, template: Form) -> bool:
         return isinstance(value, int) and _within(value, template)
     if isinstance(template, TextPattern):
         return isinstance(value, str) and _fits_pattern(value, template.text, ".")
+    if isinstance(template, Texts):
+        return isinstance(value, str) and fits_pattern(value, template.pattern)
     if isinstance(template, DigitsPattern):
         one = ".." if template.letter == "O" else "."
         return isinstance(value, Digits) and _fits_pattern(value.digits, template.digits, one)

@@ -398,8 +398,7 @@ class Block:
             return [f"{self.shape.nowhere}.send(boolean:false)"]
         if isinstance(statement, Went):
             return [f"{self.shape.numbers[0]}.send(integer:{statement.number})"]
-        assert isinstance(statement, Verdict)
-        return [f"setverdict({statement.word})"]
+        return [f"setverdict({statement.word})"] if isinstance(statement, Verdict) else []
 
     def _ways(self, statement: Ways, depth: int) -> None:
         space = "  " * depth
