@@ -422,6 +422,9 @@ def listed(program: str) -> None:
         construct, here = one.get("construct"), f"{one['file']}:{one['line']}:"
         is_so = here in every and (not construct or f": {construct} isn't supported" in every)
         judged(f"all of {os.path.basename(one['file'])}", is_so, every[:300])
+    for created, construct in (('("a")', "a name or a host of a created component"), (" alive", "`alive`")):
+        titles = titles_in(row_script(f"testcase t() runs on C {{ var C a := C.create{created}; }}"))
+        judged(f"one construct in C.create{created}", titles == [*titles_in(f"{PRELUDE}}}"), construct], f"{titles}")
 
 
 def lines(program: str) -> None:
@@ -465,14 +468,18 @@ def rows(program: str) -> None:
 TITLES = {"another base type, as `verdicttype`": "the type {word}", "`match`, `valueof`": "the operation {word}"}
 
 
+def titles_in(script: str) -> list[str]:
+    """Those of the constructs that `explain --every` lists, in the order of the text."""
+    from tpr_tools.rewrite.listing import constructs_of
+
+    return [one.construct.title for one in constructs_of("row", script.encode())[0]]
+
+
 def wrongly_listed(name: str, script: str) -> str:
     """`explain --every` lists the construct of a row; of a row that has none of its own it lists something."""
-    from tpr_tools.rewrite.listing import constructs_of
     from tpr_tools.script.constructs import Construct
 
-    listed = [one.construct.title for one in constructs_of("row", script.encode())[0]]
-    before = [one.construct.title for one in constructs_of("row", f"{PRELUDE}}}".encode())[0]]
-    title = TITLES.get(name, name)
+    listed, before, title = titles_in(script), titles_in(f"{PRELUDE}}}"), TITLES.get(name, name)
     is_so = title in listed if title in {one.title for one in Construct} else len(listed) > len(before)
     return "" if is_so else f"{listed}"
 

@@ -11,7 +11,7 @@ natural 114
 timed 12
 same 59
 broken 14
-listed 60
+listed 62
 lines 2
 rows 219
 instead 189

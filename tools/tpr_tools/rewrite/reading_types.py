@@ -289,13 +289,9 @@ class TypeReader(ExpressionReader):
             value = self.expression()
             if isinstance(value, tree.Create):
                 self.created.add(at.text)
-            if kind is Declared.VALUE and not _is_create(value):
+            elif kind is Declared.VALUE:
                 self.note(Construct.INITIAL_VALUE, at)
         return tree.Variable(at, at.text, sizes, value)
-
-
-def _is_create(value: Expression) -> bool:
-    return isinstance(value, tree.Create) and not value.arguments and not value.is_alive
 
 
 _DEFINITIONS: dict[str, Callable[[TypeReader, Token], tree.TypeDefinition]] = {
