@@ -150,6 +150,8 @@ def bad_input(asked: Reasoning) -> None:
     unread = says_alone(f"why: {missing} can't be read")
     case("a missing script", [missing], 2, unread)
     case("a script that is refused", [REFUSED], 2, says_alone(f"why: {REFUSED}, line "))
+    alone = f"{KITCHEN}.expected"
+    case("a report alone", [alone], 2, says_alone(f"why: {alone}: this is a report or a trace; a script is needed"))
     case("a missing report", [script, missing], 2, unread)
     case("a report that is none", [script, script], 2, says_alone(f"why: {script}, line 1: "))
     nothing = says_alone(f"why: there is no file or folder {missing}")

@@ -30,6 +30,8 @@ def case_of(script: str) -> Case:
             return Case(text, check_script(text), origins_of(script))
     except (GrammarFault, RuleFault) as found:
         fault = found
+    if data.startswith(b"component "):
+        raise Stop(REFUSED, f"{script}: this is a report or a trace; a script is needed, and its report after it")
     told = f"{script}, line {line_of(text, fault)}: the script is refused; tools/explain says what is wrong"
     raise Stop(REFUSED, told)
 
