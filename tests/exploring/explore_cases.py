@@ -210,7 +210,7 @@ def other_scripts(asked: Exploring) -> None:
     parting = has_in_order(
         "  line 17: mtc discarded integer:1 from a at port p, sent at line 7;",
         "    in the other run, at line 16, it took integer:2 from a at port q, sent at line 8",
-        "  line 16 and line 8 can come in either order",
+        "  line 8 can send before or after the look at line 16",
     )
     depends = "a verdict that depends on what comes between two looks"
     case(depends, [BETWEEN_TWO_LOOKS], DEPENDS, begins_with("pass or fail"), parting)

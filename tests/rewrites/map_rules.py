@@ -19,7 +19,7 @@ ROOT = os.path.dirname(os.path.dirname(FOLDER))
 sys.path.insert(0, f"{ROOT}/tools")
 
 from tpr_tools.explore.forced_script import forced_script
-from tpr_tools.explore.parting import Deed, Parting
+from tpr_tools.explore.parting import Deed, Parting, Unordered
 from tpr_tools.origins import Line, Origins, Row, lines_told
 
 
@@ -187,7 +187,7 @@ def look_at_forced_lines() -> None:
 def look_at_partings() -> None:
     """What tools/explore says of where two runs part."""
     origins = Origins([Row(3, 9, 5, "a.ttcn"), Row(4, 9, 5, "a.ttcn"), Row(6, 2, 1, "b.ttcn")])
-    parting = Parting("mtc", Deed(3, "sent"), Deed(7, "waits forever"), (4, 6))
+    parting = Parting("mtc", Deed(3, "sent"), Deed(7, "waits forever"), Unordered(4, 6))
     wanted = (
         "line 9 of a.ttcn: mtc sent;\n  in the other run, at line 2 of b.ttcn, it waits forever\n"
         "line 9 of a.ttcn and line 2 of b.ttcn can come in either order\n"

@@ -3,12 +3,12 @@ words of the script."""
 from __future__ import annotations
 
 from dataclasses import dataclass
-from typing import Optional
+from typing import NamedTuple, Optional
 
 from ..model.bodies import Tried
 from ..model.run import Message, Run, alike
 from ..model.tree import Control, Send
-from ..origins import Line, Origins
+from ..origins import Origins
 from .forced_order import carry_out, finish, words_of
 from .placed import PlacedCase
 
@@ -44,6 +44,23 @@ class Deed:
         return {**_place_as_json(self.line, origins), "text": self.text}
 
 
+class Unordered(NamedTuple):
+    """Two lines of which neither waits for the other: of two sends, or of a statement that isn't one and of a send."""
+
+    line: int
+    sent: int
+    statement: object = None  # at the first line, if that isn't a send
+
+    def text(self, origins: Origins) -> str:
+        one, other = origins.line(self.line), origins.line(self.sent)
+        if self.statement is not None:
+            what = "the look at " if isinstance(self.statement, Tried) else ""
+            return f"line {other} can send before or after {what}line {one}"
+        if one == other:
+            return f"either component can be first at line {one}"
+        return f"line {one} and line {other} can come in either order"
+
+
 @dataclass(frozen=True)
 class Parting:
     """What a component did in the one run, and what in the other; and two lines of which neither waits for the
@@ -52,30 +69,24 @@ class Parting:
     component: str
     first: Deed
     second: Deed
-    unordered: Optional[tuple[int, int]]
+    unordered: Optional[Unordered]
 
     def text(self, origins: Origins) -> str:
         first, second = (None if deed.line is None else origins.line(deed.line) for deed in (self.first, self.second))
         where = "" if first is None else f"line {first}: "
         other = "" if second in (None, first) else f", at line {second},"
         told = f"{where}{self.component} {self.first.text};\n  in the other run{other} it {self.second.text}\n"
-        return told + ("" if self.unordered is None else f"{_unordered(*map(origins.line, self.unordered))}\n")
+        return told + ("" if self.unordered is None else f"{self.unordered.text(origins)}\n")
 
     def as_json(self, origins: Origins) -> dict[str, object]:
         first, second = self.first.as_json(origins), self.second.as_json(origins)
-        lines = None if self.unordered is None else [_place_as_json(line, origins) for line in self.unordered]
+        lines = None if self.unordered is None else [_place_as_json(line, origins) for line in self.unordered[:2]]
         return {"component": self.component, "first": first, "second": second, "unordered": lines}
 
 
 def _place_as_json(line: Optional[int], origins: Origins) -> dict[str, object]:
     """The script's own line, and where it comes from, as `tools/explain --json` names both."""
     return {"line": line, "origin": (origins.place(line) if line is not None else "") or None}
-
-
-def _unordered(one: Line, other: Line) -> str:
-    if one == other:
-        return f"either component can be first at line {one}"
-    return f"line {one} and line {other} can come in either order"
 
 
 class Told:
@@ -213,7 +224,7 @@ def _first_unlike(one: Told, other: Told) -> Optional[tuple[int, int]]:
     return None
 
 
-def _unordered_lines(one: Told, other: Told, who: int, at: int) -> Optional[tuple[int, int]]:
+def _unordered_lines(one: Told, other: Told, who: int, at: int) -> Optional[Unordered]:
     """The lines of two sends to one port, or of a send and a look or operation, that came in one order here and in
     the other there."""
     mine, others = (told.of_each[who][at] if at < len(told.of_each[who]) else None for told in (one, other))
@@ -224,13 +235,14 @@ def _unordered_lines(one: Told, other: Told, who: int, at: int) -> Optional[tupl
         return None
     if not only_one or not only_other:
         told, names, step = (one, only_one, mine) if only_one else (other, only_other, others)
-        return (step.line, told.sent[names[0]]) if names else None
+        return Unordered(step.line, told.sent[names[0]], step.statement) if names else None
     first, second = only_one[0], only_other[0]
     if first[:2] == second[:2] and first[2] != second[2]:
-        return one.sent[first], other.sent[second]
+        return Unordered(one.sent[first], other.sent[second])
     if one.is_put_behind(second, who, at):
-        return others.line, other.sent[second]
-    return (mine.line, one.sent[first]) if other.is_put_behind(first, who, at) else None
+        return Unordered(others.line, other.sent[second], others.statement)
+    is_behind = other.is_put_behind(first, who, at)
+    return Unordered(mine.line, one.sent[first], mine.statement) if is_behind else None
 
 
 def _deed(told: Told, who: int, at: int) -> Deed:
