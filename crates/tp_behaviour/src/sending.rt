@@ -199,6 +199,7 @@ fn send_started<R: Wait, G: Gate>(
     ensures sends { IfOk result
         (SendsAt execution.now.task.now frame.now sending.now worker.old worker.new) }
 {
+    // Filled before a route is looked for: 43 comes before 41 and 42.
     let Some(message) = message_of(execution.task.alloc, frame, &sending.sent)? else {
         let unset_message = SendFault::UnsetVariable;
         return fail(execution.task, &mut *worker, frame, sending, unset_message);

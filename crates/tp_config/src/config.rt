@@ -153,6 +153,7 @@ impl Config {
             IfErr result (λ fault. (self.new ≡ self.old) × CreateRefused self.old m fault) }
         ensures lawful { IsSetup self.new }
     {
+        // The causes come before any allocation, so that 50 never stands for one of them.
         if let Some(fault) = create_fault(self.components.as_slice(), name.as_str(), role) {
             return Err(fault);
         }
@@ -217,6 +218,7 @@ impl Config {
     {
         let types = self.types.as_slice();
         let components = self.components.as_slice();
+        // Before any allocation, as in `create`.
         if let Some(fault) = connect_fault(types, components, p, q) {
             return Err(fault);
         }
@@ -242,6 +244,7 @@ impl Config {
     {
         let types = self.types.as_slice();
         let components = self.components.as_slice();
+        // Before any allocation, as in `create`.
         if let Some(fault) = map_fault(types, components, p, q) {
             return Err(fault);
         }

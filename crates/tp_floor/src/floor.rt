@@ -159,6 +159,7 @@ impl Floor {
             let seen = self.look(rt, &mut pass);
             let mut left = seen;
             let all_rest = left.leave();
+            // If another call changes the counts here, the exchange fails: it looks again.
             hook.between();
             if self.exchange(rt, &mut pass, seen, left) {
                 return all_rest;

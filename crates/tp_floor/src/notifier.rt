@@ -81,6 +81,7 @@ impl Notifier {
             None => false,
         };
         if wakes {
+            // It counts as awake before it is woken: in between nobody takes it for resting.
             self.place.rise(rt, hook);
             self.awaits = None;
         }
@@ -111,6 +112,7 @@ impl Notifier {
             ↔ (self.now.announced ≤ taken) × (self.now.closed ≡ true) }
         ensures nothing { result ≡ None ↔ (self.now.announced ≤ taken) × (self.now.closed ≡ false) }
     {
+        // What has arrived comes before the closing: a closed inbox is still emptied.
         if self.announced > taken {
             return Some(Woken::Arrived);
         }

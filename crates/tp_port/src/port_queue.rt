@@ -60,6 +60,7 @@ impl<M: Payload> PortQueue<M> {
         ensures err { IfErr result (λ back. (back.1 ≡ env) × (self.new ≡ self.old)) }
         ensures lawful { Lawful self.new }
     {
+        // Whatever may need memory comes first: a refusal leaves queue and history as they were.
         let Ok(twin) = env.copy(self.alloc) else {
             return Err((Memory, env));
         };
@@ -88,6 +89,7 @@ impl<M: Payload> PortQueue<M> {
             None => return Ok(None),
             Some(env) => env.copy(self.alloc)?,
         };
+        // Before the queue changes, so that its event can always be noted.
         self.events.reserve(1)?;
         match self.queue.receive(wanted, from) {
             Some(env) => {
@@ -135,6 +137,7 @@ impl<M: Payload> PortQueue<M> {
             None => return Ok(TriggerAnswer::Nothing),
             Some(env) => env.copy(self.alloc)?,
         };
+        // Before the queue changes, so that its event can always be noted.
         self.events.reserve(1)?;
         match self.queue.trigger(wanted, from) {
             TriggerAnswer::Took(env) => {

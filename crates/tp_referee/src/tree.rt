@@ -62,6 +62,7 @@ impl<'t> Trace<'t> {
         let span = self.spans[place];
         match trace_line(&self.text[span.start as usize..span.end as usize]) {
             Some(line) => line,
+            // Each span was read as a line before it was kept.
             None => unreachable!(),
         }
     }

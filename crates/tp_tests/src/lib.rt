@@ -1,6 +1,6 @@
 //! Tests of public calls of the other crates. They are here, and not in the crates that they test,
-//! so that those are proved once. `writers` is also proved without the tests, because wrong bodies
-//! are tried without them.
+//! so that those are proved once. `queue_user` and `inbox_user` are two users of the surface.
+//! They and `writers` are also proved without the tests, because wrong bodies are tried without them.
 #![tactic(auto)]
 
 #[cfg(test)]
@@ -11,6 +11,7 @@ mod configurations;
 mod desk_calls;
 #[cfg(test)]
 mod ends;
+pub mod inbox_user;
 #[cfg(test)]
 mod inboxes;
 #[cfg(test)]
@@ -25,6 +26,7 @@ mod partners;
 mod ports;
 #[cfg(test)]
 mod programs;
+pub mod queue_user;
 #[cfg(test)]
 mod searches;
 #[cfg(test)]
@@ -37,6 +39,8 @@ mod templates;
 mod threads;
 #[cfg(test)]
 mod tokens;
+#[cfg(test)]
+mod users;
 #[cfg(test)]
 mod values;
 #[cfg(test)]

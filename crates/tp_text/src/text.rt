@@ -188,7 +188,6 @@ fn make_room(text: &mut Vec<u8>, size: usize, limit: usize) -> Result<(), AllocE
     ensures most { vec_len text.new ≤ limit + 1 }
     ensures doubled { IsRoom limit (vec_len text.new) }
 {
-    // Twice as much as there was, and at most one byte beyond the limit.
     if size < text.len() {
         return Ok(());
     }
@@ -203,6 +202,8 @@ fn next_room(size: usize, limit: usize) -> usize
     ensures most { result ≤ limit + 1 }
     ensures doubled { IsRoom limit result }
 {
+    // Doubled, so that all bytes are moved twice at most. One byte beyond the limit shows that a
+    // text is longer.
     let more = if size == 0 { FIRST_READ } else { size * 2 };
     more.min(limit + 1)
 }

@@ -180,6 +180,7 @@ pub fn flush<W: Write>(out: &mut Watched<W>)
     ensures { Writes W.contents out.old out.new [] }
 {
     if !out.failed {
+        // The writer itself remembers a failure.
         let _ = out.flush();
     }
 }

@@ -120,6 +120,7 @@ impl Types {
             ↔ Contains (names_of_types self.old) (string_bytes name) }
         ensures err { OnErr result (self.new ≡ self.old) }
     {
+        // An insertion under a name that is taken would replace its definition.
         if self.find(name.as_str()).is_some() {
             return Err(AddFault::Duplicate);
         }

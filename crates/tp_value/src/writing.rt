@@ -105,6 +105,7 @@ fn write_fields<W: Write>(types: &Types, declared: &[Field], values: &[Value], o
         (braced_text (field_texts (λ v t. value_text types.now t v) declared.now values.now)) }
 {
     write_bytes(b"{", out);
+    // A record of its type has as many fields; with the shorter of both lists no condition says so.
     for index in 0..declared.len().min(values.len()) {
         let field = &declared[index];
         separate(index, out);

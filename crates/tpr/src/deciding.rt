@@ -1,21 +1,21 @@
 //! Mode `verdicts`.
 ghost use Rattle.std.specs.Prelude.{◌≡◌};
 ghost use Rattle.tp_text.specs.Watching.{reader_left};
-ghost use Rattle.tp_verdicts.specs.Found.{IsVerdictsOf};
-ghost use Rattle.tp_verdicts.specs.Texts.{verdicts_status};
+ghost use Rattle.tpr.specs.Found.{IsVerdictsOf};
+ghost use Rattle.tpr.specs.Texts.{verdicts_status};
 ghost use Rattle.tpr.specs.Decided.{IsDecided, IsDecidedOf, IsAlwaysKept, IsVerdictsAnswer};
 ghost use Rattle.tpr.specs.Handed.{IsAnswered, IsJust};
 ghost use Rattle.tpr.specs.FaultLines.{memory_text};
 
 use crate::checking::{answer_check_fault, check_script};
 use crate::modes::{ANSWERED, FAULTED, status_if_written, write_memory};
+use crate::verdicts::Verdicts;
+use crate::verdicts::finding::find_verdicts;
+use crate::verdicts::writing::write_verdicts;
 use std::alloc::Global;
 use std::io::{Read, Write};
 use tp_play::test_case::TestCase;
 use tp_text::watched::Watched;
-use tp_verdicts::finding::find_verdicts;
-use tp_verdicts::verdicts::Verdicts;
-use tp_verdicts::writing::write_verdicts;
 
 /// The status if a test case can have several verdicts.
 const SEVERAL: u8 = 2;

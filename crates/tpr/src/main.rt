@@ -21,6 +21,7 @@ mod judging;
 mod line;
 mod modes;
 mod running;
+mod verdicts;
 
 use checking::answer_check;
 use deciding::answer_verdicts;

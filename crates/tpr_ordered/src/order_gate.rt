@@ -113,10 +113,12 @@ impl OrderGate {
     /// The component reaches its next step, and is held until the order has come to it. If it has
     /// none, it is held until the order has ended.
     fn come_to_next(&self, part: &OrderTurn) {
+        // Its last step has ended: the others may go on before this one is held.
         if let Some(place) = part.last() {
             self.ended
                 .store(place.number.wrapping_add(1), Ordering::SeqCst);
         }
+        // Before `met` counts this step: `next` goes by it.
         let number = part.next().map_or(self.length, |place| place.number);
         part.met.fetch_add(1, Ordering::SeqCst);
         self.hold_until(number);
@@ -141,6 +143,7 @@ impl Gate for OrderGate {
     fn before(&self, who: CompId, _step: u64) {
         if let Some(part) = self.parts.get(who.0 as usize) {
             if part.is_next_inside() {
+                // The order holds it inside a step that has ended.
                 self.give_up();
             }
             self.come_to_next(part);

@@ -59,6 +59,7 @@ fn write_order<R: Threads + Wait + Sync, W: Write>(
     write_bytes(b"\n", writer);
     write_run(trial, order.steps.as_slice(), writer);
     write_bytes(b"\n", writer);
+    // Before the next run, which may wait forever.
     flush(writer);
 }
 

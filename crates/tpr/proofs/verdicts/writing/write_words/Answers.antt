@@ -1,0 +1,12 @@
+-- Each verdict adds its word.
+use Rattle.tp_text.proofs.WatchedWriterGrowth.{nothing_yet, one_more, writes_both}
+use Rattle.tpr.proofs.verdicts.writing.write_words.Goals as goal
+
+pub loop-one-init : goal.loop-one-init
+loop-one-init g c = nothing_yet g.W.Write.contents _
+
+pub loop-one-preserved : goal.loop-one-preserved
+loop-one-preserved g c =
+    let word = rw c.verdict_word.ensures at c.write_bytes-in-loop-one.ensures in
+    one_more g.W.Write.contents _ c.args.found.now c.loop-one.one-index c.one-item.result c.loop-one-test.true
+    c.one-item.is _ _ _ c.loop-one.invariant (writes_both _ _ _ _ _ _ c.write_bytes.ensures word)
