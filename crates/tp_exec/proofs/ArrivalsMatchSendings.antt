@@ -14,7 +14,7 @@ use Rattle.tp_report.specs.declared.report.Report.{Report}
 use Rattle.tp_exec.specs.Delivery.{IsReportOf}
 use Rattle.tp_exec.specs.CausalOrder.{Spot, log_of}
 use Rattle.tp_exec.specs.OneOrder.{IsOrderOf, entry_at_spot, log_in, logs_of, sender_to, sends_to, source_of}
-use Rattle.tp_exec.specs.Greedy.{many}
+use Rattle.tp_exec.specs.OneOrder.{many}
 use Rattle.tp_exec.specs.LookLaws.{posted_at, posted_by, sending_in}
 use Rattle.tp_exec.specs.MessageLaws.{all_came_to, all_sent_to, came_to}
 use Rattle.tp_exec.proofs.PlacesOfGivenElements.{given_twice}

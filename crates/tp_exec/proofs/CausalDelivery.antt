@@ -19,16 +19,17 @@ use Rattle.tp_report.specs.declared.report.CompReport.{CompReport}
 use Rattle.tp_report.specs.declared.report.Report.{Report}
 use Rattle.tp_exec.specs.Delivery.{IsReportOf}
 use Rattle.tp_exec.specs.CausalOrder.{CameAt, HappensBefore, Spot, StandsAt, log_of}
-use Rattle.tp_exec.specs.OneOrder.{IsAt, IsInOneOrder, IsOrderOf, IsOwn, came_before, entry_at_spot, log_in, logs_of, sender_to, sends_to, source_of, sources}
+use Rattle.tp_judge.specs.OneOrder.{IsAt}
+use Rattle.tp_exec.specs.OneOrder.{IsInOneOrder, IsOrderOf, IsOwn, came_before, entry_at_spot, log_in, logs_of, sender_to, sends_to, source_of, sources}
 use Rattle.tp_exec.specs.LookLaws.{sending_in}
 use Rattle.tp_exec.specs.MessageLaws.{DeliveryIsCausal, all_came_to, came_to}
 use Rattle.tp_exec.proofs.MessagesArriveAsSent.{as_much_before, came_is, in_report}
 use Rattle.tp_exec.proofs.PlacesOfGivenElements.{given_alike, given_at, given_grows, given_later, given_of, given_tells, one_more_given, so_much}
 use Rattle.tp_exec.proofs.ArrivalsMatchSendings.{come_as_sent, log_here}
 use Rattle.tp_exec.proofs.NoHappenedBeforeCircle.{no_circle, reported}
-use Rattle.tp_exec.proofs.SpotOrderGrowth.{came_on, own_none, spot}
+use Rattle.tp_exec.proofs.HistoryEntries.{came_on, own_none, spot}
 use Rattle.tp_exec.proofs.NoMessageOvertakes.{posted, sent_as}
-use Rattle.tp_exec.proofs.NoOrderWhereStuck.{came_grows}
+use Rattle.tp_exec.proofs.HistoryEntries.{came_grows}
 
 -- as many come, or are sent, as have a sender
 came_alike : (d : CompId) (e : Entry) → length (cons_option (came_to d e) []) ≡ length (cons_option (source_of e) [])
@@ -104,7 +105,7 @@ module _ (made : Made) (report : Report) (order : List Spot) (h : IsReportOf mad
       record {
         own = λ q most own. elim (cases_lt q p) [
           | inl low ↦
-              let k = is.kept c q p low own one in
+              let k = is.kept (spot c q) (spot c p) (refl, low) own one in
               let same : k.1 ≡ i = is.once k.1 i (spot c p) k.4 at in
               let under : k.0 < k.1 = k.2 in
               (k.0, omega (arith, under, same, less), k.3)

@@ -12,13 +12,15 @@ use Rattle.tp_history.specs.declared.entry.Entry.TheVariants as entry
 use Rattle.tp_history.specs.History.{is_arrival}
 use Rattle.tp_behaviour.specs.Fresh.{LooksAtPorts}
 use Rattle.tp_exec.specs.CausalOrder.{Spot}
-use Rattle.tp_exec.specs.OneOrder.{HasOneOrder, IsAt, IsOrderOf, IsOwn, came_before, entry_at_spot, log_in, sender_to}
+use Rattle.tp_judge.specs.OneOrder.{IsAt}
+use Rattle.tp_exec.specs.OneOrder.{HasOneOrder, IsOrderOf, IsOwn, came_before, entry_at_spot, log_in, sender_to}
 use Rattle.tp_exec.specs.OneOrder.{senders_to, sends_to}
-use Rattle.tp_exec.specs.Greedy.{many, count_sent_to}
+use Rattle.tp_exec.specs.OneOrder.{many, count_sent_to}
 use Rattle.tp_exec.specs.LookLaws.{CrossedLooks, Misses}
-use Rattle.tp_exec.proofs.SpotOrderGrowth.{own_none, spot}
+use Rattle.tp_exec.proofs.HistoryEntries.{own_none, spot}
 use Rattle.tp_exec.proofs.LooksSeeSentMessages.{given_front, given_one}
-use Rattle.tp_exec.proofs.NoOrderWhereStuck.{look_own, many_here, many_sent, sum_one, unit}
+use Rattle.tp_exec.proofs.HistoryEntries.{look_own, many_sent}
+use Rattle.tp_judge.proofs.NoOrderWhereStuck.{many_here, sum_one, unit}
 
 -- a sending is what its component did itself
 send_own : (d : ℕ) (e : Entry) → sends_to d (Some e) ≡ true → is_arrival e ≡ false
@@ -42,7 +44,7 @@ module _ (logs : List (List Entry)) (order : List Spot) (is : IsOrderOf logs ord
   -- it does where one that c did itself at that place stands there
   all_before : (c d m n : ℕ) → IsOwn logs (spot c m) → IsAt order n (spot c m) → AreSentBefore c d m n
   all_before c d m n own there q less met =
-      let k = is.kept c q m less (sending_own c d q met) own in
+      let k = is.kept (spot c q) (spot c m) (refl, less) (sending_own c d q met) own in
       let same : k.1 ≡ n = is.once k.1 n (spot c m) k.4 there in
       let before : k.0 < k.1 = k.2 in
       (k.0, omega (arith, before, same), k.3)
@@ -106,7 +108,7 @@ module _ (logs : List (List Entry)) (order : List Spot) (is : IsOrderOf logs ord
   missed_before c p q d r i j misses met look there = elim (cases_lt j i) [
     | inr most ↦ most
     | inl less ↦
-        let seen = ap (many d) (is.seen i (spot c q) misses.look look misses.stands misses.looks) in
+        let seen = ap (many d) (is.seen i (spot c q) look (misses.look, misses.stands, misses.looks)) in
         let before : AreSentBefore d c (r + 1) i = λ n under here. elim (cases_eq n r) [
           | inl same ↦ (j, less, subst (λ m. IsAt order j (spot d m)) (sym same) there)
           | inr other ↦
@@ -123,8 +125,8 @@ pub crossed_looks : CrossedLooks
 crossed_looks logs c d p q r s one other (order, is) =
     let own_look : IsOwn logs (spot c q) = record { act = one.look; stands = one.stands; own = look_own one.look one.looks } in
     let own_watch : IsOwn logs (spot d s) = record { act = other.look; stands = other.stands; own = look_own other.look other.looks } in
-    let first = is.kept c p q one.looks_later (sending_own logs order is c d p one.sent) own_look in
-    let second = is.kept d r s other.looks_later (sending_own logs order is d c r other.sent) own_watch in
+    let first = is.kept (spot c p) (spot c q) (refl, one.looks_later) (sending_own logs order is c d p one.sent) own_look in
+    let second = is.kept (spot d r) (spot d s) (refl, other.looks_later) (sending_own logs order is d c r other.sent) own_watch in
     let up : first.0 < first.1 = first.2 in
     let on : second.0 < second.1 = second.2 in
     let over = missed_before logs order is c p q d r first.1 second.0 one other.sent first.4 second.3 in

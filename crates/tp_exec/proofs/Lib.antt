@@ -23,14 +23,11 @@ pub mod RunNamesInConfiguration
 pub mod BehavioursBackFromThreads
 pub mod WorkerThreadSafety
 pub mod ComponentsAfterThreads
-pub mod SpotOrderGrowth
-pub mod EntryKinds
-pub mod OrderProgressGrowth
-pub mod NoOrderWhereStuck
-pub mod ArrivalCursors
 pub mod CrossedLooksWithoutOrder
 pub mod LooksSeeSentMessages
 pub mod PlacesOfGivenElements
 pub mod ArrivalsMatchSendings
 pub mod MessagesArriveAsSent
 pub mod CausalDelivery
+pub mod HistoryEntries
+pub mod OneOrderByKinds

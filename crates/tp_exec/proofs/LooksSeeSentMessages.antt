@@ -19,13 +19,15 @@ use Rattle.tp_history.specs.History.{arrival_from, arrived_from, is_arrival, sen
 use Rattle.tp_report.specs.declared.report.CompReport.{CompReport}
 use Rattle.tp_behaviour.specs.Fresh.{LooksAtPorts}
 use Rattle.tp_exec.specs.CausalOrder.{Spot}
-use Rattle.tp_exec.specs.OneOrder.{IsAt, IsOrderOf, IsOwn, entry_at_spot, log_in, logs_of, sender_to, sends_to}
+use Rattle.tp_judge.specs.OneOrder.{IsAt}
+use Rattle.tp_exec.specs.OneOrder.{IsOrderOf, IsOwn, entry_at_spot, log_in, logs_of, sender_to, sends_to}
 use Rattle.tp_exec.specs.OneOrder.{source_of}
-use Rattle.tp_exec.specs.Greedy.{many}
+use Rattle.tp_exec.specs.OneOrder.{many}
 use Rattle.tp_exec.specs.LookLaws.{LooksSeeSent, sending_in, posted_at, posted_by}
-use Rattle.tp_exec.proofs.SpotOrderGrowth.{spot, spot_is}
-use Rattle.tp_exec.proofs.OrderProgressGrowth.{log_is}
-use Rattle.tp_exec.proofs.NoOrderWhereStuck.{many_sent, take_one, unit}
+use Rattle.tp_exec.proofs.HistoryEntries.{spot, spot_is}
+use Rattle.tp_exec.proofs.HistoryEntries.{log_is}
+use Rattle.tp_exec.proofs.HistoryEntries.{many_sent}
+use Rattle.tp_judge.proofs.NoOrderWhereStuck.{take_one, unit}
 
 -- what is given of the fronts of a list
 pub given_one : {X Y : Type 0} (f : X → Option Y) (k : List X) (n : ℕ) (x : X) → slice_get k n ≡ Some x
@@ -161,7 +163,7 @@ module _ (logs : List (List Entry)) (full : List Spot) (is : IsOrderOf logs full
       let between : (r : ℕ) (e : Entry) → p ≤ r → r < q → slice_get log r ≡ Some e → is_arrival e ≡ true = λ r e up to stands. elim (bool_cases (is_arrival e)) [
         | inl met ↦ met
         | inr unmet ↦
-            let k = is.kept c.0 r q to (record { act = e; stands = stands; own = unmet }) own in
+            let k = is.kept (spot c.0 r) (spot c.0 q) (refl, to) (record { act = e; stands = stands; own = unmet }) own in
             let same : k.1 ≡ i = is.once k.1 i (spot c.0 q) k.4 there in
             let less : k.0 < k.1 = k.2 in
             let low : r < p = was.own k.0 (spot c.0 r) (omega (arith, less, same)) k.3 refl in
@@ -237,7 +239,7 @@ module _ (logs : List (List Entry)) (full : List Spot) (is : IsOrderOf logs full
       let log = log_in logs d.0 in
       let xs = filter_map (arrival_from d c) (take place log) in
       let ys = posted_by logs c d (take i full) in
-      let seen = ap (many c.0) (is.seen i (spot d.0 place) e there stands look) in
+      let seen = ap (many c.0) (is.seen i (spot d.0 place) there (e, stands, look)) in
       let one = as_many (arrival_from d c) source_of c.0 (arrival_size c d) (take place log) in
       let two = as_many (posted_at logs c d) (sender_to logs d.0) c.0 (λ a. posted_size c d a.comp (entry_at_spot logs a)) (take i full) in
       let size : length xs ≡ length ys = omega (arith, seen, one, two) in

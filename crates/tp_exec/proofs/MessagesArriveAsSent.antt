@@ -22,7 +22,8 @@ use Rattle.tp_report.specs.declared.report.CompReport.{CompReport}
 use Rattle.tp_report.specs.declared.report.Report.{Report}
 use Rattle.tp_exec.specs.Delivery.{IsDelivered, IsReportOf, numbers_from}
 use Rattle.tp_exec.specs.CausalOrder.{Spot, StandsAt, log_of}
-use Rattle.tp_exec.specs.OneOrder.{IsAt, IsFrontOf, IsOrderOf, entry_at_spot, logs_of}
+use Rattle.tp_judge.specs.OneOrder.{IsAt, IsFrontOf}
+use Rattle.tp_exec.specs.OneOrder.{IsOrderOf, entry_at_spot, logs_of}
 use Rattle.tp_exec.specs.LookLaws.{sending_in}
 use Rattle.tp_exec.specs.MessageLaws.{HadOnTop, MessagesComeAsSent, all_came_to, all_sent_to, came_to}
 use Rattle.tp_exec.proofs.PlacesOfGivenElements.{given_at, given_grows, given_of, given_twice, one_more_given, so_much}
@@ -31,7 +32,7 @@ use Rattle.tp_exec.proofs.LawfulTraces.{lawful_route}
 use Rattle.tp_exec.proofs.ArrivalsMatchSendings.{come_as_sent}
 use Rattle.tp_exec.proofs.LooksSeeSentMessages.{given_front}
 use Rattle.tp_exec.proofs.NoHappenedBeforeCircle.{history, on_route}
-use Rattle.tp_exec.proofs.SpotOrderGrowth.{from_take}
+use Rattle.tp_judge.proofs.SpotOrderGrowth.{from_take}
 use Rattle.tp_exec.proofs.NoMessageOvertakes.{one_place, posted, sent_as}
 
 -- what came on a route is what is of it among all that came

@@ -10,8 +10,6 @@ pub mod Settlings
 pub mod Reporting
 pub mod Laws
 pub mod OneOrder
-pub mod OrderProgress
-pub mod Greedy
-pub mod Cursors
+pub mod EntryKinds
 pub mod LookLaws
 pub mod MessageLaws

@@ -12,8 +12,9 @@ use Rattle.tp_report.specs.declared.report.Report.{Report}
 use Rattle.tp_behaviour.specs.Fresh.{LooksAtPorts}
 use Rattle.tp_exec.specs.Delivery.{IsReportOf}
 use Rattle.tp_exec.specs.CausalOrder.{Spot}
-use Rattle.tp_exec.specs.OneOrder.{HasOneOrder, IsAt, IsOrderOf, came_before, entry_at_spot, log_in, logs_of, sends_to}
-use Rattle.tp_exec.specs.Greedy.{many, count_sent_to}
+use Rattle.tp_judge.specs.OneOrder.{IsAt}
+use Rattle.tp_exec.specs.OneOrder.{HasOneOrder, IsOrderOf, came_before, entry_at_spot, log_in, logs_of, sends_to}
+use Rattle.tp_exec.specs.OneOrder.{many, count_sent_to}
 
 -- what the entry sends to the component
 abbrev pub sending_in : CompId → Option Entry → Option Posted

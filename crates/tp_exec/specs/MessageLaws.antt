@@ -15,7 +15,8 @@ use Rattle.tp_report.specs.declared.report.CompReport.{CompReport}
 use Rattle.tp_report.specs.declared.report.Report.{Report}
 use Rattle.tp_exec.specs.Delivery.{IsReportOf}
 use Rattle.tp_exec.specs.CausalOrder.{CameAt, HappensBefore, Spot, StandsAt}
-use Rattle.tp_exec.specs.OneOrder.{IsAt, IsFrontOf, IsInOneOrder, IsOrderOf, entry_at_spot, logs_of}
+use Rattle.tp_judge.specs.OneOrder.{IsAt, IsFrontOf}
+use Rattle.tp_exec.specs.OneOrder.{IsInOneOrder, IsOrderOf, entry_at_spot, logs_of}
 use Rattle.tp_exec.specs.LookLaws.{sending_in}
 
 -- what an arrival at the component is: its route, its number there, and the stamped message

@@ -1,15 +1,16 @@
--- What it is that one order of all that the components did themselves gives their histories: each message is in its
--- queue at once when it is sent, and a look at ports sees all that was sent to its component before (ES 201 873-4).
--- A component is known by its number, and what it did by its place in the component's history: both are a spot.
-use Rattle.std.specs.Prelude.{◌≡◌, ℕ, ◌<◌, ◌==◌, ◌++◌, Bool, false, cond, Option, Some, None, List, [], map, take}
+-- What histories of entries say, of which one order may give all. A component is known by its number, and what it did by
+-- its place in the component's history: both are a spot.
+use Rattle.std.specs.Prelude.{◌≡◌, ℕ, ◌<◌, ◌==◌, Bool, false, cond, Option, Some, None, List, [], map, take}
 use Rattle.std.specs.Prelude.{slice_get, slice_index_or}
-use Rattle.std.specs.List.{filter_map}
+use Rattle.std.specs.List.{filter_map, sum_by}
 use Rattle.tp_history.specs.declared.entry.Entry.{Entry}
 use Rattle.tp_history.specs.declared.entry.Entry.TheVariants as entry
 use Rattle.tp_history.specs.History.{is_arrival}
 use Rattle.tp_report.specs.declared.report.CompReport.{CompReport}
 use Rattle.tp_report.specs.declared.report.Report.{Report}
 use Rattle.tp_behaviour.specs.Fresh.{LooksAtPorts}
+use Rattle.tp_judge.specs.OneOrder.{Histories}
+use Rattle.tp_judge.specs.OneOrder as orders
 use Rattle.tp_exec.specs.CausalOrder.{Spot}
 
 -- the histories of these components
@@ -56,39 +57,34 @@ senders_to logs d order = filter_map (sender_to logs d) order
 abbrev pub came_before : List (List Entry) → Spot → List ℕ
 came_before logs a = sources (take a.place (log_in logs a.comp))
 
--- the one list is the other, or its front
-abbrev pub IsFrontOf : {X : Type 0} → List X → List X → Type 0
-IsFrontOf {X} front whole = (rest : List X) × (front ++ rest ≡ whole)
+-- what the histories say: a message is compared by its sender alone
+abbrev pub histories_of : List (List Entry) → Histories Spot ℕ
+histories_of logs = record {
+  component = λ a. a.comp;
+  IsOwn = IsOwn logs;
+  IsEarlier = λ a b. (a.comp ≡ b.comp) × (a.place < b.place);
+  IsLook = λ a. (e : Entry) × (entry_at_spot logs a ≡ Some e) × LooksAtPorts e;
+  sent_to = sender_to logs;
+  came_before = came_before logs;
+  came = λ c. sources (log_in logs c);
+}
 
--- the spot is the one at this place of the order
-abbrev pub IsAt : List Spot → ℕ → Spot → Type 0
-IsAt order i a = slice_get order i ≡ Some a
-
--- the one spot stands in the order before the other
-abbrev pub IsBefore : List Spot → Spot → Spot → Type 0
-IsBefore order a b = (i : ℕ) × (j : ℕ) × (i < j) × IsAt order i a × IsAt order j b
-
--- **the order gives the histories**
-pub record IsOrderOf (logs : List (List Entry)) (order : List Spot) : Type 0 where
-  -- it has all that the components did themselves, and nothing else, each once
-  pub own : (i : ℕ) (a : Spot) → IsAt order i a → IsOwn logs a
-  pub each : (a : Spot) → IsOwn logs a → (i : ℕ) × IsAt order i a
-  pub once : (i j : ℕ) (a : Spot) → IsAt order i a → IsAt order j a → i ≡ j
-  -- it keeps the order of each history
-  pub kept : (c j k : ℕ) → j < k → IsOwn logs (record { comp = c; place = j }) → IsOwn logs (record { comp = c; place = k })
-      → IsBefore order (record { comp = c; place = j }) (record { comp = c; place = k })
-  -- what had come to a component before it did something was sent before that: so much, by those senders, in their turn
-  pub sent : (i : ℕ) (a : Spot) → IsAt order i a → IsFrontOf (came_before logs a) (senders_to logs a.comp (take i order))
-  -- and where it looks at ports that is all that was sent to it before
-  pub seen : (i : ℕ) (a : Spot) (e : Entry) → IsAt order i a → entry_at_spot logs a ≡ Some e → LooksAtPorts e
-      → came_before logs a ≡ senders_to logs a.comp (take i order)
-  -- in the end all that was sent has come
-  pub ended : (c : ℕ) → sources (log_in logs c) ≡ senders_to logs c order
+-- the order gives the histories
+abbrev pub IsOrderOf : List (List Entry) → List Spot → Type 0
+IsOrderOf logs order = orders.IsOrderOf (histories_of logs) order
 
 -- **one order**: there is such an order
 abbrev pub HasOneOrder : List (List Entry) → Type 0
-HasOneOrder logs = (order : List Spot) × IsOrderOf logs order
+HasOneOrder logs = orders.HasOneOrder (histories_of logs)
 
 -- one order gives all that the report says
 abbrev pub IsInOneOrder : Report → Type 0
 IsInOneOrder report = HasOneOrder (logs_of report.components.items)
+
+-- how many messages are sent to the component in this history
+abbrev pub count_sent_to : ℕ → List Entry → ℕ
+count_sent_to d k = sum_by (λ e. cond (sends_to d (Some e)) 1 0) k
+
+-- how often the number stands in the list
+abbrev pub many : ℕ → List ℕ → ℕ
+many c xs = sum_by (λ x. cond (x == c) 1 0) xs

@@ -1,10 +1,12 @@
 -- What one line more leaves of what was made so far.
-use Rattle.std.proofs.Common.{◌≡◌, ℕ, ◌+◌, ◌<◌, Bool, true, false, Some, List, length, get_or, set, refl, ap, sym, ◌∙◌}
+use Rattle.std.proofs.Common.{◌≡◌, ℕ, ◌+◌, ◌<◌, Bool, true, false, Some, List, [], length, get_or, set, refl, ap, sym, ◌∙◌}
 use Rattle.std.proofs.Common.{subst, arith}
 use Rattle.std.specs.Prelude.{slice_get}
 use Rattle.std.proofs.lemmas.Bool.{false≢true}
 use Rattle.std.proofs.lemmas.List.{length-set}
+use Rattle.std.proofs.lemmas.List.Elements.{All-nil}
 use Rattle.std.proofs.lemmas.Option.{same_Some, slice_get-get_or}
+use Rattle.tp_judge.specs.declared.demand.Demand.{Demand}
 use Rattle.tp_judge.specs.declared.line.Mention.{Mention}
 use Rattle.tp_judge.specs.declared.line.Act.{Act}
 use Rattle.tp_judge.specs.declared.line.Act.TheVariants as act
@@ -12,15 +14,14 @@ use Rattle.tp_judge.specs.declared.line.IndexedLine.{IndexedLine}
 use Rattle.tp_judge.specs.declared.line.By.TheVariants as by
 use Rattle.tp_judge.specs.declared.run_demands.Latest.{Latest}
 use Rattle.tp_judge.specs.declared.run_demands.Making.{Making}
-use Rattle.tp_judge.specs.declared.run_demands.Which.{Which}
 use Rattle.tp_judge.specs.declared.trace.IndexedTrace.{IndexedTrace}
 use Rattle.tp_judge.specs.Delivered.{Delivered, IsJoined}
 use Rattle.tp_judge.specs.Lawful.{AreWithin}
 use Rattle.tp_judge.specs.Lines.{HasKeyBelow}
-use Rattle.tp_judge.specs.OneRun.{is_looking, is_own, ComesAt, IsOwnAt, IsSentAt, LineAt}
-use Rattle.tp_judge.specs.Latest.{after_arrival, after_own, AreMadeUpTo, IsLatestOf, IsMadeUpTo, IsOwn}
-use Rattle.tp_judge.proofs.LatestLinesAndDemands.{latest_all, latest_arrival, latest_none, latest_own, two_made}
-use Rattle.tp_judge.proofs.LatestLinesAndDemands.{two_made_are, two_more, IsQuiet}
+use Rattle.tp_judge.specs.OneRun.{is_looking, is_own, ComesAt, IsDemanded, IsOwnAt, IsSentAt, LineAt}
+use Rattle.tp_judge.specs.Latest.{after_arrival, after_own, AreDemandsUpTo, IsLatestOf, IsMadeUpTo, IsOwn}
+use Rattle.tp_judge.proofs.LatestLinesAndDemands.{latest_all, latest_arrival, latest_none, latest_own}
+use Rattle.tp_judge.proofs.LatestLinesAndDemands.{two_more, IsQuiet}
 use Rattle.tp_judge.proofs.NextLineDemands.{arrival_made, own_made, quiet_made}
 use Rattle.tp_judge.proofs.SendingOfEachArrival.{all_at}
 
@@ -42,9 +43,9 @@ same_act trace place line other first second = ap (λ (l : IndexedLine). l.act) 
 pub made_own : (trace : IndexedTrace) (n : ℕ) (was now : Making) (line : IndexedLine) (latest : Latest) (looks : Bool) → AreWithin trace → Delivered trace
     → IsMadeUpTo trace n was → IsOwn trace n → LineAt trace n line
     → latest ≡ get_or was.latest.items line.component latest → looks ≡ is_looking line.act
-    → now.which ≡ was.which → now.demands.items ≡ two_made was.which was.demands.items latest.own latest.unseen n
+    → now.demands.items ≡ two_more was.demands.items latest.own latest.unseen n
     → now.latest.items ≡ set was.latest.items line.component (after_own latest n looks) → IsMadeUpTo trace (n + 1) now
-made_own trace n was now line latest looks within delivered made own at read looks_is still demands all =
+made_own trace n was now line latest looks within delivered made own at read looks_is demands all =
     let below = component_below trace n line within at in
     let here : IsOwnAt trace line.component n = record {
       line = line;
@@ -57,11 +58,8 @@ made_own trace n was now line latest looks within delivered made own at read loo
     let size = made.size in
     let more = latest_own trace n line.component latest looks here (sym looks_is) is in
     record {
-      demands = subst (λ (these : Which). AreMadeUpTo trace these (n + 1) now.demands.items) (sym still) (record {
-        all = two_more made.demands.all latest.own latest.unseen n;
-        demands = own_made trace n line.component made.demands.all latest delivered made.demands.demands is here;
-        made_are = demands ∙ two_made_are was.which was.demands.items made.demands.all latest.own latest.unseen n made.demands.made_are;
-      });
+      demands = subst (AreDemandsUpTo trace (n + 1)) (sym demands)
+          (own_made trace n line.component was.demands.items latest delivered made.demands is here);
       size = ap length all ∙ length-set was.latest.items line.component (after_own latest n looks) ∙ size;
       each = λ component other low.
           subst (λ (l : List Latest). IsLatestOf trace (n + 1) component (get_or l component other)) (sym all)
@@ -72,9 +70,9 @@ made_own trace n was now line latest looks within delivered made own at read loo
 pub made_arrival : (trace : IndexedTrace) (n s : ℕ) (m : Mention) (was now : Making) (line : IndexedLine) (latest : Latest) → AreWithin trace → Delivered trace
     → IsMadeUpTo trace n was → LineAt trace n line → line.act ≡ act.Came m → IsJoined trace m.route → IsSentAt trace s m
     → latest ≡ get_or was.latest.items line.component latest
-    → now.which ≡ was.which → now.demands.items ≡ two_made was.which was.demands.items latest.look latest.sending s
+    → now.demands.items ≡ two_more was.demands.items latest.look latest.sending s
     → now.latest.items ≡ set was.latest.items line.component (after_arrival latest s) → IsMadeUpTo trace (n + 1) now
-made_arrival trace n s m was now line latest within delivered made at says joined sends read still demands all =
+made_arrival trace n s m was now line latest within delivered made at says joined sends read demands all =
     let below = component_below trace n line within at in
     let here : ComesAt trace line.component n m = record { line = line; at = at; within = refl; is = (says, joined) } in
     let is : IsLatestOf trace n line.component latest =
@@ -82,11 +80,8 @@ made_arrival trace n s m was now line latest within delivered made at says joine
     let size = made.size in
     let more = latest_arrival trace n line.component s latest m here sends is in
     record {
-      demands = subst (λ (these : Which). AreMadeUpTo trace these (n + 1) now.demands.items) (sym still) (record {
-        all = two_more made.demands.all latest.look latest.sending s;
-        demands = arrival_made trace n line.component s m made.demands.all latest delivered made.demands.demands is here sends;
-        made_are = demands ∙ two_made_are was.which was.demands.items made.demands.all latest.look latest.sending s made.demands.made_are;
-      });
+      demands = subst (AreDemandsUpTo trace (n + 1)) (sym demands)
+          (arrival_made trace n line.component s m was.demands.items latest delivered made.demands is here sends);
       size = ap length all ∙ length-set was.latest.items line.component (after_arrival latest s) ∙ size;
       each = λ component other low.
           subst (λ (l : List Latest). IsLatestOf trace (n + 1) component (get_or l component other)) (sym all)
@@ -98,11 +93,7 @@ made_arrival trace n s m was now line latest within delivered made at says joine
 made_quiet : (trace : IndexedTrace) (n : ℕ) (was : Making) → IsMadeUpTo trace n was → ((component : ℕ) → IsQuiet trace component n)
     → IsMadeUpTo trace (n + 1) was
 made_quiet trace n was made quiet = record {
-  demands = record {
-    all = made.demands.all;
-    demands = quiet_made trace n made.demands.all made.demands.demands quiet;
-    made_are = made.demands.made_are;
-  };
+  demands = quiet_made trace n was.demands.items made.demands quiet;
   size = made.size;
   each = latest_none trace n was.latest.items quiet made.each;
 }
@@ -157,3 +148,11 @@ pub came_below : (trace : IndexedTrace) (place : ℕ) (line : IndexedLine) (m : 
 came_below trace place line m within at says =
     subst (λ (a : Act). HasKeyBelow by.Came (length trace.joined.items) (record { number = line.number; component = line.component; act = a })) says
     (all_at (HasKeyBelow by.Came (length trace.joined.items)) trace.lines.items place line within.came at)
+
+-- at first none is asked for
+pub none_made : (trace : IndexedTrace) (made : List Demand) → made ≡ [] → AreDemandsUpTo trace 0 made
+none_made trace made none =
+    subst (AreDemandsUpTo trace 0) (sym none) (record {
+      sound = All-nil (λ (d : Demand). IsDemanded trace d.before d.after);
+      complete = λ k x y below asks. absurd (omega arith);
+    })

@@ -13,11 +13,10 @@ use Rattle.tp_judge.specs.declared.line.Mention.{Mention}
 use Rattle.tp_judge.specs.declared.line.Act.{Act}
 use Rattle.tp_judge.specs.declared.line.IndexedLine.{IndexedLine}
 use Rattle.tp_judge.specs.declared.run_demands.Latest.{Latest}
-use Rattle.tp_judge.specs.declared.run_demands.Which.{Which}
 use Rattle.tp_judge.specs.declared.trace.IndexedTrace.{IndexedTrace}
 use Rattle.tp_judge.specs.OneRun.{is_looking, is_own, ComesAt, IsDemanded, in_section, IsLineOf, IsLookAt, IsOwnAt}
 use Rattle.tp_judge.specs.OneRun.{IsSentAt}
-use Rattle.tp_judge.specs.Latest.{after_arrival, after_own, demand_of, is_made, AreDemandsUpTo, IsAllSeen, IsLatest}
+use Rattle.tp_judge.specs.Latest.{after_arrival, after_own, demand_of, AreDemandsUpTo, IsAllSeen, IsLatest}
 use Rattle.tp_judge.specs.Latest.{IsLatestOf, IsLatestSent, DemandsLead}
 use Rattle.tp_judge.proofs.HappensBeforeByDemands.{leads_on}
 use Rattle.tp_judge.proofs.OwnLinesInOrder.{look_is_own, own_not_come}
@@ -169,19 +168,6 @@ leads_more demands more (suc further) x y leads = (
 -- two demands more, if there are these
 abbrev pub two_more : List Demand → Option ℕ → Option ℕ → ℕ → List Demand
 two_more demands first second after = (demands ++ demand_of first after) ++ demand_of second after
-
--- those of them that are made
-abbrev pub two_made : Which → List Demand → Option ℕ → Option ℕ → ℕ → List Demand
-two_made these demands first second after =
-    (demands ++ filter (is_made these) (demand_of first after)) ++ filter (is_made these) (demand_of second after)
-
-pub two_made_are : (these : Which) (made all : List Demand) (first second : Option ℕ) (after : ℕ) → made ≡ filter (is_made these) all
-    → two_made these made first second after ≡ filter (is_made these) (two_more all first second after)
-two_made_are these made all first second after are =
-    let p = is_made these in
-    ap (λ l. two_made these l first second after) are
-    ∙ sym (filter-append p (all ++ demand_of first after) (demand_of second after)
-    ∙ ap (λ l. l ++ filter p (demand_of second after)) (filter-append p all (demand_of first after)))
 
 pub still_leads : (demands : List Demand) (first second : Option ℕ) (after x y : ℕ) → DemandsLead demands x y
     → DemandsLead (two_more demands first second after) x y

@@ -6,13 +6,14 @@ use Rattle.std.specs.List.{filter_map}
 use Rattle.std.proofs.lemmas.Bool.{cases_lt, cases_order}
 use Rattle.std.proofs.lemmas.List.{take_all, take-append-drop, take-take}
 use Rattle.std.proofs.lemmas.Option.{slice_get_within}
+use Rattle.tp_judge.specs.OneOrder.{IsFrontOf}
 use Rattle.tp_judge.specs.Order.{IsNumberAt, StandsBefore}
 use Rattle.tp_judge.specs.declared.line.Mention.{Mention}
 use Rattle.tp_judge.specs.declared.trace.IndexedTrace.{IndexedTrace}
 use Rattle.tp_judge.specs.Delivered.{Delivered}
 use Rattle.tp_judge.specs.Lawful.{AreLinesRouted}
 use Rattle.tp_judge.specs.OneRun.{all_came_to, all_sent_to, came_to, sent_from, ComesAt, IsDemanded, in_section}
-use Rattle.tp_judge.specs.OneRun.{in_turn, seen_before, unseen_before, IsFrontOf, IsLookAt, IsOwnAt, IsRun, IsSentAt}
+use Rattle.tp_judge.specs.OneRun.{component_at, component_of, in_turn, seen_before, unseen_before, IsLookAt, IsOwnAt, IsRun, IsSentAt}
 use Rattle.tp_judge.proofs.RanksOfGivenElements.{rank_of, ranked, rank_rises, rank_grows, rank_within, front_given}
 use Rattle.tp_judge.proofs.RanksOfGivenElements.{unranked, same_by_places, same_rank, slice_there, KeepsOrder}
 use Rattle.tp_judge.proofs.RanksOfGivenElements.{keeps_agree, keeps_count}
@@ -263,18 +264,29 @@ fronts xs front whole m n below first second = (
   ap (λ l. l ++ drop m (take n xs)) (first ∙ sym (take-take m n xs below)) ∙ take-append-drop m (take n xs) ∙ sym second,
 )
 
+-- the line of a component is its own
+own_at : (trace : IndexedTrace) (component place : ℕ) → IsOwnAt trace component place → IsOwnAt trace (component_at trace place) place
+own_at trace component place own =
+    subst (λ (c : ℕ). IsOwnAt trace c place) (sym (ap component_of own.at ∙ own.within)) own
+
 pub run_of : (trace : IndexedTrace) (order : List ℕ) → MeetsAll trace order → IsRun trace order
 run_of trace order meets = record {
-  own = meets.own;
-  each = meets.each;
+  own = λ turn place at. let own = meets.own turn place at in own_at trace own.0 place own.1;
+  each = λ place own. meets.each (component_at trace place) place own;
   once = meets.once;
-  kept = λ component j k below first second. meets.met j k (k, in_section component j k below first second);
-  sent = λ component turn place at own.
+  kept = λ j k earlier first second.
+      let component = component_at trace k in
+      meets.met j k (k, in_section component j k earlier.1 (subst (λ (c : ℕ). IsOwnAt trace c j) earlier.0 first) second);
+  sent = λ turn place at.
+      let component = component_at trace place in
+      let some = meets.own turn place at in
+      let own = own_at trace some.0 place some.1 in
       fronts (filter_map (came_to trace component) trace.lines.items) (all_came_to trace component place)
       (all_sent_to trace component (take turn order)) (rank_of (came_to trace component) trace.lines.items place)
       (rank_of (sent_from trace component) order turn) (came_no_more trace component order meets turn place at own)
       (came_front trace component place) (sent_front trace component order meets turn);
-  seen = λ component turn place at look.
+  seen = λ turn place at look.
+      let component = component_at trace place in
       let no_more = came_no_more trace component order meets turn place at (look_is_own trace component place look) in
       let no_less = came_no_less trace component order meets turn place at look in
       let same : rank_of (came_to trace component) trace.lines.items place ≡ rank_of (sent_from trace component) order turn = omega arith in

@@ -1,11 +1,11 @@
 -- A trace is one run exactly where its demands can be met.
-use Rattle.std.proofs.Common.{ℕ, ◌<◌, List, length, refl}
-use Rattle.std.specs.Prelude.{All, slice_index}
+use Rattle.std.proofs.Common.{◌≡◌, ℕ, zero, suc, ◌<◌, List, length, refl, arith}
+use Rattle.std.specs.Prelude.{All}
 use Rattle.std.proofs.lemmas.List.Elements.{All-contains, All-weaker}
 use Rattle.std.proofs.lemmas.Option.{slice_get_within}
 use Rattle.tp_judge.specs.declared.demand.Demand.{Demand}
-use Rattle.tp_judge.specs.Circle.{IsCircle, LiesOnCircle}
-use Rattle.tp_judge.specs.Order.{IsBelow, IsOrder, StandsBefore}
+use Rattle.tp_judge.specs.Circle.{IsCircle, LeadsThrough}
+use Rattle.tp_judge.specs.Order.{IsBelow, IsNumberAt, IsOrder, StandsBefore}
 use Rattle.tp_judge.specs.declared.line.IndexedLine.{IndexedLine}
 use Rattle.tp_judge.specs.declared.trace.IndexedTrace.{IndexedTrace}
 use Rattle.tp_judge.specs.Delivered.{Delivered}
@@ -14,8 +14,27 @@ use Rattle.tp_judge.specs.OneRun.{IsDelayedAt, IsDemandCircle, IsDemanded, IsDem
 use Rattle.tp_judge.specs.OneRun.{seen_before, unseen_before, IsLeastOf, IsOneRun, LineAt}
 use Rattle.tp_judge.specs.Latest.{AreDemandsUpTo, IsOwn}
 use Rattle.tp_judge.proofs.MetDemandsMakeRuns.{run_of}
-use Rattle.tp_judge.proofs.RunsMeetDemands.{leads_stand, run_meets, stands_apart}
 use Rattle.tp_judge.proofs.OwnLinesInOrder.{look_is_own, own_order, own_places, sending_is_own}
+
+-- what stands before what stands before another stands before that
+pub stands_through : (order : List ℕ) → ((i j place : ℕ) → IsNumberAt order i place → IsNumberAt order j place → i ≡ j) → (x y z : ℕ)
+    → StandsBefore order x y → StandsBefore order y z → StandsBefore order x z
+stands_through order once x y z first second =
+    let same = once first.1 second.0 y first.4 second.3 in
+    let low = first.2 in
+    let high = second.2 in
+    (first.0, second.1, omega arith, first.3, second.4)
+
+-- so the demands lead from what stands before to what stands behind
+pub leads_stand : (demands : List Demand) (order : List ℕ)
+    → ((i j place : ℕ) → IsNumberAt order i place → IsNumberAt order j place → i ≡ j)
+    → All (λ d. StandsBefore order d.before d.after) demands → (further x y : ℕ) → LeadsThrough demands further x y → StandsBefore order x y
+leads_stand demands order once met zero x y wanted =
+    All-contains (λ (d : Demand). StandsBefore order d.before d.after) demands (record { before = x; after = y }) met wanted
+leads_stand demands order once met (suc further) x y leads =
+    stands_through order once x leads.0 y
+    (All-contains (λ (d : Demand). StandsBefore order d.before d.after) demands (record { before = x; after = leads.0 }) met leads.1)
+    (leads_stand demands order once met further leads.0 y leads.2)
 
 -- what is demanded is of lines that say what components did themselves, by a line of the trace
 record AreOwn (trace : IndexedTrace) (k x y : ℕ) : Type 0 where
@@ -78,15 +97,6 @@ one_run_of trace demands order routed delivered are is =
       }),
     )
 
--- a circle excludes one
-no_run : (trace : IndexedTrace) (n : ℕ) (demands : List Demand) (x : ℕ) → AreLinesRouted trace → Delivered trace → AreDemandsUpTo trace n demands
-    → LiesOnCircle demands x → IsOneRun trace → ⊥
-no_run trace n demands x routed delivered are lies run =
-    let once = run.1.once in
-    let met = All-weaker (λ (d : Demand). IsDemanded trace d.before d.after) (λ (d : Demand). StandsBefore run.0 d.before d.after)
-    (λ d asks. run_meets trace run.0 routed delivered run.1 asks.0 d.before d.after asks.1) demands are.sound in
-    stands_apart run.0 once x (leads_stand demands run.0 once met lies.0 x x lies.1)
-
 circle_demanded : (trace : IndexedTrace) (n : ℕ) (demands : List Demand) (circle : List ℕ) → AreDemandsUpTo trace n demands → IsCircle demands circle
     → IsDemandCircle trace circle
 circle_demanded trace n demands circle are is = record {
@@ -96,11 +106,11 @@ circle_demanded trace n demands circle are is = record {
   round = All-contains (λ (d : Demand). IsDemanded trace d.before d.after) demands _ are.sound is.round;
 }
 
-pub delayed_of : (trace : IndexedTrace) (n : ℕ) (demands : List Demand) (circle : List ℕ) (place : ℕ) (line : IndexedLine) → AreLinesRouted trace → Delivered trace
-    → AreDemandsUpTo trace n demands → IsCircle demands circle → LiesOnCircle demands (slice_index circle 0) → IsLeastOf circle place
-    → LineAt trace place line → IsDelayedAt trace line.number
-delayed_of trace n demands circle place line routed delivered are is lies least at = record {
-  none = no_run trace n demands (slice_index circle 0) routed delivered are lies;
+pub delayed_of : (trace : IndexedTrace) (n : ℕ) (demands : List Demand) (circle : List ℕ) (place : ℕ) (line : IndexedLine) → (IsOneRun trace → ⊥)
+    → AreDemandsUpTo trace n demands → IsCircle demands circle → IsLeastOf circle place → LineAt trace place line
+    → IsDelayedAt trace line.number
+delayed_of trace n demands circle place line none are is least at = record {
+  none = none;
   circle = circle;
   is_circle = circle_demanded trace n demands circle are is;
   place = place;

@@ -26,7 +26,7 @@ pub all_at : {X : Type 0} (P : X → Type 0) (xs : List X) (k : ℕ) (x : X) →
 all_at P xs k x all at =
     subst P (get_or_from_slice_get xs k x x at) (all k x (slice_get_within xs k x at))
 
-true_there : (o : Option Bool) → unwrap_or o false ≡ true → o ≡ Some true
+pub true_there : (o : Option Bool) → unwrap_or o false ≡ true → o ≡ Some true
 true_there None is = absurd (false≢true is)
 true_there (Some b) is = ap Some is
 
@@ -151,7 +151,7 @@ matched trace route delivered joined =
 came_gives : (m : Mention) (a : Act) → a ≡ act.Came m → came_parcel m.route a ≡ Some m.parcel
 came_gives m a is = ap (came_parcel m.route) is ∙ cond-true (m.route == m.route) (Some m.parcel) None (eq-eqb m.route m.route refl)
 
-sent_gives : (m : Mention) (a : Act) → a ≡ act.Sent m → sent_parcel m.route a ≡ Some m.parcel
+pub sent_gives : (m : Mention) (a : Act) → a ≡ act.Sent m → sent_parcel m.route a ≡ Some m.parcel
 sent_gives m a is = ap (sent_parcel m.route) is ∙ cond-true (m.route == m.route) (Some m.parcel) None (eq-eqb m.route m.route refl)
 
 -- what came stands at its rank among all that was sent
@@ -171,7 +171,7 @@ came_number trace component place m delivered c =
     both.numbered (rank_of (λ (line : IndexedLine). came_parcel m.route line.act) trace.lines.items place) m.parcel
     (came_there trace component place m delivered c)
 
-sent_number : (trace : IndexedTrace) (place : ℕ) (m : Mention) → Delivered trace → IsJoined trace m.route → IsSentAt trace place m
+pub sent_number : (trace : IndexedTrace) (place : ℕ) (m : Mention) → Delivered trace → IsJoined trace m.route → IsSentAt trace place m
     → m.parcel.number ≡ rank_of (λ line. sent_parcel m.route line.act) trace.lines.items place
 sent_number trace place m delivered joined s =
     let both = matched trace m.route delivered joined in

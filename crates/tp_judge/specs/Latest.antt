@@ -1,5 +1,5 @@
 -- What components did last, and the demands of the lines so far.
-use Rattle.std.specs.Prelude.{◌≡◌, ◌<◌, ◌≤◌, ◌⊎◌, ℕ, Bool, true, nat_le, filter, Option, Some, None, List, [], ◌∷◌, All}
+use Rattle.std.specs.Prelude.{◌≡◌, ◌<◌, ◌≤◌, ◌⊎◌, ℕ, Bool, Option, Some, None, List, [], ◌∷◌, All}
 use Rattle.std.specs.Prelude.{cond, length, slice_index_or}
 use Rattle.tp_judge.specs.declared.demand.Demand.{Demand}
 use Rattle.tp_judge.specs.Circle.{LeadsThrough}
@@ -8,8 +8,6 @@ use Rattle.tp_judge.specs.declared.line.Act.TheVariants as act
 use Rattle.tp_judge.specs.declared.line.IndexedLine.{IndexedLine}
 use Rattle.tp_judge.specs.declared.run_demands.Latest.{Latest}
 use Rattle.tp_judge.specs.declared.run_demands.Making.{Making}
-use Rattle.tp_judge.specs.declared.run_demands.Which.{Which}
-use Rattle.tp_judge.specs.declared.run_demands.Which.TheVariants as which
 use Rattle.tp_judge.specs.declared.trace.IndexedTrace.{IndexedTrace}
 use Rattle.tp_judge.specs.OneRun.{ComesAt, IsDemanded, IsDemandedAt, IsLookAt, IsOwnAt, IsSentAt, LineAt}
 
@@ -71,19 +69,8 @@ pub record AreDemandsUpTo (trace : IndexedTrace) (end : ℕ) (demands : List Dem
   pub sound : All (λ d. IsDemanded trace d.before d.after) demands
   pub complete : (k x y : ℕ) → k < end → IsDemandedAt trace k x y → DemandsLead demands x y
 
--- whether the demand is made: each is, or each that goes back in the text
-abbrev pub is_made : Which → Demand → Bool
-is_made which.All d = true
-is_made which.Backward d = nat_le d.after d.before
-
--- those that are made of such demands
-pub record AreMadeUpTo (trace : IndexedTrace) (these : Which) (end : ℕ) (made : List Demand) : Type 0 where
-  pub all : List Demand
-  pub demands : AreDemandsUpTo trace end all
-  pub made_are : made ≡ filter (is_made these) all
-
 pub record IsMadeUpTo (trace : IndexedTrace) (end : ℕ) (making : Making) : Type 0 where
-  pub demands : AreMadeUpTo trace making.which end making.demands.items
+  pub demands : AreDemandsUpTo trace end making.demands.items
   pub size : length making.latest.items ≡ trace.components
   pub each : (component : ℕ) (latest : Latest) → component < trace.components
       → IsLatestOf trace end component (slice_index_or making.latest.items component latest)

@@ -1,3 +1,8 @@
+pub mod OneOrder
+pub mod Kinds
+pub mod OrderProgress
+pub mod Greedy
+pub mod Cursors
 pub mod Order
 pub mod Circle
 pub mod Answer
@@ -19,6 +24,7 @@ pub mod Before
 pub mod TextOrder
 pub mod Demands
 pub mod OneRun
+pub mod TraceKinds
 pub mod Sendings
 pub mod Latest
 pub mod Circles

@@ -26,10 +26,10 @@
 --     0  b  else                     One run, by the order 0 2: the `else` looked before the call was sent.
 --     1  b  came p a 0 call
 --     2  a  sent b.p 0 call
-use Rattle.std.specs.Prelude.{◌≡◌, ◌<◌, ◌≤◌, ◌+◌, ◌-◌, ◌==◌, ◌&&◌, ◌++◌, ℕ, Bool, true, false, Option, Some, None, List}
+use Rattle.std.specs.Prelude.{◌≡◌, ◌<◌, ◌≤◌, ◌+◌, ◌-◌, ◌==◌, ◌&&◌, ℕ, Bool, true, false, Option, Some, None, List}
 use Rattle.std.specs.Prelude.{All, Contains, cond, length, take, slice_get, slice_index, option_and_then, unwrap_or}
 use Rattle.std.specs.List.{filter_map}
-use Rattle.tp_judge.specs.Order.{IsNumberAt, StandsBefore}
+use Rattle.tp_judge.specs.OneOrder.{HasOneOrder, Histories, IsOrderOf}
 use Rattle.tp_judge.specs.declared.line.Mention.{Mention}
 use Rattle.tp_judge.specs.declared.line.Act.{Act}
 use Rattle.tp_judge.specs.declared.line.Act.TheVariants as act
@@ -103,10 +103,6 @@ all_sent_to trace component places = filter_map (sent_from trace component) plac
 abbrev pub all_came_to : IndexedTrace → ℕ → ℕ → List Mention
 all_came_to trace component place = filter_map (came_to trace component) (take place trace.lines.items)
 
--- the one list is the other, or its front
-abbrev pub IsFrontOf : List Mention → List Mention → Type 0
-IsFrontOf front whole = (rest : List Mention) × (front ++ rest ≡ whole)
-
 -- at this place stands a line of the component's section, and what it says is so
 pub record IsLineOf (trace : IndexedTrace) (says : Act → Type 0) (component place : ℕ) : Type 0 where
   pub line : IndexedLine
@@ -122,27 +118,33 @@ IsOwnAt trace component place = IsLineOf trace (λ a. is_own a ≡ true) compone
 abbrev pub IsLookAt : IndexedTrace → ℕ → ℕ → Type 0
 IsLookAt trace component place = IsLineOf trace (λ a. is_looking a ≡ true) component place
 
--- **a run**: an order of all lines that say what components did themselves, such that
-pub record IsRun (trace : IndexedTrace) (order : List ℕ) : Type 0 where
-  pub own : (i place : ℕ) → IsNumberAt order i place → (component : ℕ) × IsOwnAt trace component place
-  pub each : (component place : ℕ) → IsOwnAt trace component place → (i : ℕ) × IsNumberAt order i place
-  pub once : (i j place : ℕ) → IsNumberAt order i place → IsNumberAt order j place → i ≡ j
-  -- it keeps the order of each section
-  pub kept : (component j k : ℕ) → j < k → IsOwnAt trace component j → IsOwnAt trace component k
-      → StandsBefore order j k
-  -- what came before a line in its section was sent by lines before it, in this order
-  pub sent : (component i place : ℕ) → IsNumberAt order i place → IsOwnAt trace component place
-      → IsFrontOf (all_came_to trace component place) (all_sent_to trace component (take i order))
-  -- where the line looks at ports that is all that was sent to its component by lines before it
-  pub seen : (component i place : ℕ) → IsNumberAt order i place → IsLookAt trace component place
-      → all_came_to trace component place ≡ all_sent_to trace component (take i order)
-  -- in the end all that was sent has come
-  pub ended : (component : ℕ)
-      → all_came_to trace component (length trace.lines.items) ≡ all_sent_to trace component order
+-- the component of the line, 0 where there is none
+abbrev pub component_of : Option IndexedLine → ℕ
+component_of None = 0
+component_of (Some line) = line.component
+
+abbrev pub component_at : IndexedTrace → ℕ → ℕ
+component_at trace place = component_of (slice_get trace.lines.items place)
+
+-- what the lines say of what components did: a line is known by its place, a message by all that is told of it
+abbrev pub histories_of : IndexedTrace → Histories ℕ Mention
+histories_of trace = record {
+  component = component_at trace;
+  IsOwn = λ place. IsOwnAt trace (component_at trace place) place;
+  IsEarlier = λ j k. (component_at trace j ≡ component_at trace k) × (j < k);
+  IsLook = λ place. IsLookAt trace (component_at trace place) place;
+  sent_to = sent_from trace;
+  came_before = λ place. all_came_to trace (component_at trace place) place;
+  came = λ component. all_came_to trace component (length trace.lines.items);
+}
+
+-- **a run**: an order of all lines that say what components did themselves, which gives the sections
+abbrev pub IsRun : IndexedTrace → List ℕ → Type 0
+IsRun trace order = IsOrderOf (histories_of trace) order
 
 -- **one run**: there is such an order
 abbrev pub IsOneRun : IndexedTrace → Type 0
-IsOneRun trace = (order : List ℕ) × IsRun trace order
+IsOneRun trace = HasOneOrder (histories_of trace)
 
 -- the message is sent at this place
 pub record IsSentAt (trace : IndexedTrace) (place : ℕ) (m : Mention) : Type 0 where

@@ -1,13 +1,15 @@
 //! Decides whether a trace is one run.
-ghost use Rattle.std.specs.Prelude.{IfOk, IsTrue};
+ghost use Rattle.std.specs.Prelude.{◌↔◌, IfOk, IsTrue};
 ghost use Rattle.tp_judge.specs.Delivered.{Delivered};
 ghost use Rattle.tp_judge.specs.Lawful.{AreLinesRouted, AreWithin};
 ghost use Rattle.tp_judge.specs.OneRun.{IsOneRun, IsOneRunAnswer};
 
 use crate::answer::Answer;
 use crate::circles::least;
+use crate::one_order::has_one_order;
 use crate::order::order_or_circle;
-use crate::run_demands::{Which, make_run_demands, make_those};
+use crate::run_demands::make_run_demands;
+use crate::sections::trace_histories;
 use crate::trace::IndexedTrace;
 use std::alloc::Global;
 use tp_refusal::memory::Memory;
@@ -22,16 +24,13 @@ pub enum OneRun {
     Delayed(u32),
 }
 
-/// Returns true only if the order of the text is that of a run. This check is cheaper than the
-/// search for an order, and costs little if the text has another order.
-fn runs_in_order(alloc: Global, trace: &IndexedTrace) -> Result<bool, Memory>
+fn is_one_run(alloc: Global, trace: &IndexedTrace) -> Result<bool, Memory>
     requires within { AreWithin trace.now }
-    requires routed { AreLinesRouted trace.now }
     requires delivered { Delivered trace.now }
-    ensures { IfOk result (λ runs. IsTrue runs → IsOneRun trace.now) }
+    ensures { IfOk result (λ is. IsTrue is ↔ IsOneRun trace.now) }
 {
-    let backward = make_those(alloc, trace, Which::Backward)?;
-    Ok(backward.is_empty())
+    let histories = trace_histories(alloc, trace)?;
+    has_one_order(alloc, &histories)
 }
 
 /// Decides whether a trace whose routes are lawful is one run (ES 201 873-4), in time linear in the
@@ -43,9 +42,10 @@ pub fn one_run(alloc: Global, trace: &IndexedTrace) -> Result<OneRun, Memory>
     requires delivered { Delivered trace.now }
     ensures { IfOk result (IsOneRunAnswer trace.now) }
 {
-    if runs_in_order(alloc, trace)? {
+    if is_one_run(alloc, trace)? {
         return Ok(OneRun::OneRun);
     }
+    // Only a circle needs the demands.
     let demands = make_run_demands(alloc, trace)?;
     match order_or_circle(alloc, trace.lines.len(), &demands)? {
         Answer::Ordered(_) => Ok(OneRun::OneRun),

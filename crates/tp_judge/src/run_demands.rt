@@ -1,8 +1,8 @@
 //! The demands on an order of the lines in which each message is in its queue when it is sent.
-ghost use Rattle.std.specs.Prelude.{◌≡◌, ◌+◌, ◌++◌, ◌<◌, IfOk, OnOk, filter, length};
+ghost use Rattle.std.specs.Prelude.{◌≡◌, ◌+◌, ◌++◌, ◌<◌, IfOk, OnOk, length};
 ghost use Rattle.tp_judge.specs.Delivered.{Delivered};
-ghost use Rattle.tp_judge.specs.Latest.{AreDemandsUpTo, AreMadeUpTo, IsArrival, IsMadeUpTo, IsOwn};
-ghost use Rattle.tp_judge.specs.Latest.{after_arrival, after_own, demand_of, is_made};
+ghost use Rattle.tp_judge.specs.Latest.{AreDemandsUpTo, IsArrival, IsMadeUpTo, IsOwn};
+ghost use Rattle.tp_judge.specs.Latest.{after_arrival, after_own, demand_of};
 ghost use Rattle.tp_judge.specs.Lawful.{AreLinesRouted, AreWithin};
 ghost use Rattle.tp_judge.specs.Sendings.{AreSendingRows};
 
@@ -12,14 +12,6 @@ use crate::sendings::{gather_sendings, sending_place};
 use crate::trace::IndexedTrace;
 use std::alloc::Global;
 use tp_refusal::memory::Memory;
-
-#[derive(Clone, Copy)]
-pub(crate) enum Which {
-    All,
-    /// Those that go backward in the text. If there are none, the order of the text meets all
-    /// others, so that these need no memory.
-    Backward,
-}
 
 /// The latest lines of a component and of its arrivals, by their places.
 #[derive(Clone, Copy)]
@@ -36,35 +28,15 @@ struct Latest {
 
 #[derive(Drop)]
 struct Making {
-    which: Which,
     demands: Vec<Demand>,
     latest: Vec<Latest>,
 }
 
-fn is_made(which: Which, demand: Demand) -> bool
-    ensures { result ≡ is_made which demand }
+fn add(demands: &mut Vec<Demand>, before: Option<usize>, after: usize) -> Result<(), Memory>
+    ensures { OnOk result (demands.new.items ≡ demands.old.items ++ demand_of before after) }
 {
-    match which {
-        Which::All => true,
-        Which::Backward => demand.after <= demand.before,
-    }
-}
-
-fn add(
-    demands: &mut Vec<Demand>,
-    which: Which,
-    before: Option<usize>,
-    after: usize,
-) -> Result<(), Memory>
-    ensures { OnOk result (demands.new.items
-        ≡ demands.old.items ++ filter (is_made which) (demand_of before after)) }
-{
-    let Some(before) = before else {
-        return Ok(());
-    };
-    let demand = Demand { before, after };
-    if is_made(which, demand) {
-        demands.push(demand)?;
+    if let Some(before) = before {
+        demands.push(Demand { before, after })?;
     }
     Ok(())
 }
@@ -72,19 +44,18 @@ fn add(
 /// A component's own line comes after its last one, and after the sending of what arrived since.
 fn add_own(
     demands: &mut Vec<Demand>,
-    which: Which,
     latest: Latest,
     place: usize,
     looks: bool,
 ) -> Result<Latest, Memory>
     ensures latest { IfOk result (λ now. now ≡ after_own latest place looks) }
     ensures demands { OnOk result (demands.new.items
-        ≡ (demands.old.items ++ filter (is_made which) (demand_of latest.own place))
-        ++ filter (is_made which) (demand_of latest.unseen place)) }
+        ≡ (demands.old.items ++ demand_of latest.own place)
+        ++ demand_of latest.unseen place) }
 {
     // The clause lists the demands in this order.
-    add(demands, which, latest.own, place)?;
-    add(demands, which, latest.unseen, place)?;
+    add(demands, latest.own, place)?;
+    add(demands, latest.unseen, place)?;
     let look = if looks { Some(place) } else { latest.look };
     Ok(Latest {
         own: Some(place),
@@ -96,20 +67,15 @@ fn add_own(
 
 /// The sending of an arrival comes after the last look, and after the sending of the arrival
 /// before.
-fn add_arrival(
-    demands: &mut Vec<Demand>,
-    which: Which,
-    latest: Latest,
-    sending: usize,
-) -> Result<Latest, Memory>
+fn add_arrival(demands: &mut Vec<Demand>, latest: Latest, sending: usize) -> Result<Latest, Memory>
     ensures latest { IfOk result (λ now. now ≡ after_arrival latest sending) }
     ensures demands { OnOk result (demands.new.items
-        ≡ (demands.old.items ++ filter (is_made which) (demand_of latest.look sending))
-        ++ filter (is_made which) (demand_of latest.sending sending)) }
+        ≡ (demands.old.items ++ demand_of latest.look sending)
+        ++ demand_of latest.sending sending) }
 {
     // The clause lists the demands in this order.
-    add(demands, which, latest.look, sending)?;
-    add(demands, which, latest.sending, sending)?;
+    add(demands, latest.look, sending)?;
+    add(demands, latest.sending, sending)?;
     Ok(Latest {
         own: latest.own,
         look: latest.look,
@@ -123,14 +89,13 @@ fn note_own(making: &mut Making, trace: &IndexedTrace, place: usize) -> Result<(
     requires delivered { Delivered trace.now }
     requires made { IsMadeUpTo trace.now place making.old }
     requires own { IsOwn trace.now place }
-    ensures made { OnOk result (IsMadeUpTo trace.now (place + 1) making.new) }
-    ensures which { OnOk result (making.new.which ≡ making.old.which) }
+    ensures { OnOk result (IsMadeUpTo trace.now (place + 1) making.new) }
 {
     let line = trace.lines[place];
     let component = line.component as usize;
     let latest = making.latest[component];
     let looks = line.act.is_looking();
-    let now = add_own(&mut making.demands, making.which, latest, place, looks)?;
+    let now = add_own(&mut making.demands, latest, place, looks)?;
     making.latest[component] = now;
     Ok(())
 }
@@ -148,8 +113,7 @@ fn note_arrival(
     requires rows { AreSendingRows trace.now (length trace.now.lines.items) rows.now }
     requires made { IsMadeUpTo trace.now place making.old }
     requires came { IsArrival trace.now place mention }
-    ensures made { OnOk result (IsMadeUpTo trace.now (place + 1) making.new) }
-    ensures which { OnOk result (making.new.which ≡ making.old.which) }
+    ensures { OnOk result (IsMadeUpTo trace.now (place + 1) making.new) }
 {
     if !trace.joined[mention.route as usize] {
         return Ok(());
@@ -157,7 +121,7 @@ fn note_arrival(
     let component = trace.lines[place].component as usize;
     let sending = sending_place(trace, rows, mention);
     let latest = making.latest[component];
-    let now = add_arrival(&mut making.demands, making.which, latest, sending)?;
+    let now = add_arrival(&mut making.demands, latest, sending)?;
     making.latest[component] = now;
     Ok(())
 }
@@ -174,44 +138,13 @@ fn note(
     requires rows { AreSendingRows trace.now (length trace.now.lines.items) rows.now }
     requires made { IsMadeUpTo trace.now place making.old }
     requires place { place < length trace.now.lines.items }
-    ensures made { OnOk result (IsMadeUpTo trace.now (place + 1) making.new) }
-    ensures which { OnOk result (making.new.which ≡ making.old.which) }
+    ensures { OnOk result (IsMadeUpTo trace.now (place + 1) making.new) }
 {
     match trace.lines[place].act {
         Act::Left(_) => Ok(()),
         Act::Came(mention) => note_arrival(making, trace, rows, place, mention),
         _ => note_own(making, trace, place),
     }
-}
-
-pub(crate) fn make_those(
-    alloc: Global,
-    trace: &IndexedTrace,
-    which: Which,
-) -> Result<Vec<Demand>, Memory>
-    requires within { AreWithin trace.now }
-    requires routed { AreLinesRouted trace.now }
-    requires delivered { Delivered trace.now }
-    ensures { IfOk result (λ demands.
-        AreMadeUpTo trace.now which (length trace.now.lines.items) demands.items) }
-{
-    let rows = gather_sendings(alloc, trace)?;
-    let nothing = Latest {
-        own: None,
-        look: None,
-        sending: None,
-        unseen: None,
-    };
-    let mut making = Making {
-        which,
-        demands: Vec::new(alloc),
-        latest: vec![in alloc; nothing; trace.components]?,
-    };
-    for place in 0..trace.lines.len() {
-        note(&mut making, trace, &rows, place)?;
-    }
-    let Making { demands, .. } = making;
-    Ok(demands)
 }
 
 pub(crate) fn make_run_demands(alloc: Global, trace: &IndexedTrace) -> Result<Vec<Demand>, Memory>
@@ -221,5 +154,20 @@ pub(crate) fn make_run_demands(alloc: Global, trace: &IndexedTrace) -> Result<Ve
     ensures { IfOk result (λ demands.
         AreDemandsUpTo trace.now (length trace.now.lines.items) demands.items) }
 {
-    make_those(alloc, trace, Which::All)
+    let rows = gather_sendings(alloc, trace)?;
+    let nothing = Latest {
+        own: None,
+        look: None,
+        sending: None,
+        unseen: None,
+    };
+    let mut making = Making {
+        demands: Vec::new(alloc),
+        latest: vec![in alloc; nothing; trace.components]?,
+    };
+    for place in 0..trace.lines.len() {
+        note(&mut making, trace, &rows, place)?;
+    }
+    let Making { demands, .. } = making;
+    Ok(demands)
 }

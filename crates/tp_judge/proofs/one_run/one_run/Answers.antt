@@ -1,19 +1,17 @@
 -- An order of the lines makes a run; a circle excludes one.
-use Rattle.std.proofs.Common.{◌≡◌, ◌<◌, ℕ, List, length, get_or, sym, subst, arith}
+use Rattle.std.proofs.Common.{◌≡◌, ◌<◌, ℕ, List, length, sym, subst, ◌∙◌, arith}
 use Rattle.std.specs.Prelude.{All}
+use Rattle.std.proofs.lemmas.Bool.{false≢true}
 use Rattle.std.proofs.lemmas.List.Elements.{All-contains}
 use Rattle.tp_judge.specs.declared.demand.Demand.{Demand}
-use Rattle.tp_judge.specs.Circle.{IsCircle, LiesOnCircle}
+use Rattle.tp_judge.specs.Circle.{IsCircle}
 use Rattle.tp_judge.specs.Order.{IsBelow, IsOrder}
 use Rattle.tp_judge.specs.declared.trace.IndexedTrace.{IndexedTrace}
-use Rattle.tp_judge.specs.OneRun.{IsLeastOf}
+use Rattle.tp_judge.specs.OneRun.{IsLeastOf, IsOneRun}
 use Rattle.tp_judge.proofs.OneRunDecision.{delayed_of, one_run_of, run_demands_below}
 use Rattle.tp_judge.proofs.DemandMakingGrowth.{line_read}
+use Rattle.tp_judge.proofs.TraceSections.{count_is}
 use Rattle.tp_judge.proofs.one_run.one_run.Goals as goal
-
--- as many lines as were counted
-count_is : (trace : IndexedTrace) (n : ℕ) → n ≡ trace.lines.len → length trace.lines.items ≡ n
-count_is trace n is = let same = trace.lines.ok in omega arith
 
 pub order_or_circle-requires : goal.order_or_circle-requires
 order_or_circle-requires c =
@@ -46,10 +44,9 @@ returns c =
     let found = rw c.in-Circle.is at c.in_ok-order_or_circle.ensures in
     let demands = c.in_ok-demands.demands.items in
     let is = subst (λ (l : List Demand). IsCircle l circle) c.deref.ensures.value found.1 in
-    let lies = subst (λ (l : List Demand). LiesOnCircle l (get_or circle 0 0)) c.deref.ensures.value found.2 in
     let least = subst (λ (l : List ℕ). IsLeastOf l c.least.result) c.deref-in-Circle.ensures.value c.least.ensures in
     let low = All-contains (λ x. x < c.len.result) circle c.least.result found.0 least.0 in
     let same = count_is trace c.len.result c.len.ensures in
     let below : c.least.result < length trace.lines.items = omega arith in
-    delayed_of trace (length trace.lines.items) demands circle c.least.result c.index.result.now c.requires.routed c.requires.delivered
-    c.in_ok-demands.ensures is lies least (line_read trace c.least.result c.index.result.now below c.index.ensures)
+    let none : IsOneRun trace → ⊥ = λ run. false≢true (sym c.if-branch.false ∙ c.in_ok-is_one_run.ensures.1 run) in
+    delayed_of trace (length trace.lines.items) demands circle c.least.result c.index.result.now none c.in_ok-demands.ensures is least (line_read trace c.least.result c.index.result.now below c.index.ensures)

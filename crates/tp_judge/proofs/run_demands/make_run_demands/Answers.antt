@@ -1,10 +1,17 @@
--- All demands are made.
-use Rattle.std.proofs.Common.{length}
-use Rattle.std.proofs.lemmas.Result.{IfOk-weaker}
-use Rattle.tp_judge.proofs.TextOrderIsRun.{all_made}
+-- At first none is asked for, and in the end each line asked.
+use Rattle.std.proofs.Common.{rules, subst, arith}
+use Rattle.std.proofs.lemmas.Grind.{common_steps}
+use Rattle.tp_judge.specs.Latest.{AreDemandsUpTo}
+use Rattle.tp_judge.proofs.DemandMakingGrowth.{none_made}
 use Rattle.tp_judge.proofs.run_demands.make_run_demands.Goals as goal
+
+pub loop-place-init : goal.loop-place-init
+loop-place-init c = record {
+  demands = none_made c.args.trace.now c.new.result.items c.new.ensures.items;
+  size = search rules;
+  each = grind (arith, common_steps);
+}
 
 pub returns : goal.returns
 returns c =
-    let trace = c.args.trace.now in
-    IfOk-weaker c.make_those.result _ _ (λ demands made. all_made trace (length trace.lines.items) demands.items made) c.make_those.ensures
+    subst (λ n. AreDemandsUpTo c.args.trace.now n c.loop-place.making.demands.items) (search rules) c.loop-place.invariant.demands

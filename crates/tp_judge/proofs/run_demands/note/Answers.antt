@@ -8,7 +8,7 @@ note_own-requires-clause-own c =
     (line_read c.args.trace.now c.args.place c.index.result.now c.requires.place c.index.ensures)
     c.in_default.not-Came c.in_default.not-Left
 
-pub returns-in-Left-clause-made : goal.returns-in-Left-clause-made
-returns-in-Left-clause-made c =
+pub returns-in-Left : goal.returns-in-Left
+returns-in-Left c =
     made_left c.args.trace.now c.args.place c.in-Left.field-0 c.args.making.now c.index.result.now c.requires.made
     (line_read c.args.trace.now c.args.place c.index.result.now c.requires.place c.index.ensures) c.in-Left.is

@@ -5,8 +5,8 @@ use Rattle.tp_judge.proofs.DemandMakingGrowth.{came_below, component_below, line
 use Rattle.tp_judge.proofs.DemandMakingGrowth.{same_act}
 use Rattle.tp_judge.proofs.run_demands.note_arrival.Goals as goal
 
-pub returns-then-not-index-clause-made : goal.returns-then-not-index-clause-made
-returns-then-not-index-clause-made c =
+pub returns-then-not-index : goal.returns-then-not-index
+returns-then-not-index c =
     let trace = c.args.trace.now in
     let came = c.requires.came in
     let below = came_below trace c.args.place came.0 c.args.mention c.requires.within came.1 came.2 in
@@ -49,8 +49,8 @@ index_mut-requires c =
     let size = c.requires.made.size in
     omega arith
 
-pub returns-clause-made : goal.returns-clause-made
-returns-clause-made c =
+pub returns : goal.returns
+returns c =
     let trace = c.args.trace.now in
     let came = c.requires.came in
     let line = c.index-2.result.now in
@@ -61,5 +61,5 @@ returns-clause-made c =
     ∙ ap Some (sym c.index.ensures ∙ c.if-not-index.false) in
     made_arrival trace c.args.place c.sending_place-sending.result c.args.mention c.args.making.now _ line c.index-latest.result.now
     c.requires.within c.requires.delivered c.requires.made at (same_act trace c.args.place line came.0 at came.1 ∙ came.2) joined
-    c.sending_place-sending.ensures c.index-latest.ensures refl c.in_ok-now.ensures.demands
+    c.sending_place-sending.ensures c.index-latest.ensures c.in_ok-now.ensures.demands
     (ap (set c.args.making.now.latest.items line.component) c.in_ok-now.ensures.latest)

@@ -1,0 +1,42 @@
+-- The cursor of each component: a place in its history that goes ahead to the next message to be sent to it.
+use Rattle.std.specs.Prelude.{◌≡◌, ℕ, ◌<◌, ◌≤◌, Some, List, length, slice_get, slice_index, take, ◌↔◌}
+use Rattle.tp_judge.specs.declared.kind.EntryKind.{EntryKind}
+use Rattle.tp_judge.specs.declared.kind.EntryKind.TheVariants as kind
+use Rattle.tp_judge.specs.declared.progress.ArrivalCursor.{ArrivalCursor}
+use Rattle.tp_judge.specs.declared.progress.OrderProgress.{OrderProgress}
+use Rattle.tp_judge.specs.Kinds.{Kinds, came_in}
+use Rattle.tp_judge.specs.Greedy.{AreLookedBefore}
+
+-- the looks up to the one place of this history are before the other
+abbrev pub LookedUpTo : {M : Type 0} → List (EntryKind M) → ℕ → ℕ → Type 0
+LookedUpTo {M} k place p = (q : ℕ) → q < place → slice_get k q ≡ Some kind.Looked → q < p
+
+-- the second place is the least after all looks up to the first
+abbrev pub IsAfter : {M : Type 0} → List (EntryKind M) → ℕ → ℕ → Type 0
+IsAfter {M} k place after = (p : ℕ) → (after ≤ p) ↔ LookedUpTo k place p
+
+-- the place is the least after the looks which have to be before the message of this number was sent
+abbrev pub IsAfterLooks : {M : Type 0} → List (EntryKind M) → ℕ → ℕ → Type 0
+IsAfterLooks {M} k number after = (p : ℕ) → (after ≤ p) ↔ AreLookedBefore k number p
+
+-- so much came before the place of the cursor, and that is the last look before it
+pub record IsCursorOf {M : Type 0} (k : List (EntryKind M)) (cursor : ArrivalCursor) : Type 0 where
+  pub came : length (came_in (take cursor.place k)) ≡ cursor.came
+  pub most : cursor.came ≤ cursor.place
+  pub after : IsAfter k cursor.place cursor.after
+
+-- each of so many components has its cursor, which goes no further than to the next message to be sent there
+pub record AreCursorsOf {M : Type 0} (kinds : Kinds M) (size : ℕ) (progress : OrderProgress) (cursors : List ArrivalCursor)
+    : Type 0 where
+  pub size_is : length cursors ≡ size
+  pub each : (c : ℕ) (cursor : ArrivalCursor) → slice_get cursors c ≡ Some cursor
+      → IsCursorOf (kinds c) cursor × (cursor.came ≤ slice_index progress.sent.items c)
+
+-- the cursor of the component is after the looks which have to be before the message of this number was sent to it
+abbrev pub HasPassedLooks : {M : Type 0} → List (EntryKind M) → ℕ → List ArrivalCursor → ℕ → Type 0
+HasPassedLooks {M} k number cursors c =
+    (cursor : ArrivalCursor) → slice_get cursors c ≡ Some cursor → IsAfterLooks k number cursor.after
+
+-- a cursor at a place before which nothing stands
+abbrev pub cursor_at : ℕ → ArrivalCursor
+cursor_at place = record { place = place; came = 0; after = 0 }
