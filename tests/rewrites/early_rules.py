@@ -28,10 +28,12 @@ sum := sum * 2 + v; } if (sum > 0) { setverdict(pass); } all component.done; }
 }
 """
 FOR = "for (var integer i := 0; i < 18; i := i + 1) { p.receive(integer:?) -> value v;\nsum := sum * 2 + v; }"
-# The same in loops that don't say at their head how many turns they have.
+# The same where nothing at the head says how many turns there are.
 OTHERS = {
     "while": "while (n < 18) { p.receive(integer:?) -> value v; sum := sum * 2 + v; n := n + 1; }",
     "do": "do { p.receive(integer:?) -> value v; sum := sum * 2 + v; n := n + 1; } while (n < 18);",
+    "break": "while (true) { p.receive(integer:?) -> value v; sum := sum * 2 + v; n := n + 1; if (n == 18) { break; } }",
+    "repeat": "alt { [] p.receive(integer:?) -> value v { sum := sum * 2 + v; n := n + 1; if (n < 18) { repeat; } } }",
 }
 # It sends to itself, and computes with what comes back.
 TO_ITSELF = PRELUDE + """testcase t() runs on C { var integer v := 0; connect(self:p, self:q); for (var integer i := 0; i < TURNS; i := i + 1) {

@@ -151,6 +151,9 @@ class Behaviour:
         while True:
             try:
                 chosen = yield from self.choose((yield from self.choices(branches, scope)))
+                if chosen is None:
+                    # Another branch of its `interleave` has gone on.
+                    continue
                 yield from self.take(*chosen)
                 return
             except Leaves as leaves:
@@ -160,35 +163,38 @@ class Behaviour:
                     raise
 
     def do_interleave(self, scope: Scope, branches: tuple[Tree, ...]) -> Acts:
-        """20.4: each branch goes on where it waits, whichever of the others has gone on before."""
-        waiting: list[tuple[tuple[Choice, ...], Acts]] = []
-        for branch in branches:
-            begun = self.do_alt(scope, (branch,))
-            waiting.append(((yield from self.until_it_waits(begun, None)), begun))
-        while waiting:
+        """20.4: each branch goes on where it waits, whichever of the others has gone on before. It is as nested `alt`s with all
+        that is still waited for, so that guards are asked anew for each."""
+        begun = [self.do_alt(scope, (branch,)) for branch in branches]
+        while begun:
+            waiting: list[tuple[tuple[Choice, ...], Acts]] = []
+            for one in begun:
+                waiting.append(((yield from self.until_it_waits(one, None)), one))
             chosen = yield from self.choose([choice for choices, _ in waiting for choice in choices])
-            at = next((place for place, (choices, _) in enumerate(waiting) if chosen[0] in choices), None)
-            if at is None:
+            if chosen is None:
+                continue
+            taken = next((one for choices, one in waiting if chosen[0] in choices), None)
+            if taken is None:
                 yield from self.take(*chosen)
                 return
-            begun = waiting[at][1]
-            choices = yield from self.until_it_waits(begun, chosen)
-            waiting[at : at + 1] = [(choices, begun)] if choices else []
+            if (yield from self.until_it_waits(taken, chosen)) is None:
+                begun.remove(taken)
 
     def until_it_waits(self, begun: Acts, answer: Any) -> Acts:
-        """The choices for which a branch waits then, and none if it has ended. Other acts are handed on."""
+        """The choices for which a branch waits then, and None if it has ended. Other acts are handed on."""
+        is_within = self.is_interleaved
         try:
             while True:
                 self.is_interleaved = True
                 act = begun.send(answer)
-                self.is_interleaved = False
+                self.is_interleaved = is_within
                 if act[0] == "choices":
                     return act[1]
                 answer = yield act
         except StopIteration:
-            return ()
+            return None
         finally:
-            self.is_interleaved = False
+            self.is_interleaved = is_within
 
     def do_leave(self, scope: Scope, how: str, tree: Optional[Tree]) -> Acts:
         cell = scope.find("return")

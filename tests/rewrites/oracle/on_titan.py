@@ -4,7 +4,8 @@
     tests/rewrites/oracle/on_titan.py TPR FIRST COUNT [RUNS]
 
 COUNT programs that tools/rewrite carries over are taken, from the seed FIRST on. What `tpr verdicts` prints of what is
-written must be what the oracle finds of the program, and each verdict of Titan's RUNS must be among these. It needs
+written must be what the oracle finds of the program, and each verdict of Titan's RUNS must be among these. Titan also gives
+the oracle's own tests of `interleave`, of which no program has a nested one, the verdicts that they have there. It needs
 ttcn3_compiler, mctr_cli and g++; TTCN3_DIR names a Titan that isn't below /usr. Many programs become one module, and
 each module an executable. A test case that waits for good is ended by Titan after ten seconds, with the verdict error.
 Two kinds of programs are left out, where Titan isn't as the standard: those that stop or halt ports
@@ -30,7 +31,7 @@ from typing import NamedTuple
 HERE = os.path.dirname(os.path.realpath(__file__))
 sys.path[:0] = [HERE, os.environ.get("REWRITING", f"{HERE}/../../../tools")]
 
-from oracle_rules import look_at, verdicts_of_carried
+from oracle_rules import PRELUDE, look_at, verdicts_of_carried
 from random_themes import program_of
 from tpr_tools.rewrite.run import Options, Reading
 
@@ -88,6 +89,33 @@ def module_of(name: str, seeds: list[int]) -> str:
     return f"{body}  control {{\n{cases}\n  }}\n}}\n"
 
 
+def interleaves() -> list[tuple[str, str]]:
+    """The oracle's tests of `interleave`: name with verdict, and text."""
+    entries = Path(HERE, "cases").read_text().split("=== ")[1:]
+    named = [entry.partition("\n") for entry in entries]
+    return [(name, body) for name, _, body in named if "interleave" in name]
+
+
+def module_of_interleaves() -> str:
+    body = PRELUDE.replace("module M", "module Interleaves").replace("R, L }", 'R, L } with { extension "internal" }')
+    bodies = [text.replace("testcase t()", f"testcase TC_random_{at}()") for at, (_, text) in enumerate(interleaves())]
+    body += "".join(re.sub(r"\bf_(?!one_and_two)\w+", rf"\g<0>_{at}", text) for at, text in enumerate(bodies))
+    cases = "\n".join(f"    execute(TC_random_{at}(), 10.0);" for at in range(len(bodies)))
+    return f"{body}  control {{\n{cases}\n  }}\n}}\n"
+
+
+def look_at_interleaves() -> bool:
+    """Whether Titan says of each what the oracle's tests say."""
+    with tempfile.TemporaryDirectory() as room:
+        built(Path(room, "Interleaves"), "Interleaves", module_of_interleaves())
+        found = verdicts(Path(room, "Interleaves"))
+    wrong = [name for at, (name, _) in enumerate(interleaves()) if not name.endswith(f": always {found.get(at)}")]
+    for name in wrong:
+        print(f"FAILED: {name}: Titan says otherwise")
+    print(f"passed {len(found) - len(wrong)} interleaves on Titan")
+    return not wrong
+
+
 def built(folder: Path, name: str, text: str) -> None:
     """The executable of a module, and its configuration, in a folder of its own."""
     folder.mkdir()
@@ -142,7 +170,7 @@ def main() -> int:
         return 0
     looks = carried(given.tpr, given.first, given.count)
     seen = seen_on_titan([look.seed for look in looks if look.kind == "same"], given.runs)
-    is_right = True
+    is_right = look_at_interleaves()
     for look in looks:
         told = f"Titan {' '.join(sorted(seen.get(look.seed, ())))}, carried over {' '.join(sorted(look.verdicts))}"
         if look.kind == "wrong" or look.kind == "same" and not set() < seen[look.seed] <= look.verdicts:

@@ -6,19 +6,17 @@ from typing import Callable, Optional
 
 from . import tree
 from .emitted import Verdict
-from .hoisting import Communicates, calls_in, key_of, steps_of
+from .hoisting import Communicates, calls_in, key_of
 from .labels import lost_label
-from .paths import Exit, Key, Path, Scope, Slot, Split, State, joined
-from .refusing import Refusal, refuse, refuse_open, refuse_silently
+from .looping import Looper
+from .paths import Exit, Key, Path, Scope, Slot
+from .refusing import Refusal, refuse, refuse_silently
 from .run import members_of
-from .sorting import MOST_OF_TREE, Sorted
 from .templates import look_at_restricted
 from .tokens import Token
 from .tree import Declared, Expression, Leaving, Statement
 from .types import Kind, Type
 from .values import DefaultValue, Elements, Fields, Form, Mark, Received, VerdictValue, matches, worse
-
-from .lists import ListFollower
 
 MOST_CALLS = 60
 _EXITS = {
@@ -26,7 +24,7 @@ _EXITS = {
 }
 
 
-class Follower(ListFollower):
+class Follower(Looper):
     def follow(self, statement: Statement, path: Path, scope: Scope) -> list[Path]:
         if isinstance(statement, tree.Unsupported):
             raise Refusal(statement.at, statement.reason)
@@ -375,106 +373,6 @@ class Follower(ListFollower):
         self.look_at_value(value, item.at)
         return matches(value, template)
 
-    def _for(self, statement: tree.For, path: Path, scope: Scope) -> list[Path]:
-        inner = self.new_scope(scope)
-        paths = self.follow(statement.first, path, inner)
-        turns = self._turns(statement, statement.condition, statement.block, statement.step, paths, inner, False)
-        return self.left(inner, turns)
-
-    def _while(self, statement: tree.While, path: Path, scope: Scope) -> list[Path]:
-        block, is_done = statement.block, statement.is_first_done
-        return self._turns(statement, statement.condition, block, None, [path], scope, is_done)
-
-    def _turns(
-        self, loop: Statement, condition: Expression, block: tree.Block, step: Optional[Statement],
-        paths: list[Path], scope: Scope, is_first_done: bool,
-    ) -> list[Path]:
-        """The turns of a loop, on each way as long as its condition holds."""
-        self.frames.append(self.program.names_in(loop))
-        finished: list[Path] = []
-        is_asked = not is_first_done
-        before: Optional[State] = None
-        above = paths[0].fork if len(paths) == 1 else None
-        may_sort = len(paths) == 1
-        while paths:
-            written = self.run.written
-            if len(paths) == 1 and paths[0].exit is Exit.ON:
-                if before is not None and before == paths[0].state:
-                    # What is asked of a component doesn't hold for good.
-                    self.is_looking = self.program.has_word("running") or self.program.has_word("alive")
-                    self.evaluate(condition, paths[0], scope) if self.is_looking else None
-                    self.is_looking = False
-                    refuse_open(loop.at, "this loop never ends: a turn of it leaves all as it was")
-                before = paths[0].state.copy()
-            turned: list[Path] = []
-            for path in paths:
-                self.run.step(loop.at)
-                for one, goes_on in self._asked_of(condition, path, scope) if is_asked else [(path, True)]:
-                    if one.exit is Exit.ON and goes_on:
-                        turned += self.block(block, one, scope)
-                    else:
-                        finished.append(one)
-            is_asked = True
-            # All ways are joined once for each turn, since there may be many.
-            going_on = self._stepped(turned, step, scope, finished)
-            paths = joined(going_on, self.live(), self.has_verdict, self.leave_behind, self.run.sorts)
-            if may_sort:
-                ways = [*(Sorted(one, False) for one in finished), *(Sorted(one, True) for one in paths)]
-                ways = self.sorted(ways, above, loop.at)
-                finished, paths = ([way.path for way in ways if way.goes_on is so] for so in (False, True))
-            if len(paths) > 1 and self.run.written > MOST_OF_TREE:
-                steps = [step] if step is not None else steps_of(condition, block)
-                left = self._turns_left(condition, steps, Path([], paths[0].state.copy(), None), scope)
-                # A `while` of so many turns may be ended by something else.
-                is_sure = step is not None or left < MOST_OF_TREE
-                self.run.look_ahead(loop.at, left * (self.run.written - written) if is_sure else 0)
-        self.frames.pop()
-        return finished
-
-    def _turns_left(self, condition: Expression, steps: list[Statement], path: Path, scope: Scope) -> int:
-        """How many turns a loop still has, if these alone change what its condition asks for."""
-        count, open_now = 0, (len(self.frames), len(self.results), self.depth)
-        try:
-            while count < MOST_OF_TREE and self.evaluate(condition, path, scope) is True:
-                for step in steps:
-                    (path,) = self.follow(step, path, scope)
-                count += 1
-        except (Refusal, Split):
-            # What is asked for isn't known.
-            self._close(open_now)
-            return 0
-        return count
-
-    def _asked_of(self, condition: Expression, path: Path, scope: Scope) -> list[tuple[Path, bool]]:
-        """On each way, whether the condition of a loop holds; what it calls is followed before."""
-        depth = len(self.frames)
-        state = path.state.copy()
-        try:
-            return [(path, self.truth(self.evaluate(condition, path, scope), condition.at))]
-        except Communicates as met:
-            again = Path(path.code, state, path.fork)
-            found = self.hoisted(
-                met, [condition], again, scope, lambda one: self._asked_of(condition, one, scope), lambda one: (one, False)
-            )
-            del self.frames[depth:]
-            for one, _ in found:
-                one.state.variables.pop(key_of(met.call), None)
-            return found
-
-    def _stepped(
-        self, turned: list[Path], step: Optional[Statement], scope: Scope, finished: list[Path]
-    ) -> list[Path]:
-        """The ways that go on behind a turn, with the loop's step; the others have finished it."""
-        going_on: list[Path] = []
-        for one in turned:
-            if one.exit in (Exit.ON, Exit.CONTINUE):
-                one.exit = Exit.ON
-                going_on += self.follow(step, one, scope) if step else [one]
-            else:
-                one.exit = Exit.ON if one.exit is Exit.BREAK else one.exit
-                finished.append(one)
-        return going_on
-
     def _jump(self, statement: tree.Goto, path: Path, scope: Scope) -> None:
         path.exit, path.label = Exit.JUMP, statement.name
 
@@ -543,7 +441,7 @@ _FOLLOWED: dict[type, _Followed] = {
     tree.Block: Follower._block,  # type: ignore[dict-item]
     tree.If: Follower._choose_block,
     tree.Select: Follower._choose_block,
-    tree.For: Follower._for,  # type: ignore[dict-item]
-    tree.While: Follower._while,  # type: ignore[dict-item]
+    tree.For: Follower.follow_for,  # type: ignore[dict-item]
+    tree.While: Follower.follow_while,  # type: ignore[dict-item]
     tree.Return: Follower._return,  # type: ignore[dict-item]
 }

@@ -49,20 +49,30 @@ class Chooser(Expander):
             return self._waited(statement, branches, path, scope, count)
         above, finished, again = path.fork, list[Path](), [path]
         while again:
-            turned = [found for one in again for found in self._apart(statement, branches, one, scope, count)]
-            for one in turned:
-                if one.exit is not Exit.REPEAT:
-                    finished.append(one)
-            again = [one for one in turned if one.exit is Exit.REPEAT]
-            for one in again:
-                one.exit = Exit.ON
+            written = self.run.written
+            again = [found for one in again for found in self._turned_again(statement, branches, one, scope, count, finished)]
             self.frames.append(self.program.names_in(statement))
             ways = [*(Sorted(one, False) for one in finished), *(Sorted(one, True) for one in again)]
             ways = self.sorted(ways, above, statement.at)
             self.frames.pop()
             finished, again = ([way.path for way in ways if way.goes_on is so] for so in (False, True))
+            self.look_ahead(
+                statement.at, self.run.written - written, again,
+                lambda one: self._turned_again(statement, branches, one, scope, 1, []),
+            )
             count += 1
         return finished
+
+    def _turned_again(
+        self, statement: tree.Alt, branches: list[Opened], path: Path, scope: Scope, count: int, finished: list[Path]
+    ) -> list[Path]:
+        """The ways of one turn that repeat the `alt`."""
+        turned = self._apart(statement, branches, path, scope, count)
+        finished += [one for one in turned if one.exit is not Exit.REPEAT]
+        again = [one for one in turned if one.exit is Exit.REPEAT]
+        for one in again:
+            one.exit = Exit.ON
+        return again
 
     def _apart(
         self, statement: tree.Alt, branches: list[Opened], path: Path, scope: Scope, count: int

@@ -155,14 +155,14 @@ class Behaviour(Chooser):
         refuse(node.at, f"`{node.word}` asks for something that is known only in a run")
 
     def _is_running(self, started: list[int], node: tree.Asked, path: Path) -> bool:
-        """Of components that were started: not if all of them surely have ended. Else one must surely run, which is looked at
-        when all is followed; what is asked at each look at branches may end while these wait."""
+        """Of components that were started: not if all of them surely have ended. Else one must surely run, so that nothing comes
+        to the other case; that is looked at when all is followed. What is asked at each look at branches may end while these wait."""
         left = frozenset(started) - path.state.done - path.state.awaited
         if self.can_set_up and not left:
             return False
-        if not self.can_set_up or self.is_looking:
-            refuse(node.at, f"`{node.word}` asks for something that is known only in a run")
-        self.emit(path, StillRuns(node.at, node.word, left))
+        if not self.can_set_up or self.is_looking or node.at in self.run.unsure:
+            refuse_open(node.at, f"`{node.word}` asks for something that is known only in a run")
+        self.emit(path, StillRuns(node.at, left))
         return True
 
     # Defaults

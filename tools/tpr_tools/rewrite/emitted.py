@@ -155,7 +155,6 @@ class StillRuns:
     """It was asked whether one of these components runs, and said that it does: that must be sure. Nothing is written."""
 
     at: Token
-    word: str
     components: frozenset[int]
 
 

@@ -75,7 +75,7 @@ class EndedFinder:
         self.most = {number: _most_of(followed, number, part.code, Counter(), {}) for number, part in self.parts.items()}
         self.found: dict[tuple[Token, str], LateSend] = {}
         # Where it was said that a component runs, which may have ended.
-        self.unsure: list[StillRuns] = []
+        self.unsure: set[Token] = set()
         self.asked = 0
 
     def all(self) -> list[LateSend]:
@@ -93,7 +93,7 @@ class EndedFinder:
                 walk.done |= {statement.component}
             elif isinstance(statement, StillRuns):
                 if all(self._may_have_ended(walk, number) for number in statement.components):
-                    self.unsure.append(statement)
+                    self.unsure.add(statement.at)
             elif isinstance(statement, Went):
                 walk.went.setdefault(statement.number, []).append(walk)
                 return False

@@ -73,7 +73,7 @@ def follow(run: Run, case: tree.TestCase) -> Followed:
         return _follow_flows(run, case, run.flows)
     for _ in range(MOST_ROUNDS):
         run.counted.clear()
-        run.steps = run.written = 0
+        run.steps = run.written = run.looked_ahead = 0
         followed = _follow_once(run, case)
         counts = _most(followed)
         short = [key for key in run.counted if counts[key] > run.most.get(key, 0)]

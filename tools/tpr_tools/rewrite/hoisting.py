@@ -52,9 +52,9 @@ def expressions_of(statement: Statement) -> Optional[list[Expression]]:
     return [statement.call] if isinstance(statement, tree.CallStatement) else None
 
 
-def names_beside(node: object, call: Optional[tree.Call]) -> Iterator[str]:
+def names_beside(node: object, call: tree.Call) -> Iterator[str]:
     """The names that stand in an expression, but for those of a call in it."""
-    if node is call and call is not None:
+    if node is call:
         return
     if isinstance(node, tree.Name):
         yield node.word
@@ -64,13 +64,6 @@ def names_beside(node: object, call: Optional[tree.Call]) -> Iterator[str]:
     elif isinstance(node, tree.Node) and is_dataclass(node):
         for field in fields(node):
             yield from names_beside(getattr(node, field.name), call)
-
-
-def steps_of(condition: Expression, block: tree.Block) -> list[Statement]:
-    """The assignments of a block to what the condition of its loop names, as it is with `while (i < n) { ..; i := i + 1; }`."""
-    names = set(names_beside(condition, None))
-    steps = [one for one in block.statements if isinstance(one, tree.Assignment)]
-    return [one for one in steps if isinstance(one.target, tree.Name) and one.target.word in names]
 
 
 def calls_in(node: object) -> Iterator[tree.Call]:

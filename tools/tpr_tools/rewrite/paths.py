@@ -4,6 +4,7 @@ An execution forks where a message decides how it goes on. The ways join again b
 """
 from __future__ import annotations
 
+from copy import copy
 from dataclasses import dataclass, field, replace
 from enum import Enum
 from typing import Callable, Hashable, Iterable, Optional, TypeVar
@@ -103,7 +104,9 @@ class State:
     sent: dict[Route, Span] = field(default_factory=dict, compare=False)
 
     def copy(self) -> State:
-        return replace(self, variables=dict(self.variables), got=dict(self.got), sent=dict(self.sent))
+        found = copy(self)
+        found.variables, found.got, found.sent = dict(self.variables), dict(self.got), dict(self.sent)
+        return found
 
     def setup(self) -> tuple[object, ...]:
         """All but the variables and what is counted."""

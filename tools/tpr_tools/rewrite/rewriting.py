@@ -7,7 +7,7 @@ from typing import Optional
 
 from .ended import EndedFinder
 from .flowing import Flows
-from .following import Followed, NotClosed, look_at_ends, with_ends
+from .following import Followed, NotClosed, follow, look_at_ends, with_ends
 from .parameters import expressions_of
 from .program import Program
 from .refusing import Refusal
@@ -84,7 +84,7 @@ def written(run: Run, chosen: TestCase, files: list[str]) -> Optional[Lines]:
         followed = with_ends(run, chosen)
         if not run.refused and run.lost is None:
             look_at_ends(run, followed)
-            look_at_sends(run, followed)
+            look_at_sends(run, followed, chosen)
         lines = Writer(run, followed, files).write()
         return None if run.refused or run.lost is not None else lines
     except Refusal as refusal:
@@ -138,7 +138,7 @@ def whole(before: Run, chosen: TestCase, files: list[str]) -> tuple[Run, Optiona
     return run, written(run, chosen, files)
 
 
-def look_at_sends(run: Run, followed: Followed) -> None:
+def look_at_sends(run: Run, followed: Followed, chosen: TestCase) -> None:
     """A send to what has ended is refused, or told of where that is asked for."""
     finder = EndedFinder(followed)
     for late in finder.all():
@@ -147,8 +147,10 @@ def look_at_sends(run: Run, followed: Followed) -> None:
             run.queued.add(late.at)
         else:
             run.tell(Refusal(late.at, late.reason))
-    for asked in finder.unsure:
-        run.tell(Refusal(asked.at, f"`{asked.word}` asks for something that is known only in a run", True))
+    if finder.unsure:
+        # It is refused there, and both cases are looked at.
+        run.unsure |= finder.unsure
+        follow(run, chosen)
 
 
 def _backslashes(sources: list[Source]) -> list[Refused]:

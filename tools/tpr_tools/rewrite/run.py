@@ -75,8 +75,11 @@ class Run:
     # What is told of though it is carried over, and the sends to what may have ended among it.
     notes: list[Refused] = field(default_factory=list)
     queued: set[Token] = field(default_factory=set)
+    # Where it was asked whether a component runs that may have ended.
+    unsure: set[Token] = field(default_factory=set)
     begun: float = field(default_factory=time.process_time)
-    told_seconds: int = 0
+    # By the clock of who waits.
+    told: float = field(default_factory=time.monotonic)
     # Whether anything was waited for: else what comes changes nothing. And whether a message decided how it goes on.
     has_waited: bool = False
     has_forked: bool = False
@@ -89,6 +92,8 @@ class Run:
     has_left: bool = False
     steps: int = 0
     written: int = 0
+    # How much was written when it was last asked how much comes.
+    looked_ahead: int = 0
     # The ports at which a `repeat` counts what can come.
     counted: set[tuple[int, str]] = field(default_factory=set)
 
@@ -126,8 +131,8 @@ class Run:
         most = self.options.seconds
         if took >= most:
             self._stop(at, f"this takes more than {most} seconds: --seconds {2 * most} gives it twice as many")
-        if took > self.told_seconds:
-            self.told_seconds = took
+        if time.monotonic() >= self.told + 1:
+            self.told = time.monotonic()
             self.options.tell(
                 f"{took} s of {most}: line {at.line}, {self.written:,} of {self.options.statements:,} statements"
             )
@@ -140,9 +145,10 @@ class Run:
         if self.written > self.options.statements:
             self._stop(at, self._too_many())
 
-    def look_ahead(self, at: Token, more: int) -> None:
-        """Ends early where a loop goes on to write so many more: twice as many as there may be, since ways also end."""
-        if self.written + more > 2 * self.options.statements:
+    def look_ahead(self, at: Token, more: int, is_growing: bool) -> None:
+        """Ends early where a loop goes on to write so many more: twice as many as there may be, since ways also end, unless
+        each turn writes more than all before."""
+        if self.written + more > (1 if is_growing else 2) * self.options.statements:
             self._stop(at, self._too_many(self.written + more))
 
     def _too_many(self, wanted: int = 0) -> str:
@@ -160,7 +166,7 @@ class Run:
     def anew(self, flows: Optional[Flows] = None, sorts: bool = False, may_sort: bool = False) -> Run:
         """The same in another way, within the same seconds."""
         found = Run(self.program, self.parameters, self.options, flows=flows, sorts=sorts, may_sort=may_sort)
-        found.begun, found.told_seconds = self.begun, self.told_seconds
+        found.begun, found.told = self.begun, self.told
         return found
 
     def begin(self, at: Token) -> None:
@@ -169,7 +175,7 @@ class Run:
         self.refused.clear()
         self.open.clear()
         self.lost = None
-        self.steps = self.written = 0
+        self.steps = self.written = self.looked_ahead = 0
         self._look_at_time(at)
 
 
