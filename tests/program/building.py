@@ -24,11 +24,11 @@ from tree_of_crates import (
 BUILD = f"{NAME}/build"
 USAGE = "usage: ./build [tpr_ordered] [--jobs N] | ./build is_built | ./build lanes | ./build clear\n"
 AGAIN = "building the program again, because a source is newer than its last build"
-# Two crates of a minute each, side by side, and then the program, for which 250 seconds are foreseen.
-NONE_PROVED = "0 of 3 proved, about 5 minutes left"
+# Two crates of a minute each, side by side, and then the program, for which 360 seconds are foreseen.
+NONE_PROVED = "0 of 3 proved, about 7 minutes left"
 # All that is foreseen took next to nothing here, and for more than that no machine is taken.
-ONE, TWO, THREE = "1 of 3 proved, about 2 minutes left", "2 of 3 proved, about 1 minute left", "3 of 3 proved"
-LAST_LEFT, LOW_LEFT = "2 of 3 proved, about 4 minutes left", "1 of 3 proved, about 5 minutes left"
+ONE, TWO, THREE = "1 of 3 proved, about 2 minutes left", "2 of 3 proved, about 2 minutes left", "3 of 3 proved"
+LAST_LEFT, LOW_LEFT = "2 of 3 proved, about 6 minutes left", "1 of 3 proved, about 7 minutes left"
 LAST, LOW, EACH = (LAST_LEFT, THREE), (LOW_LEFT, TWO, THREE), (NONE_PROVED, ONE, TWO, THREE)
 LEFT = ["build.log", "built", "lock", "times_of_crates"]  # by a build
 ASKED_LAST = "rt was asked in tpr: run --jobs 1 -- queue"
@@ -120,7 +120,7 @@ def progress_on_a_terminal(building: Building) -> None:
 
 def other_program(building: Building) -> None:
     """The program that tools/explore runs."""
-    words, last = ["tpr_ordered", "--jobs", "2"], (TWO, THREE)
+    words, last = ["tpr_ordered", "--jobs", "2"], ("2 of 3 proved, about 1 minute left", THREE)
     other = "building tpr_ordered, and the crates that it uses if they aren't built yet"
     building.answers("the program for tools/explore", words, 0, of_tpr(other, building.log, *last))
     script = building.tree.path / "examples/login_is_answered.ttcn"

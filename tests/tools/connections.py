@@ -138,7 +138,7 @@ def connections_that_cannot_be(_: Path) -> None:
         with case(f"connections with the words {' '.join(words)}"):
             run(CHART, "--connections", *words).must_complain("^usage: chart", 4)
     with case("the connections of a report"):
-        run(CHART, "--connections", EXAMPLES / "login_is_answered.expected").must_complain("the script is refused", 2)
+        run(CHART, "--connections", EXAMPLES / "login_is_answered.expected").must_complain("this is a report or a trace", 2)
 
 
 if __name__ == "__main__":
