@@ -13,8 +13,9 @@ from unittest.mock import patch
 
 sys.path.insert(0, os.path.dirname(os.path.realpath(__file__)))
 
-from asking import PRELUDE, judged
+from asking import FOLDER, PRELUDE, judged
 from tpr_tools.rewrite import following
+from tpr_tools.rewrite.choosing import Chooser
 from tpr_tools.rewrite.rewriting import Rewritten, rewrite
 from tpr_tools.rewrite.run import Options, Run
 from tpr_tools.rewrite.tokens import Source, Token
@@ -49,7 +50,7 @@ def main() -> None:
     """What is beyond a bound is refused before the bound is met, and nothing is followed more often than it takes."""
     found, stops, _ = counted(SUMS, Options(statements=8_000))
     reasons = [one.reason for one in found.refused]
-    is_told = reasons == ["more than 8,000 statements would be written: --statements 61348 lets it write more"]
+    is_told = reasons == ["more than 8,000 statements would be written: --statements 61949 lets it write more"]
     judged("a loop that would write too much is refused", is_told, f"{reasons}")
     judged("it is refused before so much is written", stops[-1][0] < 8_000, f"{stops}")
     for word, loop in OTHERS.items():
@@ -61,6 +62,19 @@ def main() -> None:
     judged("the seconds are those of all that is tried", stops[-1][1] - stops[0][1] < 3, f"{stops}")
     found, _, rounds = counted(TO_ITSELF.replace("TURNS", "60"), Options())
     judged("what a component sends to itself comes in the same round", not found.refused and rounds < 10, f"{rounds} rounds")
+    with open(f"{FOLDER}/unseen/frames_go_back_to_the_lost_one.ttcn", encoding="utf-8") as opened:
+        found, _, rounds = counted(opened.read(), Options())
+    judged("what is refused for good isn't followed to its end", len(found.refused) == 1 and rounds == 3, f"{rounds} rounds")
+    with open(f"{FOLDER}/unseen/update_is_lost_between_two_writers.ttcn", encoding="utf-8") as opened:
+        climbing = opened.read()
+    with patch.object(Chooser, "_waited", autospec=True, side_effect=Chooser._waited) as waited:
+        with patch.object(Chooser, "_apart", autospec=True, side_effect=Chooser._apart) as turned:
+            found, _, rounds = counted(climbing, Options(encodes=True))
+    reasons = [one.reason for one in found.refused]
+    is_told = ["goes on and on" in reason for reason in reasons] == [True]
+    judged("values that are computed in a circle are refused early", is_told and rounds < 16, f"{reasons} {rounds} rounds")
+    sorted_turns, looks = turned.call_count, sum(one.args[0].run.sorts for one in waited.call_args_list)
+    judged("a turn is followed once, though what comes in it is told apart", looks == sorted_turns > 500, f"{looks} of {sorted_turns}")
     found, _, rounds = counted(PLAIN, Options())
     is_whole = found.text.count("p.send") == 5000 and rounds == 1
     judged("a loop on whose messages nothing hangs is followed to its end", is_whole, f"{found.refused} {rounds} rounds")

@@ -56,7 +56,10 @@ def looked_at(tpr: str, seed: int) -> Look:
     kind, why = look_at(tpr, seed, Reading.REFUSED)
     if kind != "same":
         return Look(seed, kind, why, frozenset())
-    told, _ = verdicts_of_carried(tpr, program_of(seed), Options(encodes=seed % 3 == 0))
+    told, refusal = verdicts_of_carried(tpr, program_of(seed), Options(encodes=seed % 3 == 0))
+    if refusal:
+        # Looked at again, it took too long.
+        return Look(seed, "refused", refusal, frozenset())
     return Look(seed, kind, why, frozenset(told.removeprefix("always ").split(" or ")))
 
 

@@ -51,7 +51,7 @@ class Chooser(Expander):
         while again:
             written = self.run.written
             again = [found for one in again for found in self._turned_again(statement, branches, one, scope, count, finished)]
-            self.frames.append(self.program.names_in(statement))
+            self.frames.append(self.spoken_in(statement))
             ways = [*(Sorted(one, False) for one in finished), *(Sorted(one, True) for one in again)]
             ways = self.sorted(ways, above, statement.at)
             self.frames.pop()
@@ -98,9 +98,9 @@ class Chooser(Expander):
         for guard in expansion.guards:
             guard.number = self.counted
             self.counted += 1
-        leaves = self._leaves(expansion.guards, path, count)
+        leaves = self._told_apart(expansion.guards, path, count)
         self._add_end(statement, leaves)
-        self.frames.append(self.program.names_in(statement))
+        self.frames.append(self.spoken_in(statement))
         found: list[Path] = []
         for leaf, one in self._written(statement, leaves, path):
             found += self._follow_leaf(statement, branches, leaf, one, scope, count)
@@ -185,6 +185,29 @@ class Chooser(Expander):
         return got
 
     # Leaves
+
+    def _told_apart(self, guards: list[Guard], path: Path, count: int) -> list[Leaf]:
+        """The leaves. Where ways are sorted, what is split at once is split before anything behind it is followed."""
+        while True:
+            leaves = self._leaves(guards, path, count)
+            splits = [split for leaf in leaves if self.run.sorts for split in self._splits_of(leaf)]
+            if not splits:
+                return leaves
+            self.run.step(splits[0].at)
+            self.plan([split for split in splits if split.symbol.number == splits[0].symbol.number])
+
+    def _splits_of(self, leaf: Leaf) -> list[Split]:
+        """By the senders, so that it is certain how much was taken of each; behind that by the values that are kept."""
+        message, redirect = leaf.message, leaf.guard.redirect
+        senders = list(dict.fromkeys(one.sender.component for one in leaf.coming or ()))
+        if len(senders) > 1 and -1 not in senders and leaf.how is not Receiving.CHECK:
+            return [Split(_symbol_of(leaf, None), SENDER, [ComponentValue(one) for one in senders[:-1]], leaf.guard.at)]
+        try:
+            if leaf.coming and message and not is_value(message.form) and redirect and (redirect.value or redirect.parts):
+                self._split_at_once(Received(_symbol_of(leaf, message)), redirect.at)
+        except Split as split:
+            return [split]
+        return []
 
     def _leaves(self, guards: list[Guard], path: Path, count: int) -> list[Leaf]:
         found: list[Leaf] = []
@@ -293,7 +316,6 @@ class Chooser(Expander):
             self.set_timer(*guard.timer, False, path, guard.at)
         elif guard.how is not None:
             if leaf.coming is not None and leaf.awaited is not None:
-                self._split_by_sender(leaf)
                 self.note_got(leaf.awaited, leaf.coming, path)
             self._redirect(leaf, path, scope)
             if guard.how is not Receiving.CHECK:
@@ -361,24 +383,13 @@ class Chooser(Expander):
             refuse(redirect.at, "a value without a type is redirected")
         value: Form = message.form
         if not is_value(value) and leaf.got is not None:
-            symbol = Symbol(leaf.guard.number, message.type.root, message.form, "")
-            symbol.facts, symbol.coming = leaf.facts, tuple(leaf.coming or ())
-            self._split_at_once(Received(symbol), redirect.at)
-            leaf.got.value = symbol
+            leaf.got.value = symbol = _symbol_of(leaf, message)
             value = Received(symbol)
         if redirect.value is not None:
             self._store_message(redirect.value, value, message.type, path, scope)
         for target, part in redirect.parts:
             steps, type = self._steps(part, message.type)
             self._store_message(target, self.part(value, steps), type, path, scope)
-
-    def _split_by_sender(self, leaf: Leaf) -> None:
-        """Where ways are sorted, each sender has a branch, so that it is certain how much was taken of each."""
-        senders = list(dict.fromkeys(one.sender.component for one in leaf.coming or ()))
-        if self.run.sorts and len(senders) > 1 and -1 not in senders and leaf.guard.how is not Receiving.CHECK:
-            symbol = Symbol(leaf.guard.number, None, Wild.ANY, "")
-            symbol.facts = leaf.facts
-            raise Split(symbol, SENDER, [ComponentValue(senders[0])], leaf.guard.at)
 
     def _split_at_once(self, received: Received, at: Token) -> None:
         """Where ways are sorted, each value has a branch: ways with the same value agree, and with the same template don't."""
@@ -420,15 +431,20 @@ class Chooser(Expander):
             leaf.got.sender = leaf.only_sender
             value = ComponentValue(leaf.only_sender)
         elif leaf.got is not None:
-            symbol = Symbol(leaf.guard.number, None, Wild.ANY, key[1])
-            symbol.is_sender, symbol.facts = True, leaf.facts
-            symbol.coming = tuple(leaf.coming or ())
+            symbol = _symbol_of(leaf, None)
+            symbol.is_sender, symbol.hint = True, key[1]
             numbers = [end.component for end in self.peers_of(leaf.guard.port, path)]
             symbol.peers = tuple(dict.fromkeys(numbers))
             self._split_at_once(Received(symbol, SENDER), target.at)
             leaf.got.sent_by = symbol
             value = Received(symbol, SENDER)
         self.store(key, steps, value, path, target.at)
+
+
+def _symbol_of(leaf: Leaf, message: Optional[Message]) -> Symbol:
+    symbol = Symbol(leaf.guard.number, message.type.root if message else None, message.form if message else Wild.ANY, "")
+    symbol.facts, symbol.coming = leaf.facts, tuple(leaf.coming or ())
+    return symbol
 
 
 def _takes_all(guard: Guard, port: str, type: Type) -> bool:

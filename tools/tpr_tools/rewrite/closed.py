@@ -81,13 +81,13 @@ class Closed(Messages):
 
 
 def wants(branch: Wanting, facts: Facts, one: Coming) -> bool:
-    """Whether a message is one for the branch, and is as the facts say."""
+    """Whether a message is one for the branch, and is as the facts say. Of many values the last that was asked for tells most."""
     if isinstance(branch.sender, int) and branch.sender != one.sender.component:
         return False
     message = branch.message
     if message is not None and (message.type.root is not one.type or not matches(one.form, message.form)):
         return False
-    for (steps, asked), is_so in facts.items():
+    for (steps, asked), is_so in reversed(facts.items()):
         if steps == SENDER:
             is_it = asked == ComponentValue(one.sender.component)
         else:

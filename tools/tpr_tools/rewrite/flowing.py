@@ -23,8 +23,8 @@ class Flows:
     """Of each route, by the number of the message on it, what that can be."""
 
     routes: dict[Route, list[dict[Coming, None]]] = field(default_factory=dict)
-    # Whether anything was added since this was last taken back.
-    has_grown: bool = False
+    # The places at which anything was added in this round.
+    grown: set[tuple[Route, int]] = field(default_factory=set)
 
     def add(self, route: Route, span: Span, coming: Iterable[Coming]) -> None:
         places = self.routes.setdefault(route, [])
@@ -34,7 +34,7 @@ class Flows:
                     places.append({})
                 if one not in places[number]:
                     places[number][one] = None
-                    self.has_grown = True
+                    self.grown.add((route, number))
 
     def within(self, route: Route, span: Span) -> list[Coming]:
         places = self.routes.get(route, [])[span[0] : span[1] + 1]

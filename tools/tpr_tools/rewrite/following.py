@@ -10,7 +10,7 @@ from .components import SYSTEM, Behaviour
 from .flowing import Flows
 from .emitted import Came, Code, EndTold, Emitted, Got, GotDone, GotEnd, Operated, Sent, Ticked, Told, Verdict, Ways
 from .labels import lost_label
-from .paths import End, Exit, Joined, Path, Started, State, peers
+from .paths import End, Exit, Joined, Path, Route, Started, State, peers
 from .refusing import Refusal, refuse, refuse_open
 from .run import Run
 from .tokens import Token
@@ -19,6 +19,8 @@ from .values import VERDICTS
 
 MOST_ROUNDS = 8
 MOST_KNOWN_ROUNDS = 2_000
+# Where ways are sorted a round takes long.
+MOST_SORTED_ROUNDS = 5
 _Counts = Counter[tuple[int, str]]
 
 
@@ -85,16 +87,18 @@ def follow(run: Run, case: tree.TestCase) -> Followed:
 
 
 def _follow_flows(run: Run, case: tree.TestCase, flows: Flows) -> Followed:
-    """All behaviours, anew until they send nothing more that isn't known to come."""
-    for _ in range(MOST_KNOWN_ROUNDS):
+    """All behaviours, anew until they send nothing more that isn't known to come; they may compute it in a circle."""
+    growing: Counter[tuple[Route, int]] = Counter()
+    while max(growing.values(), default=0) < (MOST_SORTED_ROUNDS if run.sorts else MOST_KNOWN_ROUNDS):
         run.begin(case.at)
-        flows.has_grown = False
+        flows.grown.clear()
         followed = _follow_once(run, case)
         if not is_closed(run, followed):
             raise NotClosed()
-        if not flows.has_grown:
+        if not flows.grown:
             return followed
-    refuse(case.at, f"what the components send goes on and on: after {MOST_KNOWN_ROUNDS} rounds there is more")
+        growing = Counter({place: growing[place] + 1 for place in flows.grown})
+    refuse(case.at, f"what the components send goes on and on: {max(growing.values())} rounds in a row add to what one can take")
 
 
 def is_closed(run: Run, followed: Followed) -> bool:

@@ -292,17 +292,6 @@ def _is_plain_log(statement: tree.Statement) -> bool:
 
 def may_repeat(block: tree.Block) -> bool:
     """Whether a `repeat` of the `alt` around it stands in the block."""
-    return any(map(_has_repeat, block.statements))
-
-
-def _has_repeat(statement: tree.Statement) -> bool:
-    if isinstance(statement, tree.Leave):
-        return statement.how is Leaving.REPEAT
-    if isinstance(statement, tree.Block):
-        return may_repeat(statement)
-    if isinstance(statement, tree.If):
-        blocks = [statement.then, *([statement.otherwise] if statement.otherwise else [])]
-        return any(map(may_repeat, blocks))
-    if isinstance(statement, (tree.For, tree.While)):
-        return may_repeat(statement.block)
-    return isinstance(statement, tree.Select) and any(may_repeat(case.block) for case in statement.cases)
+    inner = [one for one in block.statements if not isinstance(one, tree.Alt)]
+    is_there = any(isinstance(one, tree.Leave) and one.how is Leaving.REPEAT for one in inner)
+    return is_there or any(may_repeat(found) for one in inner for found in tree.blocks_of(one))

@@ -11,7 +11,7 @@ from . import tree
 from .paths import Exit, Path, Scope
 from .program import Program
 from .refusing import refuse
-from .tree import Statement
+from .tree import Statement, blocks_of
 
 _PLAIN = (tree.SetVerdict, tree.Dropped, tree.Send, tree.Assignment, tree.Operate, tree.CallStatement, tree.Declaration)
 _WAITING = (tree.Receive, tree.Find)
@@ -160,15 +160,3 @@ def _waits_in(statement: Statement) -> bool:
 
 def _ends_itself(statement: Statement) -> bool:
     return isinstance(statement, tree.Operate) and isinstance(statement.target, tree.Special)
-
-
-def blocks_of(statement: Statement) -> list[tree.Block]:
-    if isinstance(statement, tree.Alt):
-        return [branch.block for branch in statement.branches if branch.block is not None]
-    if isinstance(statement, tree.If):
-        return [statement.then, *([statement.otherwise] if statement.otherwise else [])]
-    if isinstance(statement, tree.Select):
-        return [case.block for case in statement.cases]
-    if isinstance(statement, tree.Block):
-        return [statement]
-    return [statement.block] if isinstance(statement, (tree.For, tree.While)) else []

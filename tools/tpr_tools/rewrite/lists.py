@@ -8,14 +8,14 @@ from . import tree
 from .emitted import Emitted, Got, GotDone, Verdict, Ways
 from .evaluating import Evaluator
 from .hoisting import Communicates, Hoister, expressions_of, key_of, names_beside
-from .interleaving import Interleaving, blocks_of
+from .interleaving import Interleaving
 from .labels import Labels, has_labels
 from .paths import Checkpoint, Exit, Fork, Key, Path, Scope, Slot, Split, checkpoint, joined
 from .refusing import Refusal
 from .run import PortOf, Run, members_of
 from .sorting import Asked, Sorted, sorted_ways
 from .tokens import Token
-from .tree import Expression, Statement
+from .tree import Expression, Statement, blocks_of
 from .types import Type
 from .values import Form, Mark, PortValue, Reference
 
@@ -28,6 +28,8 @@ class ListFollower(Evaluator, Hoister, Interleaving):
     def __init__(self, run: Run, own: int, type: Type, at: Token):
         super().__init__(run.program, own)
         self.run = run
+        # Ways that are sorted agree in what they took, so that a message that is asked for no more keeps none of them apart.
+        self.spoken_in = run.program.asked_in if run.sorts else run.program.names_in
         self.flows, self.most_values = run.flows, run.options.values
         self.parameters = run.parameters
         self.type = type
@@ -92,13 +94,17 @@ class ListFollower(Evaluator, Hoister, Interleaving):
             raise split
         self.run.step(split.at)
         point = points.pop()
-        number = split.symbol.number
-        while self.plans and next(reversed(self.plans)) > number:
-            self.plans.popitem()
-        facts = list(split.symbol.facts.items())
-        self.plans[number] = _extended(self.plans.get(number), facts, split)
+        self.plan([split])
         self.counted, self.run.written = point.counted, point.statements
         return point.index, point.restored()
+
+    def plan(self, splits: list[Split]) -> None:
+        """Branches more for one message; what was planned for those behind it hung on the branches that it had."""
+        number = splits[0].symbol.number
+        while self.plans and next(reversed(self.plans)) > number:
+            self.plans.popitem()
+        for split in splits:
+            self.plans[number] = _extended(self.plans.get(number), list(split.symbol.facts.items()), split)
 
     def _close(self, open_then: tuple[int, int, int]) -> None:
         """Forgets the lists, calls and expressions that were left on the way back."""
@@ -224,7 +230,7 @@ class ListFollower(Evaluator, Hoister, Interleaving):
         if known is None:
             known = [frozenset[str]()]
             for statement in reversed(listed):
-                known.append(known[-1] | self.program.names_in(statement))
+                known.append(known[-1] | self.spoken_in(statement))
             known.reverse()
             self._suffixes[id(listed)] = known
         return known[index]

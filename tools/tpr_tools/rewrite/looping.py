@@ -35,7 +35,7 @@ class Looper(ListFollower):
         paths: list[Path], scope: Scope, is_first_done: bool,
     ) -> list[Path]:
         """The turns of a loop, on each way as long as its condition holds."""
-        self.frames.append(self.program.names_in(loop))
+        self.frames.append(self.spoken_in(loop))
         finished: list[Path] = []
         is_asked = not is_first_done
         before: Optional[State] = None

@@ -1,7 +1,7 @@
 """A program: the definitions of all its modules, by their names."""
 from __future__ import annotations
 
-from typing import Mapping, Optional, Union
+from typing import Iterator, Mapping, Optional, Union
 
 from . import tree
 from .reading_modules import ModuleReader
@@ -32,6 +32,7 @@ class Program:
         self._tokens: dict[str, list[Token]] = {}
         self._types: dict[str, tree.TypeDefinition] = {}
         self._names: dict[int, frozenset[str]] = {}
+        self._asked: dict[int, frozenset[str]] = {}
         self._reached: dict[str, frozenset[str]] = {}
         self._having: dict[tuple[str, frozenset[str]], bool] = {}
         self._timers: Optional[frozenset[str]] = None
@@ -100,6 +101,30 @@ class Program:
             found = self._reach(self._spelled(statement.at.file, statement.span))
             self._names[id(statement)] = found
         return found
+
+    def asked_in(self, statement: tree.Statement) -> frozenset[str]:
+        """The names in a statement, but for those of variables that it sets by what it receives wherever it speaks of them."""
+        if id(statement) not in self._asked:
+            tokens, places = self._tokens[statement.at.file], dict[str, set[int]]()
+            for place in range(*statement.span):
+                places.setdefault(tokens[place].text, set()).add(place)
+            for event, behind in self._received_in(statement):
+                for target in (event.redirect.value, event.redirect.sender) if event.redirect else ():
+                    if isinstance(target, tree.Name) and len(places[target.word].intersection(range(*event.span))) == 1:
+                        places[target.word] -= behind
+            set_first = {name for name, left in places.items() if not left}
+            self._asked[id(statement)] = self._reach(self._spelled(statement.at.file, statement.span) - set_first)
+        return self._asked[id(statement)]
+
+    def _received_in(self, statement: tree.Statement) -> Iterator[tuple[tree.Receive, set[int]]]:
+        """What is received in a statement, with all places that are come to by way of that alone."""
+        for branch in statement.branches if isinstance(statement, tree.Alt) and not statement.is_interleave else ():
+            if isinstance(branch.event, tree.Receive):
+                yield branch.event, {*range(*branch.event.span), *range(*(branch.block.span if branch.block else (0, 0)))}
+        for block, inner in [(block, inner) for block in tree.blocks_of(statement) for inner in block.statements]:
+            if isinstance(inner, tree.Receive) and not self.has_word("activate") and not self.has_word("label"):
+                yield inner, {*range(inner.span[0], block.span[1])}
+            yield from self._received_in(inner)
 
     def calls_of(self, case: str) -> list[tree.Call]:
         """The executions of a test case with arguments, once for each list of these."""

@@ -105,7 +105,7 @@ def with_what_comes(before: Run, chosen: TestCase, files: list[str]) -> tuple[Ru
         return whole(before, chosen, files)
     if lines is not None:
         return run, lines
-    if not before.open:
+    if not before.refused:
         before, lines = whole(before, chosen, files)
     if lines is not None:
         return before, lines
@@ -159,7 +159,7 @@ def _backslashes(sources: list[Source]) -> list[Refused]:
     return [refused_at(source.escaped, reason) for source in sources if source.escaped is not None][:1]
 
 
-_LARGE = re.compile(r"nested too deep|brackets open|statements would be written|takes more than|repeated more than")
+_LARGE = re.compile(r"nested too deep|brackets open|statements would be written|takes more than|repeated more than|goes on and on")
 _SEEMING = re.compile(r"this has no value yet|isn't the chosen one")
 _FOLLOWS = re.compile(r"isn't known|is no |no value|returns nothing|without a `return`|there is no |no branch")
 

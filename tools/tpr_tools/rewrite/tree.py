@@ -259,6 +259,18 @@ Statement = Union[
 ]
 
 
+def blocks_of(statement: Statement) -> list[Block]:
+    if isinstance(statement, Alt):
+        return [branch.block for branch in statement.branches if branch.block is not None]
+    if isinstance(statement, If):
+        return [statement.then, *([statement.otherwise] if statement.otherwise else [])]
+    if isinstance(statement, Select):
+        return [case.block for case in statement.cases]
+    if isinstance(statement, Block):
+        return [statement]
+    return [statement.block] if isinstance(statement, (For, While)) else []
+
+
 # Definitions
 
 
