@@ -1,7 +1,7 @@
 //! The place of a statement: what its names may mean, and its refusals.
 use crate::scope::{BehaviourKind, Scope, Variables};
 use tp_name::fault::{ModuleFault, ModuleRule, refused};
-use tp_name::name::Name;
+use tp_name::name::BorrowedName;
 use tp_tree::tree::ComponentName;
 use tp_value::types::Ty;
 
@@ -11,7 +11,7 @@ use tp_value::types::Ty;
 pub struct Context<'a, 'v, 'm> {
     pub scope: &'a Scope<'a>,
     pub variables: &'a Variables<'v>,
-    pub turns: &'a [Name<'m>],
+    pub turns: &'a [BorrowedName<'m>],
     /// The line for refusals: that of the statement, the branch or the variable.
     pub line: u32,
 }

@@ -30,9 +30,11 @@ pub fn find_port<'p>(ports: &'p CompType, name: &str) -> Option<(u32, &'p PortTy
         → IfNone result (IsAbsent (declared_port_names ports.now) name.now) }
 {
     let place = place_of_port(ports, name)?;
+    // It is there: the place was found just now.
     let Some((_, port)) = ports.ports.get_index(place) else {
         return None;
     };
+    // A component type has 64 ports at most, which only the clause `absent` assumes.
     if place > 0xffff_ffff {
         return None;
     }
@@ -125,6 +127,7 @@ pub fn find_reference(context: &Context, component: &ComponentName) -> Option<us
                 return None;
             };
             let place = find_component(context.scope, name)?;
+            // It never is: the place is below 2^33, by the clause `few`.
             if place > usize::MAX - 2 {
                 return None;
             }

@@ -56,17 +56,7 @@ pub fn resolve_value(
             let place = resolve_turn(context, ty, name.as_str())?;
             Ok(SendValue::Turn(place))
         }
-        Value::List(values) => match context.scope.types.definition(ty) {
-            Some(TypeDef::ListOf(element)) => {
-                let made = resolve_elements(alloc, context, *element, values.as_slice())?;
-                Ok(SendValue::List(made))
-            }
-            Some(TypeDef::Record(fields)) => {
-                let made = resolve_fields(alloc, context, fields.as_slice(), values.as_slice())?;
-                Ok(SendValue::Record(made))
-            }
-            None => Err(context.wrong_type()),
-        },
+        Value::List(values) => resolve_in_braces(alloc, context, ty, values.as_slice()),
         Value::Record(entries) => {
             let Some(TypeDef::Record(fields)) = context.scope.types.definition(ty) else {
                 return Err(context.wrong_type());
@@ -74,6 +64,33 @@ pub fn resolve_value(
             let made = resolve_named(alloc, context, fields.as_slice(), entries.as_slice())?;
             Ok(SendValue::Record(made))
         }
+    }
+}
+
+#[cycle(value)]
+#[tactic(auto, using(crate::proofs::ValueRules::cases))]
+fn resolve_in_braces(
+    alloc: Global,
+    context: &Context,
+    ty: Ty,
+    values: &[Value],
+) -> Result<SendValue, ModuleFault>
+    ensures stands { IfOk result (IsValue context.now.scope.now.types.now
+        (texts context.now.turns.now) ty (Value.List values.now)) }
+    ensures told { IsSoundScope context.now.scope.now
+        → IfErr result (TellsAt context.now.line (ValueBreaks context.now.scope.now.types.now
+        context.now.variables.now (texts context.now.turns.now) ty (Value.List values.now))) }
+{
+    match context.scope.types.definition(ty) {
+        Some(TypeDef::ListOf(element)) => {
+            let made = resolve_elements(alloc, context, *element, values)?;
+            Ok(SendValue::List(made))
+        }
+        Some(TypeDef::Record(fields)) => {
+            let made = resolve_fields(alloc, context, fields.as_slice(), values)?;
+            Ok(SendValue::Record(made))
+        }
+        None => Err(context.wrong_type()),
     }
 }
 
@@ -142,9 +159,11 @@ fn resolve_named(
 {
     let places = field_places(alloc, fields, entries, context.line)?;
     let mut made = Vec::new(alloc);
+    // Any value will do, because each place is written below.
     made.resize_with(fields.len(), || SendValue::Bool(false))?;
     for (index, entry) in entries.iter().enumerate() {
         let place = places[index];
+        // It is there: `field_places` has found each place among the fields.
         let Some(field) = fields.get(place) else {
             return Err(context.wrong_type());
         };

@@ -144,6 +144,7 @@ fn resolve_sent(
         }
         tree::SentExpression::Variable(name) => {
             let name = name.as_str();
+            // A loop variable is sent as the integer that it holds.
             if let Some(place) = find(context.turns, name) {
                 let counter = resolve_counter(context, sendable, place)?;
                 return Ok(Sent::Written(counter));

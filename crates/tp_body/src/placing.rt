@@ -102,6 +102,7 @@ fn find_field<'f>(
     let Some(place) = table.names.get_index_of(name.as_bytes()) else {
         return Ok(None);
     };
+    // If two fields have one name, the places of the table are those of other fields.
     if !is_field(fields, place, name) {
         return Ok(None);
     }

@@ -45,6 +45,7 @@ fn count_statement(statement: &ResolvedStatement) -> u64
             cap(1 + inner + count_block(block.as_slice()))
         }
         ResolvedStatement::For(first, bound, block) => {
+            // Both factors are capped, so the product is below 2^34.
             cap(1 + cap(turn_count(first, bound)) * count_block(block.as_slice()))
         }
     }

@@ -16,7 +16,7 @@ use crate::variables::{are_no_ports, is_new, resolve_variables};
 use std::alloc::Global;
 use tp_event::operation::PortOperation;
 use tp_name::fault::{ModuleFault, ModuleRule, refused};
-use tp_name::name::Name;
+use tp_name::name::BorrowedName;
 use tp_play::body::{Body, ResolvedBranch, ResolvedStatement};
 use tp_tree::tree;
 use tp_tree::tree::{Action, BranchBody, Control, Counted, Turns, Variable, VerdictName};
@@ -25,14 +25,14 @@ use tp_value::items::Items;
 #[tactic(auto, using(std::proofs::lemmas::List::map_push))]
 fn turns_inside<'m>(
     alloc: Global,
-    turns: &[Name<'m>],
+    turns: &[BorrowedName<'m>],
     name: &'m str,
-) -> Result<Vec<Name<'m>>, ModuleFault>
+) -> Result<Vec<BorrowedName<'m>>, ModuleFault>
     ensures inside { IfOk result (λ inside. texts inside.items ≡ texts turns.now ++ name.now ∷ []) }
     ensures memory { IfErr result (λ fault. fault ≡ ModuleFault.Memory (record {})) }
 {
     let mut inside = Vec::from_slice(alloc, turns)?;
-    inside.push(Name { text: name })?;
+    inside.push(BorrowedName { text: name })?;
     Ok(inside)
 }
 

@@ -44,6 +44,40 @@ fn parts(alloc: Global, text: &[u8]) -> Result<Items<PatternPart>, ModuleFault>
 }
 
 #[tactic(auto, using(crate::proofs::TemplateRules::cases))]
+fn resolve_number(context: &Context, ty: Ty, number: &i64) -> Result<RecvTemplate, ModuleFault>
+    ensures stands { IfOk result
+        (IsTemplate context.now.scope.now.types.now (texts context.now.turns.now)
+        ty (Template.Int number.now)) }
+    ensures told { IfErr result (TellsAt context.now.line (TemplateBreaks
+        context.now.scope.now.types.now context.now.variables.now (texts context.now.turns.now)
+        ty (Template.Int number.now))) }
+{
+    context.check_type(ty, Ty::Integer)?;
+    // Read, so that it is known to have 64 bits.
+    let number = *number;
+    Ok(RecvTemplate::Exact(SendValue::Int(number)))
+}
+
+#[tactic(auto, using(crate::proofs::TemplateRules::cases))]
+fn resolve_pattern(
+    alloc: Global,
+    context: &Context,
+    ty: Ty,
+    text: &[u8],
+) -> Result<RecvTemplate, ModuleFault>
+    ensures stands { IfOk result
+        (IsTemplate context.now.scope.now.types.now (texts context.now.turns.now)
+        ty (Template.Pattern text.now)) }
+    ensures told { IfErr result (TellsAt context.now.line (TemplateBreaks
+        context.now.scope.now.types.now context.now.variables.now (texts context.now.turns.now)
+        ty (Template.Pattern text.now))) }
+{
+    context.check_type(ty, Ty::Charstring)?;
+    let made = parts(alloc, text)?;
+    Ok(RecvTemplate::Pattern(made))
+}
+
+#[tactic(auto, using(crate::proofs::TemplateRules::cases))]
 fn resolve_range(
     context: &Context,
     ty: Ty,
@@ -83,12 +117,7 @@ pub fn resolve_template(
         context.now.variables.now (texts context.now.turns.now) ty template.now)) }
 {
     match template {
-        Template::Int(number) => {
-            context.check_type(ty, Ty::Integer)?;
-            // Read, so that it is known to have 64 bits.
-            let number = *number;
-            Ok(RecvTemplate::Exact(SendValue::Int(number)))
-        }
+        Template::Int(number) => resolve_number(context, ty, number),
         Template::Bool(truth) => {
             context.check_type(ty, Ty::Boolean)?;
             Ok(RecvTemplate::Exact(SendValue::Bool(*truth)))
@@ -112,11 +141,7 @@ pub fn resolve_template(
             Ok(RecvTemplate::NoneOf(made))
         }
         Template::Range(lower, upper) => resolve_range(context, ty, *lower, *upper),
-        Template::Pattern(text) => {
-            context.check_type(ty, Ty::Charstring)?;
-            let made = parts(alloc, text.as_slice())?;
-            Ok(RecvTemplate::Pattern(made))
-        }
+        Template::Pattern(text) => resolve_pattern(alloc, context, ty, text.as_slice()),
         Template::List(members) => resolve_list(alloc, context, ty, members.as_slice()),
         Template::Record(entries) => resolve_record(alloc, context, ty, entries.as_slice()),
     }

@@ -131,6 +131,7 @@ pub fn are_no_ports(scope: &Scope) -> bool
         × Contains scope.now.parameters.now name) }
 {
     for place in 0..scope.component_type.ports.len() {
+        // The place is below the length, so there is one.
         let Some((name, _)) = scope.component_type.ports.get_index(place) else {
             return false;
         };

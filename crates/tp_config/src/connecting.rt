@@ -39,7 +39,6 @@ pub enum ConnectFault {
 }
 
 impl ConnectFault {
-    /// The refusal with its number and name.
     pub fn refusal(self) -> Refusal
         ensures { result ≡ connect_refusal self }
     {

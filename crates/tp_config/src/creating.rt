@@ -29,7 +29,6 @@ pub enum CreateFault {
 }
 
 impl CreateFault {
-    /// The refusal with its number and name.
     pub fn refusal(self) -> Refusal
         ensures { result ≡ create_refusal self }
     {
@@ -41,6 +40,7 @@ impl CreateFault {
     }
 }
 
+// Two functions, here and below: one clause follows the code, the other one the specs.
 fn any_named(components: &[Component], name: &str) -> bool
     ensures { result ≡ list_any (λ c. bytes_eq (string_bytes c.name) name.now) components.now }
 {

@@ -34,7 +34,6 @@ pub enum MapFault {
 }
 
 impl MapFault {
-    /// The refusal with its number and name.
     pub fn refusal(self) -> Refusal
         ensures { result ≡ map_refusal self }
     {

@@ -24,7 +24,6 @@ pub enum RouteFault {
 }
 
 impl RouteFault {
-    /// The refusal with its number and name.
     pub fn refusal(self) -> Refusal
         ensures { result ≡ route_refusal self }
     {

@@ -1,9 +1,9 @@
 -- Where names stand. A name is the list of its bytes.
 use Rattle.std.specs.Prelude.{◌≡◌, ◌≢◌, ◌<◌, ℕ, List, map, Some, slice_get}
-use Rattle.tp_name.specs.declared.name.Name.{Name}
+use Rattle.tp_name.specs.declared.name.BorrowedName.{BorrowedName}
 
 -- the bytes of each name
-abbrev pub texts : List Name → List (List ℕ)
+abbrev pub texts : List BorrowedName → List (List ℕ)
 texts names = map (λ n. n.text.now) names
 
 -- k is the first place at which the name stands

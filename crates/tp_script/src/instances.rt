@@ -34,6 +34,7 @@ fn references(
     ensures refused { IfErr result (λ fault. fault ≡ ModuleFault.Memory (record {})) }
 {
     let mut made = Vec::new(alloc);
+    // In the order of `find_reference`: `mtc`, `self`, the parameters, the variables.
     made.push(CompId(0))?;
     made.push(itself)?;
     made.extend_from_slice(arguments)?;
@@ -47,6 +48,7 @@ fn variable_count(prepared: &Prepared) -> Result<u32, ModuleFault>
 {
     let count = prepared.variables.len();
     if count > u32::MAX as usize {
+        // It doesn't come to this: a test case has 64 components at most.
         return Err(refused(ModuleRule::Limit, prepared.case.line));
     }
     Ok(count as u32)
@@ -105,6 +107,7 @@ fn started_instance(
         return Err(refused(ModuleRule::Limit, prepared.case.line));
     };
     let Some(started) = start_at(&prepared.starts, start) else {
+        // Nor to this: each place is that of a start.
         return Err(refused(ModuleRule::NotStarted, prepared.case.line));
     };
     let references = references(alloc, itself, &started.arguments, count)?;

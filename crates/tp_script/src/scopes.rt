@@ -53,6 +53,7 @@ pub fn scope_of<'m>(
     let Some(place) = prepared.sorted.component_names.find(runs_on) else {
         return Err(refused(ModuleRule::Unknown, line));
     };
+    // Each name has its type, so this one is there.
     let Some(component_type) = kind_at(prepared.config.types(), place) else {
         return Err(refused(ModuleRule::Unknown, line));
     };

@@ -31,6 +31,7 @@ fn size_at(sizes: &[u64], place: u32) -> u64
 {
     match sizes.get(place as usize) {
         Some(size) => *size,
+        // Each instance has a body; the 0 spares a condition.
         None => 0,
     }
 }

@@ -59,6 +59,7 @@ pub(crate) fn add_component(
     let Some(kind) = types.find(component.type_name) else {
         return Err(refused(ModuleRule::Unknown, component.line));
     };
+    // There is a type for each name; the test stands for the condition of `create`.
     if kind as usize >= config.types().len() {
         return Err(refused(ModuleRule::Unknown, component.line));
     }
@@ -141,6 +142,7 @@ pub(crate) fn variable_component(variables: &NameSet, name: &str) -> Option<Comp
     let Some(place) = variables.find(name) else {
         return None;
     };
+    // No table has so many names; the test keeps the sum within 32 bits.
     if place == u32::MAX {
         return None;
     }
@@ -252,6 +254,7 @@ pub(crate) fn ports_of_type<'m>(
     let Some(place) = sorted.component_names.find(name) else {
         return Err(refused(ModuleRule::Unknown, line));
     };
+    // Each name has its definition, so this one is there.
     let Some(component) = definition_at(&sorted.component_types, place) else {
         return Err(refused(ModuleRule::Unknown, line));
     };

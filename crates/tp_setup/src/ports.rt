@@ -48,6 +48,7 @@ fn add_types(types: &NameSet, names: &[TypeName], made: &mut Items<Ty>) -> Resul
 {
     for name in names {
         let Some(ty) = resolve(types, name) else {
+            // `check_definitions` has found all types: this never comes, and has no line.
             return Err(refused(ModuleRule::Unknown, 0));
         };
         made.push(ty)?;
@@ -230,6 +231,7 @@ fn make_component(
         add_ports(alloc, &mut ports, declaration.names.as_slice(), port_type)?;
     }
     if !has_room(0, ports.ports.len()) {
+        // Nor does this come: `check_definitions` has counted the ports.
         return Err(refused(ModuleRule::Limit, 0));
     }
     Ok(ports)

@@ -237,6 +237,7 @@ fn first_fault(
         → Tells (SetupBreaks rules.now.type_names.now rules.now.port_names.now config.old.types
         case.entry.case.now case.entry.line) result }
 {
+    // The statements before the stop are set up all the same: a fault there comes first.
     let system = match add_interface(alloc, config, rules.type_names, case.case, case.line) {
         Ok(system) => system,
         Err(fault) => return fault,

@@ -155,6 +155,7 @@ pub fn sort(alloc: Global, parsed: &Module) -> Result<Sorted<'_>, ModuleFault>
     ensures refused { IfErr result (IsRefusedBy (HasUniqueNames parsed.now)) }
 {
     let definitions = parsed.definitions.as_slice();
+    // The kind that each call looks for follows from the type of its field below.
     let (type_names, types) = sort_kind(alloc, definitions)?;
     let (port_names, port_types) = sort_kind(alloc, definitions)?;
     let (component_names, component_types) = sort_kind(alloc, definitions)?;

@@ -133,6 +133,7 @@ fn check_start(
     let Some(place) = sorted.function_names.find(start.function.as_str()) else {
         return Err(refused(ModuleRule::Unknown, line));
     };
+    // Each name has its definition, so this one is there.
     let Some(function) = definition_at(&sorted.functions, place) else {
         return Err(refused(ModuleRule::Unknown, line));
     };
@@ -160,6 +161,7 @@ fn component_types(alloc: Global, case: &TestCase) -> Result<Vec<&str>, ModuleFa
     ensures refused { IfErr result (λ fault. fault ≡ ModuleFault.Memory (record {})) }
 {
     let mut types = Vec::new(alloc);
+    // The MTC is component 0; the created ones follow in the order of the text.
     types.push(case.runs_on.as_str())?;
     for setup in case.setups.as_slice() {
         let Some(creation) = as_creation(setup) else {

@@ -34,6 +34,7 @@ impl<'a, 't> Parser<'a, 't> {
         ensures place { IfErr result (IsWrongBehind 0 self.old) }
         ensures stuck { IfErr result (IsStuckAt self.new) }
     {
+        // A copy of the slice: the token that is returned outlives this borrow of the parser.
         let tokens = self.rest;
         if tokens.is_empty() {
             return Err(Stuck::Next(0));

@@ -27,6 +27,7 @@ fn ends_in_brace(defined: &Defined) -> bool
 }
 
 impl<'a, 't> Parser<'a, 't> {
+    // The clause appends the tokens of the parts in another grouping than the body reads them.
     #[tactic(auto, using(std::proofs::lemmas::List::append_assoc))]
     fn parameter(&mut self, alloc: Global) -> Result<Parameter, Stuck>
         ensures tokens { IfOk result (λ x. Passes self.old (parameter_lexemes x) self.new) }
@@ -59,6 +60,7 @@ impl<'a, 't> Parser<'a, 't> {
         }
         let first = self.parameter(alloc)?;
         parameters.push(first)?;
+        // The label is the loop's name in its proof, here and in the other files.
         'more: while self.has_symbol(Symbol::Comma) {
             let next = self.parameter(alloc)?;
             parameters.push(next)?;

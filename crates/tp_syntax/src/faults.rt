@@ -66,6 +66,7 @@ fn opened_behind(token: &Token, opened: u32) -> u32
     match token {
         Token::Symbol(symbol) => match symbol_bracket(*symbol) {
             Bracket::Opens => opened + 1,
+            // The parser refuses a bracket that closes none.
             Bracket::Closes => opened.saturating_sub(1),
             Bracket::Neither => opened,
         },

@@ -53,6 +53,7 @@ impl<'a, 't> Parser<'a, 't> {
         ensures { IsTrue result ↔ ((is_name_in (token_at self.now.rest.now 0) ≡ true)
             × (token_at self.now.rest.now 1 ≡ Some (symbol Symbol.RightParen))) }
     {
+        // A message begins with its type and a `:`.
         self.is_name_at(0) && self.is_symbol_at(1, Symbol::RightParen)
     }
 

@@ -67,7 +67,7 @@ fn fault_of(stuck: Stuck, front: &Front, last_line: u32) -> ScriptFault
 {
     match stuck {
         Stuck::Next(left) => front.fault(left, last_line),
-        Stuck::Passed(behind) => front.fault(behind.saturating_add(1), last_line),
+        Stuck::Passed(left) => front.fault(left.saturating_add(1), last_line),
         Stuck::Memory => ScriptFault::Memory(Memory),
     }
 }

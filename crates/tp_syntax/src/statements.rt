@@ -87,6 +87,7 @@ impl<'a, 't> Parser<'a, 't> {
             Some(Word::For) => Beginning::For,
             Some(Word::Setverdict) => Beginning::SetVerdict,
             Some(Word::All) => Beginning::AllPorts,
+            // It begins with the name of a port and a dot, so that the third token decides.
             _ => match self.word_at(2) {
                 Some(Word::Send) => Beginning::Send,
                 Some(Word::Receive) => Beginning::Receive,
@@ -217,6 +218,7 @@ impl<'a, 't> Parser<'a, 't> {
         self.symbol(Symbol::LeftBrace)?;
         let branches = self.branches(alloc)?;
         let otherwise = self.otherwise(alloc)?;
+        // The grammar wants one of the two, so the next token is the wrong one.
         if branches.is_empty() && otherwise.is_none() {
             return Err(Stuck::Next(self.rest.len()));
         }

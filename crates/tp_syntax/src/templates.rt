@@ -107,6 +107,7 @@ impl<'a, 't> Parser<'a, 't> {
         ensures { IsTrue result ↔ IsRange self.now.rest.now }
     {
         if self.is_symbol_at(0, Symbol::Minus) {
+            // A negative number alone begins with a `-` too.
             return self.is_word_at(1, Word::Infinity)
                 || self.is_number_at(1) && self.is_symbol_at(2, Symbol::DotDot);
         }

@@ -329,6 +329,7 @@ impl<'a, 't> Parser<'a, 't> {
             GoesBeyond 1 self.old result self.new }
         ensures stuck { IfErr result (IsStuckAt self.new) }
     {
+        // The statements ended at a `}` or at `all component`.
         if !self.is_word_at(0, Word::All) {
             return Ok(None);
         }

@@ -232,6 +232,7 @@ impl<'a, 't> Parser<'a, 't> {
         self.word(Word::Message)?;
         self.symbol(Symbol::LeftBrace)?;
         let directions = self.directions(alloc)?;
+        // The grammar wants one direction, so the next token is the wrong one.
         if directions.is_empty() {
             return Err(Stuck::Next(self.rest.len()));
         }
@@ -347,6 +348,7 @@ impl<'a, 't> Parser<'a, 't> {
         ensures beyond { GoesBeyond 0 self.old result self.new }
         ensures stuck { IfErr result (IsStuckAt self.new) }
     {
+        // All of them begin with `type`, so that the second token decides, or the third.
         if self.is_word_at(1, Word::Port) {
             let port = self.port_type(alloc)?;
             return Ok(Defined::Port(port));

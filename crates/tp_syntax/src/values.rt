@@ -57,6 +57,7 @@ impl<'a, 't> Parser<'a, 't> {
         let placed = self.take()?;
         match placed.token {
             Token::Number(0) => Ok(0),
+            // By one less, because the least integer has no positive twin.
             Token::Number(n) if n <= GREATEST + 1 => Ok(-1 - (n - 1) as i64),
             Token::Number(_) => Err(Stuck::Next(self.rest.len())),
             _ => Err(Stuck::Passed(self.rest.len())),

@@ -34,11 +34,14 @@ pub fn lex<'t>(alloc: Global, text: &'t [u8]) -> Result<Vec<Placed<'t>>, ScriptF
     let mut tokens = Vec::new(alloc);
     let mut rest = text;
     let mut line: u32 = 1;
+    // The label is the loop's name in its proof.
     'pieces: while !rest.is_empty() {
         let (found, size) = piece(alloc, rest, line)?;
         let (bytes, after) = rest.split_at(size);
+        // Read before `add`, which takes the token.
         let is_token = found.is_some();
         add(&mut tokens, found, line)?;
+        // A text within the limit has fewer lines than 2^32, so the sum fits.
         line += lines_in(is_token, bytes);
         rest = after;
     }

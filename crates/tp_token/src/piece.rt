@@ -127,6 +127,7 @@ fn spelled_number(digits: &[u8], line: u32) -> Result<u64, ScriptFault>
 {
     let mut value: u64 = 0;
     for digit in digits {
+        // Before the product, which then fits in 64 bits. The exact limit is checked at the end.
         if value > GREATEST_IN_TOKEN / 10 {
             return Err(ScriptFault::limit(line));
         }
@@ -142,6 +143,7 @@ fn digit_value(digit: u8) -> u8
     ensures low { result ≤ 207 }
     ensures value { result ≡ digit - 48 }
 {
+    // Only digits come here, which are 48 or more; saturating, it needs no condition.
     digit.saturating_sub(48)
 }
 
@@ -190,6 +192,7 @@ fn symbol(bytes: &[u8]) -> Option<(Symbol, usize)>
     ensures token { IfSome result (λ r. TokenAt bytes.now (symbol r.0) r.1) }
     ensures none { IfNone result (HasNoSymbol bytes.now) }
 {
+    // 0 if nothing follows: no symbol has it as its second byte.
     let second = if bytes.len() > 1 { bytes[1] } else { 0 };
     match bytes[0] {
         b'{' => Some((Symbol::LeftBrace, 1)),
@@ -204,6 +207,7 @@ fn symbol(bytes: &[u8]) -> Option<(Symbol, usize)>
         b'*' => Some((Symbol::Star, 1)),
         b'<' => Some((Symbol::Less, 1)),
         b'+' => Some((Symbol::Plus, 1)),
+        // A symbol of two bytes comes before the one that its first byte is.
         b'.' if second == b'.' => Some((Symbol::DotDot, 2)),
         b'.' => Some((Symbol::Dot, 1)),
         b':' if second == b'=' => Some((Symbol::Assign, 2)),
@@ -228,6 +232,7 @@ fn comment(bytes: &[u8], line: u32) -> Result<usize, ScriptFault>
     match bytes[1] {
         b'/' => Ok(2 + line_comment(rest)),
         b'*' => match block_comment(rest) {
+            // With the two bytes that open the comment, and the two that close it.
             Some(n) => Ok(n + 4),
             None => Err(ScriptFault::syntax(line)),
         },

@@ -137,6 +137,7 @@ fn words_of_length(size: usize) -> &'static [(&'static str, Word)]
 {
     let words: &'static [(&'static str, Word)] = &WORDS;
     match size {
+        // The bounds follow the table, which goes by length; a wrong one fails the clause.
         2 => &words[..4],
         3 => &words[4..11],
         4 => &words[11..25],

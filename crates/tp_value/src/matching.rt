@@ -30,6 +30,7 @@ fn number(value: &Value) -> Option<i64>
     ensures { result ≡ integer_in (out-Value value.now) }
 {
     match value {
+        // Each variant is named, so that the compiler finds a new one.
         Value::Int(inside) => Some(*inside),
         Value::Bool(_) => None,
         Value::Text(_) => None,
@@ -158,6 +159,7 @@ fn only_many(members: &[Template], from: usize) -> bool
         ↔ HasCut (λ t. PieceOf (is_many_template t) (Matches t)) (drop from members.now) [] }
 {
     for part in from..members.len() {
+        // No element is left, and only a `*` matches none.
         if !members[part].is_many() {
             return false;
         }

@@ -100,7 +100,6 @@ impl Types {
         }
     }
 
-    /// The number of types.
     pub fn len(&self) -> usize
         ensures { result ≡ length self.now }
     {

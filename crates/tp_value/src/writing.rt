@@ -64,6 +64,7 @@ fn separate<W: Write>(place: usize, out: &mut Watched<W>)
     ensures { Writes W.contents out.old out.new (separator place) }
 {
     if place == 0 {
+        // Nothing is written, in the form that the clause has for both cases.
         write_bytes(b"", out)
     } else {
         write_bytes(b", ", out)

@@ -3,6 +3,7 @@ use Rattle.std.proofs.Common.{◌≡◌, ◌≤◌, length, arith, ap, sym, ◌�
 use Rattle.std.proofs.lemmas.List.Elements.{All-push}
 use Rattle.std.proofs.lemmas.Option.{slice_get_read}
 use Rattle.std.proofs.lemmas.List.{length-set, length-map}
+use Rattle.std.proofs.lemmas.Result.{IfErr-weaker}
 use Rattle.tp_value.specs.declared.types.TypeDef.TheVariants as def
 use Rattle.tp_value.specs.Types.{named}
 use Rattle.tp_name.specs.declared.fault.ModuleRule.TheVariants as rule
@@ -13,7 +14,7 @@ use Rattle.tp_body.specs.BrokenValues as b
 use Rattle.tp_body.specs.BrokenValues.{IsEntry}
 use Rattle.tp_body.proofs.EntriesInDeclaredOrder.{place_below, placed_entries, placed_name, filled_more, all_filled, in_order}
 use Rattle.tp_body.proofs.ValueRules.{elements_more, fields_more, pushed}
-use Rattle.tp_body.proofs.RuleFaultPropagation.{tells_at, tells_rule, told_rule}
+use Rattle.tp_body.proofs.RuleFaultPropagation.{tells_at, tells_rule, told_at, told_rule}
 use Rattle.tp_body.proofs.BrokenValueRules.{breaks_element, breaks_field, record_behind}
 use Rattle.tp_body.proofs.messages.+value.Goals as goal
 use Rattle.tp_body.proofs.messages.+value.Goals.{resolve_value-in_default-via-in-Some+in_default, resolve_value-in_default-via-in_default}
@@ -167,14 +168,14 @@ resolve_value-returns-in_err-place-in-Name-clause-told t c = λ sound.
     (λ r broken. rw c.in-Name.is (b.name c.args.ty c.in-Name.name r broken))
     (rw c.as_str.ensures at c.in_err-place-in-Name.ensures.told)
 
-pub resolve_value-returns-in_err-made-in-Some-Record-clause-told : goal.resolve_value-returns-in_err-made-in-Some-Record-clause-told
-resolve_value-returns-in_err-made-in-Some-Record-clause-told t c = λ sound.
+pub resolve_in_braces-returns-in_err-made-in-Some-Record-clause-told : goal.resolve_in_braces-returns-in_err-made-in-Some-Record-clause-told
+resolve_in_braces-returns-in_err-made-in-Some-Record-clause-told t c = λ sound.
     let defined : named c.args.context.now.scope.now.types.now c.args.ty ≡ Some (def.Record c.in-Some-Record.fields) =
     sym c.in-Some-Record.ensures ∙ ap Some c.in-Some-Record.field-0-is in
     tells_at _ _ _ c.from_residual-in_err-made-in-Some-Record.result c.in_err-made-in-Some-Record.field-0.0
     c.from_residual-in_err-made-in-Some-Record.ensures.1
-    (λ r broken. rw c.in-List.is (b.places c.args.ty c.in-Some-Record.fields c.in-List.values r defined broken))
-    (rw (c.as_slice-in-Some-Record.ensures, c.as_slice-in-Some-Record-2.ensures) at (c.in_err-made-in-Some-Record.ensures.told sound))
+    (λ r broken. b.places c.args.ty c.in-Some-Record.fields c.args.values.now r defined broken)
+    (rw c.as_slice.ensures at (c.in_err-made-in-Some-Record.ensures.told sound))
 
 pub resolve_value-returns-in_err-check_type-in-Int-clause-told : goal.resolve_value-returns-in_err-check_type-in-Int-clause-told
 resolve_value-returns-in_err-check_type-in-Int-clause-told t c = λ sound.
@@ -191,32 +192,37 @@ resolve_value-returns-in_err-text-in-Text-clause-told t c = λ sound.
     tells_at _ _ _ c.from_residual-in_err-text-in-Text.result _ c.from_residual-in_err-text-in-Text.ensures.1
     (λ r broken. rw c.in-Text.is (b.text c.args.ty c.in-Text.text r broken)) (rw c.as_slice.ensures at c.in_err-text-in-Text.ensures.told)
 
-pub resolve_value-returns-in_err-made-in-Some-ListOf-clause-told : goal.resolve_value-returns-in_err-made-in-Some-ListOf-clause-told
-resolve_value-returns-in_err-made-in-Some-ListOf-clause-told t c = λ sound.
+pub resolve_in_braces-returns-in_err-made-in-Some-ListOf-clause-told : goal.resolve_in_braces-returns-in_err-made-in-Some-ListOf-clause-told
+resolve_in_braces-returns-in_err-made-in-Some-ListOf-clause-told t c = λ sound.
     let defined : named c.args.context.now.scope.now.types.now c.args.ty ≡ Some (def.ListOf c.in-Some-ListOf.element) =
     sym c.in-Some-ListOf.ensures ∙ ap Some c.in-Some-ListOf.field-0-is in
-    tells_at _ _ _ c.from_residual-in_err-made-in-Some-ListOf.result _ c.from_residual-in_err-made-in-Some-ListOf.ensures.1
-    (λ r broken. rw c.in-List.is (b.elements c.args.ty c.in-Some-ListOf.element c.in-List.values r defined broken))
-    (rw c.as_slice-in-Some-ListOf.ensures at (c.in_err-made-in-Some-ListOf.ensures.told sound))
+    tells_at _ _ _ c.from_residual.result _ c.from_residual.ensures.1
+    (λ r broken. b.elements c.args.ty c.in-Some-ListOf.element c.args.values.now r defined broken)
+    (c.in_err-made-in-Some-ListOf.ensures.told sound)
 
-pub resolve_value-returns-in-None-clause-told : goal.resolve_value-returns-in-None-clause-told
-resolve_value-returns-in-None-clause-told t c = λ sound.
-    told_rule _ rule.WrongType _ _ (cc) (rw c.in-List.is (b.no_braces c.args.ty c.in-List.values (sym c.in-None.ensures)))
+pub resolve_in_braces-returns-in-None-clause-told : goal.resolve_in_braces-returns-in-None-clause-told
+resolve_in_braces-returns-in-None-clause-told t c = λ sound.
+    told_rule _ rule.WrongType _ _ (cc) (b.no_braces c.args.ty c.args.values.now (sym c.in-None.ensures))
+
+pub resolve_value-returns-in-List-clause-told : goal.resolve_value-returns-in-List-clause-told
+resolve_value-returns-in-List-clause-told t c = λ sound.
+    IfErr-weaker c.resolve_in_braces.result _ _ (λ f. told_at _ _ _ f (λ r broken. rw c.in-List.is broken))
+    (rw c.as_slice-in-List.ensures at (c.resolve_in_braces.ensures.told sound))
 
 pub resolve_value-returns-in_err-made-in-Record-clause-told : goal.resolve_value-returns-in_err-made-in-Record-clause-told
 resolve_value-returns-in_err-made-in-Record-clause-told t c = λ sound.
-    let defined : named c.args.context.now.scope.now.types.now c.args.ty ≡ Some (def.Record c.in-Some-Record-definition.fields) =
-    sym c.in-Some-Record-definition.ensures ∙ ap Some c.in-Some-Record-definition.field-0-is in
+    let defined : named c.args.context.now.scope.now.types.now c.args.ty ≡ Some (def.Record c.in-Some-Record.fields) =
+    sym c.in-Some-Record.ensures ∙ ap Some c.in-Some-Record.field-0-is in
     tells_at _ _ _ c.from_residual-in_err-made-in-Record.result _ c.from_residual-in_err-made-in-Record.ensures.1
-    (λ r broken. rw c.in-Record.is (b.fields c.args.ty c.in-Some-Record-definition.fields c.in-Record.entries r defined broken))
+    (λ r broken. rw c.in-Record.is (b.fields c.args.ty c.in-Some-Record.fields c.in-Record.entries r defined broken))
     ((rw (c.as_slice-in-Record.ensures, c.as_slice-in-Record-2.ensures) at c.in_err-made-in-Record.ensures.told) sound
-    (sound.own_names c.args.ty c.in-Some-Record-definition.fields defined))
+    (sound.own_names c.args.ty c.in-Some-Record.fields defined))
 
 pub resolve_value-returns-in_default-clause-told : goal.resolve_value-returns-in_default-clause-told
 resolve_value-returns-in_default-clause-told t c = λ sound.
     told_rule _ rule.WrongType _ _ (cc) (rw c.in-Record.is (b.no_record c.args.ty c.in-Record.entries (λ fs is.
-    let p = record_behind c.definition-in-Record.result fs (c.definition-in-Record.ensures ∙ is) in
-    let found : c.definition-in-Record.result ≡ Some p.0 = p.1 in
+    let p = record_behind c.definition.result fs (c.definition.ensures ∙ is) in
+    let found : c.definition.result ≡ Some p.0 = p.1 in
     let held : p.0.now ≡ def.Record fs = p.2 in
     elim c.in_default.branch [
       | resolve_value-in_default-via-in-Some+in_default w ↦ absurd (cc)

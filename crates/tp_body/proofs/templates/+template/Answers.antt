@@ -237,14 +237,9 @@ resolve_record-returns-in_default-clause-told t c = λ sound.
       | resolve_record-in_default-via-in_default w ↦ absurd (cc)
     ]))
 
-pub resolve_template-returns-in_err-check_type-in-Int-clause-told : goal.resolve_template-returns-in_err-check_type-in-Int-clause-told
-resolve_template-returns-in_err-check_type-in-Int-clause-told t c = λ sound.
-    tells_rule _ rule.WrongType _ c.from_residual.result _ c.from_residual.ensures.1 c.in_err-check_type-in-Int.ensures.err
-    (rw c.in-Int.is (b.no_integer c.args.ty c.in-Int.number c.in_err-check_type-in-Int.ensures.other))
-
 pub resolve_template-returns-in_err-check_type-in-Bool-clause-told : goal.resolve_template-returns-in_err-check_type-in-Bool-clause-told
 resolve_template-returns-in_err-check_type-in-Bool-clause-told t c = λ sound.
-    tells_rule _ rule.WrongType _ c.from_residual-in_err-check_type-in-Bool.result _ c.from_residual-in_err-check_type-in-Bool.ensures.1
+    tells_rule _ rule.WrongType _ c.from_residual.result _ c.from_residual.ensures.1
     c.in_err-check_type-in-Bool.ensures.err (rw c.in-Bool.is (b.no_boolean c.args.ty c.in-Bool.truth c.in_err-check_type-in-Bool.ensures.other))
 
 pub resolve_template-returns-in_err-text-in-Text-clause-told : goal.resolve_template-returns-in_err-text-in-Text-clause-told
@@ -252,14 +247,17 @@ resolve_template-returns-in_err-text-in-Text-clause-told t c = λ sound.
     tells_at _ _ _ c.from_residual-in_err-text-in-Text.result _ c.from_residual-in_err-text-in-Text.ensures.1
     (λ r broken. rw c.in-Text.is (b.text c.args.ty c.in-Text.text r broken)) (rw c.as_slice.ensures at c.in_err-text-in-Text.ensures.told)
 
-pub resolve_template-returns-in_err-check_type-in-Pattern-clause-told : goal.resolve_template-returns-in_err-check_type-in-Pattern-clause-told
-resolve_template-returns-in_err-check_type-in-Pattern-clause-told t c = λ sound.
-    tells_rule _ rule.WrongType _ c.from_residual-in_err-check_type-in-Pattern.result _ c.from_residual-in_err-check_type-in-Pattern.ensures.1
-    c.in_err-check_type-in-Pattern.ensures.err
-    (rw c.in-Pattern.is (b.no_pattern c.args.ty c.in-Pattern.text c.in_err-check_type-in-Pattern.ensures.other))
-
 pub resolve_template-returns-in-AnyOrNone-clause-told : goal.resolve_template-returns-in-AnyOrNone-clause-told
 resolve_template-returns-in-AnyOrNone-clause-told t c = λ sound. told_rule _ rule.WrongType _ _ (cc) (rw c.in-AnyOrNone.is (b.any_or_none c.args.ty))
+
+pub resolve_template-returns-in-Int-clause-told : goal.resolve_template-returns-in-Int-clause-told
+resolve_template-returns-in-Int-clause-told t c = λ sound.
+    IfErr-weaker c.resolve_number.result _ _ (λ f. told_at _ _ _ f (λ r broken. rw c.in-Int.is broken)) c.resolve_number.ensures.told
+
+pub resolve_template-returns-in-Pattern-clause-told : goal.resolve_template-returns-in-Pattern-clause-told
+resolve_template-returns-in-Pattern-clause-told t c = λ sound.
+    IfErr-weaker c.resolve_pattern.result _ _ (λ f. told_at _ _ _ f (λ r broken. rw c.in-Pattern.is broken))
+    (rw c.as_slice-in-Pattern.ensures at c.resolve_pattern.ensures.told)
 
 pub resolve_template-returns-in-Range-clause-told : goal.resolve_template-returns-in-Range-clause-told
 resolve_template-returns-in-Range-clause-told t c = λ sound.
