@@ -69,6 +69,7 @@ pub(crate) fn choose<R: Wait, G: Gate>(
                 if last {
                     return Ok(Choice::Waits);
                 }
+                // If nothing more can come, it looks once more: something may have come before.
                 last = wait_for_more(execution.rt, execution.task, &worker.owner);
             }
         }

@@ -42,6 +42,7 @@ fn fail(
     ensures same { OnOk result (KeepsInboxes worker.old worker.new) }
     ensures sends { IfOk result (SendsAt task.now frame.now sending.now worker.old worker.new) }
 {
+    // Contracts alone speak of these two.
     let (_frame, _sending) = (frame, sending);
     note(task, &mut *worker, Entry::Failed(fault))?;
     Ok(Some(fault))

@@ -17,8 +17,9 @@ use crate::receiving::receive;
 use crate::worker::{Frame, Worker};
 use std::ops::Range;
 use std::sync::Wait;
-use tp_play::body::ResolvedStatement;
+use tp_play::body::{ResolvedBranch, ResolvedStatement};
 use tp_refusal::memory::Memory;
+use tp_value::items::Items;
 
 /// Executes the statements of a block in order (ES 201 873-1, 19 to 24).
 #[cycle(statements)]
@@ -93,26 +94,7 @@ fn step<R: Wait, G: Gate>(
             *verdict,
         ),
         ResolvedStatement::Alt(branches, otherwise) => {
-            let alt = Alt {
-                branches: branches.as_slice(),
-                has_else: otherwise.is_some(),
-                lasting: lasting.branches.as_slice(),
-            };
-            match decide(execution, worker, frame, alt)? {
-                Decision::Branch(place) => branch(execution, worker, frame, alt, place),
-                Decision::Else => match otherwise {
-                    Some(block) => {
-                        let block = Block {
-                            statements: block.as_slice(),
-                            lasting: lasting.block.as_slice(),
-                        };
-                        execute(execution, worker, frame, block)
-                    }
-                    // It is chosen only where there is one.
-                    None => unreachable!(),
-                },
-                Decision::Waits(guards) => Ok(Outcome::Waiting(guards)),
-            }
+            play_alt(execution, worker, frame, branches, otherwise, lasting)
         }
         ResolvedStatement::For(first, bound, block) => {
             let block = Block {
@@ -121,6 +103,52 @@ fn step<R: Wait, G: Gate>(
             };
             turns(execution, worker, frame, *first..*bound, block)
         }
+    }
+}
+
+/// Executes an `alt`, and the block of what it chooses (20.2).
+#[cycle(statements)]
+fn play_alt<R: Wait, G: Gate>(
+    execution: &Execution<'_, R, G>,
+    worker: &mut Worker,
+    frame: &mut Frame,
+    branches: &Items<ResolvedBranch>,
+    otherwise: &Option<Items<ResolvedStatement>>,
+    lasting: &Lasting,
+) -> Result<Outcome, Memory>
+    requires consistent { IsConsistent (role_of execution.now.task.now) worker.old }
+    requires held { HoldsAsDeclared execution.now.task.now frame.old }
+    requires can { CanPlay (stage_at execution.now.task.now) (depth_of frame.old)
+        (ResolvedStatement.Alt branches.now otherwise.now) }
+    requires lasting { IsLasting (ResolvedStatement.Alt branches.now otherwise.now) lasting.now }
+    ensures consistent { OnOk result (IsConsistent (role_of execution.now.task.now) worker.new) }
+    ensures same { OnOk result (KeepsInboxes worker.old worker.new) }
+    ensures held { OnOk result (HoldsAsDeclared execution.now.task.now frame.new) }
+    ensures turns { OnOk result (frame.new.turns.items ≡ frame.old.turns.items) }
+    ensures ended { IfOk result (λ o. Stepped execution.now.task.now
+        (ResolvedStatement.Alt branches.now otherwise.now) o
+        worker.old frame.old worker.new frame.new) }
+    ensures within { IfOk result (WaitsWithin worker.old.desk.ports) }
+{
+    let alt = Alt {
+        branches: branches.as_slice(),
+        has_else: otherwise.is_some(),
+        lasting: lasting.branches.as_slice(),
+    };
+    match decide(execution, worker, frame, alt)? {
+        Decision::Branch(place) => branch(execution, worker, frame, alt, place),
+        Decision::Else => match otherwise {
+            Some(block) => {
+                let block = Block {
+                    statements: block.as_slice(),
+                    lasting: lasting.block.as_slice(),
+                };
+                execute(execution, worker, frame, block)
+            }
+            // It is chosen only where there is one.
+            None => unreachable!(),
+        },
+        Decision::Waits(guards) => Ok(Outcome::Waiting(guards)),
     }
 }
 

@@ -149,6 +149,7 @@ pub(crate) fn halt(queue: &mut Queue<u64>) -> bool
     queue.halt().is_some()
 }
 
+// This call and those below only look. They take `&mut`, as one template proves all exports.
 pub(crate) fn ahead(queue: &mut Queue<u64>) -> u64
     ensures { Ahead queue.old result queue.new }
 {

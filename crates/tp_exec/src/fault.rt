@@ -28,7 +28,6 @@ pub enum RunFault {
 }
 
 impl RunFault {
-    /// The refusal with its number and name.
     pub fn refusal(self) -> Refusal
         ensures { result ≡ run_refusal self }
     {

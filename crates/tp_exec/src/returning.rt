@@ -38,6 +38,7 @@ pub(crate) fn part_played(
             desk,
             outcome,
         })?;
+        // As an iterator, so that `take_one` can move one sender out after the other.
         hands.push(outbox.into_senders().into_iter())?;
     }
     Ok((idles, hands))

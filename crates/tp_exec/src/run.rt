@@ -25,6 +25,7 @@ fn count_living(test_case: &TestCase) -> u32
     let mut living = 0;
     for number in 0..test_case.components() {
         if test_case.body(test_case.component(number)).is_some() {
+            // A component without a body never leaves, so it must not be counted.
             living += 1;
         }
     }

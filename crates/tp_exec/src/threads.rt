@@ -191,6 +191,7 @@ fn join_all<R: Threads>(
     for child in children {
         match fetch(rt, child) {
             Ok(played) => back.push_reserved(played),
+            // The others are joined all the same: a thread that isn't joined may be cut off.
             Err(Memory) => short = true,
         }
     }
@@ -241,6 +242,7 @@ fn play_each<R: Threads + Wait + Sync, G: Gate>(
                 }
             }
             let joined = join_all(rt, back, children);
+            // 51 takes precedence over the 50 of another behaviour.
             if refused {
                 return Err(RunFault::NoThread);
             }

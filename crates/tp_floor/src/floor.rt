@@ -69,6 +69,7 @@ impl Counts {
         ensures living { self.new.living ≡ self.old.living }
         ensures resting { self.new.resting ≡ self.old.resting - 1 }
     {
+        // The caller is counted, so this holds; the test spares `Counts` a condition.
         if self.resting > 0 {
             self.resting -= 1;
         }
@@ -157,6 +158,7 @@ impl Floor {
         let mut pass = self.counts.pass();
         for _ in rt.forever() {
             let seen = self.look(rt, &mut pass);
+            // A copy: the exchange compares the counts with what was seen.
             let mut left = seen;
             let all_rest = left.leave();
             // If another call changes the counts here, the exchange fails: it looks again.

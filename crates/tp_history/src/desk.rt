@@ -129,6 +129,7 @@ impl Desk {
         };
         self.ports[port as usize].arrive(env)?;
         self.log.push_reserved(Entry::Arrive(port, noted, stamp));
+        // So that what the component sends from now on has a later stamp.
         self.clock = self.clock.max(stamp);
         Ok(())
     }
@@ -320,6 +321,7 @@ impl Desk {
     {
         let noted = self.log.len();
         self.log.truncate(noted - 1);
+        // The entry's stamp was one above the clock before it.
         self.clock -= 1;
     }
 

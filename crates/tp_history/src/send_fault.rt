@@ -20,7 +20,6 @@ pub enum SendFault {
 }
 
 impl SendFault {
-    /// The refusal with its number and name.
     pub fn refusal(self) -> Refusal
         ensures { result ≡ send_refusal self }
     {

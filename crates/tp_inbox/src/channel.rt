@@ -76,6 +76,7 @@ impl Channel {
     /// Releases the notifier, and wakes the owner if it is to be woken. It wakes all that wait at
     /// this inbox, because a wait only borrows the owner, so that there may be two.
     fn wake(&self, notifier: MutexGuard<Notifier>, wakes: bool) {
+        // Before the call: a thread that is woken takes the lock at once.
         drop(notifier);
         if wakes {
             self.waking.notify_all();
@@ -86,6 +87,7 @@ impl Channel {
     /// living behaviour is awake.
     pub(crate) fn wait_past<R: Wait>(&self, rt: &R, taken: u64) -> Woken {
         let mut notifier = self.notifier.lock(rt);
+        // Under the lock, so that nothing is announced between the look and the rest.
         if let Some(found) = notifier.look(taken) {
             return found;
         }

@@ -105,6 +105,7 @@ pub fn gather<R: Wait>(rt: &R, owner: Owner, senders: Vec<Sender>) -> Gathered
         channel.queue.absorb::<Route>(&mut pass, other);
         sources.push_reserved(source);
     }
+    // For what it teaches: all that was put was taken out, or is in the queue.
     channel.queue.len_as::<TakeOut, R>(rt, &mut pass);
     let rest = with_hand(&channel, rest, hand);
     Gathered {

@@ -52,6 +52,7 @@ fn sender_of(senders: &[Sender], source: CompId) -> Option<usize>
         × HoldsAt (λ s. s.source ≡ source) senders.now k) }
     ensures none { IfNone result (All (λ s. s.source ≢ source) senders.now) }
 {
+    // There are 64 components at most, so a list is enough.
     for index in 0..senders.len() {
         if senders[index].source().0 == source.0 {
             return Some(index);

@@ -96,6 +96,7 @@ fn next_envelope<R: Wait>(
     ensures counted { IsTakenCount taken.new pass.new.me.view.client }
     ensures found { GivesNext pass.old.me.view.client hand.old result pass.new.me.view.client }
 {
+    // Before the queue, so that messages keep their order.
     if hand.is_some() {
         return hand.take();
     }

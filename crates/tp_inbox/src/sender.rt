@@ -158,6 +158,7 @@ impl Sender {
         match queue.push_as::<Put, R>(rt, &mut self.pass, envelope) {
             Ok(()) => {
                 self.counts[way] = number + 1;
+                // After the push, so that an owner that it wakes finds the message.
                 self.channel.announce(rt);
                 Ok(number)
             }
@@ -190,6 +191,7 @@ impl Sender {
             back.0 ≡ PutFault.Limit → 100000 ≤ length (put_on_way self.old way)) }
     {
         let (route, number) = (self.route(way), self.count(way));
+        // Noted first: a note can be taken back, and a message that was put can't.
         let stamped = match desk.note_sending(route, number, message) {
             Ok(stamped) => stamped,
             Err((_, back)) => return Err((PutFault::Memory, back)),

@@ -16,6 +16,7 @@ fn held_up(alloc: Global, demands: &[Demand], waits: &[usize]) -> Result<Vec<usi
     let mut from = vec![in alloc; 0; waits.len()]?;
     for demand in demands {
         if waits[demand.before] > 0 {
+            // Any such demand will do; the last one stays.
             from[demand.after] = demand.before;
         }
     }
@@ -26,6 +27,7 @@ fn back_from(alloc: Global, path: &[usize], place: usize) -> Result<Vec<usize>, 
     requires { place ≤ length path.now }
     ensures { IfOk result (λ v. v.items ≡ reverse (drop place path.now)) }
 {
+    // Backwards: on the path each number waits for the next one.
     path[place..].iter().rev().copied().collect(alloc)
 }
 

@@ -43,6 +43,7 @@ pub(crate) fn circle_place(
     ensures { IfOk result (λ place.
         MatchOption place (NoCircle trace.now) (IsCirclePlace trace.now)) }
 {
+    // A text that is such an order itself needs no demands.
     if stands_in_order(trace, rows) {
         return Ok(None);
     }

@@ -37,6 +37,7 @@ fn add_section(demands: &mut Vec<Demand>, row: &[&IndexedLine]) -> Result<(), Me
 {
     match row.split_first() {
         None => Ok(()),
+        // Each line with the next one of its section: the row beside itself, one further.
         Some((_, rest)) => add_pairs(demands, row, rest),
     }
 }

@@ -21,6 +21,7 @@ fn order_places(alloc: Global, trace: &IndexedTrace) -> Result<Vec<UnlawfulPlace
 {
     let rows = gather_routes(alloc, trace)?;
     let mut places = route_places(alloc, trace, &rows)?;
+    // The search for a circle needs lawful routes.
     if !places.is_empty() {
         return Ok(places);
     }

@@ -1,7 +1,8 @@
 //! Decides whether a trace is lawful, that is, obeys the rules of ports and of delivery, and has no
 //! line that happens before itself; and whether it is one run. Names are numbers here, which
-//! `tp_referee` assigns. Start with [`judging::judge`] and [`one_run::one_run`]. 50 `Memory` means
-//! that an allocation was refused; only calls that can return it allocate.
+//! `tp_referee` assigns. Start with [`judging::judge`] and [`one_run::one_run`]. `tp_exec` asks
+//! [`one_order::has_one_order`] the same of a run's histories. 50 `Memory` means that an allocation
+//! was refused; only calls that can return it allocate.
 #![tactic(auto)]
 
 pub mod answer;

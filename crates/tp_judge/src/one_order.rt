@@ -192,6 +192,7 @@ fn push_unless_last(number: usize, ready: &mut Vec<usize>) -> Result<(), Memory>
         → OnOk result (All (λ x. x < size) ready.new.items) }
     ensures most { OnOk result (length ready.new.items ≤ length ready.old.items + 1) }
 {
+    // A number that is listed twice costs only a look.
     if ready.last() != Some(&number) {
         ready.push(number)?;
     }
@@ -251,6 +252,7 @@ fn wake<H: Histories>(
     match kind {
         EntryKind::Sent(to, _) => {
             let to = to as usize;
+            // Component `c` is being passed already.
             if to != c {
                 push_unless_last(to, &mut *ready)?;
             }

@@ -48,6 +48,7 @@ pub fn one_run(alloc: Global, trace: &IndexedTrace) -> Result<OneRun, Memory>
     // Only a circle needs the demands.
     let demands = make_run_demands(alloc, trace)?;
     match order_or_circle(alloc, trace.lines.len(), &demands)? {
+        // It never comes to this: an order that meets the demands is one run, and there is none.
         Answer::Ordered(_) => Ok(OneRun::OneRun),
         Answer::Circle(circle) => Ok(OneRun::Delayed(trace.lines[least(&circle)].number)),
     }

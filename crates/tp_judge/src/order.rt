@@ -63,6 +63,7 @@ fn put_in_order(
     let mut waits = count_waits(alloc, count, demands)?;
     let mut order = free_numbers(alloc, &waits)?;
     let mut done = 0;
+    // The order grows while it is gone through.
     while done < order.len() {
         take_off(demands, &chains, done, &mut waits, &mut order)?;
         done += 1;

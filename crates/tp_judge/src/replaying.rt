@@ -94,6 +94,7 @@ fn take_out(queue: &mut Queue<MessageId>, mention: Mention) -> Option<Rule>
     if !is_top(queue, mention) {
         return Some(reason(queue, mention));
     }
+    // What it returns was compared just now.
     queue.take_top();
     None
 }

@@ -141,6 +141,7 @@ fn note(
     ensures { OnOk result (IsMadeUpTo trace.now (place + 1) making.new) }
 {
     match trace.lines[place].act {
+        // What is left is no event, and nothing happens before or after it.
         Act::Left(_) => Ok(()),
         Act::Came(mention) => note_arrival(making, trace, rows, place, mention),
         _ => note_own(making, trace, place),

@@ -53,6 +53,7 @@ fn kind_of(trace: &IndexedTrace, act: Act) -> EntryKind<Mention>
             EntryKind::Sent(owner_of(trace, mention.port), mention)
         }
         Act::Came(mention) if is_joined(trace, mention) => EntryKind::Came(mention),
+        // What came from a component without a section has no sending; what is left is no event.
         Act::Came(_) | Act::Left(_) => EntryKind::Nothing,
         Act::Sent(_) | Act::End | Act::Other => EntryKind::Quiet,
         Act::Took(_) | Act::Found(_) | Act::Dropped(_) | Act::Else => EntryKind::Looked,
@@ -93,6 +94,7 @@ impl<'t> Histories for TraceHistories<'t> {
     }
 
     fn end(&self, component: usize) -> usize {
+        // No section goes beyond the lines; with the minimum the type needs no ghost field.
         self.sections[component].end.min(self.trace.lines.len())
     }
 
@@ -120,6 +122,7 @@ fn extended(section: Section, place: usize) -> Section
     requires { place + 1 < 2 ^ 64 }
     ensures { result ≡ extended section place }
 {
+    // 0 until the section has a line.
     let begin = if section.end == 0 {
         place
     } else {

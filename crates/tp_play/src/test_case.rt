@@ -171,6 +171,7 @@ impl TestCase {
         ensures { MatchOption result (HasNoSystem self.now.config) (IsSystem self.now.config) }
     {
         let count = self.components();
+        // There is a component at least, by the clauses of `components`.
         let last = CompId(count as u32 - 1);
         if self.config.role(last).is_system() {
             Some(last)

@@ -92,6 +92,7 @@ fn answers_to(alloc: Global, text: &[u8]) -> Result<String, QueueFault>
         };
         match engine.perform(command) {
             Ok(()) => rest = next,
+            // Memory ran out. A bad line, wherever it is, takes precedence.
             Err(_) => return Err(refusal_of(text)),
         }
     }

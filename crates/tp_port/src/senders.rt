@@ -53,6 +53,7 @@ impl<'t> Senders<'t> {
         match from {
             None => Ok(None),
             Some(name) => {
+                // A name that has sent nothing gets a number too, which no message has.
                 let number = self.number(name)?;
                 Ok(Some(number))
             }

@@ -120,6 +120,7 @@ impl<M: Drop> Queue<M> {
         ensures { AtHistory self.old (λ h.
             TriggersFor (W.admits wanted.now) from h result self.new) }
     {
+        // Asked first, because the message is out of the queue afterwards.
         let fits = self.offers(wanted, from);
         match self.take_top() {
             None => TriggerAnswer::Nothing,
@@ -149,6 +150,7 @@ impl<M: Drop> Queue<M> {
     {
         let discarded = self.entries.len() as u64;
         self.entries.clear();
+        // Else messages that arrive later would come before the mark.
         self.ahead = 0;
         discarded
     }
@@ -161,6 +163,7 @@ impl<M: Drop> Queue<M> {
     {
         let discarded = self.entries.len() as u64;
         self.entries.clear();
+        // `ahead` stays as it is: only a halted port has a mark.
         self.status = Status::Started;
         discarded
     }

@@ -99,6 +99,7 @@ pub fn number_trace(alloc: Global, trace: &Trace<'_>) -> Result<IndexedTrace, Me
 {
     let mut tables = Tables::new(alloc, trace)?;
     let lines = number_lines(alloc, trace, &mut tables)?;
+    // For its clause alone: no name has two numbers.
     tables.know_distinct();
     let sections = sections_of(alloc, trace, &tables.components)?;
     let owners = owners_of(alloc, tables.ports.as_slice())?;

@@ -138,6 +138,7 @@ fn number_of(word: &[u8]) -> Option<u64>
         return None;
     }
     let mut buffer = Buffer::new();
+    // A number has one spelling, while `parse` also accepts a `+` and leading zeros.
     if buffer.format(number).as_bytes() == word {
         Some(number)
     } else {
@@ -175,6 +176,7 @@ fn around_last_dot(word: &[u8]) -> Option<(&[u8], &[u8])>
         (lacks 46 word.now ≡ true)
         (λ parts. (word.now ≡ parts.0.now ++ 46 ∷ parts.1.now) × (lacks 46 parts.1.now ≡ true)) }
 {
+    // From the end: a component's name may contain dots, and a port's may not.
     let mut place = word.len();
     while place > 0 {
         place -= 1;

@@ -51,6 +51,7 @@ pub fn referee(alloc: Global, text: &[u8]) -> Result<Ruling, TraceFault>
     ensures ruling { IfOk result (IsRulingOf text.now) }
     ensures fault { IfErr result (IsFaultOf text.now) }
 {
+    // A call of its own: the tables of the text are gone before the trace is judged.
     let trace = number_text(alloc, text)?;
     let ruling = ruling_on(alloc, &trace)?;
     Ok(ruling)

@@ -24,7 +24,7 @@ component_text how made x =
     ++ (verdict_line (codes "verdict") x.verdict
     ++ left_below made x.desk x.desk.ports)))
 
--- what is told of a report: its components in their order, and the overall verdict
+-- what is told of a report: its components in their order, and the overall verdict; in a trace each arrival has its line
 unfoldable pub told_text : Telling → Made → Report → List ℕ
 told_text how made report =
     flat_map (component_text how made) report.components.items ++ verdict_line (codes "result") report.result
@@ -32,10 +32,6 @@ told_text how made report =
 -- **the text of a report**: no arrival has a line
 abbrev pub report_text : Made → Report → List ℕ
 report_text = told_text telling.Report
-
--- **the trace of a report**: each arrival has its line
-abbrev pub trace_text : Made → Report → List ℕ
-trace_text = told_text telling.Trace
 
 -- the port of the component, and the sender of the message there, are of the configuration
 abbrev pub AreOf : Setup → CompId → ℕ → Env Message → Type 0

@@ -21,6 +21,7 @@ pub fn put_integer(number: i64, text: &mut [u8], end: usize) -> usize
     ensures start { result + length (signed_decimal number) ≡ end }
     ensures written { drop result text.new ≡ signed_decimal number ++ drop end text.old }
 {
+    // Not `abs`, which the least integer doesn't have.
     let start = write_digits(number.unsigned_abs(), text, end);
     if number >= 0 {
         return start;

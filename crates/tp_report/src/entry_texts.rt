@@ -62,26 +62,19 @@ fn write_entry<W: Write>(
     ensures received { HasItsText test_case.now.config kept.new.received }
 {
     let sent = &mut kept.sent;
-    let received = &mut kept.received;
+    let noted = &mut kept.received;
     match entry {
         Entry::Sent(route, number, stamped) => {
             write_sent(test_case, route.id(), *number, &stamped.message, sent, out)
         }
         Entry::Took(port, env, _) => {
-            write_noted(test_case, Fate::Took, at(comp, *port), env, received, out)
+            write_noted(test_case, Fate::Took, at(comp, *port), env, noted, out)
         }
         Entry::Found(port, env, _) => {
-            write_noted(test_case, Fate::Found, at(comp, *port), env, received, out)
+            write_noted(test_case, Fate::Found, at(comp, *port), env, noted, out)
         }
         Entry::Dropped(port, env, _) => {
-            write_noted(
-                test_case,
-                Fate::Dropped,
-                at(comp, *port),
-                env,
-                received,
-                out,
-            )
+            write_noted(test_case, Fate::Dropped, at(comp, *port), env, noted, out)
         }
         Entry::Cleared(port) => write_port(test_case, b"cleared ", at(comp, *port), out),
         Entry::Started(port) => write_port(test_case, b"started ", at(comp, *port), out),
@@ -91,7 +84,7 @@ fn write_entry<W: Write>(
         Entry::Verdict(verdict) => write_verdict(b"set ", *verdict, out),
         Entry::Failed(fault) => write_failure(b"failed ", *fault, out),
         Entry::Arrive(port, env, _) => {
-            write_arrival(test_case, telling, at(comp, *port), env, received, out)
+            write_arrival(test_case, telling, at(comp, *port), env, noted, out)
         }
     }
 }

@@ -115,6 +115,7 @@ fn put_pieces(pieces: OpeningPieces<'_>, text: &mut [u8; ROOM]) -> Option<usize>
     ensures { IfSome result (λ start. (start ≤ 128) × (drop start text.new
         ≡ pieces_text pieces.entry)) }
 {
+    // From the last piece, so that the text ends at the end of the room.
     let back = try_put(pieces.back, text, ROOM)?;
     let between = try_put(pieces.between, text, back)?;
     let front = try_put(pieces.front, text, between)?;
@@ -169,6 +170,7 @@ impl KeptOpening {
         ensures kept { HasItsText config.now self.new }
         ensures of { IsTrue result → self.new.of ≡ Some opening }
     {
+        // Until the text is whole: if it has no room, nothing is kept.
         self.of = None;
         self.start = ROOM;
         match put_pieces(opening.pieces(config), &mut self.text) {

@@ -32,6 +32,7 @@ fn write_integer<W: Write>(opening: &[u8], number: u64, integer: i64, out: &mut 
         ++ rest_of_line (decimal number ∷ (codes "integer:" ++ signed_decimal integer) ∷ [])) }
 {
     // The opening has 128 characters at most, the number and the integer 20 each, all else 11.
+    // The last byte stays a line feed.
     let mut text = [b'\n'; 179];
     let integer_start = put_integer(integer, &mut text, 178);
     let type_start = put_bytes(b" integer:", &mut text, integer_start);

@@ -219,6 +219,7 @@ fn is_last<R: Wait>(
 ) -> bool {
     let rest = asks_often(rt, mailbox, one.0, other.0) && rest_is(rt, floor, 2);
     let told = rest
+        // The last one awake doesn't come to rest, so that a second wait returns the same.
         && mailbox.owner.wait(rt) == Woken::Last
         && mailbox.owner.wait(rt) == Woken::Last;
     one.1.close(rt);

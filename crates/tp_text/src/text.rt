@@ -87,6 +87,7 @@ fn read_up_to<R: Read>(
     while size <= limit {
         match read_more(reader, &mut text, size, limit) {
             Ok(0) => {
+                // `make_room` has filled the rest with zeros.
                 text.truncate(size);
                 return Ok(text);
             }

@@ -98,6 +98,7 @@ impl<W: Write> Write for Watched<W> {
     {
         let result = self.inner.write(buf);
         match &result {
+            // Else `write_rest` would ask such a writer again and again.
             Ok(0) => self.failed = true,
             Ok(_) => {}
             Err(error) => {
@@ -123,11 +124,13 @@ impl<W: Write> Write for Watched<W> {
     }
 }
 
+// Inlined, because reports are written in many small pieces.
 #[inline(always)]
 fn write_some<W: Write>(bytes: &[u8], out: &mut Watched<W>) -> usize
     ensures few { result ≤ length bytes.now }
     ensures written { Writes W.contents out.old out.new (take result bytes.now) }
 {
+    // An empty write is left out: its count of 0 would be a failure.
     if out.failed || bytes.is_empty() {
         return 0;
     }

@@ -108,34 +108,15 @@ step-play_control-requires-clause-within g t c κs within =
     plays_control (stage_at c.args.execution.now.task.now) (depth_of c.args.frame.now) c.args.statement.now c.in-Control.port c.in-Control.operation
     c.in-Control.is c.requires.can
 
-pub step-decide-requires-clause-can : goal.step-decide-requires-clause-can
-step-decide-requires-clause-can g t c κs within =
-    subst (CanEnterAll (stage_at c.args.execution.now.task.now) (depth_of c.args.frame.now)) (sym c.as_slice.ensures)
-    (plays_alt (stage_at c.args.execution.now.task.now) (depth_of c.args.frame.now) c.args.statement.now c.in-Alt.branches c.in-Alt.otherwise c.in-Alt.is
-    c.requires.can)
+pub step-play_alt-requires-clause-can : goal.step-play_alt-requires-clause-can
+step-play_alt-requires-clause-can g t c κs within = rw c.in-Alt.is at c.requires.can
 
-pub step-branch-execution-requires-clause-within : goal.step-branch-execution-requires-clause-within
-step-branch-execution-requires-clause-within g t c κs within =
-    let there : IsDecisionOf c.as_slice.result.now (decision.Branch c.in-Branch.place) = rw c.in-Branch.is at c.in_ok-place-in-Alt.ensures.there in
-    slice_get_within c.as_slice.result.now c.in-Branch.place there.0 there.1
-
-pub step-branch-execution-requires-clause-can : goal.step-branch-execution-requires-clause-can
-step-branch-execution-requires-clause-can g t c κs within =
-    subst (λ n. CanEnterAll (stage_at c.args.execution.now.task.now) n c.as_slice.result.now) (sym (ap length c.in_ok-place-in-Alt.ensures.turns))
-    (subst (CanEnterAll (stage_at c.args.execution.now.task.now) (depth_of c.args.frame.now)) (sym c.as_slice.ensures)
-    (plays_alt (stage_at c.args.execution.now.task.now) (depth_of c.args.frame.now) c.args.statement.now c.in-Alt.branches c.in-Alt.otherwise c.in-Alt.is
-    c.requires.can))
-
-pub step-execute-requires-clause-can : goal.step-execute-requires-clause-can
-step-execute-requires-clause-can g t c κs within =
-    let whole = c.in-Alt.is ∙ ap (λ o. b.Alt c.in-Alt.branches o) c.in-Some.is in
-    subst (λ n. CanPlayAll (stage_at c.args.execution.now.task.now) n c.as_slice-in-Some.result.now) (sym (ap length c.in_ok-place-in-Alt.ensures.turns))
-    (subst (CanPlayAll (stage_at c.args.execution.now.task.now) (depth_of c.args.frame.now)) (sym c.as_slice-in-Some.ensures)
-    (plays_else (stage_at c.args.execution.now.task.now) (depth_of c.args.frame.now) c.args.statement.now c.in-Alt.branches c.in-Some.block whole c.requires.can))
+pub step-play_alt-requires-clause-lasting : goal.step-play_alt-requires-clause-lasting
+step-play_alt-requires-clause-lasting g t c κs within = rw c.in-Alt.is at c.requires.lasting
 
 pub step-turns-requires-clause-can : goal.step-turns-requires-clause-can
 step-turns-requires-clause-can g t c κs within =
-    subst (CanPlayAll (stage_at c.args.execution.now.task.now) (depth_of c.args.frame.now + 1)) (sym c.as_slice-in-For.ensures)
+    subst (CanPlayAll (stage_at c.args.execution.now.task.now) (depth_of c.args.frame.now + 1)) (sym c.as_slice.ensures)
     (plays_for (stage_at c.args.execution.now.task.now) (depth_of c.args.frame.now) c.args.statement.now c.in-For.first c.in-For.bound c.in-For.block c.in-For.is
     c.requires.can)
 
@@ -171,70 +152,13 @@ pub step-receive-requires-clause-lasting : goal.step-receive-requires-clause-las
 step-receive-requires-clause-lasting g t c κs within =
     lasts_receive c.args.statement.now c.args.lasting.now c.in-Receive.receiving c.in-Receive.is c.requires.lasting
 
-pub step-decide-requires-clause-lasting : goal.step-decide-requires-clause-lasting
-step-decide-requires-clause-lasting g t c κs within =
-    subst (λ ls. AreLastingBranches c.as_slice.result.now ls) (sym c.as_slice-in-Alt.ensures)
-    (subst (λ xs. AreLastingBranches xs (out-Lasting c.args.lasting.now).branches) (sym c.as_slice.ensures)
-    (lasts_alt c.args.statement.now c.args.lasting.now c.in-Alt.branches c.in-Alt.otherwise c.in-Alt.is c.requires.lasting))
-
-pub step-branch-execution-requires-clause-lasting : goal.step-branch-execution-requires-clause-lasting
-step-branch-execution-requires-clause-lasting g t c κs within =
-    subst (λ ls. AreLastingBranches c.as_slice.result.now ls) (sym c.as_slice-in-Alt.ensures)
-    (subst (λ xs. AreLastingBranches xs (out-Lasting c.args.lasting.now).branches) (sym c.as_slice.ensures)
-    (lasts_alt c.args.statement.now c.args.lasting.now c.in-Alt.branches c.in-Alt.otherwise c.in-Alt.is c.requires.lasting))
-
-pub step-execute-requires-clause-lasting : goal.step-execute-requires-clause-lasting
-step-execute-requires-clause-lasting g t c κs within =
-    let whole = c.in-Alt.is ∙ ap (λ o. b.Alt c.in-Alt.branches o) c.in-Some.is in
-    subst (λ ls. AreLasting c.as_slice-in-Some.result.now ls) (sym c.as_slice-in-Some-2.ensures)
-    (subst (λ xs. AreLasting xs (out-Lasting c.args.lasting.now).block) (sym c.as_slice-in-Some.ensures)
-    (lasts_else c.args.statement.now c.args.lasting.now c.in-Alt.branches c.in-Some.block whole c.requires.lasting))
-
 pub step-turns-requires-clause-lasting : goal.step-turns-requires-clause-lasting
 step-turns-requires-clause-lasting g t c κs within =
-    subst (λ ls. AreLasting c.as_slice-in-For.result.now ls) (sym c.as_slice-in-For-2.ensures)
-    (subst (λ xs. AreLasting xs (out-Lasting c.args.lasting.now).block) (sym c.as_slice-in-For.ensures)
+    subst (λ ls. AreLasting c.as_slice.result.now ls) (sym c.as_slice-in-For.ensures)
+    (subst (λ xs. AreLasting xs (out-Lasting c.args.lasting.now).block) (sym c.as_slice.ensures)
     (lasts_for c.args.statement.now c.args.lasting.now c.in-For.first c.in-For.bound c.in-For.block c.in-For.is c.requires.lasting))
 
 -- what each statement comes to
-pub step-returns-in-Branch-clause-ended : goal.step-returns-in-Branch-clause-ended
-step-returns-in-Branch-clause-ended g t c =
-    let decide = c.in_ok-place-in-Alt.ensures in
-    let decided : Decided c.args.execution.now.task.now c.as_slice.result.now c.is_some.result
-    (decision.Branch c.in-Branch.place) c.args.worker.now c.args.frame.now
-    c.decide.new.worker c.decide.new.frame
-    = rw c.in-Branch.is at decide.decided in
-    IfOk-weaker c.branch-execution.result _ _
-    (λ o h. step_branch c.args.execution.now.task.now c.args.statement.now c.in-Alt.branches c.as_slice.result.now c.in-Alt.otherwise c.is_some.result
-    c.in-Branch.place o
-    c.args.worker.now c.args.frame.now c.decide.new.worker c.decide.new.frame c.branch-execution.new.worker c.branch-execution.new.frame
-    c.in-Alt.is c.as_slice.ensures decide.turns decided h)
-    c.branch-execution.ensures.ended
-
-pub step-returns-in-Some-clause-ended : goal.step-returns-in-Some-clause-ended
-step-returns-in-Some-clause-ended g t c =
-    let decide = c.in_ok-place-in-Alt.ensures in
-    let decided : Decided c.args.execution.now.task.now c.as_slice.result.now c.is_some.result decision.Else c.args.worker.now c.args.frame.now
-    c.decide.new.worker
-    c.decide.new.frame
-    = rw c.in-Else.is at decide.decided in
-    IfOk-weaker c.execute.result _ _
-    (λ o h. step_else c.args.execution.now.task.now c.args.statement.now c.in-Alt.branches c.as_slice.result.now c.in-Alt.otherwise c.in-Some.block
-    c.as_slice-in-Some.result.now c.is_some.result o
-    c.args.worker.now c.args.frame.now c.decide.new.worker c.decide.new.frame c.execute.new.worker c.execute.new.frame
-    c.in-Alt.is c.in-Some.is c.as_slice.ensures c.as_slice-in-Some.ensures decide.turns decided h)
-    c.execute.ensures.ended
-
-pub step-returns-in-Waits-clause-ended : goal.step-returns-in-Waits-clause-ended
-step-returns-in-Waits-clause-ended g t c =
-    let decide = c.in_ok-place-in-Alt.ensures in
-    let decided : Decided c.args.execution.now.task.now c.as_slice.result.now c.is_some.result
-    (decision.Waits c.in-Waits.guards) c.args.worker.now c.args.frame.now
-    c.decide.new.worker c.decide.new.frame
-    = rw c.in-Waits.is at decide.decided in
-    step_waits c.args.execution.now.task.now c.args.statement.now c.in-Alt.branches c.as_slice.result.now c.in-Alt.otherwise c.is_some.result c.in-Waits.guards
-    c.args.worker.now c.args.frame.now c.decide.new.worker c.decide.new.frame c.in-Alt.is c.as_slice.ensures c.is_some.ensures decided
-
 pub step-returns-in-For-clause-ended : goal.step-returns-in-For-clause-ended
 step-returns-in-For-clause-ended g t c =
     let low : SFits w64 c.in-For.first = search rules in
@@ -242,13 +166,96 @@ step-returns-in-For-clause-ended g t c =
     let first = to_z w64 (of_z w64 c.in-For.first) in
     let bound = to_z w64 (of_z w64 c.in-For.bound) in
     IfOk-weaker c.turns.result
-    (λ o. Turned c.args.execution.now.task.now first c.as_slice-in-For.result.now (turns_between first bound) o c.args.worker.now c.args.frame.now
+    (λ o. Turned c.args.execution.now.task.now first c.as_slice.result.now (turns_between first bound) o c.args.worker.now c.args.frame.now
     c.turns.new.worker c.turns.new.frame)
     (λ o. Stepped c.args.execution.now.task.now c.args.statement.now o c.args.worker.now c.args.frame.now c.turns.new.worker c.turns.new.frame)
-    (λ o h. step_for c.args.execution.now.task.now c.args.statement.now c.in-For.first c.in-For.bound first bound c.in-For.block c.as_slice-in-For.result.now o
+    (λ o h. step_for c.args.execution.now.task.now c.args.statement.now c.in-For.first c.in-For.bound first bound c.in-For.block c.as_slice.result.now o
     c.args.worker.now c.args.frame.now c.turns.new.worker c.turns.new.frame c.in-For.is (to_z-of_z w64 c.in-For.first low)
-    (to_z-of_z w64 c.in-For.bound high) c.as_slice-in-For.ensures h)
+    (to_z-of_z w64 c.in-For.bound high) c.as_slice.ensures h)
     c.turns.ensures.ended
+
+-- an `alt`
+pub play_alt-decide-requires-clause-can : goal.play_alt-decide-requires-clause-can
+play_alt-decide-requires-clause-can g t c κs within =
+    subst (CanEnterAll (stage_at c.args.execution.now.task.now) (depth_of c.args.frame.now)) (sym c.as_slice.ensures)
+    (plays_alt (stage_at c.args.execution.now.task.now) (depth_of c.args.frame.now) (b.Alt c.args.branches.now c.args.otherwise.now) c.args.branches.now c.args.otherwise.now refl
+    c.requires.can)
+
+pub play_alt-branch-execution-requires-clause-within : goal.play_alt-branch-execution-requires-clause-within
+play_alt-branch-execution-requires-clause-within g t c κs within =
+    let there : IsDecisionOf c.as_slice.result.now (decision.Branch c.in-Branch.place) = rw c.in-Branch.is at c.in_ok-place.ensures.there in
+    slice_get_within c.as_slice.result.now c.in-Branch.place there.0 there.1
+
+pub play_alt-branch-execution-requires-clause-can : goal.play_alt-branch-execution-requires-clause-can
+play_alt-branch-execution-requires-clause-can g t c κs within =
+    subst (λ n. CanEnterAll (stage_at c.args.execution.now.task.now) n c.as_slice.result.now) (sym (ap length c.in_ok-place.ensures.turns))
+    (subst (CanEnterAll (stage_at c.args.execution.now.task.now) (depth_of c.args.frame.now)) (sym c.as_slice.ensures)
+    (plays_alt (stage_at c.args.execution.now.task.now) (depth_of c.args.frame.now) (b.Alt c.args.branches.now c.args.otherwise.now) c.args.branches.now c.args.otherwise.now refl
+    c.requires.can))
+
+pub play_alt-execute-requires-clause-can : goal.play_alt-execute-requires-clause-can
+play_alt-execute-requires-clause-can g t c κs within =
+    let whole = ap (λ o. b.Alt c.args.branches.now o) c.in-Some.is in
+    subst (λ n. CanPlayAll (stage_at c.args.execution.now.task.now) n c.as_slice-in-Some.result.now) (sym (ap length c.in_ok-place.ensures.turns))
+    (subst (CanPlayAll (stage_at c.args.execution.now.task.now) (depth_of c.args.frame.now)) (sym c.as_slice-in-Some.ensures)
+    (plays_else (stage_at c.args.execution.now.task.now) (depth_of c.args.frame.now) (b.Alt c.args.branches.now c.args.otherwise.now) c.args.branches.now c.in-Some.block whole c.requires.can))
+
+pub play_alt-decide-requires-clause-lasting : goal.play_alt-decide-requires-clause-lasting
+play_alt-decide-requires-clause-lasting g t c κs within =
+    subst (λ ls. AreLastingBranches c.as_slice.result.now ls) (sym c.as_slice-2.ensures)
+    (subst (λ xs. AreLastingBranches xs (out-Lasting c.args.lasting.now).branches) (sym c.as_slice.ensures)
+    (lasts_alt (b.Alt c.args.branches.now c.args.otherwise.now) c.args.lasting.now c.args.branches.now c.args.otherwise.now refl c.requires.lasting))
+
+pub play_alt-branch-execution-requires-clause-lasting : goal.play_alt-branch-execution-requires-clause-lasting
+play_alt-branch-execution-requires-clause-lasting g t c κs within =
+    subst (λ ls. AreLastingBranches c.as_slice.result.now ls) (sym c.as_slice-2.ensures)
+    (subst (λ xs. AreLastingBranches xs (out-Lasting c.args.lasting.now).branches) (sym c.as_slice.ensures)
+    (lasts_alt (b.Alt c.args.branches.now c.args.otherwise.now) c.args.lasting.now c.args.branches.now c.args.otherwise.now refl c.requires.lasting))
+
+pub play_alt-execute-requires-clause-lasting : goal.play_alt-execute-requires-clause-lasting
+play_alt-execute-requires-clause-lasting g t c κs within =
+    let whole = ap (λ o. b.Alt c.args.branches.now o) c.in-Some.is in
+    subst (λ ls. AreLasting c.as_slice-in-Some.result.now ls) (sym c.as_slice-in-Some-2.ensures)
+    (subst (λ xs. AreLasting xs (out-Lasting c.args.lasting.now).block) (sym c.as_slice-in-Some.ensures)
+    (lasts_else (b.Alt c.args.branches.now c.args.otherwise.now) c.args.lasting.now c.args.branches.now c.in-Some.block whole c.requires.lasting))
+
+pub play_alt-returns-in-Branch-clause-ended : goal.play_alt-returns-in-Branch-clause-ended
+play_alt-returns-in-Branch-clause-ended g t c =
+    let decide = c.in_ok-place.ensures in
+    let decided : Decided c.args.execution.now.task.now c.as_slice.result.now c.is_some.result
+    (decision.Branch c.in-Branch.place) c.args.worker.now c.args.frame.now
+    c.decide.new.worker c.decide.new.frame
+    = rw c.in-Branch.is at decide.decided in
+    IfOk-weaker c.branch-execution.result _ _
+    (λ o h. step_branch c.args.execution.now.task.now (b.Alt c.args.branches.now c.args.otherwise.now) c.args.branches.now c.as_slice.result.now c.args.otherwise.now c.is_some.result
+    c.in-Branch.place o
+    c.args.worker.now c.args.frame.now c.decide.new.worker c.decide.new.frame c.branch-execution.new.worker c.branch-execution.new.frame
+    refl c.as_slice.ensures decide.turns decided h)
+    c.branch-execution.ensures.ended
+
+pub play_alt-returns-in-Some-clause-ended : goal.play_alt-returns-in-Some-clause-ended
+play_alt-returns-in-Some-clause-ended g t c =
+    let decide = c.in_ok-place.ensures in
+    let decided : Decided c.args.execution.now.task.now c.as_slice.result.now c.is_some.result decision.Else c.args.worker.now c.args.frame.now
+    c.decide.new.worker
+    c.decide.new.frame
+    = rw c.in-Else.is at decide.decided in
+    IfOk-weaker c.execute.result _ _
+    (λ o h. step_else c.args.execution.now.task.now (b.Alt c.args.branches.now c.args.otherwise.now) c.args.branches.now c.as_slice.result.now c.args.otherwise.now c.in-Some.block
+    c.as_slice-in-Some.result.now c.is_some.result o
+    c.args.worker.now c.args.frame.now c.decide.new.worker c.decide.new.frame c.execute.new.worker c.execute.new.frame
+    refl c.in-Some.is c.as_slice.ensures c.as_slice-in-Some.ensures decide.turns decided h)
+    c.execute.ensures.ended
+
+pub play_alt-returns-in-Waits-clause-ended : goal.play_alt-returns-in-Waits-clause-ended
+play_alt-returns-in-Waits-clause-ended g t c =
+    let decide = c.in_ok-place.ensures in
+    let decided : Decided c.args.execution.now.task.now c.as_slice.result.now c.is_some.result
+    (decision.Waits c.in-Waits.guards) c.args.worker.now c.args.frame.now
+    c.decide.new.worker c.decide.new.frame
+    = rw c.in-Waits.is at decide.decided in
+    step_waits c.args.execution.now.task.now (b.Alt c.args.branches.now c.args.otherwise.now) c.args.branches.now c.as_slice.result.now c.args.otherwise.now c.is_some.result c.in-Waits.guards
+    c.args.worker.now c.args.frame.now c.decide.new.worker c.decide.new.frame refl c.as_slice.ensures c.is_some.ensures decided
 
 -- the turns of a `for`
 pub turns-returns-then-is_empty-clause-ended : goal.turns-returns-then-is_empty-clause-ended

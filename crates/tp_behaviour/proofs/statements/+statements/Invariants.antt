@@ -1,6 +1,7 @@
 -- How far a block, and the turns of a `for`, have come, and how much of a body is left.
 use Rattle.std.proofs.Common.{◌≡◌, ◌+◌, ◌*◌, of_z, to_z, w64}
 use denote.Param.Weighed.{most}
+use Rattle.tp_play.specs.declared.body.ResolvedStatement.TheVariants as statement
 use Rattle.tp_play.proofs.body.ResolvedBranch.TheLaws.{the_size as branch_size}
 use Rattle.tp_play.proofs.body.ResolvedStatement.TheLaws.{the_size}
 use Rattle.tp_behaviour.specs.Outcomes.{HoldsAsDeclared}
@@ -11,19 +12,22 @@ use Rattle.tp_behaviour.proofs.statements.+statements.Given as goal
 
 -- how deep what is left goes, and of several with the same block which calls the other
 abbrev pub decreases-execute : goal.decreases-execute
-decreases-execute g l = 4 * most the_size l.block.statements.now + 1
+decreases-execute g l = 5 * most the_size l.block.statements.now + 2
 
 abbrev pub decreases-turn : goal.decreases-turn
-decreases-turn g l = 4 * most the_size l.block.statements.now + 2
+decreases-turn g l = 5 * most the_size l.block.statements.now + 3
 
 abbrev pub decreases-turns : goal.decreases-turns
-decreases-turns g l = 4 * most the_size l.block.statements.now + 3
+decreases-turns g l = 5 * most the_size l.block.statements.now + 4
 
 abbrev pub decreases-step : goal.decreases-step
-decreases-step g l = 4 * goal.size-step g l
+decreases-step g l = 5 * goal.size-step g l + 1
+
+abbrev pub decreases-play_alt : goal.decreases-play_alt
+decreases-play_alt g l = 5 * the_size (statement.Alt l.branches.now l.otherwise.now)
 
 abbrev pub decreases-branch : goal.decreases-branch
-decreases-branch g l = 4 * most branch_size l.alt.branches.now
+decreases-branch g l = 5 * most branch_size l.alt.branches.now
 
 -- the statements so far were carried out
 abbrev pub invariant-execute-loop-place : goal.invariant-execute-loop-place
