@@ -41,7 +41,7 @@ explains() {
 
 # What tools/why says of reports.
 whys() {
-    at_least $((reports_of_examples + 90)) told "$room/whys" tests/tools/why_cases.py "$tpr"
+    at_least $((reports_of_examples + 91)) told "$room/whys" tests/tools/why_cases.py "$tpr"
 }
 
 # What is handed out: what a gate leaves for tools/release where it passes, and the archive and the packages that

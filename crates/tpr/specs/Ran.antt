@@ -4,7 +4,9 @@ use Rattle.tp_text.specs.declared.watched.Watched.{Watched}
 use Rattle.tp_text.specs.Watching.{reader_left}
 use Rattle.tp_play.specs.TestCases.{Made}
 use Rattle.tp_report.specs.declared.report.Report.{Report}
-use Rattle.tp_report.specs.Reports.{report_text, trace_text}
+use Rattle.tp_report.specs.declared.telling.Telling.{Telling}
+use Rattle.tp_report.specs.declared.telling.Telling.TheVariants as telling
+use Rattle.tp_report.specs.Reports.{told_text}
 use Rattle.tp_exec.specs.declared.fault.RunFault.{RunFault}
 use Rattle.tp_exec.specs.Delivery.{IsReportOf}
 use Rattle.tp_exec.specs.Faults.{run_fault_text}
@@ -14,15 +16,15 @@ use Rattle.tp_exec.specs.Reporting.{IsRunFault}
 use Rattle.tp_script.specs.Scripts.{IsScriptOf}
 use Rattle.tpr.specs.Checked.{IsNotAccepted}
 
--- a report of the test case in the form of this text, for which **delivery** holds and which one order of all that was
--- done gives, with status 0
-pub record IsReported (form : Made → Report → List ℕ) (made : Made) (text : List ℕ) (status : ℕ) : Type 0 where
+-- a report of the test case, told in this way, for which **delivery** holds and which one order of all that was done
+-- gives, with status 0
+pub record IsReported (how : Telling) (made : Made) (text : List ℕ) (status : ℕ) : Type 0 where
   pub report : Report
   pub delivery : IsReportOf made report
   pub one_order : IsInOneOrder report
   pub no_circle : NoCircle report
   pub code : status ≡ 0
-  pub said : text ≡ form made report
+  pub said : text ≡ told_text how made report
 
 -- the line of a fault by which a run of the test case has no report, with status 3
 pub record IsNotReported (made : Made) (text : List ℕ) (status : ℕ) : Type 0 where
@@ -32,20 +34,19 @@ pub record IsNotReported (made : Made) (text : List ℕ) (status : ℕ) : Type 0
   pub line : text ≡ run_fault_text fault
 
 -- what may be printed of a run of this test case
-abbrev pub IsRunOf : (Made → Report → List ℕ) → Made → List ℕ → ℕ → Type 0
-IsRunOf form made text status = IsReported form made text status ⊎ IsNotReported made text status
+abbrev pub IsRunOf : Telling → Made → List ℕ → ℕ → Type 0
+IsRunOf how made text status = IsReported how made text status ⊎ IsNotReported made text status
 
 -- what may be printed of the text that was read: of a run of its test case, or the line of its fault
-abbrev pub IsAnswerBy : {R : Type 0} → (Made → Report → List ℕ) → (R → Option (List ℕ)) → Watched R → Watched R → List ℕ → ℕ
-    → Type 0
-IsAnswerBy form remaining old new text status =
-    ((made : Made) × IfSome (reader_left remaining old) (λ script. IsScriptOf script made) × IsRunOf form made text status)
+abbrev pub IsAnswerBy : {R : Type 0} → Telling → (R → Option (List ℕ)) → Watched R → Watched R → List ℕ → ℕ → Type 0
+IsAnswerBy how remaining old new text status =
+    ((made : Made) × IfSome (reader_left remaining old) (λ script. IsScriptOf script made) × IsRunOf how made text status)
     ⊎ IsNotAccepted remaining old new text status
 
 -- mode run prints a report as its text
 abbrev pub IsRunAnswer : {R : Type 0} → (R → Option (List ℕ)) → Watched R → Watched R → List ℕ → ℕ → Type 0
-IsRunAnswer = IsAnswerBy report_text
+IsRunAnswer = IsAnswerBy telling.Report
 
 -- mode trace prints it as its trace
 abbrev pub IsTraceAnswer : {R : Type 0} → (R → Option (List ℕ)) → Watched R → Watched R → List ℕ → ℕ → Type 0
-IsTraceAnswer = IsAnswerBy trace_text
+IsTraceAnswer = IsAnswerBy telling.Trace

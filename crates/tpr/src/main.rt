@@ -1,6 +1,7 @@
 //! `tpr`: message ports of TTCN-3, replayed, checked, run, traced, judged and decided. Each mode
 //! has a function for what is read, what is printed, and the status: [`modes`], [`checking`],
-//! [`running`], [`judging`], [`deciding`]. Start with `answer`, which calls them.
+//! [`running`], [`judging`], [`deciding`]. Start with `answer`, which calls them. Module
+//! [`verdicts`] finds every verdict of a test case.
 //!
 //! In each mode 50 `Memory` is the line `fault 50 Memory` and the status 3. A mode returns `None`
 //! if the writer failed: it has then printed a front of one of its answers, and the status is 3.

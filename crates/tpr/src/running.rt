@@ -1,8 +1,7 @@
 //! Modes `run` and `trace`.
 ghost use Rattle.tp_exec.specs.Faults.{run_fault_text};
-ghost use Rattle.tp_report.specs.Reports.{told_text};
 ghost use Rattle.tpr.specs.Handed.{IsAnswered, IsJust};
-ghost use Rattle.tpr.specs.Ran.{IsRunAnswer, IsRunOf, IsTraceAnswer};
+ghost use Rattle.tpr.specs.Ran.{IsAnswerBy, IsRunAnswer, IsRunOf, IsTraceAnswer};
 
 use crate::checking::{answer_check_fault, check_script};
 use crate::modes::{ANSWERED, FAULTED, status_if_written};
@@ -34,7 +33,7 @@ fn answer_test_case<T: Threads + Wait + Sync, W: Write, G: Gate>(
     writer: &mut Watched<W>,
     gate: &G,
 ) -> Option<u8>
-    ensures { IsAnswered W.contents (IsRunOf (told_text telling) test_case.now)
+    ensures { IsAnswered W.contents (IsRunOf telling test_case.now)
         writer.old writer.new result }
 {
     match run(rt, alloc, test_case, gate) {
@@ -45,6 +44,23 @@ fn answer_test_case<T: Threads + Wait + Sync, W: Write, G: Gate>(
             status_if_written(writer, ANSWERED)
         }
         Err(fault) => answer_run_fault(writer, fault),
+    }
+}
+
+fn answer_told<T: Threads + Wait + Sync, R: Read, W: Write, G: Gate>(
+    rt: &T,
+    alloc: Global,
+    reader: &mut Watched<R>,
+    telling: Telling,
+    writer: &mut Watched<W>,
+    gate: &G,
+) -> Option<u8>
+    ensures { IsAnswered W.contents (IsAnswerBy telling R.remaining reader.old reader.new)
+        writer.old writer.new result }
+{
+    match check_script(alloc, reader) {
+        Err(fault) => answer_check_fault(writer, fault),
+        Ok(test_case) => answer_test_case(rt, alloc, &test_case, telling, writer, gate),
     }
 }
 
@@ -64,10 +80,7 @@ pub fn answer_run<T: Threads + Wait + Sync, R: Read, W: Write, G: Gate>(
     ensures { IsAnswered W.contents (IsRunAnswer R.remaining reader.old reader.new)
         writer.old writer.new result }
 {
-    match check_script(alloc, reader) {
-        Err(fault) => answer_check_fault(writer, fault),
-        Ok(test_case) => answer_test_case(rt, alloc, &test_case, Telling::Report, writer, gate),
-    }
+    answer_told(rt, alloc, reader, Telling::Report, writer, gate)
 }
 
 /// Reads and checks a script, and runs its test case, as [`answer_run`] does, but prints the trace
@@ -86,8 +99,5 @@ pub fn answer_trace<T: Threads + Wait + Sync, R: Read, W: Write, G: Gate>(
     ensures { IsAnswered W.contents (IsTraceAnswer R.remaining reader.old reader.new)
         writer.old writer.new result }
 {
-    match check_script(alloc, reader) {
-        Err(fault) => answer_check_fault(writer, fault),
-        Ok(test_case) => answer_test_case(rt, alloc, &test_case, Telling::Trace, writer, gate),
-    }
+    answer_told(rt, alloc, reader, Telling::Trace, writer, gate)
 }
