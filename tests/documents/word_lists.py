@@ -81,11 +81,11 @@ def variants(source: str, name: str) -> frozenset[str]:
 
 
 def families() -> tuple[Family, ...]:
-    operations = variants("crates/tp_event/src/operation.rt", "PortOperation")
-    lines = frozenset(named_in("crates/tp_referee/src/read.rt", r'b"(\w+)" => Some\(PortOperation::'))
-    statuses = variants("crates/tp_event/src/event.rt", "Status")
+    operations = variants("crates/tp_common/src/operation.rt", "PortOperation")
+    lines = frozenset(named_in("crates/tp_judge/src/referee/read.rt", r'b"(\w+)" => Some\(PortOperation::'))
+    statuses = variants("crates/tp_common/src/event.rt", "Status")
     modes = frozenset(named_in("crates/tpr/src/line.rt", r'word == "(\w+)"'))
-    reserved = frozenset(named_in("crates/tp_token/src/word.rt", r'\("(\w+)", Word::'))
+    reserved = frozenset(named_in("crates/tp_syntax/src/word.rt", r'\("(\w+)", Word::'))
     return (
         Family("port operations", operations, (), 3),
         Family("lines of port operations", lines, (statuses,), 3),
@@ -168,7 +168,7 @@ def roots_beside(old: str) -> tuple[dict[str, str], int]:
     if old in operations.words | lines.words:
         roots = {line: word for line in lines.words for word in operations.words if line.startswith(word)}
         return {**roots, **{word: word for word in operations.words}}, 3
-    refusals = Family("refusals", variants("crates/tp_refusal/src/refusal.rt", "Refusal"), (), 3)
+    refusals = Family("refusals", variants("crates/tp_common/src/refusal.rt", "Refusal"), (), 3)
     family = next((it for it in (*others, refusals) if member(old, it.words)), None)
     return ({word: word for word in family.words}, family.least) if family else ({}, 0)
 

@@ -35,7 +35,7 @@ NAMED_OF_EACH_RUN = frozenset(
     "tp_queue/delivers_behind_the_mark tp_queue/clear_removes_the_mark tp_queue/start_keeps_messages"
     " tp_queue/receive_skips_a_sender tp_queue/trigger_leaves_the_message tp_value/pattern_never_goes_back"
     " tp_value/verdict_improves tp_config/connects_two_ports_of_one tp_syntax/drops_a_statement"
-    " tp_setup/drops_a_connection tp_port/replay_repeats_its_input tp_port/replay_leaves_out_behind_the_mark"
+    " tp_checks/drops_a_connection tp_port/replay_repeats_its_input tp_port/replay_leaves_out_behind_the_mark"
     " tp_inbox/refused_put_leaves_its_message tp_inbox/swaps_two_messages tp_inbox/invents_an_arrival"
     " tp_inbox/notes_sent_without_a_put tp_inbox/settle_compares tp_behaviour/marks_before_the_drain"
     " tp_behaviour/else_without_a_drain tp_behaviour/ends_at_first_receive tp_exec/empty_histories"

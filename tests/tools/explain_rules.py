@@ -160,7 +160,7 @@ def check_numbers() -> None:
     rows = "\n".join(line for line in page.splitlines() if line.startswith("|"))
     listed = re.findall("([0-9]+) ([A-Za-z]+)", rows)
     must(listed == table, f"docs/REFUSALS.md has {listed}, and tools/tpr_tools/refusals.py {table}")
-    source = read(f"{ROOT}/crates/tp_refusal/src/refusal.rt")
+    source = read(f"{ROOT}/crates/tp_common/src/refusal.rt")
     printed = re.findall(r'Refusal::\w+ => \(([0-9]+), "(\w+)"\)', source)
     must(printed == table, f"the program prints {printed}, and tools/tpr_tools/refusals.py has {table}")
     with_rules = sorted([*RULES_OF, *BEYOND_SCRIPTS])

@@ -1,5 +1,5 @@
 """The numbers and names of all refusals and faults, once. `tests/tools/explain_rules.py` compares them with
-docs/REFUSALS.md, and with the table by which the program prints them (`crates/tp_refusal`)."""
+docs/REFUSALS.md, and with the table by which the program prints them (`crates/tp_common`)."""
 from __future__ import annotations
 
 from enum import IntEnum

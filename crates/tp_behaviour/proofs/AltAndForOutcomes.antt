@@ -7,8 +7,8 @@ use Rattle.tp_play.specs.declared.body.ResolvedStatement.{ResolvedStatement}
 use Rattle.tp_play.specs.declared.body.ResolvedStatement.TheVariants as b
 use Rattle.tp_play.specs.declared.body.ResolvedBranch.{ResolvedBranch}
 use Rattle.tp_play.specs.Sizes.{turns_between}
-use Rattle.tp_history.specs.declared.ending.End.{End}
-use Rattle.tp_history.specs.declared.ending.End.TheVariants as ending
+use Rattle.tp_inbox.specs.declared.ending.End.{End}
+use Rattle.tp_inbox.specs.declared.ending.End.TheVariants as ending
 use Rattle.tp_behaviour.specs.declared.choice.Guard.{Guard}
 use Rattle.tp_behaviour.specs.declared.deciding.Decision.TheVariants as decision
 use Rattle.tp_behaviour.specs.declared.held.Held.{Held}

@@ -1,12 +1,12 @@
 -- What trying one branch after the other comes to.
 use Rattle.std.proofs.Common.{◌≡◌, ℕ, zero, suc, ◌+◌, refl, List, [], ◌∷◌, All, take, slice_get, Some, unwrap_or, ap, sym, subst, add-one}
 use Rattle.std.proofs.lemmas.List.Elements.{All-nil, All-cons, All-head, All-tail}
-use Rattle.tp_history.specs.Desks.{Journal}
+use Rattle.tp_inbox.specs.Desks.{Journal}
 use Rattle.tp_behaviour.specs.declared.choice.Guard.{Guard}
 use Rattle.tp_behaviour.specs.declared.choice.LookResult.{LookResult}
 use Rattle.tp_behaviour.specs.declared.choice.LookResult.TheVariants as look
 use Rattle.tp_behaviour.specs.Choices.{NoneOpen, IsChoice, IsDrop, chosen}
-use Rattle.tp_history.specs.declared.entry.Entry.TheVariants as entry
+use Rattle.tp_inbox.specs.declared.entry.Entry.TheVariants as entry
 use Rattle.tp_behaviour.specs.Looks.{Tried, Looked, moment}
 
 -- what the first n have, and the next one, the first n + 1 have

@@ -4,7 +4,7 @@ use Rattle.std.specs.List.{AllZip}
 use Rattle.std.proofs.lemmas.List.{take_all, take_more}
 use Rattle.std.proofs.lemmas.Slice.Zip.{AllZip-long, all_zipped_more}
 use Rattle.tp_value.specs.declared.verdict.Verdict.{Verdict}
-use Rattle.tp_event.specs.declared.operation.PortOperation.{PortOperation}
+use Rattle.tp_common.specs.declared.operation.PortOperation.{PortOperation}
 use Rattle.tp_play.specs.declared.body.SendOperation.{SendOperation}
 use Rattle.tp_play.specs.declared.body.Receiving.{Receiving}
 use Rattle.tp_play.specs.declared.body.ResolvedStatement.{ResolvedStatement}

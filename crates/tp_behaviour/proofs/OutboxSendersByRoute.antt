@@ -8,10 +8,10 @@ use Rattle.std.proofs.lemmas.Bool.{and_parts, and_from, eqb-true}
 use Rattle.std.proofs.lemmas.Option.{same_Some}
 use Rattle.tp_config.specs.declared.port_type.CompId.{CompId}
 use Rattle.tp_config.specs.declared.port_type.RouteId.{RouteId}
-use Rattle.tp_history.specs.declared.stamped.Stamped.{Stamped}
-use Rattle.tp_history.specs.declared.entry.Entry.TheVariants as entry
-use Rattle.tp_history.specs.Desks.{Journal, adding}
-use Rattle.tp_history.specs.History.{posted_on}
+use Rattle.tp_inbox.specs.declared.stamped.Stamped.{Stamped}
+use Rattle.tp_inbox.specs.declared.entry.Entry.TheVariants as entry
+use Rattle.tp_inbox.specs.Desks.{Journal, adding}
+use Rattle.tp_inbox.specs.History.{posted_on}
 use Rattle.tp_inbox.specs.Ledgers.{Inbox, SenderLedger, end_of, posting, put_on_way, putting}
 use Rattle.tp_inbox.specs.Places.{KeepsOtherRoutes, route_eq}
 use Rattle.tp_inbox.specs.Routed.{route_at}

@@ -2,7 +2,7 @@
 use Rattle.std.proofs.Common.{◌≡◌, ℕ, zero, suc, ◌<◌, ℤ, Bool, false, Option, Some, None, List, [], ◌∷◌, length, slice_get, refl, sym, ap, subst, arith}
 use Rattle.std.specs.Prelude.{slice_set, IfSome}
 use Rattle.std.proofs.lemmas.Option.{same_Some, slice_get_within}
-use Rattle.tp_event.specs.declared.event.Env.{Env}
+use Rattle.tp_common.specs.declared.event.Env.{Env}
 use Rattle.tp_value.specs.declared.message.Message.{Message}
 use Rattle.tp_play.specs.declared.body.Receiving.{Receiving}
 use Rattle.tp_play.specs.declared.body.RecvMsg.{RecvMsg}
@@ -12,8 +12,8 @@ use Rattle.tp_play.specs.declared.body.VariableType.TheVariants as kind
 use Rattle.tp_play.specs.Playable.{CanKeepSender, CanKeepValue, Stage}
 use Rattle.tp_play.proofs.PlayableStatementRules.{keeps_sender, keeps_value}
 use Rattle.tp_config.specs.declared.port_type.CompId.{CompId}
-use Rattle.tp_history.specs.declared.entry.Entry.{Entry}
-use Rattle.tp_history.specs.declared.ending.End.TheVariants as ending
+use Rattle.tp_inbox.specs.declared.entry.Entry.{Entry}
+use Rattle.tp_inbox.specs.declared.ending.End.TheVariants as ending
 use Rattle.tp_behaviour.specs.declared.choice.Guard.{Guard}
 use Rattle.tp_behaviour.specs.declared.choosing.Choice.TheVariants as choice
 use Rattle.tp_behaviour.specs.declared.held.Held.{Held}

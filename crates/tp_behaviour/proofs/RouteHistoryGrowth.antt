@@ -6,10 +6,10 @@ use Rattle.std.proofs.lemmas.Bool.{and_parts, eqb-true}
 use Rattle.std.proofs.lemmas.List.Elements.{All-head, All-tail, All-contains, filter_map-append}
 use Rattle.tp_config.specs.declared.port_type.CompId.{CompId}
 use Rattle.tp_config.specs.declared.port_type.RouteId.{RouteId}
-use Rattle.tp_history.specs.declared.stamped.Stamped.{Stamped}
-use Rattle.tp_history.specs.declared.entry.Entry.{Entry}
-use Rattle.tp_history.specs.declared.entry.Entry.TheVariants as entry
-use Rattle.tp_history.specs.History.{is_arrival, arrivals, arrival_on, arrived_on, same_route, sending_on, sent_on, sending_to, sent_to}
+use Rattle.tp_inbox.specs.declared.stamped.Stamped.{Stamped}
+use Rattle.tp_inbox.specs.declared.entry.Entry.{Entry}
+use Rattle.tp_inbox.specs.declared.entry.Entry.TheVariants as entry
+use Rattle.tp_inbox.specs.History.{is_arrival, arrivals, arrival_on, arrived_on, same_route, sending_on, sent_on, sending_to, sent_to}
 use Rattle.tp_inbox.specs.Routed.{IsArrivalOn}
 use Rattle.tp_behaviour.specs.Workers.{IsSentBy}
 use Rattle.tp_inbox.proofs.SenderPutInvariants.{route_same}

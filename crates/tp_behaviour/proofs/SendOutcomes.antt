@@ -16,13 +16,13 @@ use Rattle.tp_play.specs.declared.body.Receiver.{Receiver}
 use Rattle.tp_play.specs.declared.body.Receiver.TheVariants as to
 use Rattle.tp_play.specs.declared.body.SendOperation.{SendOperation}
 use Rattle.tp_play.specs.declared.body.Sent.{Sent}
-use Rattle.tp_history.specs.declared.entry.Entry.{Entry}
-use Rattle.tp_history.specs.declared.entry.Entry.TheVariants as entry
-use Rattle.tp_history.specs.declared.send_fault.SendFault.TheVariants as send_fault
-use Rattle.tp_history.specs.History.{history_of, next_of, sent_on}
-use Rattle.tp_history.specs.Desks.{Journal}
+use Rattle.tp_inbox.specs.declared.entry.Entry.{Entry}
+use Rattle.tp_inbox.specs.declared.entry.Entry.TheVariants as entry
+use Rattle.tp_inbox.specs.declared.send_fault.SendFault.TheVariants as send_fault
+use Rattle.tp_inbox.specs.History.{history_of, next_of, sent_on}
+use Rattle.tp_inbox.specs.Desks.{Journal}
 use Rattle.tp_inbox.specs.Ledgers.{Inbox, SenderLedger, end_of}
-use Rattle.tp_history.proofs.PortQueuesMatchLog.{history-same}
+use Rattle.tp_inbox.proofs.PortQueuesMatchLog.{history-same}
 use Rattle.tp_behaviour.specs.declared.worker.Worker.{Worker}
 use Rattle.tp_behaviour.specs.BehaviourEnds.{IsFailure}
 use Rattle.tp_behaviour.specs.Held.{IsNamed, IsSentAs, NamesUnset, Actor, SendsUnset, Values}

@@ -3,10 +3,10 @@ use Rattle.std.proofs.Common.{◌≡◌, ◌∙◌, List, [], ◌∷◌, ◌++�
 use Rattle.std.proofs.lemmas.List.{append_assoc}
 use Rattle.tp_play.specs.declared.body.SendOperation.{SendOperation}
 use Rattle.tp_play.specs.declared.body.ResolvedStatement.TheVariants as b
-use Rattle.tp_history.specs.declared.entry.Entry.{Entry}
-use Rattle.tp_history.specs.declared.entry.Entry.TheVariants as entry
-use Rattle.tp_history.specs.declared.ending.End.TheVariants as ending
-use Rattle.tp_history.specs.declared.send_fault.SendFault.{SendFault}
+use Rattle.tp_inbox.specs.declared.entry.Entry.{Entry}
+use Rattle.tp_inbox.specs.declared.entry.Entry.TheVariants as entry
+use Rattle.tp_inbox.specs.declared.ending.End.TheVariants as ending
+use Rattle.tp_inbox.specs.declared.send_fault.SendFault.{SendFault}
 use Rattle.tp_behaviour.specs.BehaviourEnds.{StopsWithin}
 use Rattle.tp_behaviour.specs.Held.{Actor, Values}
 use Rattle.tp_behaviour.specs.Moments.{Moment, moments}

@@ -1,8 +1,8 @@
 -- How a trace grows with its history.
 use Rattle.std.proofs.Common.{rules, ◌≡◌, true, false, List, [], ◌∷◌, ◌++◌, Contains, suc, sym, refl}
 use Rattle.std.proofs.lemmas.List.{append_assoc, append-nil}
-use Rattle.tp_history.specs.declared.entry.Entry.{Entry}
-use Rattle.tp_history.specs.History.{is_arrival}
+use Rattle.tp_inbox.specs.declared.entry.Entry.{Entry}
+use Rattle.tp_inbox.specs.History.{is_arrival}
 use Rattle.tp_behaviour.specs.Moments.{own, moments, moments_after}
 
 -- the moments of a longer history are those of the shorter one, and then those of what is added

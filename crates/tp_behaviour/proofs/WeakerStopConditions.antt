@@ -1,7 +1,7 @@
 -- A behaviour that stops where this holds of the branches at which it waits stops where anything weaker does.
 use Rattle.std.proofs.Common.{ℤ, Option, List}
 use Rattle.tp_play.specs.declared.body.ResolvedStatement.{ResolvedStatement}
-use Rattle.tp_history.specs.declared.ending.End.{End}
+use Rattle.tp_inbox.specs.declared.ending.End.{End}
 use Rattle.tp_behaviour.specs.declared.choice.Guard.{Guard}
 use Rattle.tp_behaviour.specs.declared.held.Held.{Held}
 use Rattle.tp_behaviour.specs.BehaviourEnds.{Stops, StopsWithin}

@@ -4,16 +4,16 @@ use Rattle.std.specs.Prelude.{All, filter}
 use Rattle.std.specs.List.{cons_option}
 use Rattle.std.proofs.lemmas.List.Elements.{All-push, filter-append}
 use Rattle.std.proofs.lemmas.List.{append-nil}
-use Rattle.tp_event.specs.declared.event.Env.{Env}
+use Rattle.tp_common.specs.declared.event.Env.{Env}
 use Rattle.tp_value.specs.declared.message.Message.{Message}
 use Rattle.tp_config.specs.declared.port_type.CompId.{CompId}
 use Rattle.tp_config.specs.declared.port_type.RouteId.{RouteId}
-use Rattle.tp_event.specs.declared.operation.ReceiveKind.{ReceiveKind}
-use Rattle.tp_event.specs.declared.operation.ReceiveKind.TheVariants as kind
-use Rattle.tp_history.specs.declared.entry.Entry.{Entry}
-use Rattle.tp_history.specs.declared.entry.Entry.TheVariants as entry
-use Rattle.tp_history.specs.History.{IsTimely, is_arrival, arrivals, posted_on, sending_to, sent_on, sent_to}
-use Rattle.tp_history.specs.Desks.{Journal, adding}
+use Rattle.tp_common.specs.declared.operation.ReceiveKind.{ReceiveKind}
+use Rattle.tp_common.specs.declared.operation.ReceiveKind.TheVariants as kind
+use Rattle.tp_inbox.specs.declared.entry.Entry.{Entry}
+use Rattle.tp_inbox.specs.declared.entry.Entry.TheVariants as entry
+use Rattle.tp_inbox.specs.History.{IsTimely, is_arrival, arrivals, posted_on, sending_to, sent_on, sent_to}
+use Rattle.tp_inbox.specs.Desks.{Journal, adding}
 use Rattle.tp_inbox.specs.Ledgers.{IsDeskOf}
 use Rattle.tp_inbox.proofs.ComponentMessagesByRoute.{sent_by_routes}
 use Rattle.tp_behaviour.specs.declared.choice.Guard.{Guard}

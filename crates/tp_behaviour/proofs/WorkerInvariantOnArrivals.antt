@@ -5,9 +5,9 @@ use Rattle.std.proofs.lemmas.List.Elements.{All-nil, All-cons, All-head, All-tai
 use Rattle.std.proofs.lemmas.List.{append-nil}
 use Rattle.tp_config.specs.declared.port_type.CompId.{CompId}
 use Rattle.tp_config.specs.declared.port_type.RouteId.{RouteId}
-use Rattle.tp_history.specs.declared.entry.Entry.{Entry}
-use Rattle.tp_history.specs.History.{is_arrival, arrivals, arrived_on, posted_on, same_route, sent_on, sent_to}
-use Rattle.tp_history.specs.Desks.{Journal, adding_all}
+use Rattle.tp_inbox.specs.declared.entry.Entry.{Entry}
+use Rattle.tp_inbox.specs.History.{is_arrival, arrivals, arrived_on, posted_on, same_route, sent_on, sent_to}
+use Rattle.tp_inbox.specs.Desks.{Journal, adding_all}
 use Rattle.tp_inbox.specs.Ledgers.{Draining, Inbox, IsDeskOf, SenderLedger}
 use Rattle.tp_inbox.specs.Routed.{IsArrivalOn}
 use Rattle.tp_inbox.proofs.SenderPutInvariants.{route_itself, route_same}

@@ -1,6 +1,6 @@
 -- How a behaviour ends, and what it means that a history follows a behaviour to its end.
 use Rattle.std.specs.Prelude.{◌≡◌, ◌<◌, ◌⊎◌, ◌+ℤ◌, ℕ, ℤ, pos, Bool, true, Option, Some, None, List, [], ◌∷◌, ◌++◌, All, slice_get}
-use Rattle.tp_event.specs.declared.event.Env.{Env}
+use Rattle.tp_common.specs.declared.event.Env.{Env}
 use Rattle.tp_config.specs.declared.port_type.CompId.{CompId}
 use Rattle.tp_config.specs.declared.routes.RouteFault.{RouteFault}
 use Rattle.tp_config.specs.declared.routes.RouteFault.TheVariants as route_fault
@@ -13,14 +13,14 @@ use Rattle.tp_play.specs.declared.body.ResolvedStatement.TheVariants as statemen
 use Rattle.tp_play.specs.declared.body.ResolvedBranch.{ResolvedBranch}
 use Rattle.tp_play.specs.declared.body.Body.{Body}
 use Rattle.tp_play.specs.Sizes.{turns_between}
-use Rattle.tp_history.specs.declared.entry.Entry.{Entry}
-use Rattle.tp_history.specs.declared.entry.Entry.TheVariants as entry
+use Rattle.tp_inbox.specs.declared.entry.Entry.{Entry}
+use Rattle.tp_inbox.specs.declared.entry.Entry.TheVariants as entry
 use Rattle.tp_behaviour.specs.declared.choice.Guard.{Guard}
 use Rattle.tp_behaviour.specs.declared.held.Held.{Held}
-use Rattle.tp_history.specs.declared.ending.End.{End}
-use Rattle.tp_history.specs.declared.ending.End.TheVariants as ending
-use Rattle.tp_history.specs.declared.send_fault.SendFault.{SendFault}
-use Rattle.tp_history.specs.declared.send_fault.SendFault.TheVariants as send_fault
+use Rattle.tp_inbox.specs.declared.ending.End.{End}
+use Rattle.tp_inbox.specs.declared.ending.End.TheVariants as ending
+use Rattle.tp_inbox.specs.declared.send_fault.SendFault.{SendFault}
+use Rattle.tp_inbox.specs.declared.send_fault.SendFault.TheVariants as send_fault
 use Rattle.tp_behaviour.specs.Moments.{Moment, moments}
 use Rattle.tp_behaviour.specs.Choices.{IsChoice, IsDrop, NoneOpen}
 use Rattle.tp_value.specs.declared.message.Message.{Message}

@@ -2,9 +2,9 @@
 use Rattle.std.specs.Prelude.{◌≡◌, List, All, length}
 use Rattle.tp_config.specs.declared.port_type.CompId.{CompId}
 use Rattle.tp_config.specs.declared.port_type.RouteId.{RouteId}
-use Rattle.tp_history.specs.declared.entry.Entry.{Entry}
-use Rattle.tp_history.specs.declared.entry.Entry.TheVariants as entry
-use Rattle.tp_history.specs.History.{sent_on, arrived_on}
+use Rattle.tp_inbox.specs.declared.entry.Entry.{Entry}
+use Rattle.tp_inbox.specs.declared.entry.Entry.TheVariants as entry
+use Rattle.tp_inbox.specs.History.{sent_on, arrived_on}
 use Rattle.tp_behaviour.specs.Moments.{Moment, moments}
 
 -- the entry looks at the ports' queues, or works on one

@@ -2,8 +2,8 @@
 use Rattle.std.specs.Prelude.{◌≡◌, ℤ, Bool, true, false, Option, Some, None, List, [], ◌∷◌, ◌++◌, All}
 use Rattle.tp_config.specs.declared.port_type.CompId.{CompId}
 use Rattle.tp_play.specs.declared.body.ResolvedStatement.{ResolvedStatement}
-use Rattle.tp_history.specs.declared.entry.Entry.{Entry}
-use Rattle.tp_history.specs.Desks.{Journal}
+use Rattle.tp_inbox.specs.declared.entry.Entry.{Entry}
+use Rattle.tp_inbox.specs.Desks.{Journal}
 use Rattle.tp_behaviour.specs.declared.choice.Guard.{Guard}
 use Rattle.tp_behaviour.specs.declared.choice.LookResult.{LookResult}
 use Rattle.tp_behaviour.specs.declared.choice.LookResult.TheVariants as look

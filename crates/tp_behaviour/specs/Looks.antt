@@ -1,15 +1,15 @@
 -- What trying the branches of an `alt` comes to.
 use Rattle.std.specs.Prelude.{◌≡◌, ℕ, Bool, Some, List}
-use Rattle.tp_event.specs.declared.event.Env.{Env}
+use Rattle.tp_common.specs.declared.event.Env.{Env}
 use Rattle.tp_queue.specs.History.{top}
-use Rattle.tp_event.specs.Criteria.{Satisfies}
+use Rattle.tp_common.specs.Criteria.{Satisfies}
 use Rattle.tp_queue.specs.Answers.{Finds}
 use Rattle.tp_value.specs.declared.message.Message.{Message}
 use Rattle.tp_value.specs.Admits.{Admits}
-use Rattle.tp_event.specs.declared.operation.ReceiveKind.TheVariants as receive_kind
-use Rattle.tp_history.specs.declared.entry.Entry.{Entry}
-use Rattle.tp_history.specs.declared.entry.Entry.TheVariants as entry
-use Rattle.tp_history.specs.Desks.{Journal, adding, at_port}
+use Rattle.tp_common.specs.declared.operation.ReceiveKind.TheVariants as receive_kind
+use Rattle.tp_inbox.specs.declared.entry.Entry.{Entry}
+use Rattle.tp_inbox.specs.declared.entry.Entry.TheVariants as entry
+use Rattle.tp_inbox.specs.Desks.{Journal, adding, at_port}
 use Rattle.tp_behaviour.specs.declared.choice.Guard.{Guard}
 use Rattle.tp_behaviour.specs.declared.choice.LookResult.{LookResult}
 use Rattle.tp_behaviour.specs.declared.choice.LookResult.TheVariants as look

@@ -1,7 +1,7 @@
 -- What a component's behaviour did, entry by entry, each with all that had happened at the component before it.
 use Rattle.std.specs.Prelude.{List, [], ◌∷◌, ◌++◌, cond}
-use Rattle.tp_history.specs.declared.entry.Entry.{Entry}
-use Rattle.tp_history.specs.History.{is_arrival}
+use Rattle.tp_inbox.specs.declared.entry.Entry.{Entry}
+use Rattle.tp_inbox.specs.History.{is_arrival}
 
 -- an entry, and the whole history before it
 pub record Moment : Type 0 where

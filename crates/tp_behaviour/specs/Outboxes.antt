@@ -3,9 +3,9 @@ use Rattle.std.specs.Prelude.{◌≡◌, ◌≤◌, ◌<◌, ◌==◌, ℕ, cond
 use Rattle.std.specs.List.{flat_map}
 use Rattle.indexmap.specs.IndexMap.{IndexMap, get}
 use Rattle.tp_config.specs.declared.port_type.RouteId.{RouteId}
-use Rattle.tp_history.specs.declared.stamped.Stamped.{Stamped}
-use Rattle.tp_history.specs.declared.entry.Entry.{Entry}
-use Rattle.tp_history.specs.History.{arrived_on, posted_on}
+use Rattle.tp_inbox.specs.declared.stamped.Stamped.{Stamped}
+use Rattle.tp_inbox.specs.declared.entry.Entry.{Entry}
+use Rattle.tp_inbox.specs.History.{arrived_on, posted_on}
 use Rattle.tp_inbox.specs.Ledgers.{Inbox, SenderLedger, posting}
 use Rattle.tp_inbox.specs.Places.{route_eq}
 use Rattle.tp_behaviour.specs.declared.outbox.RoutePlace.{RoutePlace}

@@ -2,8 +2,8 @@
 -- the states of an entity that evaluates its statements one after the other). A path is a list of moments.
 use Rattle.std.specs.Prelude.{◌≡◌, ◌≢◌, ℕ, suc, ℤ, pos, ◌+ℤ◌, Bool, true, false, Option, Some, None, List, [], ◌∷◌, ◌++◌, All, length, map, slice_get}
 use Rattle.std.specs.List.{AllZip}
-use Rattle.tp_event.specs.declared.event.Env.{Env}
-use Rattle.tp_event.specs.declared.event.Status.TheVariants as status
+use Rattle.tp_common.specs.declared.event.Env.{Env}
+use Rattle.tp_common.specs.declared.event.Status.TheVariants as status
 use Rattle.tp_queue.specs.History.{status_of}
 use Rattle.tp_value.specs.declared.message.Message.{Message}
 use Rattle.tp_value.specs.declared.verdict.Verdict.{Verdict}
@@ -12,8 +12,8 @@ use Rattle.tp_config.specs.declared.port_type.PortRef.{PortRef}
 use Rattle.tp_config.specs.declared.port_type.RouteId.{RouteId}
 use Rattle.tp_config.specs.Setup.{ports_at}
 use Rattle.tp_config.specs.Routes.{IsRoute, routes_from}
-use Rattle.tp_event.specs.declared.operation.PortOperation.{PortOperation}
-use Rattle.tp_event.specs.declared.operation.PortOperation.TheVariants as port_operation
+use Rattle.tp_common.specs.declared.operation.PortOperation.{PortOperation}
+use Rattle.tp_common.specs.declared.operation.PortOperation.TheVariants as port_operation
 use Rattle.tp_play.specs.declared.body.SendOperation.{SendOperation}
 use Rattle.tp_play.specs.declared.body.Receiver.TheVariants as receiver
 use Rattle.tp_play.specs.declared.body.Receiving.{Receiving}
@@ -21,10 +21,10 @@ use Rattle.tp_play.specs.declared.body.ResolvedStatement.{ResolvedStatement}
 use Rattle.tp_play.specs.declared.body.ResolvedStatement.TheVariants as statement
 use Rattle.tp_play.specs.declared.body.ResolvedBranch.{ResolvedBranch}
 use Rattle.tp_play.specs.Sizes.{turns_between}
-use Rattle.tp_history.specs.declared.stamped.Stamped.{Stamped}
-use Rattle.tp_history.specs.declared.entry.Entry.{Entry}
-use Rattle.tp_history.specs.declared.entry.Entry.TheVariants as entry
-use Rattle.tp_history.specs.History.{history_of, sent_on}
+use Rattle.tp_inbox.specs.declared.stamped.Stamped.{Stamped}
+use Rattle.tp_inbox.specs.declared.entry.Entry.{Entry}
+use Rattle.tp_inbox.specs.declared.entry.Entry.TheVariants as entry
+use Rattle.tp_inbox.specs.History.{history_of, sent_on}
 use Rattle.tp_behaviour.specs.declared.held.Held.{Held}
 use Rattle.tp_behaviour.specs.Moments.{Moment}
 use Rattle.tp_behaviour.specs.declared.choice.Guard.{Guard}

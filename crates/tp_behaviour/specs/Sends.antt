@@ -9,10 +9,10 @@ use Rattle.tp_play.specs.declared.body.Receiver.TheVariants as receiver
 use Rattle.tp_play.specs.declared.body.SendOperation.{SendOperation}
 use Rattle.tp_play.specs.declared.body.ResolvedStatement.TheVariants as statement
 use Rattle.tp_play.specs.Fills.{needed}
-use Rattle.tp_history.specs.declared.entry.Entry.{Entry}
-use Rattle.tp_history.specs.declared.entry.Entry.TheVariants as entry
-use Rattle.tp_history.specs.declared.send_fault.SendFault.{SendFault}
-use Rattle.tp_history.specs.History.{next_of, sent_on}
+use Rattle.tp_inbox.specs.declared.entry.Entry.{Entry}
+use Rattle.tp_inbox.specs.declared.entry.Entry.TheVariants as entry
+use Rattle.tp_inbox.specs.declared.send_fault.SendFault.{SendFault}
+use Rattle.tp_inbox.specs.History.{next_of, sent_on}
 use Rattle.tp_behaviour.specs.BehaviourEnds.{IsFailure}
 use Rattle.tp_behaviour.specs.declared.held.Held.{Held}
 use Rattle.tp_behaviour.specs.declared.task.Task.{Task}

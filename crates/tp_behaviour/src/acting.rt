@@ -1,7 +1,7 @@
 //! Actions of a behaviour on its ports and its verdict.
 ghost use Rattle.std.specs.Prelude.{◌≡◌, ◌<◌, OnOk};
 ghost use Rattle.tp_play.specs.declared.body.ResolvedStatement.TheVariants as statement;
-ghost use Rattle.tp_history.specs.Desks.{adding};
+ghost use Rattle.tp_inbox.specs.Desks.{adding};
 ghost use Rattle.tp_behaviour.specs.Fresh.{HasOwn};
 ghost use Rattle.tp_behaviour.specs.Paths.{operated};
 ghost use Rattle.tp_behaviour.specs.LookOutcomes.{AddsEntry, Carries};
@@ -13,10 +13,10 @@ use crate::looking::{look_in, note};
 use crate::task::Task;
 use crate::worker::Worker;
 use std::sync::Wait;
-use tp_event::operation::PortOperation;
-use tp_history::desk::Desk;
-use tp_history::entry::Entry;
-use tp_refusal::memory::Memory;
+use tp_common::memory::Memory;
+use tp_common::operation::PortOperation;
+use tp_inbox::desk::Desk;
+use tp_inbox::entry::Entry;
 use tp_value::verdict::Verdict;
 
 /// Executes `setverdict` (ES 201 873-1, 24.2).

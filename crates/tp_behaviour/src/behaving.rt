@@ -13,7 +13,7 @@ use crate::statements::execute;
 use crate::task::Task;
 use crate::worker::{Frame, Worker};
 use std::sync::Wait;
-use tp_refusal::memory::Memory;
+use tp_common::memory::Memory;
 
 /// The variables are declared, each by a statement, and none is set (ES 201 873-1, 11.1).
 fn begin<G: Gate>(gate: &G, task: &Task<'_>) -> Result<Frame, Memory>

@@ -5,11 +5,11 @@ ghost use Rattle.tp_behaviour.specs.Views.{all_viewed, viewed};
 
 use crate::gate::Gate;
 use std::alloc::Global;
-use tp_event::event::{Env, TriggerAnswer};
-use tp_event::operation::ReceiveKind;
-use tp_event::payload::Wanted;
-use tp_history::desk::Desk;
-use tp_refusal::memory::Memory;
+use tp_common::event::{Env, TriggerAnswer};
+use tp_common::memory::Memory;
+use tp_common::operation::ReceiveKind;
+use tp_common::payload::Wanted;
+use tp_inbox::desk::Desk;
 use tp_value::message::{Message, MsgTemplate};
 
 /// A receiving operation with the values of its loop variables and references.

@@ -11,11 +11,11 @@ use crate::looking::{look_at_branches, note};
 use crate::task::Task;
 use crate::worker::Worker;
 use std::sync::Wait;
-use tp_event::event::Env;
+use tp_common::event::Env;
+use tp_common::memory::Memory;
 use tp_floor::notifier::Woken;
-use tp_history::entry::Entry;
+use tp_inbox::entry::Entry;
 use tp_inbox::owner::Owner;
-use tp_refusal::memory::Memory;
 use tp_value::message::Message;
 
 #[derive(Drop)]

@@ -15,9 +15,9 @@ use crate::receiving::{fill_guards, redirect, view_guards};
 use crate::task::Task;
 use crate::worker::{Frame, Worker};
 use std::sync::Wait;
-use tp_event::event::Env;
+use tp_common::event::Env;
+use tp_common::memory::Memory;
 use tp_play::body::ResolvedBranch;
-use tp_refusal::memory::Memory;
 use tp_value::message::Message;
 
 /// The block that follows an `alt`, if there is one.

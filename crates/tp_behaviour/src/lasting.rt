@@ -4,9 +4,9 @@ ghost use Rattle.tp_behaviour.specs.Lasting.{AreLasting, AreLastingBranches, IsL
 
 use crate::fixed::is_fixed;
 use std::alloc::Global;
+use tp_common::memory::Memory;
 use tp_play::body::{RecvMsg, ResolvedBranch, ResolvedStatement};
 use tp_play::fill::fill_template;
-use tp_refusal::memory::Memory;
 use tp_value::items::Items;
 use tp_value::message::MsgTemplate;
 

@@ -1,6 +1,6 @@
 //! The look of a behaviour before it acts on its ports.
 ghost use Rattle.std.specs.Prelude.{◌≡◌, ◌<◌, All, IfOk, OnOk};
-ghost use Rattle.tp_history.specs.Desks.{NamesNoPort};
+ghost use Rattle.tp_inbox.specs.Desks.{NamesNoPort};
 ghost use Rattle.tp_inbox.specs.Routed.{AreArrivals};
 ghost use Rattle.tp_behaviour.specs.Fresh.{HasOwn, LooksAtPorts};
 ghost use Rattle.tp_behaviour.specs.Moments.{moments};
@@ -14,8 +14,8 @@ use crate::gate::Gate;
 use crate::task::Task;
 use crate::worker::Worker;
 use std::sync::Wait;
-use tp_history::entry::Entry;
-use tp_refusal::memory::Memory;
+use tp_common::memory::Memory;
+use tp_inbox::entry::Entry;
 
 fn drain<R: Wait>(rt: &R, task: &Task<'_>, worker: &mut Worker) -> Result<(), Memory>
     requires { IsConsistent (role_of task.now) worker.old }

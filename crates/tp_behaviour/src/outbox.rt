@@ -1,8 +1,8 @@
 //! A component's senders.
 ghost use Rattle.std.specs.Prelude.{◌≡◌, ◌≢◌, ◌↔◌, ◌<◌, [], ◌∷◌, ◌++◌, ℕ, All, Contains, IfErr, IsTrue, OnErr, OnOk, Some, length, slice_get, vec_capacity, vec_len};
-ghost use Rattle.tp_history.specs.declared.entry.Entry.TheVariants as entry;
-ghost use Rattle.tp_history.specs.History.{next_of};
-ghost use Rattle.tp_history.specs.Desks.{adding};
+ghost use Rattle.tp_inbox.specs.declared.entry.Entry.TheVariants as entry;
+ghost use Rattle.tp_inbox.specs.History.{next_of};
+ghost use Rattle.tp_inbox.specs.Desks.{adding};
 ghost use Rattle.tp_inbox.specs.Ledgers.{SenderLedger};
 ghost use Rattle.tp_inbox.specs.Places.{KeepsOtherRoutes};
 ghost use Rattle.tp_behaviour.specs.Outboxes.{AreFiledAt, HasPut, IsAimed, IsRouteFull, IsHome, IsLevel, IsListed, LeadsBack, routes_of};
@@ -11,11 +11,11 @@ use indexmap::IndexMap;
 use std::alloc::Global;
 use std::marker::Model;
 use std::sync::Wait;
+use tp_common::memory::Memory;
 use tp_config::port_type::RouteId;
-use tp_history::desk::Desk;
+use tp_inbox::desk::Desk;
 use tp_inbox::owner::Owner;
 use tp_inbox::sender::{PutFault, Sender};
-use tp_refusal::memory::Memory;
 use tp_value::message::Message;
 
 #[derive(Clone, Copy, Drop)]

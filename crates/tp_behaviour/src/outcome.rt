@@ -1,6 +1,6 @@
 //! The end of executing statements.
 use crate::choice::Guard;
-use tp_history::send_fault::SendFault;
+use tp_inbox::send_fault::SendFault;
 
 /// Why the execution of statements ended.
 #[derive(Drop)]

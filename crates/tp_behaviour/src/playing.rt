@@ -13,9 +13,9 @@ use crate::sending::send;
 use crate::task::Task;
 use crate::worker::{Frame, Worker};
 use std::sync::Wait;
-use tp_event::operation::PortOperation;
+use tp_common::memory::Memory;
+use tp_common::operation::PortOperation;
 use tp_play::body::SendOperation;
-use tp_refusal::memory::Memory;
 use tp_value::verdict::Verdict;
 
 pub(crate) fn play_send<R: Wait, G: Gate>(

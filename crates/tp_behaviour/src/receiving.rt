@@ -23,11 +23,11 @@ use crate::task::Task;
 use crate::worker::{Frame, Worker};
 use std::alloc::Global;
 use std::sync::Wait;
+use tp_common::event::Env;
+use tp_common::memory::Memory;
 use tp_config::port_type::CompId;
-use tp_event::event::Env;
 use tp_play::body::{Receiving, RecvMsg, ResolvedBranch};
 use tp_play::fill::fill_template;
-use tp_refusal::memory::Memory;
 use tp_value::message::{Message, MsgTemplate};
 
 fn expected_sender(task: &Task<'_>, place: Option<usize>) -> Option<u32>

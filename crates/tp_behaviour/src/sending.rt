@@ -19,13 +19,13 @@ use crate::task::Task;
 use crate::values::{message_of, named_of};
 use crate::worker::{Frame, Worker};
 use std::sync::Wait;
+use tp_common::memory::Memory;
+use tp_common::payload::Payload;
 use tp_config::port_type::{CompId, PortRef, RouteId};
 use tp_config::routes::RouteFault;
-use tp_event::payload::Payload;
-use tp_history::entry::Entry;
-use tp_history::send_fault::SendFault;
+use tp_inbox::entry::Entry;
+use tp_inbox::send_fault::SendFault;
 use tp_play::body::{Receiver, SendOperation};
-use tp_refusal::memory::Memory;
 use tp_value::message::Message;
 
 fn fail(

@@ -17,8 +17,8 @@ use crate::receiving::receive;
 use crate::worker::{Frame, Worker};
 use std::ops::Range;
 use std::sync::Wait;
+use tp_common::memory::Memory;
 use tp_play::body::{ResolvedBranch, ResolvedStatement};
-use tp_refusal::memory::Memory;
 use tp_value::items::Items;
 
 /// Executes the statements of a block in order (ES 201 873-1, 19 to 24).

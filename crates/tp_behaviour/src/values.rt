@@ -9,11 +9,11 @@ use crate::held::Held;
 use crate::task::Task;
 use crate::worker::Frame;
 use std::alloc::Global;
+use tp_common::memory::Memory;
+use tp_common::payload::Payload;
 use tp_config::port_type::CompId;
-use tp_event::payload::Payload;
 use tp_play::body::{Receiver, Sent};
 use tp_play::fill::fill_message;
-use tp_refusal::memory::Memory;
 use tp_value::message::Message;
 
 fn message_in(frame: &Frame, place: usize) -> Option<&Message>

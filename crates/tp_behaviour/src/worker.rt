@@ -1,7 +1,7 @@
 //! The state of a behaviour that executes.
 use crate::held::Held;
 use crate::outbox::Outbox;
-use tp_history::desk::Desk;
+use tp_inbox::desk::Desk;
 use tp_inbox::owner::Owner;
 
 #[derive(Drop)]

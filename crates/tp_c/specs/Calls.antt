@@ -1,12 +1,12 @@
 -- What each call does to the queue of a port, with what crosses to C and back. The definitions are those of tp_queue;
 -- here an answer is read as what the call of the queue answered.
 use Rattle.std.specs.Prelude.{◌≡◌, ◌↔◌, ℕ, zero, suc, Option, Some, None, [], ◌∷◌, ◌++◌, Bool, true, false, IsTrue, length, slice_get}
-use Rattle.tp_event.specs.declared.event.Env.{Env}
-use Rattle.tp_event.specs.declared.event.Event.TheVariants as event
-use Rattle.tp_event.specs.declared.event.Status.{Status}
-use Rattle.tp_event.specs.declared.event.Status.TheVariants as status
-use Rattle.tp_event.specs.declared.event.TriggerAnswer.{TriggerAnswer}
-use Rattle.tp_event.specs.declared.event.TriggerAnswer.TheVariants as trigger_answer
+use Rattle.tp_common.specs.declared.event.Env.{Env}
+use Rattle.tp_common.specs.declared.event.Event.TheVariants as event
+use Rattle.tp_common.specs.declared.event.Status.{Status}
+use Rattle.tp_common.specs.declared.event.Status.TheVariants as status
+use Rattle.tp_common.specs.declared.event.TriggerAnswer.{TriggerAnswer}
+use Rattle.tp_common.specs.declared.event.TriggerAnswer.TheVariants as trigger_answer
 use Rattle.tp_queue.specs.History.{queued, status_of}
 use Rattle.tp_queue.specs.Queues.{QueueState, StandsFor, AtHistory}
 use Rattle.tp_queue.specs.Calls.{ReceivesFor, TriggersFor}

@@ -5,8 +5,8 @@ ghost use Rattle.tp_queue.specs.Queues.{StandsFor};
 ghost use Rattle.tp_c.specs.Calls.{Ahead, Arrived, Checked, Cleared, Halted, Length, Placed, Received, Started, StatusIs, Stopped, Triggered, answer_with, the_sender};
 
 use std::alloc::Global;
-use tp_event::event::{Env, Status, TriggerAnswer};
-use tp_event::payload::Wanted;
+use tp_common::event::{Env, Status, TriggerAnswer};
+use tp_common::payload::Wanted;
 use tp_queue::queue::Queue;
 
 /// Whether the caller wants the top message. The caller has looked at it by a `check` before,

@@ -1,6 +1,6 @@
 -- The refusals by which the faults are told.
-use Rattle.tp_refusal.specs.declared.refusal.Refusal.{Refusal}
-use Rattle.tp_refusal.specs.declared.refusal.Refusal.TheVariants as refusal
+use Rattle.tp_common.specs.declared.refusal.Refusal.{Refusal}
+use Rattle.tp_common.specs.declared.refusal.Refusal.TheVariants as refusal
 use Rattle.tp_config.specs.declared.creating.CreateFault.{CreateFault}
 use Rattle.tp_config.specs.declared.creating.CreateFault.TheVariants as create_fault
 use Rattle.tp_config.specs.declared.connecting.ConnectFault.{ConnectFault}

@@ -10,7 +10,7 @@ use crate::links::Links;
 use crate::port_type::{CompId, CompType, PortRef, PortType, Role};
 use crate::type_list::TypeList;
 use std::alloc::Global;
-use tp_refusal::memory::Memory;
+use tp_common::memory::Memory;
 use tp_value::items::Items;
 
 #[derive(Drop)]

@@ -15,7 +15,7 @@ use crate::port_type::{CompId, CompType, PortRef, Role, RouteId};
 use crate::routes::{RouteFault, choose_route, routes_in, routes_out};
 use std::alloc::Global;
 use std::marker::Model;
-use tp_refusal::memory::Memory;
+use tp_common::memory::Memory;
 
 /// The components of a test, and which of their ports are connected and mapped (ES 201 873-1, 9.1,
 /// 21.1, 21.3.1). Contracts see the component types, the components, and the pairs in the order of

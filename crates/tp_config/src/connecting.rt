@@ -10,7 +10,7 @@ use crate::directions::are_among;
 use crate::partners::{has_other, is_beside, is_mapped};
 use crate::port_type::{CompType, PortRef};
 use thiserror::Error;
-use tp_refusal::refusal::Refusal;
+use tp_common::refusal::Refusal;
 
 /// Why two ports were not connected, in the order in which the causes are checked.
 #[derive(Clone, Copy, Debug, PartialEq, Eq, Error)]

@@ -12,7 +12,7 @@ ghost use Rattle.tp_config.specs.Faults.{create_refusal};
 use crate::component::Component;
 use crate::port_type::{COMPONENT_LIMIT, Role};
 use thiserror::Error;
-use tp_refusal::refusal::Refusal;
+use tp_common::refusal::Refusal;
 
 /// Why a component was not created.
 #[derive(Clone, Copy, Debug, PartialEq, Eq, Error)]

@@ -5,7 +5,7 @@ ghost use Rattle.std.specs.List.{slice_index_or, slice_set};
 use crate::port_type::PortRef;
 use std::alloc::Global;
 use std::marker::Model;
-use tp_refusal::memory::Memory;
+use tp_common::memory::Memory;
 use tp_value::items::Items;
 
 /// For each port of a component, in declared order, the ports that it is connected or mapped with,

@@ -10,7 +10,7 @@ use crate::directions::are_among;
 use crate::partners::{is_connected, is_mapped, same_bool};
 use crate::port_type::{CompType, PortRef};
 use thiserror::Error;
-use tp_refusal::refusal::Refusal;
+use tp_common::refusal::Refusal;
 
 /// Why two ports were not mapped, in the order in which the causes are checked.
 #[derive(Clone, Copy, Debug, PartialEq, Eq, Error)]

@@ -9,8 +9,8 @@ use crate::component::{Component, beside};
 use crate::port_type::{CompId, PortRef, RouteId};
 use std::alloc::Global;
 use thiserror::Error;
-use tp_refusal::memory::Memory;
-use tp_refusal::refusal::Refusal;
+use tp_common::memory::Memory;
+use tp_common::refusal::Refusal;
 
 /// Why there is no route for a send.
 #[derive(Clone, Copy, Debug, PartialEq, Eq, Error)]

@@ -7,7 +7,7 @@ use indexmap::IndexSet;
 use std::alloc::Global;
 use std::marker::Model;
 use std::sync::Arc;
-use tp_refusal::memory::Memory;
+use tp_common::memory::Memory;
 use tp_value::items::Items;
 use tp_value::types::Ty;
 

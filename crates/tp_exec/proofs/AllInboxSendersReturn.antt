@@ -2,16 +2,16 @@
 use Rattle.std.proofs.Common.{◌≡◌, ◌≢◌, ℕ, zero, suc, ◌+◌, List, [], ◌∷◌, ◌++◌, Contains, get_or, length, map, refl, sym, ap, ◌∙◌, subst, All, AllPairs, arith}
 use Rattle.std.specs.List.{AllZip}
 use Rattle.std.proofs.lemmas.List.Elements.{All-nil, All-cons, All-append, All-contains, Contains-get_or}
-use Rattle.tp_event.specs.declared.event.Env.{Env}
+use Rattle.tp_common.specs.declared.event.Env.{Env}
 use Rattle.tp_value.specs.declared.message.Message.{Message}
 use Rattle.tp_config.specs.declared.port_type.CompId.{CompId}
 use Rattle.tp_config.specs.declared.port_type.RouteId.{RouteId}
 use Rattle.tp_config.proofs.RouteLaws.{map_cases, map_contains}
-use Rattle.tp_history.specs.declared.entry.Entry.{Entry}
-use Rattle.tp_history.specs.declared.entry.Entry.TheVariants as entry
-use Rattle.tp_history.specs.declared.posted.Posted.{Posted}
-use Rattle.tp_history.specs.declared.stamped.Stamped.{Stamped}
-use Rattle.tp_history.specs.History.{arrivals, arrived_from, arrived_on, numbered, posted_on, sent_to}
+use Rattle.tp_inbox.specs.declared.entry.Entry.{Entry}
+use Rattle.tp_inbox.specs.declared.entry.Entry.TheVariants as entry
+use Rattle.tp_inbox.specs.declared.posted.Posted.{Posted}
+use Rattle.tp_inbox.specs.declared.stamped.Stamped.{Stamped}
+use Rattle.tp_inbox.specs.History.{arrivals, arrived_from, arrived_on, numbered, posted_on, sent_to}
 use Rattle.tp_inbox.specs.Routed.{AreDelivered, AreArrivalsNumbered, IsArrivalOn, rest_arrivals, routes_by, sources_of}
 use Rattle.tp_inbox.specs.Ledgers.{AreSenders, Inbox, IsSenderInto, SenderLedger, put_by}
 use Rattle.tp_inbox.proofs.ArrivalsOfEnvelopes.{arrivals-append}

@@ -8,7 +8,7 @@ use Rattle.tp_play.specs.declared.test_case.Behaviour.{Behaviour as BorrowedBeha
 use Rattle.tp_play.specs.Behaviours.{Behaviour}
 use Rattle.tp_play.specs.BorrowedBehaviours.{as_behaviour}
 use Rattle.tp_play.specs.TestCases.{Made, behaviour_at}
-use Rattle.tp_history.specs.declared.entry.Entry.{Entry}
+use Rattle.tp_inbox.specs.declared.entry.Entry.{Entry}
 use Rattle.tp_inbox.specs.Ledgers.{Inbox}
 use Rattle.tp_behaviour.specs.declared.outcome.Outcome.TheVariants as outcome
 use Rattle.tp_behaviour.specs.declared.task.Task.{Task}

@@ -5,17 +5,17 @@ use Rattle.std.specs.List.{filter_map, cons_option}
 use Rattle.std.proofs.lemmas.Bool.{and_from}
 use Rattle.std.proofs.lemmas.List.Elements.{All-contains}
 use Rattle.std.proofs.lemmas.Option.{same_Some}
-use Rattle.tp_event.specs.declared.event.Env.{Env}
+use Rattle.tp_common.specs.declared.event.Env.{Env}
 use Rattle.tp_value.specs.declared.message.Message.{Message}
 use Rattle.tp_config.specs.declared.port_type.CompId.{CompId}
 use Rattle.tp_config.specs.declared.port_type.RouteId.{RouteId}
 use Rattle.tp_config.specs.Routes.{routes_into}
 use Rattle.tp_play.specs.TestCases.{Made}
-use Rattle.tp_history.specs.declared.stamped.Stamped.{Stamped}
-use Rattle.tp_history.specs.declared.entry.Entry.{Entry}
-use Rattle.tp_history.specs.declared.entry.Entry.TheVariants as entry
-use Rattle.tp_history.specs.History.{IsClocked, IsTimely, clock_of, stamp_of, same_route, sending_on, sent_on, arrival_on, arrived_on}
-use Rattle.tp_history.proofs.HistoryClockGrowth.{clock_of-push, clocked_at_start}
+use Rattle.tp_inbox.specs.declared.stamped.Stamped.{Stamped}
+use Rattle.tp_inbox.specs.declared.entry.Entry.{Entry}
+use Rattle.tp_inbox.specs.declared.entry.Entry.TheVariants as entry
+use Rattle.tp_inbox.specs.History.{IsClocked, IsTimely, clock_of, stamp_of, same_route, sending_on, sent_on, arrival_on, arrived_on}
+use Rattle.tp_inbox.proofs.HistoryClockGrowth.{clock_of-push, clocked_at_start}
 use Rattle.tp_inbox.proofs.NewInboxContents.{routes_here}
 use Rattle.tp_report.specs.declared.report.Report.{Report}
 use Rattle.tp_report.specs.declared.report.CompReport.{CompReport}

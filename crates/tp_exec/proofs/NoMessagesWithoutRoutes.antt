@@ -9,10 +9,10 @@ use Rattle.tp_config.specs.declared.port_type.RouteId.{RouteId}
 use Rattle.tp_config.specs.Setup.{Setup}
 use Rattle.tp_config.specs.Routes.{routes_into}
 use Rattle.tp_config.proofs.RouteLaws.{map_contains}
-use Rattle.tp_history.specs.declared.entry.Entry.{Entry}
-use Rattle.tp_history.specs.declared.entry.Entry.TheVariants as entry
-use Rattle.tp_history.specs.declared.posted.Posted.{Posted}
-use Rattle.tp_history.specs.History.{arrival_from, arrivals, arrived_from, sending_to, sent_to}
+use Rattle.tp_inbox.specs.declared.entry.Entry.{Entry}
+use Rattle.tp_inbox.specs.declared.entry.Entry.TheVariants as entry
+use Rattle.tp_inbox.specs.declared.posted.Posted.{Posted}
+use Rattle.tp_inbox.specs.History.{arrival_from, arrivals, arrived_from, sending_to, sent_to}
 use Rattle.tp_inbox.specs.Routed.{IsArrivalOn}
 use Rattle.tp_inbox.specs.Ledgers.{SenderLedger, end_of}
 use Rattle.tp_inbox.proofs.ArrivalsOfEnvelopes.{came_in}

@@ -6,14 +6,14 @@ use Rattle.std.specs.Global.{Global}
 use Rattle.std.proofs.lemmas.List.{drop_more}
 use Rattle.std.proofs.lemmas.List.Elements.{All-cons, All-head, All-tail}
 use Rattle.std.proofs.lemmas.Option.{none-some, same_Some}
-use Rattle.tp_event.specs.declared.event.Env.{Env}
-use Rattle.tp_event.specs.Criteria.{Satisfies}
+use Rattle.tp_common.specs.declared.event.Env.{Env}
+use Rattle.tp_common.specs.Criteria.{Satisfies}
 use Rattle.tp_queue.specs.History.{top}
-use Rattle.tp_event.specs.declared.operation.ReceiveKind.TheVariants as kind
+use Rattle.tp_common.specs.declared.operation.ReceiveKind.TheVariants as kind
 use Rattle.tp_value.specs.declared.message.Message.{Message}
 use Rattle.tp_value.specs.Admits.{Admits}
-use Rattle.tp_history.specs.declared.entry.Entry.{Entry}
-use Rattle.tp_history.specs.History.{history_of}
+use Rattle.tp_inbox.specs.declared.entry.Entry.{Entry}
+use Rattle.tp_inbox.specs.History.{history_of}
 use Rattle.tp_behaviour.specs.declared.choice.Guard.{Guard}
 use Rattle.tp_behaviour.specs.declared.outcome.Outcome.{Outcome}
 use Rattle.tp_behaviour.specs.declared.outcome.Outcome.TheVariants as outcome

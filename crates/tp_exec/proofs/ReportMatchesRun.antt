@@ -14,10 +14,10 @@ use Rattle.tp_config.specs.Routes.{routes_into}
 use Rattle.tp_play.specs.declared.body.Body.{Body}
 use Rattle.tp_play.specs.Behaviours.{Behaviour}
 use Rattle.tp_play.specs.TestCases.{Made, behaviour_at}
-use Rattle.tp_history.specs.declared.stamped.Stamped.{Stamped}
-use Rattle.tp_history.specs.declared.entry.Entry.{Entry}
-use Rattle.tp_history.specs.Desks.{Journal, at_port}
-use Rattle.tp_history.specs.History.{IsClocked, arrived_from, arrived_on, count_of, numbered, sent_on, sent_to}
+use Rattle.tp_inbox.specs.declared.stamped.Stamped.{Stamped}
+use Rattle.tp_inbox.specs.declared.entry.Entry.{Entry}
+use Rattle.tp_inbox.specs.Desks.{Journal, at_port}
+use Rattle.tp_inbox.specs.History.{IsClocked, arrived_from, arrived_on, count_of, numbered, sent_on, sent_to}
 use Rattle.tp_report.specs.declared.report.CompReport.{CompReport}
 use Rattle.tp_report.specs.declared.report.Report.{Report}
 use Rattle.tp_report.specs.Reports.{IsDeskIn, IsReportable}

@@ -6,7 +6,7 @@ use Rattle.std.proofs.lemmas.List.Elements.{All-contains, All-head, All-tail}
 use Rattle.std.proofs.lemmas.Option.{same_Some}
 use Rattle.indexmap.specs.IndexMap.{IndexMap, Updates, get}
 use Rattle.tp_config.specs.declared.port_type.RouteId.{RouteId}
-use Rattle.tp_history.specs.History.{count_of, posted_on, same_route}
+use Rattle.tp_inbox.specs.History.{count_of, posted_on, same_route}
 use Rattle.tp_inbox.specs.Ledgers.{SenderLedger, put_on_way}
 use Rattle.tp_inbox.specs.Places.{KeepsOtherRoutes, route_eq}
 use Rattle.tp_inbox.specs.Routed.{absent_route, route_at}

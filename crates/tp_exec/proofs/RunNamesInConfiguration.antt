@@ -4,9 +4,9 @@ use Rattle.std.specs.Prelude.{All, Contains, IsSome, slice_get}
 use Rattle.std.specs.List.{cons_option, filter_map}
 use Rattle.std.proofs.lemmas.List.Elements.{All-cons, All-head, All-nil, All-tail, All-take}
 use Rattle.std.proofs.lemmas.Option.{get_or_from_slice_get, none-some, slice_get-get_or, slice_get_within}
-use Rattle.tp_event.specs.declared.event.Env.{Env}
-use Rattle.tp_event.specs.declared.event.Event.{Event}
-use Rattle.tp_event.specs.declared.event.Event.TheVariants as event
+use Rattle.tp_common.specs.declared.event.Env.{Env}
+use Rattle.tp_common.specs.declared.event.Event.{Event}
+use Rattle.tp_common.specs.declared.event.Event.TheVariants as event
 use Rattle.tp_queue.specs.History.{Lawful, MayFollow, accepted, arrival, gone, limit, top}
 use Rattle.tp_value.specs.declared.message.Message.{Message}
 use Rattle.tp_config.specs.declared.port_type.CompId.{CompId}
@@ -18,10 +18,10 @@ use Rattle.tp_config.specs.Routes.{beside, route_to, routes_from, routes_into}
 use Rattle.tp_config.proofs.PortPartnerLaws.{beside_back}
 use Rattle.tp_config.proofs.RouteLaws.{beside_ports, both_ways, map_cases}
 use Rattle.tp_config.proofs.RouteDestinations.{port_component, route_leads}
-use Rattle.tp_history.specs.declared.entry.Entry.{Entry}
-use Rattle.tp_history.specs.declared.entry.Entry.TheVariants as entry
-use Rattle.tp_history.specs.Desks.{IsWithin, Journal}
-use Rattle.tp_history.specs.History.{event_at, history_of}
+use Rattle.tp_inbox.specs.declared.entry.Entry.{Entry}
+use Rattle.tp_inbox.specs.declared.entry.Entry.TheVariants as entry
+use Rattle.tp_inbox.specs.Desks.{IsWithin, Journal}
+use Rattle.tp_inbox.specs.History.{event_at, history_of}
 use Rattle.tp_report.specs.Lines.{component_port, sender_of}
 use Rattle.tp_report.specs.Reports.{IsKnown}
 use Rattle.tp_exec.specs.Delivery.{IsOnRoute}

@@ -7,7 +7,7 @@ use Rattle.tp_value.proofs.value.Value.TheLaws.TheKnot.{crosses_both as value_kn
 use Rattle.tp_value.proofs.template.Template.TheLaws.TheKnot.{crosses as template_knot}
 use Rattle.tp_config.proofs.port_type.RouteId.TheSendSync.{the_send as route_send}
 use Rattle.tp_floor.proofs.FloorThreadSafety.{floor_send, floor_sync}
-use Rattle.tp_history.proofs.DeskThreadSafety.{desk_send}
+use Rattle.tp_inbox.proofs.DeskThreadSafety.{desk_send}
 use Rattle.tp_inbox.proofs.InboxThreadSafety.{closer_sync, owner_send, sender_send}
 use Rattle.tp_behaviour.specs.contracts.choice.Guard as guard
 use Rattle.tp_behaviour.specs.contracts.outbox.Outbox as outbox

@@ -10,9 +10,9 @@ use Rattle.tp_config.specs.Setup.{Setup, ports_at}
 use Rattle.tp_config.specs.Allowed.{IsSetup}
 use Rattle.tp_config.specs.Routes.{routes_into}
 use Rattle.tp_config.proofs.RouteLaws.{map_cases, map_contains}
-use Rattle.tp_history.specs.declared.entry.Entry.{Entry}
-use Rattle.tp_history.specs.Desks.{Journal}
-use Rattle.tp_history.specs.History.{arrivals, sent_to}
+use Rattle.tp_inbox.specs.declared.entry.Entry.{Entry}
+use Rattle.tp_inbox.specs.Desks.{Journal}
+use Rattle.tp_inbox.specs.History.{arrivals, sent_to}
 use Rattle.tp_inbox.specs.Ledgers.{Draining, SenderLedger, end_of}
 use Rattle.tp_inbox.specs.Routed.{sources_of}
 use Rattle.tp_behaviour.specs.declared.worker.Worker.{Worker}

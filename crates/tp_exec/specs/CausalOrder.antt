@@ -1,11 +1,11 @@
 -- What happened before what in a run, by its report.
 use Rattle.std.specs.Prelude.{◌≡◌, ℕ, ◌<◌, Option, Some, None, List, [], slice_get}
-use Rattle.tp_event.specs.declared.event.Env.{Env}
+use Rattle.tp_common.specs.declared.event.Env.{Env}
 use Rattle.tp_value.specs.declared.message.Message.{Message}
 use Rattle.tp_config.specs.declared.port_type.RouteId.{RouteId}
-use Rattle.tp_history.specs.declared.stamped.Stamped.{Stamped}
-use Rattle.tp_history.specs.declared.entry.Entry.{Entry}
-use Rattle.tp_history.specs.declared.entry.Entry.TheVariants as entry
+use Rattle.tp_inbox.specs.declared.stamped.Stamped.{Stamped}
+use Rattle.tp_inbox.specs.declared.entry.Entry.{Entry}
+use Rattle.tp_inbox.specs.declared.entry.Entry.TheVariants as entry
 use Rattle.tp_report.specs.declared.report.Report.{Report}
 use Rattle.tp_report.specs.declared.report.CompReport.{CompReport}
 

@@ -7,11 +7,11 @@ use Rattle.tp_config.specs.Setup.{Setup, names_of_components, ports_at}
 use Rattle.tp_config.specs.Routes.{routes_into}
 use Rattle.tp_play.specs.Behaviours.{Behaviour}
 use Rattle.tp_play.specs.TestCases.{Made, behaviour_at}
-use Rattle.tp_history.specs.declared.entry.Entry.{Entry}
-use Rattle.tp_history.specs.declared.entry.Entry.TheVariants as entry
-use Rattle.tp_history.specs.Desks.{at_port}
-use Rattle.tp_history.specs.History.{IsClocked, sent_on, sent_to, arrived_from, arrived_on, count_of}
-use Rattle.tp_history.specs.declared.ending.End.{End}
+use Rattle.tp_inbox.specs.declared.entry.Entry.{Entry}
+use Rattle.tp_inbox.specs.declared.entry.Entry.TheVariants as entry
+use Rattle.tp_inbox.specs.Desks.{at_port}
+use Rattle.tp_inbox.specs.History.{IsClocked, sent_on, sent_to, arrived_from, arrived_on, count_of}
+use Rattle.tp_inbox.specs.declared.ending.End.{End}
 use Rattle.tp_report.specs.declared.report.Report.{Report}
 use Rattle.tp_report.specs.declared.report.CompReport.{CompReport}
 use Rattle.tp_behaviour.specs.BehaviourEnds.{Follows}

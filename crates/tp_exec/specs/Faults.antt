@@ -1,9 +1,9 @@
 -- How the fault of a run is told.
 use Rattle.std.specs.Prelude.{ℕ, ◌++◌, List, codes}
 use Rattle.std.specs.Fmt.{decimal}
-use Rattle.tp_refusal.specs.declared.refusal.Refusal.{Refusal}
-use Rattle.tp_refusal.specs.declared.refusal.Refusal.TheVariants as refusal
-use Rattle.tp_refusal.specs.Label.{label}
+use Rattle.tp_common.specs.declared.refusal.Refusal.{Refusal}
+use Rattle.tp_common.specs.declared.refusal.Refusal.TheVariants as refusal
+use Rattle.tp_common.specs.Label.{label}
 use Rattle.tp_exec.specs.declared.fault.RunFault.{RunFault}
 use Rattle.tp_exec.specs.declared.fault.RunFault.TheVariants as run_fault
 

@@ -4,9 +4,9 @@ use Rattle.tp_queue.specs.History.{Lawful}
 use Rattle.tp_config.specs.declared.port_type.CompId.{CompId}
 use Rattle.tp_config.specs.declared.port_type.RouteId.{RouteId}
 use Rattle.tp_play.specs.TestCases.{Made}
-use Rattle.tp_history.specs.declared.entry.Entry.{Entry}
-use Rattle.tp_history.specs.Desks.{at_port}
-use Rattle.tp_history.specs.History.{arrived_on, sent_on}
+use Rattle.tp_inbox.specs.declared.entry.Entry.{Entry}
+use Rattle.tp_inbox.specs.Desks.{at_port}
+use Rattle.tp_inbox.specs.History.{arrived_on, sent_on}
 use Rattle.tp_report.specs.declared.report.CompReport.{CompReport}
 use Rattle.tp_report.specs.declared.report.Report.{Report}
 use Rattle.tp_exec.specs.Delivery.{IsDeliveredBetween, IsReportOf, numbers_from}

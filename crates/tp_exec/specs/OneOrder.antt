@@ -3,9 +3,9 @@
 use Rattle.std.specs.Prelude.{◌≡◌, ℕ, ◌<◌, ◌==◌, Bool, false, cond, Option, Some, None, List, [], map, take}
 use Rattle.std.specs.Prelude.{slice_get, slice_index_or}
 use Rattle.std.specs.List.{filter_map, sum_by}
-use Rattle.tp_history.specs.declared.entry.Entry.{Entry}
-use Rattle.tp_history.specs.declared.entry.Entry.TheVariants as entry
-use Rattle.tp_history.specs.History.{is_arrival}
+use Rattle.tp_inbox.specs.declared.entry.Entry.{Entry}
+use Rattle.tp_inbox.specs.declared.entry.Entry.TheVariants as entry
+use Rattle.tp_inbox.specs.History.{is_arrival}
 use Rattle.tp_report.specs.declared.report.CompReport.{CompReport}
 use Rattle.tp_report.specs.declared.report.Report.{Report}
 use Rattle.tp_behaviour.specs.Fresh.{LooksAtPorts}

@@ -2,7 +2,7 @@
 use Rattle.std.specs.Prelude.{◌≡◌, ◌≢◌, ◌<◌, ◌==◌, ◌++◌, ℕ, Bool, Some, List, [], ◌∷◌, All, AllPairs, filter, length, map, slice_get, slice_set}
 use Rattle.tp_config.specs.Setup.{Setup, ports_at}
 use Rattle.tp_config.specs.Routes.{routes_into}
-use Rattle.tp_history.specs.Desks.{Journal, new_desk}
+use Rattle.tp_inbox.specs.Desks.{Journal, new_desk}
 use Rattle.tp_inbox.specs.Ledgers.{Draining, SenderLedger, end_of}
 use Rattle.tp_behaviour.specs.declared.worker.Worker.{Worker}
 use Rattle.tp_exec.specs.declared.inboxes.Opened.{Opened}

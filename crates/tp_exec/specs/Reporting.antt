@@ -1,11 +1,11 @@
 -- What a report has of what a run came to, and why there is none.
 use Rattle.std.specs.Prelude.{◌≡◌, ◌+◌, ℕ, zero, suc, Option, Some, None, List, All, map, slice_get, string_bytes}
 use Rattle.tp_config.specs.Setup.{Setup, names_of_components}
-use Rattle.tp_history.specs.declared.entry.Entry.{Entry}
+use Rattle.tp_inbox.specs.declared.entry.Entry.{Entry}
 use Rattle.tp_play.specs.Behaviours.{Behaviour}
 use Rattle.tp_play.specs.TestCases.{Made, behaviour_at}
-use Rattle.tp_history.specs.declared.ending.End.{End}
-use Rattle.tp_history.specs.declared.ending.End.TheVariants as end
+use Rattle.tp_inbox.specs.declared.ending.End.{End}
+use Rattle.tp_inbox.specs.declared.ending.End.TheVariants as end
 use Rattle.tp_report.specs.declared.report.CompReport.{CompReport}
 use Rattle.tp_report.specs.Verdicts.{local_verdict}
 use Rattle.tp_behaviour.specs.declared.outcome.Outcome.{Outcome}

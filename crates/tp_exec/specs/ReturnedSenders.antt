@@ -6,15 +6,15 @@ use Rattle.std.specs.Option.{option_map_or}
 use Rattle.std.specs.declared.vec.IntoIter.{IntoIter}
 use Rattle.std.specs.Vec.Iter.{into_iter_items}
 use Rattle.indexmap.specs.IndexMap.{IndexMap, get}
-use Rattle.tp_event.specs.declared.event.Env.{Env}
+use Rattle.tp_common.specs.declared.event.Env.{Env}
 use Rattle.tp_value.specs.declared.message.Message.{Message}
 use Rattle.tp_config.specs.declared.port_type.CompId.{CompId}
 use Rattle.tp_config.specs.declared.port_type.RouteId.{RouteId}
 use Rattle.tp_config.specs.Setup.{Setup}
 use Rattle.tp_config.specs.Routes.{routes_into}
-use Rattle.tp_history.specs.declared.entry.Entry.{Entry}
-use Rattle.tp_history.specs.declared.stamped.Stamped.{Stamped}
-use Rattle.tp_history.specs.History.{arrivals, arrived_from, arrived_on, count_of, numbered, posted_on, sent_on, sent_to}
+use Rattle.tp_inbox.specs.declared.entry.Entry.{Entry}
+use Rattle.tp_inbox.specs.declared.stamped.Stamped.{Stamped}
+use Rattle.tp_inbox.specs.History.{arrivals, arrived_from, arrived_on, count_of, numbered, posted_on, sent_on, sent_to}
 use Rattle.tp_inbox.specs.Ledgers.{Inbox, IsDeskOf, SenderLedger, end_of}
 use Rattle.tp_inbox.specs.Places.{route_eq}
 use Rattle.tp_inbox.specs.Routed.{IsArrivalOn, rest_arrivals, sources_of}

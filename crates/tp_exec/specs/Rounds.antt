@@ -7,7 +7,7 @@ use Rattle.tp_config.specs.Setup.{Setup}
 use Rattle.tp_config.specs.Routes.{routes_into}
 use Rattle.tp_play.specs.Behaviours.{Behaviour}
 use Rattle.tp_play.specs.TestCases.{Made, behaviour_at}
-use Rattle.tp_history.specs.declared.entry.Entry.{Entry}
+use Rattle.tp_inbox.specs.declared.entry.Entry.{Entry}
 use Rattle.tp_inbox.specs.Ledgers.{Inbox, end_of}
 use Rattle.tp_inbox.specs.Routed.{routes_by, sources_of}
 use Rattle.tp_behaviour.specs.declared.worker.Worker.{Worker}

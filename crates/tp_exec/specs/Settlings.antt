@@ -1,17 +1,17 @@
 -- What a run comes to once all messages have come.
 use Rattle.std.specs.Prelude.{◌≡◌, ◌<◌, ◌++◌, ℕ, Some, List, All, Contains, length, map, slice_get}
-use Rattle.tp_event.specs.declared.event.Env.{Env}
+use Rattle.tp_common.specs.declared.event.Env.{Env}
 use Rattle.tp_queue.specs.History.{Lawful}
 use Rattle.tp_value.specs.declared.message.Message.{Message}
 use Rattle.tp_config.specs.declared.port_type.CompId.{CompId}
 use Rattle.tp_config.specs.declared.port_type.RouteId.{RouteId}
 use Rattle.tp_config.specs.Setup.{Setup, ports_at}
 use Rattle.tp_config.specs.Routes.{routes_into}
-use Rattle.tp_history.specs.declared.entry.Entry.{Entry}
-use Rattle.tp_history.specs.declared.entry.Entry.TheVariants as entry
-use Rattle.tp_history.specs.declared.stamped.Stamped.{Stamped}
-use Rattle.tp_history.specs.Desks.{IsWithin, Journal, at_port}
-use Rattle.tp_history.specs.History.{IsClocked, arrived_on, count_of, numbered, sent_on}
+use Rattle.tp_inbox.specs.declared.entry.Entry.{Entry}
+use Rattle.tp_inbox.specs.declared.entry.Entry.TheVariants as entry
+use Rattle.tp_inbox.specs.declared.stamped.Stamped.{Stamped}
+use Rattle.tp_inbox.specs.Desks.{IsWithin, Journal, at_port}
+use Rattle.tp_inbox.specs.History.{IsClocked, arrived_on, count_of, numbered, sent_on}
 use Rattle.tp_inbox.specs.Routed.{rest_arrivals}
 use Rattle.tp_play.specs.TestCases.{Made, behaviour_at}
 use Rattle.tp_behaviour.specs.Fresh.{Fresh}

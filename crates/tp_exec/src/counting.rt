@@ -9,9 +9,9 @@ ghost use Rattle.tp_exec.specs.ReturnedSenders.{AreFiledOf, IsCounted, ShareNone
 
 use indexmap::IndexMap;
 use std::alloc::Global;
+use tp_common::memory::Memory;
 use tp_config::port_type::RouteId;
 use tp_inbox::sender::Sender;
-use tp_refusal::memory::Memory;
 
 fn file(counts: &mut IndexMap<RouteId, u64>, sender: &Sender) -> Result<(), Memory>
     ensures filed { OnOk result (AreFiledOf counts.new sender.now) }

@@ -1,7 +1,7 @@
 //! A component after everything sent to it has arrived.
 use tp_behaviour::outcome::Outcome;
 use tp_config::port_type::RouteId;
-use tp_history::desk::Desk;
+use tp_inbox::desk::Desk;
 
 #[derive(Drop)]
 pub(crate) struct EndedComponent {

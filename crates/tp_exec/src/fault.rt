@@ -1,12 +1,12 @@
 //! Reasons why a run has no report, and their lines.
 ghost use Rattle.std.specs.Prelude.{◌≡◌};
-ghost use Rattle.tp_text.specs.Watching.{Writes};
+ghost use Rattle.tp_common.specs.Watching.{Writes};
 ghost use Rattle.tp_exec.specs.Faults.{run_fault_text, run_refusal};
 
 use std::io::Write;
 use thiserror::Error;
-use tp_refusal::refusal::Refusal;
-use tp_text::watched::{Watched, write_bytes, write_number};
+use tp_common::refusal::Refusal;
+use tp_common::watched::{Watched, write_bytes, write_number};
 
 /// Why a run has no report. If several reasons hold, the first in this order is returned. But a
 /// restless run whose report alone lacks memory returns `Restless`.

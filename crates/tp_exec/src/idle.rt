@@ -1,6 +1,6 @@
 //! A component whose behaviour has ended, without its senders.
 use tp_behaviour::outcome::Outcome;
-use tp_history::desk::Desk;
+use tp_inbox::desk::Desk;
 use tp_inbox::owner::Owner;
 
 #[derive(Drop)]

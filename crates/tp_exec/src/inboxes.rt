@@ -10,14 +10,14 @@ use std::alloc::Global;
 use std::sync::Arc;
 use tp_behaviour::outbox::Outbox;
 use tp_behaviour::worker::Worker;
+use tp_common::memory::Memory;
 use tp_config::config::Config;
 use tp_config::port_type::CompId;
 use tp_floor::floor::Floor;
-use tp_history::desk::Desk;
+use tp_inbox::desk::Desk;
 use tp_inbox::making::inbox;
 use tp_inbox::owner::Closer;
 use tp_inbox::sender::Sender;
-use tp_refusal::memory::Memory;
 
 #[derive(Drop)]
 struct Opened {

@@ -21,7 +21,7 @@ mod waiting;
 
 pub use fault::RunFault;
 pub use tp_behaviour::gate;
-pub use tp_history::ending::End;
+pub use tp_inbox::ending::End;
 pub use tp_report::report::{CompReport, Report};
 pub use tp_report::telling::Telling;
 pub use tp_report::writing::write_report;

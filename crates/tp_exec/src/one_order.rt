@@ -4,11 +4,11 @@ ghost use Rattle.tp_exec.specs.EntryKinds.{kind_of as kind_of_entry};
 ghost use Rattle.tp_exec.specs.OneOrder.{HasOneOrder, logs_of};
 
 use std::alloc::Global;
-use tp_history::entry::Entry;
+use tp_common::memory::Memory;
+use tp_inbox::entry::Entry;
 use tp_judge::histories::Histories;
 use tp_judge::kind::EntryKind;
 use tp_judge::one_order;
-use tp_refusal::memory::Memory;
 use tp_report::report::CompReport;
 
 /// The histories of a run's components. A message is compared by its sender.

@@ -16,10 +16,10 @@ use crate::one_order::has_one_order;
 use crate::waiting::are_at_rest;
 use std::alloc::Global;
 use tp_behaviour::outcome::Outcome;
+use tp_common::memory::Memory;
 use tp_config::config::Config;
-use tp_history::ending::End;
+use tp_inbox::ending::End;
 use tp_play::test_case::TestCase;
-use tp_refusal::memory::Memory;
 use tp_report::report::{CompReport, Report};
 use tp_report::verdicts::{local_verdict, overall_verdict};
 

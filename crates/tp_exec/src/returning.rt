@@ -12,9 +12,9 @@ use indexmap::IndexSet;
 use std::alloc::Global;
 use std::vec::IntoIter;
 use tp_behaviour::worker::Worker;
+use tp_common::memory::Memory;
 use tp_config::port_type::{CompId, RouteId};
 use tp_inbox::sender::Sender;
-use tp_refusal::memory::Memory;
 
 pub(crate) fn part_played(
     alloc: Global,

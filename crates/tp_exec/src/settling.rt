@@ -2,8 +2,8 @@
 ghost use Rattle.std.specs.Prelude.{◌≡◌, ◌++◌, ◌<◌, All, Contains, IfOk, OnOk, map};
 ghost use Rattle.tp_config.specs.declared.port_type.RouteId.{RouteId as Route};
 ghost use Rattle.tp_config.specs.Routes.{routes_into};
-ghost use Rattle.tp_history.specs.Desks.{adding_all};
-ghost use Rattle.tp_history.specs.History.{arrivals};
+ghost use Rattle.tp_inbox.specs.Desks.{adding_all};
+ghost use Rattle.tp_inbox.specs.History.{arrivals};
 ghost use Rattle.tp_inbox.specs.Ledgers.{AreSenders, IsDeskOf, SenderLedger, put_by};
 ghost use Rattle.tp_inbox.specs.Routed.{AreDelivered, AreArrivalsNumbered, AreRoutes, IsArrivalOn};
 ghost use Rattle.tp_inbox.specs.Routed.{rest_arrivals};
@@ -19,14 +19,14 @@ use crate::returning::{distinct_sources, part_played, take_back};
 use std::alloc::Global;
 use std::sync::Wait;
 use std::vec::IntoIter;
+use tp_common::event::Env;
+use tp_common::memory::Memory;
 use tp_config::config::Config;
 use tp_config::port_type::RouteId;
-use tp_event::event::Env;
-use tp_history::desk::Desk;
+use tp_inbox::desk::Desk;
 use tp_inbox::gathered::{Rest, gather};
 use tp_inbox::owner::Owner;
 use tp_inbox::sender::Sender;
-use tp_refusal::memory::Memory;
 use tp_value::message::Message;
 
 fn append(desk: &mut Desk, rest: Rest) -> Result<(), Memory>

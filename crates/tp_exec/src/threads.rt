@@ -20,11 +20,11 @@ use tp_behaviour::gate::Gate;
 use tp_behaviour::outcome::Outcome;
 use tp_behaviour::task::Task;
 use tp_behaviour::worker::Worker;
+use tp_common::memory::Memory;
 use tp_config::port_type::CompId;
 use tp_floor::floor::Floor;
 use tp_inbox::owner::Closer;
 use tp_play::test_case::TestCase;
-use tp_refusal::memory::Memory;
 
 /// The parts that all behaviours of a run share. It owns them, because nothing is known of a
 /// closure that keeps a struct of references where the closure is called.

@@ -7,8 +7,8 @@ ghost use Rattle.tp_exec.specs.Reporting.{IsAtRest};
 use crate::ended::EndedComponent;
 use tp_behaviour::choice::Guard;
 use tp_behaviour::outcome::Outcome;
-use tp_event::operation::ReceiveKind;
-use tp_history::desk::Desk;
+use tp_common::operation::ReceiveKind;
+use tp_inbox::desk::Desk;
 
 fn discards(guard: &Guard) -> bool
     ensures { IsTrue result ↔ (guard.now.kind ≡ ReceiveKind.Trigger) }

@@ -8,7 +8,7 @@ use crossbeam_utils::atomic::seq_cell::{Pass, RuledSeqCell, Words};
 use crossbeam_utils::rule::{Outcome, Protocol};
 use std::alloc::Global;
 use std::sync::{Arc, Wait};
-use tp_refusal::memory::Memory;
+use tp_common::memory::Memory;
 
 #[derive(Clone, Copy, PartialEq, Eq)]
 pub(crate) struct Counts {

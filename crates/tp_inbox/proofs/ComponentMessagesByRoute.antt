@@ -5,11 +5,11 @@ use Rattle.std.specs.List.{filter_map, cons_option}
 use Rattle.std.proofs.lemmas.Bool.{and_from, and_parts}
 use Rattle.tp_config.specs.declared.port_type.CompId.{CompId}
 use Rattle.tp_config.specs.declared.port_type.RouteId.{RouteId}
-use Rattle.tp_history.specs.declared.stamped.Stamped.{Stamped}
-use Rattle.tp_history.specs.declared.posted.Posted.{Posted}
-use Rattle.tp_history.specs.declared.entry.Entry.{Entry}
-use Rattle.tp_history.specs.declared.entry.Entry.TheVariants as entry
-use Rattle.tp_history.specs.History.{arrival_on, arrived_on, arrival_from, arrived_from, posting_on, posted_on, same_route, sending_on, sent_on, sending_to, sent_to}
+use Rattle.tp_inbox.specs.declared.stamped.Stamped.{Stamped}
+use Rattle.tp_inbox.specs.declared.posted.Posted.{Posted}
+use Rattle.tp_inbox.specs.declared.entry.Entry.{Entry}
+use Rattle.tp_inbox.specs.declared.entry.Entry.TheVariants as entry
+use Rattle.tp_inbox.specs.History.{arrival_on, arrived_on, arrival_from, arrived_from, posting_on, posted_on, same_route, sending_on, sent_on, sending_to, sent_to}
 
 -- an arrival of a route from the component, or of another
 kept_or_not : (r : RouteId) (a b : Bool) (x : Posted) (y : ℕ × Stamped) (xs : List Posted) → posting_on r x ≡ cond b (Some y) None

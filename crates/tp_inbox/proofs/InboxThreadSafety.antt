@@ -15,7 +15,7 @@ use Rattle.tp_inbox.specs.contracts.owner.Owner.TheInside as owner_inside
 use Rattle.tp_inbox.specs.contracts.owner.Closer as closer
 use Rattle.tp_inbox.specs.contracts.sender.Sender as sender
 use Rattle.tp_inbox.specs.contracts.sender.Sender.TheInside as sender_inside
-use Rattle.tp_history.proofs.DeskThreadSafety.{message_send, stamped_field_send, stamped_field_sync}
+use Rattle.tp_inbox.proofs.DeskThreadSafety.{message_send, stamped_field_send, stamped_field_sync}
 
 pub envelope_send : IsSend envelope.the_row
 envelope_send = search (sendable, crosses, stamped_field_send) depth 20

@@ -1,3 +1,6 @@
+pub mod HistoryClockGrowth
+pub mod DeskThreadSafety
+pub mod PortQueuesMatchLog
 pub mod InboxThreadSafety
 pub mod EnvelopesOfOneRoute
 pub mod StepsKeepDeliveryRule

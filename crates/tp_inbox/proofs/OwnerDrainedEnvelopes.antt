@@ -8,14 +8,14 @@ use Rattle.std.proofs.lemmas.Option.{none-some}
 use Rattle.indexmap.specs.IndexMap.{get_by}
 use Rattle.tp_config.specs.declared.port_type.CompId.{CompId}
 use Rattle.tp_config.specs.declared.port_type.RouteId.{RouteId}
-use Rattle.tp_history.specs.declared.entry.Entry.{Entry}
+use Rattle.tp_inbox.specs.declared.entry.Entry.{Entry}
 use Rattle.tp_inbox.specs.declared.envelope.InboxEnvelope.{InboxEnvelope}
 use Rattle.tp_inbox.specs.declared.channel.Channel.{Channel}
 use Rattle.tp_inbox.specs.declared.owner.Owner.TheInside as owner
 use Rattle.tp_inbox.specs.declared.rule.View.{View}
 use Rattle.tp_inbox.specs.Rule.{Sound}
-use Rattle.tp_history.specs.History.{is_arrival, arrivals, arrived_on}
-use Rattle.tp_history.specs.Desks.{Journal, adding_all}
+use Rattle.tp_inbox.specs.History.{is_arrival, arrivals, arrived_on}
+use Rattle.tp_inbox.specs.Desks.{Journal, adding_all}
 use Rattle.tp_inbox.specs.Envelopes.{of, one_of, envelopes_before, EndsWith, AreCounts, AreRouted}
 use Rattle.tp_inbox.specs.Routed.{AreArrivals, arrival_of, arrivals_of, route_at, absent_route}
 use Rattle.tp_inbox.specs.Places.{route_eq}

@@ -6,14 +6,14 @@ use Rattle.std.proofs.lemmas.List.Elements.{All-nil, All-cons}
 use Rattle.std.proofs.lemmas.Slice.Zip.{all_zipped_more}
 use Rattle.std.proofs.lemmas.List.{map-append, length-map}
 use Rattle.crossbeam_queue.specs.Fifo.{Held}
-use Rattle.tp_history.specs.declared.posted.Posted.{Posted}
+use Rattle.tp_inbox.specs.declared.posted.Posted.{Posted}
 use Rattle.tp_config.specs.declared.port_type.CompId.{CompId}
 use Rattle.tp_config.specs.declared.port_type.RouteId.{RouteId}
-use Rattle.tp_history.specs.declared.entry.Entry.{Entry}
+use Rattle.tp_inbox.specs.declared.entry.Entry.{Entry}
 use Rattle.tp_inbox.specs.declared.envelope.InboxEnvelope.{InboxEnvelope}
 use Rattle.tp_inbox.specs.declared.channel.Channel.{Channel}
 use Rattle.tp_inbox.specs.declared.rule.View.{View}
-use Rattle.tp_history.specs.History.{arrivals, arrived_on, arrived_from}
+use Rattle.tp_inbox.specs.History.{arrivals, arrived_on, arrived_from}
 use Rattle.tp_inbox.specs.Envelopes.{AreFronts, AreWhole, AreRouted, Begins, Ledger, on_routes, one_of, envelopes_before, EndsWith}
 use Rattle.tp_inbox.specs.Rule.{owner_pass, sender_pass, Knows, Sound}
 use Rattle.tp_inbox.specs.Routed.{AreBegun, AreDelivered, AreArrivalsNumbered, IsArrivalOn, arrival_of, arrivals_of, posted_of, sources_behind, with_source}

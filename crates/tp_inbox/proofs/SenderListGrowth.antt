@@ -7,7 +7,7 @@ use Rattle.tp_config.specs.declared.port_type.CompId.{CompId}
 use Rattle.tp_config.specs.declared.port_type.RouteId.{RouteId}
 use Rattle.tp_inbox.specs.Routed.{routes_by}
 use Rattle.tp_inbox.specs.Ledgers.{Inbox, SenderLedger, AreSenders, IsSenderInto, end_of}
-use Rattle.tp_history.proofs.PortQueuesMatchLog.{same_or_not}
+use Rattle.tp_inbox.proofs.PortQueuesMatchLog.{same_or_not}
 use Rattle.tp_inbox.proofs.RoutesAfterSendersJoin.{move_one}
 
 -- which sender it is

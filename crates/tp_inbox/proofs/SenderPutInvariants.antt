@@ -14,7 +14,7 @@ use Rattle.tp_config.specs.declared.port_type.RouteId.{RouteId}
 use Rattle.tp_inbox.specs.declared.envelope.InboxEnvelope.{InboxEnvelope}
 use Rattle.tp_inbox.specs.declared.rule.View.{View}
 use Rattle.tp_inbox.specs.declared.sender.Sender.TheInside as sender
-use Rattle.tp_history.specs.History.{same_route, posting_on, posted_on}
+use Rattle.tp_inbox.specs.History.{same_route, posting_on, posted_on}
 use Rattle.tp_inbox.specs.Envelopes.{of, has, AreRouted}
 use Rattle.tp_inbox.specs.Rule.{sender_pass, PutsEnvelope}
 use Rattle.tp_inbox.specs.Routed.{AreRoutes, posted_of, route_at, absent_route}

@@ -9,7 +9,7 @@ use Rattle.std.proofs.lemmas.List.Elements.{All-cons, filter-append}
 use Rattle.std.proofs.Math.Seq.{take-suc}
 use Rattle.tp_config.specs.declared.port_type.CompId.{CompId}
 use Rattle.tp_config.specs.declared.port_type.RouteId.{RouteId}
-use Rattle.tp_history.specs.History.{same_route}
+use Rattle.tp_inbox.specs.History.{same_route}
 use Rattle.tp_inbox.specs.Envelopes.{has}
 use Rattle.tp_inbox.specs.Routed.{AreRoutes, absent_route, route_at, routes_by, with_source, sources_behind, sources_of}
 use Rattle.tp_inbox.specs.Ledgers.{Inbox, SenderLedger, AreMade, sender_by, new_sender, first_sender, extended}

@@ -3,11 +3,11 @@ use Rattle.std.specs.Prelude.{◌≡◌, ◌-◌, List, ◌++◌, length, map, t
 use Rattle.std.specs.List.{AllZip}
 use Rattle.std.specs.Arc.{arc_value}
 use Rattle.crossbeam_queue.specs.SegTies.{IsSegPassOf}
-use Rattle.tp_history.specs.declared.entry.Entry.{Entry}
+use Rattle.tp_inbox.specs.declared.entry.Entry.{Entry}
 use Rattle.tp_inbox.specs.declared.gathered.Gathered.TheInside.{Inside}
 use Rattle.tp_config.specs.declared.port_type.CompId.{CompId}
 use Rattle.tp_config.specs.declared.port_type.RouteId.{RouteId}
-use Rattle.tp_history.specs.declared.posted.Posted.{Posted}
+use Rattle.tp_inbox.specs.declared.posted.Posted.{Posted}
 use Rattle.tp_inbox.specs.Envelopes.{Ledger}
 use Rattle.tp_inbox.specs.Rule.{Sound}
 use Rattle.tp_inbox.specs.Routed.{arrivals_of, rest_arrivals, posted_of}

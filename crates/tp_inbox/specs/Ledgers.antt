@@ -2,14 +2,14 @@
 use Rattle.std.specs.Prelude.{◌≡◌, ◌==◌, ℕ, cond, List, [], ◌∷◌, ◌++◌, length, map, take, All}
 use Rattle.std.specs.Global.{Global}
 use Rattle.crossbeam_queue.specs.SegTies.{SegId}
-use Rattle.tp_history.specs.declared.stamped.Stamped.{Stamped}
+use Rattle.tp_inbox.specs.declared.stamped.Stamped.{Stamped}
 use Rattle.tp_config.specs.declared.port_type.CompId.{CompId}
 use Rattle.tp_config.specs.declared.port_type.RouteId.{RouteId}
-use Rattle.tp_history.specs.declared.posted.Posted.{Posted}
-use Rattle.tp_history.specs.declared.entry.Entry.{Entry}
-use Rattle.tp_history.specs.History.{arrived_on, posted_on}
+use Rattle.tp_inbox.specs.declared.posted.Posted.{Posted}
+use Rattle.tp_inbox.specs.declared.entry.Entry.{Entry}
+use Rattle.tp_inbox.specs.History.{arrived_on, posted_on}
 use Rattle.tp_inbox.specs.Routed.{route_at, routes_by, sources_of}
-use Rattle.tp_history.specs.Desks.{Journal}
+use Rattle.tp_inbox.specs.Desks.{Journal}
 
 -- which inbox it is: whose, how many ports that component has, the routes into it, and its queue
 pub record Inbox : Type 0 where

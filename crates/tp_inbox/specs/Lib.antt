@@ -1,3 +1,7 @@
+pub mod Faults
+pub mod History
+pub mod Desks
+pub mod Lending
 pub mod Envelopes
 pub mod Rule
 pub mod Routed

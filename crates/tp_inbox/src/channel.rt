@@ -4,14 +4,14 @@ ghost use Rattle.tp_inbox.specs.Routed.{AreRoutes, env_of, route_at};
 
 use crate::envelope::InboxEnvelope;
 use crate::rule::InboxQueue;
+use crate::stamped::Stamped;
 use std::alloc::Global;
 use std::sync::{Arc, Condvar, Mutex, MutexGuard, Wait};
+use tp_common::event::Env;
 use tp_config::port_type::{CompId, RouteId};
-use tp_event::event::Env;
 use tp_floor::floor::Floor;
 use tp_floor::hook::NoHook;
 use tp_floor::notifier::{Notifier, Woken};
-use tp_history::stamped::Stamped;
 use tp_value::message::Message;
 
 /// The parts that an owner and its senders share: the queue, the routes into the component, and the

@@ -1,5 +1,5 @@
 //! The envelopes of an inbox.
-use tp_history::stamped::Stamped;
+use crate::stamped::Stamped;
 
 /// A message on its way into a component.
 #[derive(Drop)]

@@ -1,7 +1,7 @@
 //! What remains of an inbox after its senders have ended.
 ghost use Rattle.std.specs.Prelude.{◌≡◌, ◌++◌, ◌≤◌, [], All, IfErr, IfOk};
 ghost use Rattle.std.specs.Prelude.{length, map, vec_capacity};
-ghost use Rattle.tp_history.specs.History.{arrivals};
+ghost use Rattle.tp_inbox.specs.History.{arrivals};
 ghost use Rattle.tp_inbox.specs.Envelopes.{one_of};
 ghost use Rattle.tp_inbox.specs.Routed.{AreBegun, AreDelivered, AreArrivalsNumbered, IsArrivalOn, AreRoutes};
 ghost use Rattle.tp_inbox.specs.Routed.{arrivals_of, rest_arrivals};
@@ -9,6 +9,7 @@ ghost use Rattle.tp_inbox.specs.Envelopes.{AreRouted};
 ghost use Rattle.tp_inbox.specs.Ledgers.{AreSenders, IsDeskOf, put_by};
 
 use crate::channel::Channel;
+use crate::desk::Desk;
 use crate::envelope::InboxEnvelope;
 use crate::owner::{Owner, take_out};
 use crate::rule::{InboxPass, Route, TakeOut};
@@ -16,10 +17,9 @@ use crate::sender::Sender;
 use std::alloc::Global;
 use std::marker::Model;
 use std::sync::{Arc, Wait};
+use tp_common::event::Env;
+use tp_common::memory::Memory;
 use tp_config::port_type::CompId;
-use tp_event::event::Env;
-use tp_history::desk::Desk;
-use tp_refusal::memory::Memory;
 use tp_value::message::Message;
 
 /// The messages left in an inbox, in order: the port of arrival, the arrival, its stamp.

@@ -1,21 +1,27 @@
-//! The inbox of a component: several threads put messages into it, and the component's own thread
-//! moves them to its ports. `tp_exec` makes one by [`making::inbox`], which returns its owner, its
-//! senders and a closer; start there. `tp_behaviour` puts and moves messages, and `tp_exec` settles
-//! what is left once all have ended. 50 `Memory` means that an allocation was refused; only calls
-//! that can return it allocate.
+//! A component's desk and its inbox. The desk has the ports, and the one history of everything that
+//! the component did and got. Several threads put messages into the inbox, and the component's own
+//! thread moves them to the desk. Start with [`desk::Desk`], [`entry::Entry`] and
+//! [`making::inbox`], which returns the inbox's owner, its senders and a closer. 50 `Memory` means
+//! that an allocation was refused, or that an entry has no room for a number ([`noted`]), which no
+//! script reaches: a desk is as before, and the call returns what it was given; only calls that can
+//! return it allocate.
 #![tactic(auto)]
 
 mod channel;
+pub mod desk;
+pub mod ending;
+pub mod entry;
 mod envelope;
 pub mod gathered;
 pub mod making;
+pub mod noted;
 pub mod owner;
+pub mod posted;
 mod rule;
+pub mod send_fault;
 pub mod sender;
 pub mod settled;
+pub mod stamped;
 
 pub use tp_floor::floor::Floor;
 pub use tp_floor::notifier::Woken;
-pub use tp_history::desk::Desk;
-pub use tp_history::entry::Entry;
-pub use tp_history::stamped::Stamped;

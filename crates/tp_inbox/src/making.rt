@@ -19,10 +19,10 @@ use crate::sender::Sender;
 use indexmap::IndexMap;
 use std::alloc::Global;
 use std::sync::Arc;
+use tp_common::memory::Memory;
 use tp_config::config::Config;
 use tp_config::port_type::{CompId, RouteId};
 use tp_floor::floor::Floor;
-use tp_refusal::memory::Memory;
 
 fn routes_of(config: &Config, comp: CompId) -> Result<Vec<RouteId>, Memory>
     ensures routes { IfOk result (λ v. v.items ≡ routes_into config.now comp) }

@@ -1,9 +1,9 @@
 //! The owner of an inbox.
 ghost use Rattle.std.specs.Prelude.{◌≡◌, ◌++◌, ◌<◌, List, None, Some, length, IfOk, OnErr, OnOk, option_map};
 ghost use Rattle.crossbeam_queue.specs.SegTies.{IsSegPassOf};
-ghost use Rattle.tp_history.specs.declared.entry.Entry.{Entry};
-ghost use Rattle.tp_history.specs.History.{arrivals};
-ghost use Rattle.tp_history.specs.Desks.{adding, adding_all};
+ghost use Rattle.tp_inbox.specs.declared.entry.Entry.{Entry};
+ghost use Rattle.tp_inbox.specs.History.{arrivals};
+ghost use Rattle.tp_inbox.specs.Desks.{adding, adding_all};
 ghost use Rattle.tp_inbox.specs.Rule.{Sound};
 ghost use Rattle.tp_inbox.specs.Envelopes.{EndsWith, one_of};
 ghost use Rattle.tp_inbox.specs.InboxEndFields.{Fetches, GivesNext, IsTakenCount, KeepsRoutes};
@@ -13,18 +13,18 @@ ghost use Rattle.tp_inbox.specs.Places.{AreFiled, route_eq};
 ghost use Rattle.indexmap.specs.IndexMap.{get};
 
 use crate::channel::Channel;
+use crate::desk::Desk;
 use crate::envelope::InboxEnvelope;
 use crate::rule::{InboxPass, InboxQueue, TakeOut};
+use crate::stamped::Stamped;
 use indexmap::IndexMap;
 use std::alloc::Global;
 use std::marker::Model;
 use std::sync::{Arc, Wait};
+use tp_common::event::Env;
+use tp_common::memory::Memory;
 use tp_config::port_type::{CompId, RouteId};
-use tp_event::event::Env;
 use tp_floor::notifier::Woken;
-use tp_history::desk::Desk;
-use tp_history::stamped::Stamped;
-use tp_refusal::memory::Memory;
 use tp_value::message::Message;
 
 /// The owner of an inbox. Contracts see it as its inbox and the arrivals that it has drained, in

@@ -2,25 +2,25 @@
 ghost use Rattle.std.specs.Prelude.{◌≡◌, ◌≢◌, ◌<◌, ◌≤◌, ◌↔◌, [], ◌∷◌, length, All, AllPairs, IfErr, IfOk, OnErr, OnOk};
 ghost use Rattle.std.specs.Arc.{arc_value};
 ghost use Rattle.crossbeam_queue.specs.SegTies.{IsSegPassOf};
-ghost use Rattle.tp_history.specs.declared.entry.Entry.TheVariants as entry;
-ghost use Rattle.tp_history.specs.History.{next_of};
-ghost use Rattle.tp_history.specs.Desks.{adding};
+ghost use Rattle.tp_inbox.specs.declared.entry.Entry.TheVariants as entry;
+ghost use Rattle.tp_inbox.specs.History.{next_of};
+ghost use Rattle.tp_inbox.specs.Desks.{adding};
 ghost use Rattle.tp_inbox.specs.Rule.{sender_pass};
 ghost use Rattle.tp_inbox.specs.InboxEndFields.{inbox_of};
 ghost use Rattle.tp_inbox.specs.Ledgers.{end_of, extended, first_sender, put_on_way, putting};
 ghost use Rattle.tp_inbox.specs.Routed.{route_at};
 
 use crate::channel::Channel;
+use crate::desk::Desk;
 use crate::envelope::InboxEnvelope;
 use crate::rule::{InboxPass, Put, Takeover};
+use crate::stamped::Stamped;
 use std::alloc::Global;
 use std::marker::Model;
 use std::sync::{Arc, Wait};
 use thiserror::Error;
+use tp_common::memory::Memory;
 use tp_config::port_type::{CompId, RouteId};
-use tp_history::desk::Desk;
-use tp_history::stamped::Stamped;
-use tp_refusal::memory::Memory;
 use tp_value::message::Message;
 
 /// The maximum number of messages on a route.

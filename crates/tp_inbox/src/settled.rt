@@ -1,17 +1,17 @@
 //! The messages put into a settled inbox, route by route.
 ghost use Rattle.std.specs.Prelude.{◌≡◌, ◌++◌, IfOk, OnOk};
 ghost use Rattle.std.specs.List.{flat_map};
-ghost use Rattle.tp_history.specs.History.{arrived_from};
+ghost use Rattle.tp_inbox.specs.History.{arrived_from};
 ghost use Rattle.tp_inbox.specs.PutMessages.{arrived_message, message_of_entry, messages_on};
 ghost use Rattle.tp_inbox.specs.Routed.{rest_arrivals};
 
+use crate::desk::Desk;
+use crate::entry::Entry;
 use std::alloc::Global;
+use tp_common::event::Env;
+use tp_common::memory::Memory;
+use tp_common::payload::Payload;
 use tp_config::port_type::RouteId;
-use tp_event::event::Env;
-use tp_event::payload::Payload;
-use tp_history::desk::Desk;
-use tp_history::entry::Entry;
-use tp_refusal::memory::Memory;
 use tp_value::message::Message;
 
 fn add_message(

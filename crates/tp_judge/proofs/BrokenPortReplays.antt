@@ -4,9 +4,9 @@ use Rattle.std.proofs.Common.{refl, ap, sym, ◌∙◌, subst, Bor}
 use Rattle.std.specs.Prelude.{slice_get}
 use Rattle.std.specs.Option.{option_to_list}
 use Rattle.std.proofs.lemmas.Option.{none-some, same_Some}
-use Rattle.tp_event.specs.declared.event.Env.{Env}
-use Rattle.tp_event.specs.declared.event.Event.{Event}
-use Rattle.tp_event.specs.declared.event.Event.TheVariants as event
+use Rattle.tp_common.specs.declared.event.Env.{Env}
+use Rattle.tp_common.specs.declared.event.Event.{Event}
+use Rattle.tp_common.specs.declared.event.Event.TheVariants as event
 use Rattle.tp_queue.specs.History.{Lawful, MayFollow, top}
 use Rattle.tp_queue.specs.Answers.{removal}
 use Rattle.tp_queue.specs.Calls.{TakesOut}

@@ -1,8 +1,8 @@
 -- What makes the ports of a trace lawful, and where they aren't.
 use Rattle.std.specs.Prelude.{◌≡◌, ◌≢◌, ◌+◌, ◌<◌, ◌^◌, ◌++◌, ◌⊎◌, ℕ, Option, Some, None, List, [], All, take, length}
 use Rattle.std.specs.Prelude.{slice_get, slice_index, OnSome, ⊤}
-use Rattle.tp_event.specs.declared.event.Env.{Env}
-use Rattle.tp_event.specs.declared.event.Event.{Event}
+use Rattle.tp_common.specs.declared.event.Env.{Env}
+use Rattle.tp_common.specs.declared.event.Event.{Event}
 use Rattle.tp_queue.specs.History.{Lawful, queued}
 use Rattle.tp_judge.specs.declared.line.MessageId.{MessageId}
 use Rattle.tp_judge.specs.declared.line.Act.{Act}

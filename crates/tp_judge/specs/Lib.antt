@@ -30,3 +30,15 @@ pub mod Latest
 pub mod Circles
 pub mod Judged
 pub mod ToldOf
+pub mod LineTexts
+pub mod Tree
+pub mod Spans
+pub mod Read
+pub mod Faults
+pub mod Kept
+pub mod Numbering
+pub mod OneToOne
+pub mod Joining
+pub mod Turns
+pub mod Rulings
+pub mod RulingTexts

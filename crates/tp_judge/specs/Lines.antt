@@ -1,8 +1,8 @@
 -- What the lines of a trace say, and how they are gathered.
 use Rattle.std.specs.Prelude.{◌==◌, ◌<◌, ℕ, Bool, false, Option, Some, None, List, IfSome, filter}
-use Rattle.tp_event.specs.declared.event.Env.{Env}
-use Rattle.tp_event.specs.declared.event.Event.{Event}
-use Rattle.tp_event.specs.declared.event.Event.TheVariants as event
+use Rattle.tp_common.specs.declared.event.Env.{Env}
+use Rattle.tp_common.specs.declared.event.Event.{Event}
+use Rattle.tp_common.specs.declared.event.Event.TheVariants as event
 use Rattle.tp_judge.specs.declared.line.MessageId.{MessageId}
 use Rattle.tp_judge.specs.declared.line.Parcel.{Parcel}
 use Rattle.tp_judge.specs.declared.line.Mention.{Mention}

@@ -2,9 +2,9 @@
 use Rattle.std.specs.Prelude.{◌≡◌, ◌≢◌, ◌-◌, ◌≤◌, ◌++◌, ℕ, Option, Some, None, List, take, slice_get, MatchOption, ⊤}
 use Rattle.std.specs.List.{filter_map}
 use Rattle.std.specs.Option.{option_to_list}
-use Rattle.tp_event.specs.declared.event.Env.{Env}
-use Rattle.tp_event.specs.declared.event.Event.{Event}
-use Rattle.tp_event.specs.declared.event.Status.TheVariants as status
+use Rattle.tp_common.specs.declared.event.Env.{Env}
+use Rattle.tp_common.specs.declared.event.Event.{Event}
+use Rattle.tp_common.specs.declared.event.Status.TheVariants as status
 use Rattle.tp_queue.specs.History.{Lawful, queued, status_of, top, limit, gone}
 use Rattle.tp_queue.specs.Queues.{QueueState, StandsFor}
 use Rattle.tp_judge.specs.declared.line.MessageId.{MessageId}

@@ -15,7 +15,7 @@ use crate::place::{Rule, UnlawfulPlace};
 use crate::text_order::stands_in_order;
 use crate::trace::IndexedTrace;
 use std::alloc::Global;
-use tp_refusal::memory::Memory;
+use tp_common::memory::Memory;
 
 pub(crate) fn least(xs: &[usize]) -> usize
     requires { 0 < length xs.now }

@@ -11,7 +11,7 @@ use crate::place::UnlawfulPlace;
 use crate::routes::route_place;
 use crate::trace::IndexedTrace;
 use std::alloc::Global;
-use tp_refusal::memory::Memory;
+use tp_common::memory::Memory;
 
 #[derive(Drop)]
 pub(crate) struct RouteRows<'t> {

@@ -11,7 +11,7 @@ use crate::gathering::gather_rows;
 use crate::line::{By, IndexedLine};
 use crate::trace::IndexedTrace;
 use std::alloc::Global;
-use tp_refusal::memory::Memory;
+use tp_common::memory::Memory;
 
 fn add_pairs(
     demands: &mut Vec<Demand>,

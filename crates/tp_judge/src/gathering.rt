@@ -5,7 +5,7 @@ ghost use Rattle.tp_judge.specs.Lines.{HasKeyBelow};
 
 use crate::line::{By, IndexedLine};
 use std::alloc::Global;
-use tp_refusal::memory::Memory;
+use tp_common::memory::Memory;
 
 pub(crate) fn empty_rows<T: Drop>(alloc: Global, count: usize) -> Result<Vec<Vec<T>>, Memory>
     ensures size { IfOk result (λ rows. length rows.items ≡ count) }

@@ -11,7 +11,7 @@ use crate::place::UnlawfulPlace;
 use crate::ports::port_places;
 use crate::trace::IndexedTrace;
 use std::alloc::Global;
-use tp_refusal::memory::Memory;
+use tp_common::memory::Memory;
 
 fn order_places(alloc: Global, trace: &IndexedTrace) -> Result<Vec<UnlawfulPlace>, Memory>
     requires { AreWithin trace.now }

@@ -1,8 +1,8 @@
-//! Decides whether a trace is lawful, that is, obeys the rules of ports and of delivery, and has no
-//! line that happens before itself; and whether it is one run. Names are numbers here, which
-//! `tp_referee` assigns. Start with [`judging::judge`] and [`one_run::one_run`]. `tp_exec` asks
-//! [`one_order::has_one_order`] the same of a run's histories. 50 `Memory` means that an allocation
-//! was refused; only calls that can return it allocate.
+//! Traces: whether one is lawful, that is, obeys the rules of ports and of delivery, and has no
+//! line that happens before itself; and whether it is one run. Names are numbers here, but in
+//! [`referee`], mode `judge`, which reads a trace and writes the ruling. Start with
+//! [`judging::judge`] and [`one_run::one_run`]. 50 `Memory` means that an allocation was refused;
+//! only calls that can return it allocate.
 #![tactic(auto)]
 
 pub mod answer;
@@ -23,6 +23,7 @@ pub mod order;
 pub mod place;
 mod ports;
 mod progress;
+pub mod referee;
 mod replaying;
 mod routes;
 mod run_demands;

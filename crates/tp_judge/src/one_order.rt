@@ -14,7 +14,7 @@ use crate::histories::Histories;
 use crate::kind::EntryKind;
 use crate::progress::{ArrivalCursor, OrderProgress};
 use std::alloc::Global;
-use tp_refusal::memory::Memory;
+use tp_common::memory::Memory;
 
 /// Moves the cursor to the arrival that so many others precede, and returns its message.
 fn find_arrival<H: Histories>(

@@ -12,7 +12,7 @@ use crate::run_demands::make_run_demands;
 use crate::sections::trace_histories;
 use crate::trace::IndexedTrace;
 use std::alloc::Global;
-use tp_refusal::memory::Memory;
+use tp_common::memory::Memory;
 
 /// The result of the search for one order of everything that the components did, with each message
 /// in its queue as soon as it is sent.

@@ -15,8 +15,8 @@ use crate::place::{Rule, UnlawfulPlace};
 use crate::replaying::{Replayed, is_env, replay};
 use crate::trace::IndexedTrace;
 use std::alloc::Global;
+use tp_common::memory::Memory;
 use tp_queue::queue::Queue;
-use tp_refusal::memory::Memory;
 
 fn is_queued(queue: &Queue<MessageId>, place: u64, mention: Mention) -> bool
     ensures { IsTrue result ↔ (slice_get queue.now.entries place ≡ Some (envelope_of mention)) }

@@ -1,7 +1,7 @@
 //! The lines of one port, replayed at a queue.
 ghost use Rattle.std.specs.Prelude.{◌≡◌, ◌++◌, ◌∷◌, [], ◌↔◌, IfOk, OnOk, IsTrue, Some};
 ghost use Rattle.std.specs.Option.{option_to_list};
-ghost use Rattle.tp_event.specs.declared.event.Event.TheVariants as event;
+ghost use Rattle.tp_common.specs.declared.event.Event.TheVariants as event;
 ghost use Rattle.tp_queue.specs.History.{top};
 ghost use Rattle.tp_queue.specs.Queues.{AtHistory, StandsFor};
 ghost use Rattle.tp_judge.specs.LinesByNumber.{lines_at};
@@ -13,9 +13,9 @@ ghost use Rattle.tp_judge.specs.Rules.{IsBehind, IsOperation, IsReason, Replays}
 use crate::line::{Act, IndexedLine, Mention, MessageId};
 use crate::place::{Rule, UnlawfulPlace};
 use std::alloc::Global;
-use tp_event::event::{Env, Status};
+use tp_common::event::{Env, Status};
+use tp_common::memory::Memory;
 use tp_queue::queue::Queue;
-use tp_refusal::memory::Memory;
 
 #[derive(Drop)]
 pub(crate) enum Replayed {

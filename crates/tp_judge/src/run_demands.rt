@@ -11,7 +11,7 @@ use crate::line::{Act, Mention};
 use crate::sendings::{gather_sendings, sending_place};
 use crate::trace::IndexedTrace;
 use std::alloc::Global;
-use tp_refusal::memory::Memory;
+use tp_common::memory::Memory;
 
 /// The latest lines of a component and of its arrivals, by their places.
 #[derive(Clone, Copy)]

@@ -9,7 +9,7 @@ use crate::kind::EntryKind;
 use crate::line::{Act, IndexedLine, Mention};
 use crate::trace::IndexedTrace;
 use std::alloc::Global;
-use tp_refusal::memory::Memory;
+use tp_common::memory::Memory;
 
 /// From the first line of a component on, up to the place after its last line; both are 0 if it has
 /// no line.

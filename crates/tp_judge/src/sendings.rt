@@ -9,7 +9,7 @@ use crate::gathering::empty_rows;
 use crate::line::{By, Mention};
 use crate::trace::IndexedTrace;
 use std::alloc::Global;
-use tp_refusal::memory::Memory;
+use tp_common::memory::Memory;
 
 pub(crate) fn gather_sendings(
     alloc: Global,

@@ -2,7 +2,7 @@
 use Rattle.std.proofs.Common.{◌≡◌, ℕ, ◌+◌, ◌<◌, ℤ, List, Option, Some, None, All, length, refl}
 use Rattle.std.proofs.lemmas.Option.{slice_get_within}
 use Rattle.tp_value.specs.declared.types.Ty.{Ty}
-use Rattle.tp_event.specs.declared.operation.PortOperation.{PortOperation}
+use Rattle.tp_common.specs.declared.operation.PortOperation.{PortOperation}
 use Rattle.tp_play.specs.declared.body.SendMsg.{SendMsg}
 use Rattle.tp_play.specs.declared.body.RecvTemplate.{RecvTemplate}
 use Rattle.tp_play.specs.declared.body.RecvMsg.{RecvMsg}

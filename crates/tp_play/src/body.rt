@@ -1,5 +1,5 @@
 //! The bodies of a test case, with resolved statements.
-use tp_event::operation::{PortOperation, ReceiveKind};
+use tp_common::operation::{PortOperation, ReceiveKind};
 use tp_value::items::Items;
 use tp_value::shared::Shared;
 use tp_value::template::PatternPart;

@@ -6,7 +6,7 @@ ghost use Rattle.tp_play.specs.Laws.{FitsItsType, HasItsType};
 
 use crate::body::{RecvMsg, RecvTemplate, SendMsg, SendValue};
 use std::alloc::Global;
-use tp_refusal::memory::Memory;
+use tp_common::memory::Memory;
 use tp_value::items::Items;
 use tp_value::message::{Message, MsgTemplate};
 use tp_value::shared::Shared;

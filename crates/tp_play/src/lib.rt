@@ -1,5 +1,5 @@
 //! The test case in executable form: a body for each component, with names resolved, and the values
-//! of its messages and templates. The checks (`tp_body` and `tp_script`) make a
+//! of its messages and templates. The checks (`tp_checks` and `tp_script`) make a
 //! [`test_case::TestCase`]; `tp_behaviour` executes it, and `tp_program` translates it. Start
 //! there. 50 `Memory` means that an allocation was refused; only calls that can return it allocate.
 #![tactic(auto)]

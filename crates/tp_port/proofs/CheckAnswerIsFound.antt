@@ -1,8 +1,8 @@
 -- The answer of a `check` is what was found, and the history ends with it.
 use Rattle.std.proofs.Common.{◌≡◌, ℕ, Option, Some, List, [], ◌∷◌, ◌++◌, ap, sym, ◌∙◌, subst}
-use Rattle.tp_event.specs.declared.event.Env.{Env}
-use Rattle.tp_event.specs.declared.event.Event.{Event}
-use Rattle.tp_event.specs.declared.event.Event.TheVariants as event
+use Rattle.tp_common.specs.declared.event.Env.{Env}
+use Rattle.tp_common.specs.declared.event.Event.{Event}
+use Rattle.tp_common.specs.declared.event.Event.TheVariants as event
 use Rattle.tp_queue.specs.History.{Lawful, top}
 use Rattle.tp_queue.specs.Answers.{Checks, Finds, checked}
 use Rattle.tp_queue.specs.Queues.{QueueState, StandsFor}

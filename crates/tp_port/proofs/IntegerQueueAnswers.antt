@@ -4,15 +4,15 @@ use Rattle.std.specs.Prelude.{ℤ, ◌&&◌, IfSome, option_and_then, if◌then�
 use Rattle.std.specs.Option.{option_to_list}
 use Rattle.std.specs.Cmp.{signed_Decides}
 use Rattle.std.proofs.lemmas.Bool.{eqb-true}
-use Rattle.tp_event.specs.declared.event.Env.{Env}
-use Rattle.tp_event.specs.declared.event.Event.{Event}
-use Rattle.tp_event.specs.declared.event.Event.TheVariants as event
-use Rattle.tp_event.specs.declared.event.TriggerAnswer.TheVariants as answer
+use Rattle.tp_common.specs.declared.event.Env.{Env}
+use Rattle.tp_common.specs.declared.event.Event.{Event}
+use Rattle.tp_common.specs.declared.event.Event.TheVariants as event
+use Rattle.tp_common.specs.declared.event.TriggerAnswer.TheVariants as answer
 use Rattle.tp_port.specs.declared.pattern.IntegerPattern.{IntegerPattern}
 use Rattle.tp_port.specs.declared.pattern.IntegerPattern.TheVariants as pattern
 use Rattle.tp_queue.specs.History.{top}
 use Rattle.tp_port.specs.Admits.{Admits}
-use Rattle.tp_event.specs.Criteria.{Satisfies}
+use Rattle.tp_common.specs.Criteria.{Satisfies}
 use Rattle.tp_queue.specs.Answers.{Finds, Checks, checked}
 use Rattle.tp_queue.specs.Calls.{ReceivesFor, TriggersFor}
 use Rattle.tp_queue.specs.Queues.{QueueState, StandsFor}

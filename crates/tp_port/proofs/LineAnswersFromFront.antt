@@ -7,13 +7,13 @@ use Rattle.std.proofs.lemmas.List.Elements.{All-append}
 use Rattle.std.proofs.Math.Seq.{take-append_seam}
 use Rattle.tp_port.specs.declared.replay.QueueFault.{QueueFault}
 use Rattle.tp_port.specs.declared.replay.QueueFault.TheVariants as fault
-use Rattle.tp_text.specs.Cutting.{lines_of}
+use Rattle.tp_common.specs.Cutting.{lines_of}
 use Rattle.tp_port.specs.QueueLine.{QueueLine, IsGood, IsFirstBad, Spells, Says}
 use Rattle.tp_port.specs.Replay.{Progress, answer, sighted, after, text_from, left_text, queue_text}
-use Rattle.tp_text.specs.declared.text.ReadFault.{ReadFault}
-use Rattle.tp_text.specs.declared.text.ReadFault.TheVariants as read
-use Rattle.tp_text.specs.Reading.{TakesBytes}
-use Rattle.tp_text.specs.declared.watched.Watched.{Watched}
+use Rattle.tp_common.specs.declared.text.ReadFault.{ReadFault}
+use Rattle.tp_common.specs.declared.text.ReadFault.TheVariants as read
+use Rattle.tp_common.specs.Reading.{TakesBytes}
+use Rattle.tp_common.specs.declared.watched.Watched.{Watched}
 use Rattle.tp_port.specs.Faults.{IsAnswerTo, IsReplayed, HasFault, IsFaultOf, IsReadFaultOf, fault_of}
 
 get_after : {X : Type 0} (xs ys : List X) (y : X) → slice_get (xs ++ y ∷ ys) (length xs) ≡ Some y

@@ -2,7 +2,7 @@
 use Rattle.std.proofs.Common.{◌≡◌, ℕ, Bool, true, false, List, [], refl, ap, sym, ◌∙◌}
 use Rattle.tp_port.specs.declared.command.CommandVerb.{CommandVerb}
 use Rattle.tp_port.specs.declared.command.CommandVerb.TheVariants as verb
-use Rattle.tp_text.specs.Cutting.{words_of}
+use Rattle.tp_common.specs.Cutting.{words_of}
 use Rattle.tp_port.specs.QueueLine.{QueueLine, arrive, receive, check, trigger, clear, start, stop, halt, operands, verb_of}
 use Rattle.tp_port.proofs.SplitTextHasWords.{some_word}
 

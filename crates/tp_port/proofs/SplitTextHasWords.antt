@@ -1,7 +1,7 @@
 -- A text has a word.
 use Rattle.std.proofs.Common.{◌≡◌, ℕ, Bool, true, false, cond, List, [], ◌∷◌}
 use Rattle.std.specs.List.{onto_first, slice_split}
-use Rattle.tp_text.specs.Cutting.{is_space}
+use Rattle.tp_common.specs.Cutting.{is_space}
 
 some_part : (b : Bool) (x : ℕ) (l m : List (List ℕ)) → cond b ([] ∷ l) (onto_first x m) ≡ [] → ⊥
 some_part true x l m e = cc

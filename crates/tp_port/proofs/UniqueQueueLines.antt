@@ -11,7 +11,7 @@ use Rattle.tp_port.specs.declared.pattern.IntegerPattern.{IntegerPattern}
 use Rattle.tp_port.specs.declared.pattern.IntegerPattern.TheVariants as pattern
 use Rattle.tp_port.specs.declared.command.CommandVerb.{CommandVerb}
 use Rattle.tp_port.specs.declared.command.CommandVerb.TheVariants as verb
-use Rattle.tp_text.specs.Cutting.{lines_of}
+use Rattle.tp_common.specs.Cutting.{lines_of}
 use Rattle.tp_port.specs.QueueLine.{QueueLine, arrive, receive, check, trigger, clear, start, stop, halt, Wish, IsWish, IsQueueLine, PatternFits, Spells, Says, operands, verb_of, verb_text, pattern_text, from_words, wish_words}
 
 -- from a verb's word back to the verb, by its first two bytes and its third

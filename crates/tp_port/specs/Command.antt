@@ -2,7 +2,7 @@
 use Rattle.std.specs.Prelude.{◌≡◌, ℕ, Option, Some, None, List}
 use Rattle.std.specs.Borrow.{Bor}
 use Rattle.std.specs.Option.{option_copied}
-use Rattle.tp_text.specs.Cutting.{words_after}
+use Rattle.tp_common.specs.Cutting.{words_after}
 use Rattle.tp_port.specs.declared.command.Criteria.{Criteria}
 use Rattle.tp_port.specs.declared.command.CommandVerb.{CommandVerb}
 use Rattle.tp_port.specs.declared.command.Command.{Command}

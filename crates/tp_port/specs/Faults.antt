@@ -1,15 +1,15 @@
 -- When a queue file is answered, and when each fault comes.
 use Rattle.std.specs.Prelude.{◌≡◌, ℕ, ◌<◌, ◌≤◌, ◌⊎◌, Option, List, length, All, IfSome}
 use Rattle.std.specs.Io.KnownBytes.{Consumes}
-use Rattle.tp_text.specs.declared.text.ReadFault.{ReadFault}
-use Rattle.tp_text.specs.declared.text.ReadFault.TheVariants as read_fault
-use Rattle.tp_text.specs.Cutting.{lines_of}
+use Rattle.tp_common.specs.declared.text.ReadFault.{ReadFault}
+use Rattle.tp_common.specs.declared.text.ReadFault.TheVariants as read_fault
+use Rattle.tp_common.specs.Cutting.{lines_of}
 use Rattle.tp_port.specs.declared.replay.QueueFault.{QueueFault}
 use Rattle.tp_port.specs.declared.replay.QueueFault.TheVariants as queue_fault
 use Rattle.tp_port.specs.QueueLine.{QueueLine, Says, IsGood, IsFirstBad}
-use Rattle.tp_text.specs.Reading.{IsCapacity}
-use Rattle.tp_text.specs.declared.watched.Watched.{Watched}
-use Rattle.tp_text.specs.Watching.{Writes}
+use Rattle.tp_common.specs.Reading.{IsCapacity}
+use Rattle.tp_common.specs.declared.watched.Watched.{Watched}
+use Rattle.tp_common.specs.Watching.{Writes}
 use Rattle.tp_port.specs.Replay.{queue_text}
 
 abbrev pub fault_of : ReadFault → QueueFault

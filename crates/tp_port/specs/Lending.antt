@@ -3,8 +3,8 @@ use Rattle.std.specs.Prelude.{◌≡◌, List, Option, Result, MatchResult, ⊤}
 use Rattle.std.specs.Option.{option_copied}
 use Rattle.std.specs.Borrow.{Fml, RattleType, Bor, MutBor, follows_so}
 use mathlib.Core.Option.{none}
-use Rattle.tp_event.specs.declared.event.Env.{Env}
-use Rattle.tp_event.specs.declared.event.Event.{Event}
+use Rattle.tp_common.specs.declared.event.Env.{Env}
+use Rattle.tp_common.specs.declared.event.Event.{Event}
 use Rattle.tp_queue.specs.History.{Lawful}
 use Rattle.tp_queue.specs.Answers.{checked}
 use Rattle.tp_port.specs.contracts.port_queue.PortQueue.{the_row}

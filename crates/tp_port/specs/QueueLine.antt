@@ -4,7 +4,7 @@ use Rattle.std.specs.Int.{IsInRange, w64}
 use Rattle.std.specs.List.{list_all, AllZip}
 use Rattle.std.specs.Char.{is_ascii_alphabetic, is_ascii_alphanumeric}
 use Rattle.std.specs.Fmt.{signed_decimal}
-use Rattle.tp_text.specs.Cutting.{lines_of, words_of}
+use Rattle.tp_common.specs.Cutting.{lines_of, words_of}
 use Rattle.tp_port.specs.declared.pattern.IntegerPattern.{IntegerPattern}
 use Rattle.tp_port.specs.declared.pattern.IntegerPattern.TheVariants as pattern
 use Rattle.tp_port.specs.declared.command.CommandVerb.{CommandVerb}

@@ -5,9 +5,9 @@ use Rattle.std.specs.Cmp.Lexicographic.{pointwise}
 use Rattle.std.specs.Option.{option_to_list, option_map}
 use Rattle.std.specs.Ordering.{int_eq}
 use Rattle.std.specs.Fmt.{decimal, signed_decimal}
-use Rattle.tp_event.specs.declared.event.Env.{Env}
-use Rattle.tp_event.specs.declared.event.Event.{Event}
-use Rattle.tp_event.specs.declared.event.Event.TheVariants as event
+use Rattle.tp_common.specs.declared.event.Env.{Env}
+use Rattle.tp_common.specs.declared.event.Event.{Event}
+use Rattle.tp_common.specs.declared.event.Event.TheVariants as event
 use Rattle.tp_port.specs.declared.pattern.IntegerPattern.{IntegerPattern}
 use Rattle.tp_port.specs.declared.pattern.IntegerPattern.TheVariants as pattern
 use Rattle.tp_queue.specs.History.{accepted, queued, status_of, top}

@@ -7,9 +7,9 @@ ghost use Rattle.std.specs.Prelude.{slice_get};
 
 use crate::senders::Senders;
 use itoa::Buffer;
-use tp_event::event::Env;
+use tp_common::event::Env;
+use tp_common::memory::Memory;
 use tp_queue::queue::Queue;
-use tp_refusal::memory::Memory;
 
 pub fn write_count(out: &mut String, word: &str, count: u64) -> Result<(), Memory>
     ensures { OnOk result (string_bytes out.new ≡ string_bytes out.old

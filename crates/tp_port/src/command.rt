@@ -4,12 +4,12 @@ ghost use Rattle.std.specs.Int.{w64};
 ghost use Rattle.std.specs.List.{list_all};
 ghost use Rattle.std.specs.Char.{is_ascii_alphanumeric};
 ghost use Rattle.std.specs.Fmt.{signed_decimal};
-ghost use Rattle.tp_text.specs.Cutting.{words_of};
+ghost use Rattle.tp_common.specs.Cutting.{words_of};
 ghost use Rattle.tp_port.specs.QueueLine.{BeginsAsInteger, IsArriveLine, IsGood, SaysOneAtMost, IsName, IsWish, PatternFits, Spells, arrival_words, operands, pattern_text, verb_of, verb_text, wish_words};
 ghost use Rattle.tp_port.specs.Command.{IsRead, queue_line, wish_of, words_left};
 
 use crate::pattern::IntegerPattern;
-use tp_text::cut::{first_word, utf8_text};
+use tp_common::cut::{first_word, utf8_text};
 
 /// The maximum number of letters and digits of a name.
 pub const NAME_LIMIT: usize = 20;

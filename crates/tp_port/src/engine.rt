@@ -1,7 +1,7 @@
 //! The engine of a queue file: one port, its senders, and the answers so far.
 ghost use Rattle.std.specs.Prelude.{◌≡◌, ◌++◌, [], codes, map, IfOk, OnOk, string_bytes};
 ghost use Rattle.std.specs.Option.{option_to_list};
-ghost use Rattle.tp_event.specs.declared.event.Event.TheVariants as event;
+ghost use Rattle.tp_common.specs.declared.event.Event.TheVariants as event;
 ghost use Rattle.tp_queue.specs.History.{top};
 ghost use Rattle.tp_queue.specs.Queues.{AtHistory, StandsFor};
 ghost use Rattle.tp_port.specs.QueueLine.{arrive, check, clear, halt, receive, start, stop, trigger};
@@ -14,10 +14,10 @@ use crate::command::{Command, Criteria};
 use crate::pattern::IntegerPattern;
 use crate::senders::Senders;
 use std::alloc::Global;
-use tp_event::event::{Env, TriggerAnswer};
+use tp_common::event::{Env, TriggerAnswer};
+use tp_common::limit::TEXT_LIMIT;
+use tp_common::memory::Memory;
 use tp_queue::queue::Queue;
-use tp_refusal::limit::TEXT_LIMIT;
-use tp_refusal::memory::Memory;
 
 /// The execution of a queue file, line by line. It doesn't keep the history of the port: contracts
 /// speak of any history that the queue stands for.

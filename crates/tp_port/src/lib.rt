@@ -14,7 +14,7 @@ pub mod replay;
 mod senders;
 
 pub use port_queue::PortQueue;
-pub use tp_event::event::{Env, Event, Status, TriggerAnswer};
-pub use tp_event::payload::{Payload, Wanted};
-pub use tp_text::text::{ReadFault, read_text};
-pub use tp_text::watched::Watched;
+pub use tp_common::event::{Env, Event, Status, TriggerAnswer};
+pub use tp_common::payload::{Payload, Wanted};
+pub use tp_common::text::{ReadFault, read_text};
+pub use tp_common::watched::Watched;

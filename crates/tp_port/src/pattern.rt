@@ -1,5 +1,5 @@
 //! The wanted part of a receiving operation in a queue file.
-use tp_event::payload::Wanted;
+use tp_common::payload::Wanted;
 
 /// The integers that are wanted.
 #[derive(Clone, Copy)]

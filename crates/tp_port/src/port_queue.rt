@@ -1,8 +1,8 @@
 //! The queue of a message port, which keeps its history.
 ghost use Rattle.std.specs.Prelude.{◌≡◌, ◌∷◌, ◌++◌, ◌≤◌, [], length, IfOk, OnOk, OnErr, IfErr, IsTrue, ◌↔◌, ◌-◌, slice_get};
 ghost use Rattle.std.specs.Option.{option_copied};
-ghost use Rattle.tp_event.specs.declared.event.Event.TheVariants as event;
-ghost use Rattle.tp_event.specs.declared.event.Status.TheVariants as status;
+ghost use Rattle.tp_common.specs.declared.event.Event.TheVariants as event;
+ghost use Rattle.tp_common.specs.declared.event.Status.TheVariants as status;
 ghost use Rattle.tp_queue.specs.History.{Lawful, gone, limit, queued, status_of, top};
 ghost use Rattle.std.specs.Borrow.{sem};
 ghost use Rattle.tp_port.specs.Lending.{ends_checked};
@@ -10,10 +10,10 @@ ghost use Rattle.tp_queue.specs.Answers.{Checks, Receives, Triggers, halted_coun
 
 use std::alloc::Global;
 use std::marker::Model;
-use tp_event::event::{Env, Event, Status, TriggerAnswer};
-use tp_event::payload::{Payload, Wanted};
+use tp_common::event::{Env, Event, Status, TriggerAnswer};
+use tp_common::memory::Memory;
+use tp_common::payload::{Payload, Wanted};
 use tp_queue::queue::Queue;
-use tp_refusal::memory::Memory;
 
 /// A queue with its history (ES 201 873-1, 9.1; ES 201 873-4, port states). Contracts see it as
 /// that history: the list of the port's events. Use it if your program keeps no list of them
@@ -30,7 +30,7 @@ pub struct PortQueue<M: Payload> {
 
 impl<M: Payload> Model for PortQueue<M> {
     ghost use Rattle.std.specs.Prelude.{List};
-    ghost use Rattle.tp_event.specs.declared.event.Event.{Event};
+    ghost use Rattle.tp_common.specs.declared.event.Event.{Event};
     ghost use Rattle.tp_queue.specs.Queues.{StandsFor};
 
     ghost Value = { List (Event M) };

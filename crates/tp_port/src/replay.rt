@@ -1,7 +1,7 @@
 //! A queue file that is read, executed and answered.
 ghost use Rattle.std.specs.Prelude.{◌≡◌, ◌<◌, ◌≤◌, ◌↔◌, length, All, IsErrOf, IfErr, IfOk, IfSome, List, MatchOption, OnOk, Some, false, string_bytes};
-ghost use Rattle.tp_text.specs.Watching.{HasFailed, reader_left};
-ghost use Rattle.tp_text.specs.Cutting.{lines_of};
+ghost use Rattle.tp_common.specs.Watching.{HasFailed, reader_left};
+ghost use Rattle.tp_common.specs.Cutting.{lines_of};
 ghost use Rattle.tp_port.specs.Faults.{HasFault, IsFaultOf, IsRefusedFor, IsReplayed};
 ghost use Rattle.tp_port.specs.QueueLine.{IsFirstBad, IsGood, QueueLine, Says};
 ghost use Rattle.tp_port.specs.Replay.{queue_text};
@@ -11,10 +11,10 @@ use crate::engine::Engine;
 use std::alloc::Global;
 use std::io::{Read, Write};
 use thiserror::Error;
-use tp_refusal::limit::TEXT_LIMIT;
-use tp_text::cut::first_line;
-use tp_text::text::{ReadFault, read_text};
-use tp_text::watched::{Watched, write_bytes};
+use tp_common::cut::first_line;
+use tp_common::limit::TEXT_LIMIT;
+use tp_common::text::{ReadFault, read_text};
+use tp_common::watched::{Watched, write_bytes};
 
 /// Why a queue file was not replayed.
 #[derive(Clone, Copy, Debug, PartialEq, Eq, Error)]

@@ -6,7 +6,7 @@ ghost use Rattle.std.specs.Option.{option_copied, option_map};
 use indexmap::IndexSet;
 use std::alloc::Global;
 use std::marker::Model;
-use tp_refusal::memory::Memory;
+use tp_common::memory::Memory;
 
 /// The names of senders, numbered from 0 by first occurrence. Each name is a slice of the text.
 #[derive(Drop)]

@@ -7,11 +7,11 @@ use Rattle.std.proofs.lemmas.List.Elements.{filter_map-append}
 use Rattle.std.proofs.lemmas.List.Folds.{list_any-append}
 use Rattle.std.proofs.lemmas.List.Sums.{sum_by-append}
 use Rattle.std.proofs.Math.Seq.{take-length}
-use Rattle.tp_event.specs.declared.event.Env.{Env}
-use Rattle.tp_event.specs.declared.event.Event.{Event}
-use Rattle.tp_event.specs.declared.event.Event.TheVariants as event
-use Rattle.tp_event.specs.declared.event.Status.{Status}
-use Rattle.tp_event.specs.declared.event.Status.TheVariants as status
+use Rattle.tp_common.specs.declared.event.Env.{Env}
+use Rattle.tp_common.specs.declared.event.Event.{Event}
+use Rattle.tp_common.specs.declared.event.Event.TheVariants as event
+use Rattle.tp_common.specs.declared.event.Status.{Status}
+use Rattle.tp_common.specs.declared.event.Status.TheVariants as status
 use Rattle.tp_queue.specs.History.{arrival, is_removal, is_emptying, is_clear, is_start, is_stop, is_halt, accepted, gone, since_start, status_of, since_mark, mark}
 use Rattle.tp_queue.proofs.ListPartGrowth.{length-push, after_last_keeps, after_last_cuts, before_last_keeps, before_last_cuts, after_first_keeps, after_first_cuts}
 

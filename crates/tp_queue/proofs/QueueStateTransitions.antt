@@ -2,11 +2,11 @@
 use Rattle.std.proofs.Common.{◌≡◌, ℕ, zero, suc, ◌+◌, ◌-◌, ◌<◌, ◌≤◌, Bool, true, false, Option, Some, None, List, [], ◌∷◌, ◌++◌, length, take, drop, get_or, refl, ap, sym, ◌∙◌, subst, arith, ◌⊎◌}
 use Rattle.std.specs.Prelude.{slice_get}
 use Rattle.std.proofs.Math.Seq.{take-length}
-use Rattle.tp_event.specs.declared.event.Env.{Env}
-use Rattle.tp_event.specs.declared.event.Event.{Event}
-use Rattle.tp_event.specs.declared.event.Event.TheVariants as event
-use Rattle.tp_event.specs.declared.event.Status.{Status}
-use Rattle.tp_event.specs.declared.event.Status.TheVariants as status
+use Rattle.tp_common.specs.declared.event.Env.{Env}
+use Rattle.tp_common.specs.declared.event.Event.{Event}
+use Rattle.tp_common.specs.declared.event.Event.TheVariants as event
+use Rattle.tp_common.specs.declared.event.Status.{Status}
+use Rattle.tp_common.specs.declared.event.Status.TheVariants as status
 use Rattle.tp_queue.specs.History.{gone, limit, queued, status_of, top, MayFollow, Lawful}
 use Rattle.tp_queue.specs.Answers.{halted_count, removal}
 use Rattle.tp_queue.specs.Queues.{QueueState, StandsFor, AtHistory, HasHistory, deliverable, shown}

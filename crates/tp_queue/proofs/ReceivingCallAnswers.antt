@@ -1,11 +1,11 @@
 -- What the calls that receive answer, from what they learn of the top.
 use Rattle.std.proofs.Common.{◌≡◌, ℕ, Bool, true, false, cond, Option, Some, None, List, refl, sym, subst}
 use Rattle.std.specs.Prelude.{IsTrue, ◌↔◌, MatchOption}
-use Rattle.tp_event.specs.declared.event.Env.{Env}
-use Rattle.tp_event.specs.declared.event.Event.{Event}
-use Rattle.tp_event.specs.declared.event.TriggerAnswer.TheVariants as trigger_answer
+use Rattle.tp_common.specs.declared.event.Env.{Env}
+use Rattle.tp_common.specs.declared.event.Event.{Event}
+use Rattle.tp_common.specs.declared.event.TriggerAnswer.TheVariants as trigger_answer
 use Rattle.tp_queue.specs.History.{top}
-use Rattle.tp_event.specs.Criteria.{Satisfies}
+use Rattle.tp_common.specs.Criteria.{Satisfies}
 use Rattle.tp_queue.specs.Answers.{FindsNone, Checks, checked}
 use Rattle.tp_queue.specs.Queues.{QueueState, StandsFor, AtHistory}
 use Rattle.tp_queue.specs.Calls.{Offers, ReceivesFor, TakesOut, TriggersFor}

@@ -1,13 +1,13 @@
 -- What the calls of a queue answer.
 use Rattle.std.specs.Prelude.{◌≡◌, ℕ, Option, Some, None, List, [], ◌∷◌, ◌++◌, length, Bool, true, false}
-use Rattle.tp_event.specs.declared.event.Env.{Env}
-use Rattle.tp_event.specs.declared.event.Event.{Event}
-use Rattle.tp_event.specs.declared.event.Event.TheVariants as event
-use Rattle.tp_event.specs.declared.event.TriggerAnswer.{TriggerAnswer}
-use Rattle.tp_event.specs.declared.event.TriggerAnswer.TheVariants as trigger_answer
-use Rattle.tp_event.specs.declared.event.Status.{Status}
-use Rattle.tp_event.specs.declared.event.Status.TheVariants as status
-use Rattle.tp_event.specs.Criteria.{Satisfies}
+use Rattle.tp_common.specs.declared.event.Env.{Env}
+use Rattle.tp_common.specs.declared.event.Event.{Event}
+use Rattle.tp_common.specs.declared.event.Event.TheVariants as event
+use Rattle.tp_common.specs.declared.event.TriggerAnswer.{TriggerAnswer}
+use Rattle.tp_common.specs.declared.event.TriggerAnswer.TheVariants as trigger_answer
+use Rattle.tp_common.specs.declared.event.Status.{Status}
+use Rattle.tp_common.specs.declared.event.Status.TheVariants as status
+use Rattle.tp_common.specs.Criteria.{Satisfies}
 use Rattle.tp_queue.specs.History.{top, queued}
 
 -- a receiving operation succeeds with this envelope

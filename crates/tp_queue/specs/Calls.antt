@@ -1,13 +1,13 @@
 -- What the receiving calls of a queue answer where the history before is h, and the history that the queue stands for
 -- after them.
 use Rattle.std.specs.Prelude.{◌≡◌, ℕ, Option, Some, None, List, [], ◌∷◌, ◌++◌, Bool, false, IsTrue, ◌↔◌, MatchOption}
-use Rattle.tp_event.specs.declared.event.Env.{Env}
-use Rattle.tp_event.specs.declared.event.Event.{Event}
-use Rattle.tp_event.specs.declared.event.Event.TheVariants as event
-use Rattle.tp_event.specs.declared.event.TriggerAnswer.{TriggerAnswer}
-use Rattle.tp_event.specs.declared.event.TriggerAnswer.TheVariants as trigger_answer
+use Rattle.tp_common.specs.declared.event.Env.{Env}
+use Rattle.tp_common.specs.declared.event.Event.{Event}
+use Rattle.tp_common.specs.declared.event.Event.TheVariants as event
+use Rattle.tp_common.specs.declared.event.TriggerAnswer.{TriggerAnswer}
+use Rattle.tp_common.specs.declared.event.TriggerAnswer.TheVariants as trigger_answer
 use Rattle.tp_queue.specs.History.{top}
-use Rattle.tp_event.specs.Criteria.{Satisfies}
+use Rattle.tp_common.specs.Criteria.{Satisfies}
 use Rattle.tp_queue.specs.Answers.{Finds, FindsNone, removal}
 use Rattle.tp_queue.specs.Queues.{QueueState, StandsFor}
 

@@ -4,11 +4,11 @@
 -- The clauses are those of ES 201 873-1; ES 201 873-4 has the same as the states of ports and their queues.
 use Rattle.std.specs.Prelude.{◌≡◌, ℕ, ◌+◌, ◌-◌, Bool, true, false, nat_lt, cond, Option, Some, None, List, length, take, drop, slice_get, count_by}
 use Rattle.std.specs.List.{filter_map, list_any, after_first, after_last, before_last}
-use Rattle.tp_event.specs.declared.event.Env.{Env}
-use Rattle.tp_event.specs.declared.event.Event.{Event}
-use Rattle.tp_event.specs.declared.event.Event.TheVariants as event
-use Rattle.tp_event.specs.declared.event.Status.{Status}
-use Rattle.tp_event.specs.declared.event.Status.TheVariants as status
+use Rattle.tp_common.specs.declared.event.Env.{Env}
+use Rattle.tp_common.specs.declared.event.Event.{Event}
+use Rattle.tp_common.specs.declared.event.Event.TheVariants as event
+use Rattle.tp_common.specs.declared.event.Status.{Status}
+use Rattle.tp_common.specs.declared.event.Status.TheVariants as status
 
 -- the envelope that arrives at an event
 abbrev pub arrival : {M : Type 0} → Event M → Option (Env M)

@@ -1,8 +1,8 @@
 //! The queue of a message port. It keeps no history.
 ghost use Rattle.std.specs.Prelude.{◌≡◌, ◌↔◌, ◌≤◌, ◌∷◌, ◌++◌, [], IfErr, IsTrue, OnOk, length, slice_get};
 ghost use Rattle.std.specs.Option.{option_copied};
-ghost use Rattle.tp_event.specs.declared.event.Event.TheVariants as event;
-ghost use Rattle.tp_event.specs.declared.event.Status.TheVariants as status;
+ghost use Rattle.tp_common.specs.declared.event.Event.TheVariants as event;
+ghost use Rattle.tp_common.specs.declared.event.Status.TheVariants as status;
 ghost use Rattle.tp_queue.specs.History.{gone, limit, queued, status_of, top};
 ghost use Rattle.tp_queue.specs.Answers.{Checks, checked, halted_count};
 ghost use Rattle.tp_queue.specs.Calls.{Offers, ReceivesFor, TakesOut, TriggersFor};
@@ -11,9 +11,9 @@ ghost use Rattle.tp_queue.specs.Queues.{AtHistory, HasHistory, StandsFor};
 use std::alloc::Global;
 use std::collections::VecDeque;
 use std::marker::Model;
-use tp_event::event::{Env, Status, TriggerAnswer};
-use tp_event::payload::Wanted;
-use tp_refusal::memory::Memory;
+use tp_common::event::{Env, Status, TriggerAnswer};
+use tp_common::memory::Memory;
+use tp_common::payload::Wanted;
 
 /// The queue of one message port (ES 201 873-1, 9.1; ES 201 873-4, port states). Contracts see it
 /// as its state: the queued messages, the status, and how many of these messages can be received.

@@ -2,8 +2,8 @@
 use Rattle.std.specs.Prelude.{ℕ, zero, suc, List, [], ◌∷◌, ◌++◌, codes}
 use Rattle.std.specs.List.{flat_map}
 use Rattle.std.specs.Fmt.{decimal}
-use Rattle.tp_refusal.specs.Label.{label}
-use Rattle.tp_event.specs.declared.event.Env.{Env}
+use Rattle.tp_common.specs.Label.{label}
+use Rattle.tp_common.specs.declared.event.Env.{Env}
 use Rattle.tp_queue.specs.History.{queued}
 use Rattle.tp_value.specs.declared.message.Message.{Message}
 use Rattle.tp_value.specs.declared.verdict.Verdict.{Verdict}
@@ -11,13 +11,13 @@ use Rattle.tp_config.specs.declared.port_type.CompId.{CompId}
 use Rattle.tp_config.specs.declared.port_type.PortRef.{PortRef}
 use Rattle.tp_config.specs.declared.port_type.RouteId.{RouteId}
 use Rattle.tp_play.specs.TestCases.{Made}
-use Rattle.tp_history.specs.declared.entry.Entry.{Entry}
-use Rattle.tp_history.specs.declared.entry.Entry.TheVariants as entry
-use Rattle.tp_history.specs.Desks.{Journal, at_port}
-use Rattle.tp_history.specs.declared.ending.End.{End}
-use Rattle.tp_history.specs.declared.ending.End.TheVariants as ending
-use Rattle.tp_history.specs.declared.send_fault.SendFault.{SendFault}
-use Rattle.tp_history.specs.Faults.{send_refusal}
+use Rattle.tp_inbox.specs.declared.entry.Entry.{Entry}
+use Rattle.tp_inbox.specs.declared.entry.Entry.TheVariants as entry
+use Rattle.tp_inbox.specs.Desks.{Journal, at_port}
+use Rattle.tp_inbox.specs.declared.ending.End.{End}
+use Rattle.tp_inbox.specs.declared.ending.End.TheVariants as ending
+use Rattle.tp_inbox.specs.declared.send_fault.SendFault.{SendFault}
+use Rattle.tp_inbox.specs.Faults.{send_refusal}
 use Rattle.tp_report.specs.declared.telling.Telling.{Telling}
 use Rattle.tp_report.specs.declared.telling.Telling.TheVariants as telling
 use Rattle.tp_report.specs.ReportWords.{line, component_name, port_name, full_name, message_text, verdict_word}

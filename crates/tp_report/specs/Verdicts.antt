@@ -5,10 +5,10 @@ use Rattle.std.specs.Prelude.{Option, Some, None}
 use Rattle.tp_value.specs.declared.verdict.Verdict.{Verdict}
 use Rattle.tp_value.specs.declared.verdict.Verdict.TheVariants as verdict
 use Rattle.tp_value.specs.Verdicts.{worse}
-use Rattle.tp_history.specs.declared.entry.Entry.{Entry}
-use Rattle.tp_history.specs.declared.entry.Entry.TheVariants as entry
-use Rattle.tp_history.specs.declared.ending.End.{End}
-use Rattle.tp_history.specs.declared.ending.End.TheVariants as end
+use Rattle.tp_inbox.specs.declared.entry.Entry.{Entry}
+use Rattle.tp_inbox.specs.declared.entry.Entry.TheVariants as entry
+use Rattle.tp_inbox.specs.declared.ending.End.{End}
+use Rattle.tp_inbox.specs.declared.ending.End.TheVariants as end
 use Rattle.tp_report.specs.declared.report.CompReport.{CompReport}
 
 -- the worst of these, `none` where there are none

@@ -1,7 +1,7 @@
 //! The entries of a component's history.
 ghost use Rattle.std.specs.Prelude.{◌≡◌, All};
 ghost use Rattle.std.specs.List.{flat_map};
-ghost use Rattle.tp_text.specs.Watching.{Writes};
+ghost use Rattle.tp_common.specs.Watching.{Writes};
 ghost use Rattle.tp_config.specs.Setup.{IsComponent, IsPort};
 ghost use Rattle.tp_report.specs.Lines.{arrival_text, entry_text, component_port, sender_of};
 ghost use Rattle.tp_report.specs.LineOpenings.{HasItsText};
@@ -11,11 +11,11 @@ use crate::lines::{write_failure, write_noted, write_port, write_sent, write_ver
 use crate::opening::{Fate, KeptOpening, KeptOpenings};
 use crate::telling::Telling;
 use std::io::Write;
+use tp_common::watched::{Watched, write_bytes};
 use tp_config::port_type::{CompId, PortRef};
-use tp_history::entry::Entry;
-use tp_history::noted::NotedEnvelope;
+use tp_inbox::entry::Entry;
+use tp_inbox::noted::NotedEnvelope;
 use tp_play::test_case::TestCase;
-use tp_text::watched::{Watched, write_bytes};
 
 fn at(comp: CompId, port: u32) -> PortRef
     ensures { result ≡ component_port comp port }

@@ -1,7 +1,7 @@
 //! The messages left in a component's queues.
 ghost use Rattle.std.specs.Prelude.{All, codes};
 ghost use Rattle.std.specs.List.{flat_map};
-ghost use Rattle.tp_text.specs.Watching.{Writes};
+ghost use Rattle.tp_common.specs.Watching.{Writes};
 ghost use Rattle.tp_config.specs.Setup.{IsComponent, IsPort};
 ghost use Rattle.tp_report.specs.Lines.{envelope_line, left_below, sender_of};
 ghost use Rattle.tp_report.specs.Reports.{IsDeskIn};
@@ -9,11 +9,11 @@ ghost use Rattle.tp_report.specs.Reports.{IsDeskIn};
 use crate::lines::write_envelope;
 use crate::opening::{Fate, KeptOpening};
 use std::io::Write;
+use tp_common::watched::Watched;
 use tp_config::port_type::PortRef;
-use tp_history::desk::Desk;
+use tp_inbox::desk::Desk;
 use tp_play::test_case::TestCase;
 use tp_queue::queue::Queue;
-use tp_text::watched::Watched;
 use tp_value::message::Message;
 
 fn write_queued<W: Write>(

@@ -1,10 +1,10 @@
 //! The lines of a report, kind by kind.
 ghost use Rattle.std.specs.Prelude.{◌∷◌, ◌++◌, []};
 ghost use Rattle.std.specs.Fmt.{decimal};
-ghost use Rattle.tp_text.specs.Watching.{Writes};
-ghost use Rattle.tp_refusal.specs.Label.{label};
+ghost use Rattle.tp_common.specs.Watching.{Writes};
+ghost use Rattle.tp_common.specs.Label.{label};
 ghost use Rattle.tp_config.specs.Setup.{IsComponent, IsPort};
-ghost use Rattle.tp_history.specs.Faults.{send_refusal};
+ghost use Rattle.tp_inbox.specs.Faults.{send_refusal};
 ghost use Rattle.tp_report.specs.ReportWords.{component_name, line, message_text, port_name, rest_of_line, verdict_word};
 ghost use Rattle.tp_report.specs.LineOpenings.{HasItsText, NamesKnown, fate_word, opening_text};
 ghost use Rattle.tp_report.specs.Lines.{end_text, heading, sender_of, sent_line};
@@ -13,13 +13,13 @@ use crate::opening::{Fate, KeptOpening, Opening, write_opening};
 use crate::rest::write_opened;
 use crate::words::{verdict_word, write_component_name, write_port_name};
 use std::io::Write;
+use tp_common::event::Env;
+use tp_common::watched::{Watched, write_bytes, write_number};
 use tp_config::port_type::{CompId, PortRef, RouteId};
-use tp_event::event::Env;
-use tp_history::ending::End;
-use tp_history::noted::NotedEnvelope;
-use tp_history::send_fault::SendFault;
+use tp_inbox::ending::End;
+use tp_inbox::noted::NotedEnvelope;
+use tp_inbox::send_fault::SendFault;
 use tp_play::test_case::TestCase;
-use tp_text::watched::{Watched, write_bytes, write_number};
 use tp_value::message::Message;
 use tp_value::verdict::Verdict;
 

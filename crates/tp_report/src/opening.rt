@@ -1,16 +1,16 @@
 //! The openings of lines on messages. Most are like the last one of their kind, which is therefore
 //! kept.
 ghost use Rattle.std.specs.Prelude.{◌≡◌, ◌≤◌, ◌++◌, ◌↔◌, IfSome, IsTrue, drop, length};
-ghost use Rattle.tp_text.specs.Watching.{Writes};
+ghost use Rattle.tp_common.specs.Watching.{Writes};
 ghost use Rattle.tp_config.specs.Setup.{Setup};
 ghost use Rattle.tp_report.specs.LineOpenings.{HasItsText, NamesKnown, opening_text, pieces_text, fate_word};
 
 use crate::backward::put_bytes;
 use crate::words::{component_name, port_name};
 use std::io::Write;
+use tp_common::watched::{Watched, write_bytes};
 use tp_config::config::Config;
 use tp_config::port_type::{CompId, PortRef};
-use tp_text::watched::{Watched, write_bytes};
 
 /// Room for the text of an opening. A longer one is written piece by piece.
 const ROOM: usize = 128;

@@ -1,7 +1,7 @@
 //! The report of a run.
 use tp_config::port_type::RouteId;
-use tp_history::desk::Desk;
-use tp_history::ending::End;
+use tp_inbox::desk::Desk;
+use tp_inbox::ending::End;
 use tp_value::verdict::Verdict;
 
 #[derive(Drop)]

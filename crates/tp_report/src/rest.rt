@@ -1,7 +1,7 @@
 //! A line on a message: its opening, its number, and the message.
 ghost use Rattle.std.specs.Prelude.{◌∷◌, ◌++◌, ◌≤◌, [], IfSome, codes, length};
 ghost use Rattle.std.specs.Fmt.{decimal, signed_decimal};
-ghost use Rattle.tp_text.specs.Watching.{Writes};
+ghost use Rattle.tp_common.specs.Watching.{Writes};
 ghost use Rattle.tp_report.specs.Integers.{IsInteger};
 ghost use Rattle.tp_report.specs.ReportWords.{message_text, rest_of_line};
 
@@ -9,7 +9,7 @@ use crate::backward::{put_bytes, put_integer};
 use crate::words::{write_message, write_spaced};
 use itoa::write_digits;
 use std::io::Write;
-use tp_text::watched::{Watched, write_bytes};
+use tp_common::watched::{Watched, write_bytes};
 use tp_value::message::Message;
 use tp_value::types::{Ty, Types};
 use tp_value::value::Value;

@@ -1,12 +1,12 @@
 //! The verdicts of a run.
 ghost use Rattle.std.specs.Prelude.{◌≡◌, ◌∷◌, ◌++◌, [], List};
-ghost use Rattle.tp_history.specs.declared.entry.Entry.{Entry};
+ghost use Rattle.tp_inbox.specs.declared.entry.Entry.{Entry};
 ghost use Rattle.tp_report.specs.Verdicts.{endings, local_verdict, locals, overall_verdict};
 ghost use Rattle.tp_report.specs.declared.report.CompReport.{CompReport};
 
 use crate::report::CompReport;
-use tp_history::ending::End;
-use tp_history::entry::Entry;
+use tp_inbox::ending::End;
+use tp_inbox::entry::Entry;
 use tp_value::verdict::Verdict;
 
 /// The local verdict of a component after one more entry of its history (ES 201 873-1, 24.1, 24.2).

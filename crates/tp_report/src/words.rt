@@ -1,7 +1,7 @@
 //! The words of a report's lines.
 ghost use Rattle.std.specs.Prelude.{◌≡◌, ◌++◌, codes};
 ghost use Rattle.std.specs.Fmt.{decimal};
-ghost use Rattle.tp_text.specs.Watching.{Writes};
+ghost use Rattle.tp_common.specs.Watching.{Writes};
 ghost use Rattle.tp_value.specs.declared.types.Ty.TheVariants as ty;
 ghost use Rattle.tp_config.specs.Setup.{IsComponent, IsPort};
 ghost use Rattle.tp_report.specs.Typed.{is_typed};
@@ -9,9 +9,9 @@ ghost use Rattle.tp_report.specs.ReportWords.{component_name, message_text, port
 
 use itoa::write_digits;
 use std::io::Write;
+use tp_common::watched::{Watched, write_bytes};
 use tp_config::config::Config;
 use tp_config::port_type::{CompId, PortRef};
-use tp_text::watched::{Watched, write_bytes};
 use tp_value::message::Message;
 use tp_value::types::{Ty, Types};
 use tp_value::typing::has_type;

@@ -1,7 +1,7 @@
 //! The text of a report, and its trace.
 ghost use Rattle.std.specs.Prelude.{All};
 ghost use Rattle.std.specs.List.{flat_map};
-ghost use Rattle.tp_text.specs.Watching.{Writes};
+ghost use Rattle.tp_common.specs.Watching.{Writes};
 ghost use Rattle.tp_report.specs.Reports.{IsPresent, IsReportable, component_text, told_text};
 
 use crate::entry_texts::write_entries;
@@ -10,8 +10,8 @@ use crate::lines::{write_end, write_heading, write_verdict};
 use crate::report::{CompReport, Report};
 use crate::telling::Telling;
 use std::io::Write;
+use tp_common::watched::Watched;
 use tp_play::test_case::TestCase;
-use tp_text::watched::Watched;
 
 fn write_component<W: Write>(
     test_case: &TestCase,

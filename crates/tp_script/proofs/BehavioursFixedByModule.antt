@@ -10,15 +10,15 @@ use Rattle.tp_tree.specs.declared.tree.Function.{Function}
 use Rattle.tp_tree.specs.declared.tree.ComponentName.{ComponentName}
 use Rattle.tp_tree.specs.declared.tree.ComponentStart.{ComponentStart}
 use Rattle.tp_config.specs.declared.port_type.CompId.{CompId}
-use Rattle.tp_name.specs.Tables.{AreDistinct}
-use Rattle.tp_setup.specs.declared.starts.StartedComponent.{StartedComponent}
-use Rattle.tp_setup.specs.declared.starts.Starts.{Starts}
-use Rattle.tp_setup.specs.Definitions.{definition_names, functions}
-use Rattle.tp_setup.specs.Rules.{sut}
-use Rattle.tp_setup.specs.Components.{creations, variable_name, variables}
-use Rattle.tp_setup.specs.Configuring.{interface_number}
-use Rattle.tp_setup.specs.Starting.{AreStarts, IsArgument, IsStartPlace, IsStartOf, started_names, type_names_of}
-use Rattle.tp_setup.proofs.ListPrefixGrowth.{contains_at, zip_at}
+use Rattle.tp_checks.specs.Tables.{AreDistinct}
+use Rattle.tp_checks.specs.declared.starts.StartedComponent.{StartedComponent}
+use Rattle.tp_checks.specs.declared.starts.Starts.{Starts}
+use Rattle.tp_checks.specs.Definitions.{definition_names, functions}
+use Rattle.tp_checks.specs.Rules.{sut}
+use Rattle.tp_checks.specs.Components.{creations, variable_name, variables}
+use Rattle.tp_checks.specs.Configuring.{interface_number}
+use Rattle.tp_checks.specs.Starting.{AreStarts, IsArgument, IsStartPlace, IsStartOf, started_names, type_names_of}
+use Rattle.tp_checks.proofs.ListPrefixGrowth.{contains_at, zip_at}
 use Rattle.tp_play.specs.declared.body.Body.{Body}
 use Rattle.tp_play.specs.Behaviours.{Behaviour}
 use Rattle.tp_script.specs.Behaviours as d

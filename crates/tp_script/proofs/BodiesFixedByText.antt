@@ -8,12 +8,12 @@ use Rattle.tp_play.specs.declared.body.ResolvedStatement.{ResolvedStatement}
 use Rattle.tp_play.specs.declared.body.VariableType.{VariableType}
 use Rattle.tp_play.specs.declared.body.VariableType.TheVariants as variable_type
 use Rattle.tp_play.specs.declared.body.Body.{Body}
-use Rattle.tp_body.specs.declared.scope.BehaviourKind.{BehaviourKind}
-use Rattle.tp_body.specs.declared.scope.Scope.{Scope}
-use Rattle.tp_body.specs.declared.scope.Variables.{Variables}
-use Rattle.tp_body.specs.Scoping as scoping
-use Rattle.tp_body.specs.Bodies as bodies
-use Rattle.tp_body.specs.Bodies.{IsVariableType, AreVariables, IsBlock, IsBody}
+use Rattle.tp_checks.specs.declared.scope.BehaviourKind.{BehaviourKind}
+use Rattle.tp_checks.specs.declared.scope.Scope.{Scope}
+use Rattle.tp_checks.specs.declared.scope.Variables.{Variables}
+use Rattle.tp_checks.specs.Scoping as scoping
+use Rattle.tp_checks.specs.Bodies as bodies
+use Rattle.tp_checks.specs.Bodies.{IsVariableType, AreVariables, IsBlock, IsBody}
 use Rattle.tp_script.specs.Scopes.{Known, IsBodyInScope}
 use Rattle.tp_script.proofs.BodiesInAlikeScopes.{in_each_scope}
 use Rattle.tp_script.proofs.NamesFixedByPlace.{OwnNames, no_more}

@@ -30,15 +30,15 @@ use Rattle.tp_play.specs.declared.body.ResolvedStatement.{ResolvedStatement}
 use Rattle.tp_play.specs.declared.body.ResolvedBranch.{ResolvedBranch}
 use Rattle.tp_play.specs.declared.body.VariableType.{VariableType}
 use Rattle.tp_play.specs.declared.body.Body.{Body}
-use Rattle.tp_name.specs.Named.{IsAbsent, IsPlace}
-use Rattle.tp_body.specs.declared.scope.BehaviourKind.{BehaviourKind}
-use Rattle.tp_body.specs.declared.scope.Scope.{Scope}
-use Rattle.tp_body.specs.declared.scope.Variables.{Variables}
-use Rattle.tp_body.specs.Scoping as p
-use Rattle.tp_body.specs.Scoping.{IsPortNamed, IsReference, IsNew, IsType, declared_port_names, declared_port_types, receivable_types, sendable_types}
-use Rattle.tp_body.specs.Messages.{IsMessage, IsTemplate}
-use Rattle.tp_body.specs.Bodies as b
-use Rattle.tp_body.specs.Bodies.{IsSent, IsReceiver, IsSend, IsWanted, IsFrom, IsReceive, IsStatement, IsBlock, IsBranch, IsAfter, AreBranches, IsVariableType, AreVariables, IsBody}
+use Rattle.tp_checks.specs.Named.{IsAbsent, IsPlace}
+use Rattle.tp_checks.specs.declared.scope.BehaviourKind.{BehaviourKind}
+use Rattle.tp_checks.specs.declared.scope.Scope.{Scope}
+use Rattle.tp_checks.specs.declared.scope.Variables.{Variables}
+use Rattle.tp_checks.specs.Scoping as p
+use Rattle.tp_checks.specs.Scoping.{IsPortNamed, IsReference, IsNew, IsType, declared_port_names, declared_port_types, receivable_types, sendable_types}
+use Rattle.tp_checks.specs.Messages.{IsMessage, IsTemplate}
+use Rattle.tp_checks.specs.Bodies as b
+use Rattle.tp_checks.specs.Bodies.{IsSent, IsReceiver, IsSend, IsWanted, IsFrom, IsReceive, IsStatement, IsBlock, IsBranch, IsAfter, AreBranches, IsVariableType, AreVariables, IsBody}
 use Rattle.tp_script.specs.Scopes.{IsScope, Known}
 
 -- two scopes look the same

@@ -3,8 +3,8 @@ use Rattle.std.proofs.Common.{◌≡◌, ◌⊎◌, inl, inr, ℕ, ◌+◌, ◌<
 use Rattle.std.proofs.lemmas.List.{length_push, get_or_push, get_or_append_left}
 use Rattle.std.proofs.lemmas.Option.{slice_get-get_or, get_or_from_slice_get}
 use Rattle.std.proofs.lemmas.Bool.{cases_lt}
-use Rattle.tp_body.proofs.PlacedEntriesGrowth.{push_cases}
-use Rattle.tp_setup.specs.declared.prepared.Prepared.{Prepared}
+use Rattle.tp_checks.proofs.PlacedEntriesGrowth.{push_cases}
+use Rattle.tp_checks.specs.declared.prepared.Prepared.{Prepared}
 use Rattle.tp_play.specs.declared.instance.Instance.{Instance}
 use Rattle.tp_script.specs.Behaviours.{Numbers}
 use Rattle.tp_script.specs.Instances.{AreInstances, IsInstance}

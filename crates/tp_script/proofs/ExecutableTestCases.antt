@@ -27,21 +27,21 @@ use Rattle.tp_config.specs.declared.port_type.CompType.{CompType}
 use Rattle.tp_config.specs.declared.port_type.Role.TheVariants as role
 use Rattle.tp_config.specs.Setup.{Setup, Member, PortDecl, is_system_member, is_system_role, ports_at}
 use Rattle.tp_config.specs.Shape.{decl_of, ports_of}
-use Rattle.tp_name.specs.Tables.{AreDistinct, place_of_name}
-use Rattle.tp_name.proofs.NameSetLookups.{place_there}
-use Rattle.tp_setup.specs.Definitions.{of_kind, component_type_names, declared, function_of, functions, port_type_names, type_names}
-use Rattle.tp_setup.specs.Rules.{IsSound, sut}
-use Rattle.tp_setup.specs.Components.{Declared, IsMember, component_list, creations, created, interface, main_component, variable_name, variables}
-use Rattle.tp_setup.specs.Configuring.{IsStep, Makes, nothing, one_more, interface_number}
-use Rattle.tp_setup.specs.Starting.{HasParameterType, IsStartPlace, IsStartOf, started_names, type_names_of}
-use Rattle.tp_setup.specs.Sorted.{HasSoundDefinitions}
-use Rattle.tp_setup.specs.Prepared.{IsWellDeclared}
-use Rattle.tp_setup.proofs.ListPrefixGrowth.{zip_at}
+use Rattle.tp_checks.specs.Tables.{AreDistinct, place_of_name}
+use Rattle.tp_checks.proofs.NameSetLookups.{place_there}
+use Rattle.tp_checks.specs.Definitions.{of_kind, component_type_names, declared, function_of, functions, port_type_names, type_names}
+use Rattle.tp_checks.specs.Rules.{IsSound, sut}
+use Rattle.tp_checks.specs.Components.{Declared, IsMember, component_list, creations, created, interface, main_component, variable_name, variables}
+use Rattle.tp_checks.specs.Configuring.{IsStep, Makes, nothing, one_more, interface_number}
+use Rattle.tp_checks.specs.Starting.{HasParameterType, IsStartPlace, IsStartOf, started_names, type_names_of}
+use Rattle.tp_checks.specs.Sorted.{HasSoundDefinitions}
+use Rattle.tp_checks.specs.Prepared.{IsWellDeclared}
+use Rattle.tp_checks.proofs.ListPrefixGrowth.{zip_at}
 use Rattle.tp_play.specs.declared.body.Body.{Body}
-use Rattle.tp_body.specs.declared.scope.BehaviourKind.{BehaviourKind}
-use Rattle.tp_body.specs.Scoping.{reference_count}
+use Rattle.tp_checks.specs.declared.scope.BehaviourKind.{BehaviourKind}
+use Rattle.tp_checks.specs.Scoping.{reference_count}
 use Rattle.tp_play.specs.Playable.{IsPlayable}
-use Rattle.tp_body.proofs.BodiesCanBePlayed.{body_played}
+use Rattle.tp_checks.proofs.BodiesCanBePlayed.{body_played}
 use Rattle.tp_script.specs.Scopes.{Known, IsBodyInScope}
 use Rattle.tp_script.specs.Behaviours as d
 use Rattle.tp_play.specs.Behaviours.{Behaviour}

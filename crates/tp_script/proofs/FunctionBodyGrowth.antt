@@ -6,11 +6,11 @@ use Rattle.tp_tree.specs.declared.tree.Definition.{Definition}
 use Rattle.tp_tree.specs.declared.tree.Function.{Function}
 use Rattle.std.proofs.lemmas.Option.{slice_get-get_or, same_Some}
 use Rattle.tp_tree.specs.declared.tree.Defined.{Defined}
-use Rattle.tp_name.specs.declared.fault.ModuleFault.{ModuleFault}
-use Rattle.tp_name.specs.Refused.{IsRefusedBy}
-use Rattle.tp_name.specs.Tables.{IsNumbered}
-use Rattle.tp_setup.specs.Definitions.{of_kind, declared, function_of, inner_names}
-use Rattle.tp_setup.proofs.ListPrefixGrowth.{kept_more, zip_push}
+use Rattle.tp_checks.specs.declared.fault.ModuleFault.{ModuleFault}
+use Rattle.tp_checks.specs.Refused.{IsRefusedBy}
+use Rattle.tp_checks.specs.Tables.{IsNumbered}
+use Rattle.tp_checks.specs.Definitions.{of_kind, declared, function_of, inner_names}
+use Rattle.tp_checks.proofs.ListPrefixGrowth.{kept_more, zip_push}
 use Rattle.tp_play.specs.declared.body.Body.{Body}
 use Rattle.tp_script.specs.Scopes.{HaveOwnNames, IsFunctionBody, Known}
 use Rattle.tp_script.proofs.TestCaseFromPasses.{zip_from}

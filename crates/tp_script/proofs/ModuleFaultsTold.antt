@@ -13,29 +13,29 @@ use Rattle.tp_tree.specs.declared.tree.Statement.{Statement}
 use Rattle.tp_tree.specs.declared.tree.TestCase.{TestCase}
 use Rattle.tp_tree.specs.declared.tree.Variable.{Variable}
 use Rattle.tp_config.specs.Shape.{ports_of}
-use Rattle.tp_name.specs.declared.fault.ModuleRule.{ModuleRule}
-use Rattle.tp_name.specs.declared.fault.ModuleRule.TheVariants as module_rule
-use Rattle.tp_name.specs.declared.fault.ModuleFault.{ModuleFault}
-use Rattle.tp_name.specs.Refused.{Tells, TellsAt}
-use Rattle.tp_setup.specs.declared.prepared.Prepared.{Prepared}
-use Rattle.tp_setup.specs.Definitions.{of_kind, component_types, function_of, functions, port_types, type_names}
-use Rattle.tp_setup.specs.Prepared.{IsPreparedOf, IsWellDeclared}
-use Rattle.tp_setup.specs.Resolved.{IsComponentType}
-use Rattle.tp_setup.specs.Rules.{AreComponentTypesKnown}
-use Rattle.tp_setup.specs.Sorted.{HasSoundDefinitions}
-use Rattle.tp_setup.proofs.NameFaultsTold.{split_here}
-use Rattle.tp_setup.proofs.PreparationFaultsTold.{case_known}
-use Rattle.tp_setup.proofs.ModuleFaultPropagation.{tells_from, tells_map}
+use Rattle.tp_checks.specs.declared.fault.ModuleRule.{ModuleRule}
+use Rattle.tp_checks.specs.declared.fault.ModuleRule.TheVariants as module_rule
+use Rattle.tp_checks.specs.declared.fault.ModuleFault.{ModuleFault}
+use Rattle.tp_checks.specs.Refused.{Tells, TellsAt}
+use Rattle.tp_checks.specs.declared.prepared.Prepared.{Prepared}
+use Rattle.tp_checks.specs.Definitions.{of_kind, component_types, function_of, functions, port_types, type_names}
+use Rattle.tp_checks.specs.Prepared.{IsPreparedOf, IsWellDeclared}
+use Rattle.tp_checks.specs.Resolved.{IsComponentType}
+use Rattle.tp_checks.specs.Rules.{AreComponentTypesKnown}
+use Rattle.tp_checks.specs.Sorted.{HasSoundDefinitions}
+use Rattle.tp_checks.proofs.NameFaultsTold.{split_here}
+use Rattle.tp_checks.proofs.PreparationFaultsTold.{case_known}
+use Rattle.tp_checks.proofs.ModuleFaultPropagation.{tells_from, tells_map}
 use Rattle.tp_play.specs.declared.bodies.Bodies.{Bodies}
 use Rattle.tp_play.specs.declared.body.Body.{Body}
 use Rattle.tp_play.specs.declared.instance.Instance.{Instance}
 use Rattle.tp_play.specs.Behaviours.{size_of_behaviour}
 use Rattle.tp_play.specs.Instances.{behaviour_of}
 use Rattle.tp_play.specs.TestCases.{Made}
-use Rattle.tp_body.specs.declared.scope.BehaviourKind.{BehaviourKind}
-use Rattle.tp_body.specs.declared.scope.Scope.{Scope}
-use Rattle.tp_body.specs.BrokenBodies.{BodyBreaks}
-use Rattle.tp_body.specs.Scoping.{IsSoundScope}
+use Rattle.tp_checks.specs.declared.scope.BehaviourKind.{BehaviourKind}
+use Rattle.tp_checks.specs.declared.scope.Scope.{Scope}
+use Rattle.tp_checks.specs.BrokenBodies.{BodyBreaks}
+use Rattle.tp_checks.specs.Scoping.{IsSoundScope}
 use Rattle.tp_script.specs.BrokenModules.{BodiesBreak, BreaksIn, FunctionBreaks, FunctionsBreak, IsCaseOf, ModuleBreaks, bodies, size}
 use Rattle.tp_script.specs.Instances.{AreInstances, instance_count, known_in}
 use Rattle.tp_script.specs.Scopes.{CanAllRun, CanRun, IsFunctionBody, IsMainBody, IsScope, IsSoundKnown, Known}

@@ -7,10 +7,10 @@ use Rattle.tp_value.specs.declared.types.Field.{Field}
 use Rattle.tp_value.specs.declared.types.TypeDef.TheVariants as type_def
 use Rattle.tp_value.specs.declared.types.Types.{Types}
 use Rattle.tp_value.specs.Types.{named}
-use Rattle.tp_name.specs.Named.{IsPlace}
-use Rattle.tp_name.specs.Tables.{AreDistinct}
-use Rattle.tp_body.specs.Placing.{field_names}
-use Rattle.tp_body.proofs.DistinctNamesByCount.{none_twice}
+use Rattle.tp_checks.specs.Named.{IsPlace}
+use Rattle.tp_checks.specs.Tables.{AreDistinct}
+use Rattle.tp_checks.specs.Placing.{field_names}
+use Rattle.tp_checks.proofs.DistinctNamesByCount.{none_twice}
 
 -- no two fields of a record type have one name
 abbrev pub OwnNames : Types → Type 0

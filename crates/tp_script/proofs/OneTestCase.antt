@@ -2,8 +2,8 @@
 use Rattle.std.proofs.Common.{◌≡◌, inl, inr, ℕ, List, Option, length, map, get_or, refl, sym, ap, ◌∙◌, subst, arith}
 use Rattle.std.proofs.lemmas.List.{same_lists}
 use Rattle.std.proofs.lemmas.Option.{same_Some, slice_get-get_or}
-use Rattle.tp_token.specs.declared.fault.ScriptFault.TheVariants as script_fault
-use Rattle.tp_token.proofs.AcceptedTokenTexts.{good_texts_are_accepted}
+use Rattle.tp_syntax.specs.declared.script_fault.ScriptFault.TheVariants as script_fault
+use Rattle.tp_syntax.proofs.AcceptedTokenTexts.{good_texts_are_accepted}
 use Rattle.tp_tree.specs.declared.tree.Module.{Module}
 use Rattle.tp_tree.specs.declared.tree.TestCase.{TestCase}
 use Rattle.tp_syntax.proofs.UniqueModules.{readings_are_unique}
@@ -12,15 +12,15 @@ use Rattle.tp_config.specs.Setup.{Member, PortDecl, Setup}
 use Rattle.tp_config.specs.declared.port_type.Role.{Role}
 use Rattle.tp_config.specs.declared.port_type.PortRef.{PortRef}
 use Rattle.tp_config.specs.Shape.{ports_of}
-use Rattle.tp_setup.specs.Definitions.{component_type_names, component_types, functions, port_types, type_names}
-use Rattle.tp_setup.specs.Components.{Declared, IsMember, component_list}
-use Rattle.tp_setup.specs.Configuring.{HaveOwnPorts, Makes, interface_number}
-use Rattle.tp_setup.specs.Prepared.{IsConfigOf}
-use Rattle.tp_setup.specs.Rules.{HasUniqueNames}
-use Rattle.tp_setup.specs.Starting.{AreStarts}
-use Rattle.tp_setup.proofs.PortsOfComponentTypes.{have_ports}
-use Rattle.tp_setup.proofs.UniqueComponentTypes.{names_made, ports_numbered}
-use Rattle.tp_setup.proofs.UniqueConfigurations.{makes_same}
+use Rattle.tp_checks.specs.Definitions.{component_type_names, component_types, functions, port_types, type_names}
+use Rattle.tp_checks.specs.Components.{Declared, IsMember, component_list}
+use Rattle.tp_checks.specs.Configuring.{HaveOwnPorts, Makes, interface_number}
+use Rattle.tp_checks.specs.Prepared.{IsConfigOf}
+use Rattle.tp_checks.specs.Rules.{HasUniqueNames}
+use Rattle.tp_checks.specs.Starting.{AreStarts}
+use Rattle.tp_checks.proofs.PortsOfComponentTypes.{have_ports}
+use Rattle.tp_checks.proofs.UniqueComponentTypes.{names_made, ports_numbered}
+use Rattle.tp_checks.proofs.UniqueConfigurations.{makes_same}
 use Rattle.tp_play.specs.Behaviours.{Behaviour}
 use Rattle.tp_play.specs.TestCases.{Made}
 use Rattle.tp_script.specs.Accepted.{ScriptsAreAccepted, ScriptsHaveOneTestCase}

@@ -2,12 +2,12 @@
 use Rattle.std.proofs.Common.{◌≡◌, ℕ, inl, inr, Result, IfErr, List}
 use Rattle.std.specs.Result.{IsErrAnd}
 use Rattle.std.proofs.lemmas.Result.{err_from_is_err_and}
-use Rattle.tp_token.specs.declared.fault.ScriptFault.{ScriptFault}
-use Rattle.tp_token.specs.declared.fault.ScriptFault.TheVariants as script_fault
+use Rattle.tp_syntax.specs.declared.script_fault.ScriptFault.{ScriptFault}
+use Rattle.tp_syntax.specs.declared.script_fault.ScriptFault.TheVariants as script_fault
 use Rattle.tp_tree.specs.declared.tree.Module.{Module}
-use Rattle.tp_name.specs.declared.fault.ModuleFault.{ModuleFault}
-use Rattle.tp_name.specs.declared.fault.ModuleFault.TheVariants as module_fault
-use Rattle.tp_name.specs.Refused.{IsRefusedBy, Tells}
+use Rattle.tp_checks.specs.declared.fault.ModuleFault.{ModuleFault}
+use Rattle.tp_checks.specs.declared.fault.ModuleFault.TheVariants as module_fault
+use Rattle.tp_checks.specs.Refused.{IsRefusedBy, Tells}
 use Rattle.tp_syntax.specs.Refusals.{IsUnread}
 use Rattle.tp_script.specs.declared.fault.TestCaseFault.{TestCaseFault}
 use Rattle.tp_script.specs.BrokenModules.{ModuleBreaks}

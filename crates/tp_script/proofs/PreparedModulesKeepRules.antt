@@ -9,14 +9,14 @@ use Rattle.tp_tree.specs.declared.tree.TestCase.{TestCase}
 use Rattle.tp_tree.specs.declared.tree.ComponentStart.{ComponentStart}
 use Rattle.tp_value.specs.declared.types.Types.{Types}
 use Rattle.tp_config.specs.Setup.{PortDecl}
-use Rattle.tp_name.proofs.NameSetLookups.{place_there}
-use Rattle.tp_setup.specs.declared.prepared.Prepared.{Prepared}
-use Rattle.tp_setup.specs.Definitions.{component_type_names, functions}
-use Rattle.tp_setup.specs.Components.{creations, variable_name, variables}
-use Rattle.tp_setup.specs.Configuring.{most_variables}
-use Rattle.tp_setup.specs.Starting.{IsStartPlace, IsStartOf, started_names, type_names_of}
-use Rattle.tp_setup.specs.Prepared.{IsPreparedOf, IsWellDeclared}
-use Rattle.tp_setup.proofs.ListPrefixGrowth.{zip_at}
+use Rattle.tp_checks.proofs.NameSetLookups.{place_there}
+use Rattle.tp_checks.specs.declared.prepared.Prepared.{Prepared}
+use Rattle.tp_checks.specs.Definitions.{component_type_names, functions}
+use Rattle.tp_checks.specs.Components.{creations, variable_name, variables}
+use Rattle.tp_checks.specs.Configuring.{most_variables}
+use Rattle.tp_checks.specs.Starting.{IsStartPlace, IsStartOf, started_names, type_names_of}
+use Rattle.tp_checks.specs.Prepared.{IsPreparedOf, IsWellDeclared}
+use Rattle.tp_checks.proofs.ListPrefixGrowth.{zip_at}
 use Rattle.tp_play.specs.declared.bodies.Bodies.{Bodies}
 use Rattle.tp_play.specs.declared.instance.Instance.{Instance}
 use Rattle.tp_play.specs.Behaviours.{size_of_behaviour}

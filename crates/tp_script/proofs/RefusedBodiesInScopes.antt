@@ -1,14 +1,14 @@
 -- A body that is refused in one scope stands for nothing in any scope of what it may speak of.
 use Rattle.std.proofs.Common.{◌≡◌, ℕ, List, Result, Ok, Err, IfErr}
-use Rattle.tp_name.specs.declared.fault.ModuleFault.{ModuleFault}
+use Rattle.tp_checks.specs.declared.fault.ModuleFault.{ModuleFault}
 use Rattle.tp_tree.specs.declared.tree.Statement.{Statement}
 use Rattle.tp_tree.specs.declared.tree.Variable.{Variable}
-use Rattle.tp_name.specs.Refused.{IsRefusedBy}
+use Rattle.tp_checks.specs.Refused.{IsRefusedBy}
 use Rattle.tp_play.specs.declared.body.Body.{Body}
-use Rattle.tp_body.specs.declared.scope.BehaviourKind.{BehaviourKind}
-use Rattle.tp_body.specs.declared.scope.Scope.{Scope}
-use Rattle.tp_body.specs.Bodies.{IsBody}
-use Rattle.tp_body.specs.Scoping.{IsSoundScope}
+use Rattle.tp_checks.specs.declared.scope.BehaviourKind.{BehaviourKind}
+use Rattle.tp_checks.specs.declared.scope.Scope.{Scope}
+use Rattle.tp_checks.specs.Bodies.{IsBody}
+use Rattle.tp_checks.specs.Scoping.{IsSoundScope}
 use Rattle.tp_script.specs.Scopes.{IsScope, IsSoundKnown, Known, IsBodyInScope}
 use Rattle.tp_script.proofs.RulesBrokenByParts.{breaks_part}
 use Rattle.tp_script.proofs.SoundBodyScopes.{sound_scope}

@@ -2,9 +2,9 @@
 use Rattle.std.proofs.Common.{◌≡◌, inl, inr, Result, IfErr}
 use Rattle.std.specs.Result.{IsErrAnd}
 use Rattle.std.proofs.lemmas.Result.{err_from_is_err_and}
-use Rattle.tp_name.specs.declared.fault.ModuleFault.{ModuleFault}
-use Rattle.tp_name.specs.declared.fault.ModuleFault.TheVariants as module_fault
-use Rattle.tp_name.specs.Refused.{IsRefusedBy}
+use Rattle.tp_checks.specs.declared.fault.ModuleFault.{ModuleFault}
+use Rattle.tp_checks.specs.declared.fault.ModuleFault.TheVariants as module_fault
+use Rattle.tp_checks.specs.Refused.{IsRefusedBy}
 
 -- what breaks a part of a rule breaks the rule
 pub breaks_part : {R P : Type 0} → (R → P) → (f : ModuleFault) → IsRefusedBy P f → IsRefusedBy R f

@@ -17,16 +17,16 @@ use Rattle.tp_value.specs.declared.types.Types.{Types}
 use Rattle.tp_value.specs.Types.{named}
 use Rattle.tp_config.specs.Setup.{PortDecl}
 use Rattle.tp_config.specs.Shape.{ports_of}
-use Rattle.tp_name.specs.Tables.{AreDistinct, IsNumbered}
-use Rattle.tp_setup.specs.declared.prepared.Prepared.{Prepared}
-use Rattle.tp_setup.specs.Definitions.{declared, inner_names, type_definitions, type_names, type_of}
-use Rattle.tp_setup.specs.Resolved.{AreTypes, IsField, IsNamedType, IsTypeDef}
-use Rattle.tp_setup.specs.Prepared.{IsPreparedOf}
-use Rattle.tp_setup.proofs.ListPrefixGrowth.{contains_at, zip_at}
-use Rattle.tp_body.specs.declared.scope.BehaviourKind.{BehaviourKind}
-use Rattle.tp_body.specs.declared.scope.Scope.{Scope}
-use Rattle.tp_body.specs.Placing.{field_names}
-use Rattle.tp_body.specs.Scoping.{IsSoundScope}
+use Rattle.tp_checks.specs.Tables.{AreDistinct, IsNumbered}
+use Rattle.tp_checks.specs.declared.prepared.Prepared.{Prepared}
+use Rattle.tp_checks.specs.Definitions.{declared, inner_names, type_definitions, type_names, type_of}
+use Rattle.tp_checks.specs.Resolved.{AreTypes, IsField, IsNamedType, IsTypeDef}
+use Rattle.tp_checks.specs.Prepared.{IsPreparedOf}
+use Rattle.tp_checks.proofs.ListPrefixGrowth.{contains_at, zip_at}
+use Rattle.tp_checks.specs.declared.scope.BehaviourKind.{BehaviourKind}
+use Rattle.tp_checks.specs.declared.scope.Scope.{Scope}
+use Rattle.tp_checks.specs.Placing.{field_names}
+use Rattle.tp_checks.specs.Scoping.{IsSoundScope}
 use Rattle.tp_script.specs.Instances.{known_in}
 use Rattle.tp_script.proofs.NamesFixedByPlace.{OwnNames}
 use Rattle.tp_script.specs.Scopes.{HaveOwnNames, IsScope, IsSoundKnown, Known}

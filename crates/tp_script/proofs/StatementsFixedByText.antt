@@ -43,13 +43,13 @@ use Rattle.tp_play.specs.declared.body.ResolvedStatement.TheVariants as statemen
 use Rattle.tp_play.specs.declared.body.ResolvedBranch.{ResolvedBranch}
 use Rattle.tp_play.specs.declared.body.VariableType.{VariableType}
 use Rattle.tp_play.specs.declared.body.VariableType.TheVariants as variable_type
-use Rattle.tp_body.specs.declared.scope.Scope.{Scope}
-use Rattle.tp_body.specs.declared.scope.Variables.{Variables}
-use Rattle.tp_body.specs.Scoping as scoping
-use Rattle.tp_body.specs.Scoping.{IsPortNamed, IsReference, IsType, IsVariable, declared_port_names, declared_port_types, receivable_types, sendable_types}
-use Rattle.tp_body.specs.Messages.{IsMessage, IsValue, IsTemplate}
-use Rattle.tp_body.specs.Bodies as bodies
-use Rattle.tp_body.specs.Bodies.{IsSent, IsReceiver, IsSend, IsWanted, IsFrom, IsValueTarget, IsSenderTarget, IsReceive, IsVerdict, IsStatement, IsBlock, IsBranch, IsAfter, AreBranches, IsVariableType, AreVariables, IsBody}
+use Rattle.tp_checks.specs.declared.scope.Scope.{Scope}
+use Rattle.tp_checks.specs.declared.scope.Variables.{Variables}
+use Rattle.tp_checks.specs.Scoping as scoping
+use Rattle.tp_checks.specs.Scoping.{IsPortNamed, IsReference, IsType, IsVariable, declared_port_names, declared_port_types, receivable_types, sendable_types}
+use Rattle.tp_checks.specs.Messages.{IsMessage, IsValue, IsTemplate}
+use Rattle.tp_checks.specs.Bodies as bodies
+use Rattle.tp_checks.specs.Bodies.{IsSent, IsReceiver, IsSend, IsWanted, IsFrom, IsValueTarget, IsSenderTarget, IsReceive, IsVerdict, IsStatement, IsBlock, IsBranch, IsAfter, AreBranches, IsVariableType, AreVariables, IsBody}
 use Rattle.tp_script.proofs.NamesFixedByPlace.{OwnNames, no_more, place_fixed}
 use Rattle.tp_script.proofs.ValuesFixedByText.{value_fixed}
 use Rattle.tp_script.proofs.TemplatesFixedByText.{template_fixed}

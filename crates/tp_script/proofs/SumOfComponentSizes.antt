@@ -7,7 +7,7 @@ use Rattle.std.proofs.lemmas.List.Sums.{sum-map, sum_by-cons}
 use Rattle.tp_config.proofs.PortLookupByFields.{get_or_mapped}
 use Rattle.tp_play.specs.declared.body.Body.{Body}
 use Rattle.tp_play.specs.Sizes.{size_limit, capped, size_of_body}
-use Rattle.tp_body.proofs.CappedStatementSizes.{cap_add, cap_above, cap_below}
+use Rattle.tp_checks.proofs.CappedStatementSizes.{cap_add, cap_above, cap_below}
 use Rattle.tp_play.specs.declared.bodies.Bodies.{Bodies}
 use Rattle.tp_play.specs.declared.instance.Instance.{Instance}
 use Rattle.tp_play.specs.declared.instance.WhichBody.{WhichBody}

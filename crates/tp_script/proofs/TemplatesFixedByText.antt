@@ -17,12 +17,12 @@ use Rattle.tp_value.specs.Types.{named}
 use Rattle.tp_play.specs.declared.body.SendValue.TheVariants as send_value
 use Rattle.tp_play.specs.declared.body.RecvTemplate.{RecvTemplate}
 use Rattle.tp_play.specs.declared.body.RecvTemplate.TheVariants as recv_template
-use Rattle.tp_name.specs.Named.{IsPlace}
-use Rattle.tp_name.specs.Tables.{AreDistinct}
-use Rattle.tp_setup.proofs.ListPrefixGrowth.{contains_at}
-use Rattle.tp_body.specs.Placing.{field_names}
-use Rattle.tp_body.specs.Messages as m
-use Rattle.tp_body.specs.Messages.{part_of, IsTemplate, AreMembers, IsElementTemplate, AreElementTemplates, AreFieldTemplates, AreNamedTemplates}
+use Rattle.tp_checks.specs.Named.{IsPlace}
+use Rattle.tp_checks.specs.Tables.{AreDistinct}
+use Rattle.tp_checks.proofs.ListPrefixGrowth.{contains_at}
+use Rattle.tp_checks.specs.Placing.{field_names}
+use Rattle.tp_checks.specs.Messages as m
+use Rattle.tp_checks.specs.Messages.{part_of, IsTemplate, AreMembers, IsElementTemplate, AreElementTemplates, AreFieldTemplates, AreNamedTemplates}
 use Rattle.tp_script.proofs.TypesFixedByModule.{same_named}
 use Rattle.tp_script.proofs.NamesFixedByPlace.{OwnNames, distinct_entries, no_more, place_fixed}
 

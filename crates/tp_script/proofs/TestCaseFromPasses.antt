@@ -12,15 +12,15 @@ use Rattle.tp_tree.specs.declared.tree.SetupAction.{SetupAction}
 use Rattle.tp_tree.specs.declared.tree.SetupAction.TheVariants as a
 use Rattle.tp_config.specs.Setup.{Setup}
 use Rattle.tp_config.specs.Shape.{ports_of}
-use Rattle.tp_name.proofs.NameSetLookups.{place_there, place_unknown}
-use Rattle.tp_setup.specs.declared.prepared.Prepared.{Prepared}
-use Rattle.tp_setup.specs.Definitions.{component_type_names, functions}
-use Rattle.tp_setup.specs.Rules.{sut}
-use Rattle.tp_setup.specs.Components.{IsMember, component_list, creations, created, interface, main_component, variable_name, variables}
-use Rattle.tp_setup.specs.Configuring.{IsStep, Makes, nothing, one_more, interface_number}
-use Rattle.tp_setup.specs.Starting.{IsStartPlace, IsStartOf, started_names, type_names_of}
-use Rattle.tp_setup.specs.Prepared.{IsPreparedOf}
-use Rattle.tp_setup.proofs.ListPrefixGrowth.{zip_at}
+use Rattle.tp_checks.proofs.NameSetLookups.{place_there, place_unknown}
+use Rattle.tp_checks.specs.declared.prepared.Prepared.{Prepared}
+use Rattle.tp_checks.specs.Definitions.{component_type_names, functions}
+use Rattle.tp_checks.specs.Rules.{sut}
+use Rattle.tp_checks.specs.Components.{IsMember, component_list, creations, created, interface, main_component, variable_name, variables}
+use Rattle.tp_checks.specs.Configuring.{IsStep, Makes, nothing, one_more, interface_number}
+use Rattle.tp_checks.specs.Starting.{IsStartPlace, IsStartOf, started_names, type_names_of}
+use Rattle.tp_checks.specs.Prepared.{IsPreparedOf}
+use Rattle.tp_checks.proofs.ListPrefixGrowth.{zip_at}
 use Rattle.tp_play.specs.declared.body.Body.{Body}
 use Rattle.tp_play.specs.declared.bodies.Bodies.{Bodies}
 use Rattle.tp_play.specs.declared.instance.Instance.{Instance}

@@ -21,9 +21,9 @@ use Rattle.tp_value.specs.declared.types.Types.{Types}
 use Rattle.tp_config.specs.declared.port_type.CompType.{CompType}
 use Rattle.tp_config.specs.Setup.{PortDecl}
 use Rattle.tp_config.specs.Shape.{ports_of}
-use Rattle.tp_name.specs.Tables.{AreDistinct}
-use Rattle.tp_setup.specs.Definitions.{of_kind, component_types, definition_names, function_of, functions, name_of, port_type_of, port_types, test_cases, type_definitions, type_names}
-use Rattle.tp_setup.specs.Resolved.{AreTypes, IsComponentType, IsField, IsNamedType, IsPortDecl, IsPortType, IsTypeDef, IsTypeNamed, port_list}
+use Rattle.tp_checks.specs.Tables.{AreDistinct}
+use Rattle.tp_checks.specs.Definitions.{of_kind, component_types, definition_names, function_of, functions, name_of, port_type_of, port_types, test_cases, type_definitions, type_names}
+use Rattle.tp_checks.specs.Resolved.{AreTypes, IsComponentType, IsField, IsNamedType, IsPortDecl, IsPortType, IsTypeDef, IsTypeNamed, port_list}
 use Rattle.tp_script.specs.TestCases.{AreKinds}
 
 -- the other list, where what stands beside an item is fixed by it

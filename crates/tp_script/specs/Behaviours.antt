@@ -2,10 +2,10 @@
 use Rattle.std.specs.Prelude.{◌≡◌, ◌<◌, ◌+◌, ℕ, Option, Some, None, List, [], ◌∷◌, ◌++◌, Contains, length, map, slice_get}
 use Rattle.tp_tree.specs.declared.tree.Function.{Function}
 use Rattle.tp_tree.specs.declared.tree.TestCase.{TestCase}
-use Rattle.tp_setup.specs.declared.starts.StartedComponent.{StartedComponent}
-use Rattle.tp_setup.specs.declared.starts.Starts.{Starts}
-use Rattle.tp_setup.specs.Configuring.{interface_number}
-use Rattle.tp_setup.specs.Rules.{sut}
+use Rattle.tp_checks.specs.declared.starts.StartedComponent.{StartedComponent}
+use Rattle.tp_checks.specs.declared.starts.Starts.{Starts}
+use Rattle.tp_checks.specs.Configuring.{interface_number}
+use Rattle.tp_checks.specs.Rules.{sut}
 use Rattle.tp_play.specs.Behaviours.{Behaviour}
 use Rattle.tp_script.specs.Scopes.{Known, IsMainBody, IsFunctionBody}
 

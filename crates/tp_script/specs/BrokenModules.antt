@@ -9,18 +9,18 @@ use Rattle.tp_tree.specs.declared.tree.TestCase.{TestCase}
 use Rattle.tp_tree.specs.declared.tree.Variable.{Variable}
 use Rattle.tp_value.specs.declared.types.Types.{Types}
 use Rattle.tp_config.specs.Setup.{Setup}
-use Rattle.tp_name.specs.declared.fault.ModuleRule.{ModuleRule}
-use Rattle.tp_name.specs.declared.fault.ModuleRule.TheVariants.{Limit}
-use Rattle.tp_setup.specs.Broken.{DeclarationsBreak}
-use Rattle.tp_setup.specs.Definitions.{BeginsAmong, of_kind, declared, function_of, test_cases}
-use Rattle.tp_setup.specs.Prepared.{IsConfigOf, IsWellDeclared}
-use Rattle.tp_setup.specs.Resolved.{AreTypes}
+use Rattle.tp_checks.specs.declared.fault.ModuleRule.{ModuleRule}
+use Rattle.tp_checks.specs.declared.fault.ModuleRule.TheVariants.{Limit}
+use Rattle.tp_checks.specs.Broken.{DeclarationsBreak}
+use Rattle.tp_checks.specs.Definitions.{BeginsAmong, of_kind, declared, function_of, test_cases}
+use Rattle.tp_checks.specs.Prepared.{IsConfigOf, IsWellDeclared}
+use Rattle.tp_checks.specs.Resolved.{AreTypes}
 use Rattle.tp_play.specs.declared.body.Body.{Body}
 use Rattle.tp_play.specs.TestCases.{Made}
-use Rattle.tp_body.specs.declared.scope.BehaviourKind.{BehaviourKind}
-use Rattle.tp_body.specs.declared.scope.BehaviourKind.TheVariants as behaviour_kind
-use Rattle.tp_body.specs.declared.scope.Scope.{Scope}
-use Rattle.tp_body.specs.BrokenBodies.{BodyBreaks}
+use Rattle.tp_checks.specs.declared.scope.BehaviourKind.{BehaviourKind}
+use Rattle.tp_checks.specs.declared.scope.BehaviourKind.TheVariants as behaviour_kind
+use Rattle.tp_checks.specs.declared.scope.Scope.{Scope}
+use Rattle.tp_checks.specs.BrokenBodies.{BodyBreaks}
 use Rattle.tp_script.specs.Scopes.{IsFunctionBody, IsMainBody, IsScope, Known, plays_of}
 use Rattle.tp_script.specs.TestCases.{HasSoundBodies, IsTestCaseOf, known_of, size_of_test_case}
 

@@ -2,10 +2,10 @@
 use Rattle.std.specs.Prelude.{◌≡◌, ◌<◌, ◌≤◌, ◌+◌, ℕ, Option, Some, None, List, [], All, map, slice_get, length, IsSome, is_some}
 use Rattle.std.specs.Prelude.{if◌then◌else◌}
 use Rattle.std.specs.List.{slice_index_or}
-use Rattle.tp_setup.specs.declared.prepared.Prepared.{Prepared}
-use Rattle.tp_setup.specs.declared.starts.StartedComponent.{StartedComponent}
-use Rattle.tp_setup.specs.Rules.{sut}
-use Rattle.tp_name.specs.Tables.{place_of_name}
+use Rattle.tp_checks.specs.declared.prepared.Prepared.{Prepared}
+use Rattle.tp_checks.specs.declared.starts.StartedComponent.{StartedComponent}
+use Rattle.tp_checks.specs.Rules.{sut}
+use Rattle.tp_checks.specs.Tables.{place_of_name}
 use Rattle.tp_play.specs.declared.instance.Instance.{Instance}
 use Rattle.tp_play.specs.declared.instance.WhichBody.{WhichBody}
 use Rattle.tp_play.specs.declared.instance.WhichBody.TheVariants as which_body

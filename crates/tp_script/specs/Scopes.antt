@@ -14,15 +14,15 @@ use Rattle.tp_value.specs.declared.types.Types.{Types}
 use Rattle.tp_value.specs.Types.{named}
 use Rattle.tp_config.specs.Setup.{PortDecl}
 use Rattle.tp_config.specs.Shape.{ports_of}
-use Rattle.tp_name.specs.Tables.{AreDistinct, IsNumbered, place_of_name}
-use Rattle.tp_setup.specs.Definitions.{declared, inner_names}
-use Rattle.tp_setup.specs.Rules.{AreComponentTypesKnown, sut}
+use Rattle.tp_checks.specs.Tables.{AreDistinct, IsNumbered, place_of_name}
+use Rattle.tp_checks.specs.Definitions.{declared, inner_names}
+use Rattle.tp_checks.specs.Rules.{AreComponentTypesKnown, sut}
 use Rattle.tp_play.specs.declared.body.Body.{Body}
-use Rattle.tp_body.specs.declared.scope.BehaviourKind.{BehaviourKind}
-use Rattle.tp_body.specs.declared.scope.BehaviourKind.TheVariants as behaviour_kind
-use Rattle.tp_body.specs.declared.scope.Scope.{Scope}
-use Rattle.tp_body.specs.Bodies.{IsBody}
-use Rattle.tp_body.specs.Placing.{field_names}
+use Rattle.tp_checks.specs.declared.scope.BehaviourKind.{BehaviourKind}
+use Rattle.tp_checks.specs.declared.scope.BehaviourKind.TheVariants as behaviour_kind
+use Rattle.tp_checks.specs.declared.scope.Scope.{Scope}
+use Rattle.tp_checks.specs.Bodies.{IsBody}
+use Rattle.tp_checks.specs.Placing.{field_names}
 
 -- what each body of a module may speak of: the types of messages, the component types by their names, with their
 -- ports, and the component variables of the test case

@@ -1,7 +1,7 @@
 -- What a text says, read as a script.
 use Rattle.std.specs.Prelude.{◌≤◌, ℕ, List}
 use Rattle.tp_tree.specs.declared.tree.Module.{Module}
-use Rattle.tp_token.specs.declared.fault.ScriptFault.TheVariants as script_fault
+use Rattle.tp_syntax.specs.declared.script_fault.ScriptFault.TheVariants as script_fault
 use Rattle.tp_syntax.specs.Definitions.{IsReadAs}
 use Rattle.tp_syntax.specs.Grammar.{IsGrammatical}
 use Rattle.tp_syntax.specs.Lines.{HasLines}

@@ -7,12 +7,12 @@ use Rattle.tp_value.specs.declared.types.Types.{Types}
 use Rattle.tp_config.specs.declared.port_type.CompType.{CompType}
 use Rattle.tp_config.specs.Setup.{Setup, PortDecl}
 use Rattle.tp_config.specs.Shape.{ports_of}
-use Rattle.tp_setup.specs.declared.starts.Starts.{Starts}
-use Rattle.tp_setup.specs.Definitions.{component_type_names, functions, test_cases}
-use Rattle.tp_setup.specs.Resolved.{AreTypes, AreComponentTypes}
-use Rattle.tp_setup.specs.Components.{variables}
-use Rattle.tp_setup.specs.Starting.{AreStarts}
-use Rattle.tp_setup.specs.Prepared.{IsConfigOf, IsWellDeclared}
+use Rattle.tp_checks.specs.declared.starts.Starts.{Starts}
+use Rattle.tp_checks.specs.Definitions.{component_type_names, functions, test_cases}
+use Rattle.tp_checks.specs.Resolved.{AreTypes, AreComponentTypes}
+use Rattle.tp_checks.specs.Components.{variables}
+use Rattle.tp_checks.specs.Starting.{AreStarts}
+use Rattle.tp_checks.specs.Prepared.{IsConfigOf, IsWellDeclared}
 use Rattle.tp_play.specs.declared.body.Body.{Body}
 use Rattle.tp_script.specs.Scopes.{Known, IsMainBody, IsFunctionBody}
 use Rattle.tp_play.specs.Behaviours.{Behaviour, size_of_behaviour}

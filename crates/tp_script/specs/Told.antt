@@ -1,11 +1,11 @@
 -- The faults of a text and of a module as those of a script, and the refusals that tell them.
-use Rattle.tp_refusal.specs.declared.refusal.Refusal.{Refusal}
-use Rattle.tp_token.specs.declared.fault.ScriptFault.{ScriptFault}
-use Rattle.tp_token.specs.declared.fault.ScriptFault.TheVariants as script_fault
-use Rattle.tp_token.specs.Told.{text_refusal}
-use Rattle.tp_name.specs.declared.fault.ModuleFault.{ModuleFault}
-use Rattle.tp_name.specs.declared.fault.ModuleFault.TheVariants as module_fault
-use Rattle.tp_name.specs.Told.{rule_refusal}
+use Rattle.tp_common.specs.declared.refusal.Refusal.{Refusal}
+use Rattle.tp_syntax.specs.declared.script_fault.ScriptFault.{ScriptFault}
+use Rattle.tp_syntax.specs.declared.script_fault.ScriptFault.TheVariants as script_fault
+use Rattle.tp_syntax.specs.Told.{text_refusal}
+use Rattle.tp_checks.specs.declared.fault.ModuleFault.{ModuleFault}
+use Rattle.tp_checks.specs.declared.fault.ModuleFault.TheVariants as module_fault
+use Rattle.tp_checks.specs.Told.{rule_refusal}
 use Rattle.tp_script.specs.declared.fault.ScriptRule.{ScriptRule}
 use Rattle.tp_script.specs.declared.fault.ScriptRule.TheVariants as script_rule
 use Rattle.tp_script.specs.declared.fault.TestCaseFault.{TestCaseFault}

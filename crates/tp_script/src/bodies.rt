@@ -1,25 +1,25 @@
 //! The fourth pass of the checks: the bodies.
 ghost use Rattle.std.specs.Prelude.{◌≡◌, IfErr, IfOk, List, map};
 ghost use Rattle.std.specs.List.{AllZip};
-ghost use Rattle.tp_name.specs.Refused.{IsRefusedBy, Tells};
-ghost use Rattle.tp_name.specs.Tables.{IsNumbered};
+ghost use Rattle.tp_checks.specs.Refused.{IsRefusedBy, Tells};
+ghost use Rattle.tp_checks.specs.Tables.{IsNumbered};
 ghost use Rattle.tp_play.specs.declared.body.Body.{Body};
-ghost use Rattle.tp_setup.specs.Definitions.{of_kind, declared, function_of, functions};
+ghost use Rattle.tp_checks.specs.Definitions.{of_kind, declared, function_of, functions};
 ghost use Rattle.tp_script.specs.Instances.{known_in};
 ghost use Rattle.tp_script.specs.BrokenModules.{BodiesBreak, FunctionBreaks, FunctionsBreak, MainBreaks};
 ghost use Rattle.tp_script.specs.Scopes.{CanAllRun, CanRun, HasBodies, HaveOwnNames, IsFunctionBody, IsMainBody, IsSoundKnown, plays_of};
 
 use crate::scopes::{parameter_names, scope_of};
 use std::alloc::Global;
-use tp_body::scope::BehaviourKind;
-use tp_body::statements::resolve_body;
-use tp_name::fault::ModuleFault;
-use tp_name::name_set::NameSet;
+use tp_checks::definitions::is_sut;
+use tp_checks::fault::ModuleFault;
+use tp_checks::name_set::NameSet;
+use tp_checks::prepared::Prepared;
+use tp_checks::scope::BehaviourKind;
+use tp_checks::sorted::as_function;
+use tp_checks::statements::resolve_body;
 use tp_play::bodies::Bodies;
 use tp_play::body::Body;
-use tp_setup::definitions::is_sut;
-use tp_setup::prepared::Prepared;
-use tp_setup::sorted::as_function;
 use tp_tree::tree::{Definition, Function, Module};
 
 fn plays(function: &Function) -> BehaviourKind

@@ -1,10 +1,10 @@
 //! The checks of a module, pass by pass.
 ghost use Rattle.std.specs.Prelude.{◌≡◌, ◌≤◌, IfErr, IfOk, OnOk, length, map, sum};
 ghost use Rattle.std.specs.List.{AllZip};
-ghost use Rattle.tp_name.specs.Refused.{IsRefusedBy, Tells};
+ghost use Rattle.tp_checks.specs.Refused.{IsRefusedBy, Tells};
 ghost use Rattle.tp_script.specs.BrokenModules.{ModuleBreaks};
-ghost use Rattle.tp_setup.specs.Definitions.{functions};
-ghost use Rattle.tp_setup.specs.Prepared.{IsPreparedOf, IsWellDeclared};
+ghost use Rattle.tp_checks.specs.Definitions.{functions};
+ghost use Rattle.tp_checks.specs.Prepared.{IsPreparedOf, IsWellDeclared};
 ghost use Rattle.tp_play.specs.Behaviours.{size_of_behaviour};
 ghost use Rattle.tp_play.specs.Instances.{behaviour_of};
 ghost use Rattle.tp_play.specs.Ready.{IsReady};
@@ -16,11 +16,11 @@ use crate::bodies::resolve_bodies;
 use crate::instances::make_instances;
 use crate::total::check_size;
 use std::alloc::Global;
-use tp_name::fault::ModuleFault;
+use tp_checks::fault::ModuleFault;
+use tp_checks::prepared::Prepared;
+use tp_checks::preparing::prepare;
 use tp_play::bodies::Behaviours;
 use tp_play::test_case::TestCase;
-use tp_setup::prepared::Prepared;
-use tp_setup::preparing::prepare;
 use tp_tree::tree::Module;
 
 fn resolve_behaviours<'m>(
@@ -67,7 +67,7 @@ fn assemble(prepared: Prepared<'_>, behaviours: Behaviours) -> TestCase
 /// Checks a module, and makes its test case.
 ///
 /// It returns the first fault of the first pass that finds one: a
-/// [`ModuleRule`](tp_name::fault::ModuleRule), at its line. The passes are the three of
+/// [`ModuleRule`](tp_checks::fault::ModuleRule), at its line. The passes are the three of
 /// [`prepare`]; the bodies, [`resolve_bodies`]; and the size, 15 `Limit`, [`check_size`].
 pub fn check(alloc: Global, parsed: &Module) -> Result<TestCase, ModuleFault>
     ensures well_formed { OnOk result (WellFormed parsed.now) }

@@ -4,10 +4,10 @@ ghost use Rattle.tp_script.specs.Told.{of_module, of_text, script_refusal};
 
 use std::fmt;
 use thiserror::Error;
-use tp_name::fault::{ModuleFault, ModuleRule};
-use tp_refusal::memory::Memory;
-use tp_refusal::refusal::Refusal;
-use tp_token::fault::{ScriptFault, TextRule};
+use tp_checks::fault::{ModuleFault, ModuleRule};
+use tp_common::memory::Memory;
+use tp_common::refusal::Refusal;
+use tp_syntax::script_fault::{ScriptFault, TextRule};
 
 /// A rule that a script breaks. There is no other.
 #[derive(Clone, Copy, Debug, PartialEq, Eq)]

@@ -6,11 +6,11 @@ ghost use Rattle.tp_script.specs.Behaviours.{AreReferences, Numbers};
 ghost use Rattle.tp_script.specs.Instances.{AreFew, AreInstances, IsInstance, instance_count};
 
 use std::alloc::Global;
+use tp_checks::fault::{ModuleFault, ModuleRule, refused};
+use tp_checks::prepared::Prepared;
+use tp_checks::starts::{StartedComponent, Starts};
 use tp_config::port_type::CompId;
-use tp_name::fault::{ModuleFault, ModuleRule, refused};
 use tp_play::instance::{Instance, WhichBody};
-use tp_setup::prepared::Prepared;
-use tp_setup::starts::{StartedComponent, Starts};
 
 fn add_variables(references: &mut Vec<CompId>, count: u32) -> Result<(), ModuleFault>
     ensures numbers { OnOk result (Numbers count

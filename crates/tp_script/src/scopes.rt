@@ -1,20 +1,20 @@
 //! The names that the bodies of a module may use.
 ghost use Rattle.std.specs.Prelude.{◌≡◌, IfErr, IfOk, map, slice_get};
 ghost use Rattle.std.specs.Option.{option_copied};
-ghost use Rattle.tp_body.specs.declared.scope.Scope.{Scope};
-ghost use Rattle.tp_name.specs.Refused.{IsRefusedBy};
-ghost use Rattle.tp_name.specs.Tables.{IsNumbered};
-ghost use Rattle.tp_setup.specs.Definitions.{declared};
+ghost use Rattle.tp_checks.specs.declared.scope.Scope.{Scope};
+ghost use Rattle.tp_checks.specs.Refused.{IsRefusedBy};
+ghost use Rattle.tp_checks.specs.Tables.{IsNumbered};
+ghost use Rattle.tp_checks.specs.Definitions.{declared};
 ghost use Rattle.tp_script.specs.Instances.{known_in};
 ghost use Rattle.tp_script.specs.Scopes.{CanRun, IsScope};
 
 use std::alloc::Global;
-use tp_body::scope::{BehaviourKind, Scope};
+use tp_checks::fault::{ModuleFault, ModuleRule, refused};
+use tp_checks::name_set::NameSet;
+use tp_checks::prepared::Prepared;
+use tp_checks::scope::{BehaviourKind, Scope};
+use tp_checks::unique_names::declare_parameters;
 use tp_config::port_type::CompType;
-use tp_name::fault::{ModuleFault, ModuleRule, refused};
-use tp_name::name_set::NameSet;
-use tp_setup::prepared::Prepared;
-use tp_setup::unique_names::declare_parameters;
 use tp_tree::tree::Parameter;
 
 fn kind_at(kinds: &[CompType], place: u32) -> Option<&CompType>

@@ -1,15 +1,15 @@
 //! The fifth pass of the checks: the number of statements.
 ghost use Rattle.std.specs.Prelude.{◌≡◌, ◌<◌, ◌≤◌, IfErr, IfOk, OnOk, map, sum};
 ghost use Rattle.std.specs.List.{slice_index_or};
-ghost use Rattle.tp_name.specs.Refused.{IsRefusedBy, TellsAt};
+ghost use Rattle.tp_checks.specs.Refused.{IsRefusedBy, TellsAt};
 ghost use Rattle.tp_play.specs.Sizes.{capped, size_of_body};
 ghost use Rattle.tp_play.specs.Behaviours.{size_of_behaviour};
 ghost use Rattle.tp_play.specs.Instances.{behaviour_of};
 ghost use Rattle.tp_script.specs.Instances.{size_of_instance};
 
 use std::alloc::Global;
-use tp_body::size::{SIZE_CEILING, cap, count_body};
-use tp_name::fault::{ModuleFault, ModuleRule, refused};
+use tp_checks::fault::{ModuleFault, ModuleRule, refused};
+use tp_checks::size::{SIZE_CEILING, cap, count_body};
 use tp_play::bodies::Bodies;
 use tp_play::body::Body;
 use tp_play::instance::{Instance, WhichBody};

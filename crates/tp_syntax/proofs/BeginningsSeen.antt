@@ -1,13 +1,13 @@
 -- Which statement could come next where its first tokens alone may be seen.
 use Rattle.std.proofs.Common.{inl, inr, ◌⊎◌, ◌≡◌, ℕ, ◌+◌, ◌<◌, ◌≤◌, true, false, List, ◌∷◌, ◌++◌, Option, Some, length, refl, ap, sym, subst, ◌∙◌, arith}
-use Rattle.tp_token.specs.declared.token.Placed.{Placed}
-use Rattle.tp_token.specs.declared.token.Symbol.TheVariants.{Dot}
-use Rattle.tp_token.specs.declared.word.Word.TheVariants as w
-use Rattle.tp_token.specs.Lexeme.{Lexeme, name, word, symbol}
-use Rattle.tp_event.specs.declared.operation.PortOperation.{PortOperation}
-use Rattle.tp_event.specs.declared.operation.PortOperation.TheVariants as port_operation
-use Rattle.tp_event.specs.declared.operation.ReceiveKind.{ReceiveKind}
-use Rattle.tp_event.specs.declared.operation.ReceiveKind.TheVariants as receive_kind
+use Rattle.tp_syntax.specs.declared.token.Placed.{Placed}
+use Rattle.tp_syntax.specs.declared.token.Symbol.TheVariants.{Dot}
+use Rattle.tp_syntax.specs.declared.word.Word.TheVariants as w
+use Rattle.tp_syntax.specs.Lexeme.{Lexeme, name, word, symbol}
+use Rattle.tp_common.specs.declared.operation.PortOperation.{PortOperation}
+use Rattle.tp_common.specs.declared.operation.PortOperation.TheVariants as port_operation
+use Rattle.tp_common.specs.declared.operation.ReceiveKind.{ReceiveKind}
+use Rattle.tp_common.specs.declared.operation.ReceiveKind.TheVariants as receive_kind
 use Rattle.tp_tree.specs.declared.tree.Send.{Send}
 use Rattle.tp_tree.specs.declared.tree.Receive.{Receive}
 use Rattle.tp_tree.specs.declared.tree.Control.{Control}

@@ -2,8 +2,8 @@
 use Rattle.std.proofs.Common.{◌≡◌, ℕ, zero, suc, ◌+◌, ◌<◌, List, [], ◌∷◌, ◌++◌, length, map, take, drop, get_or, set, ap, sym, ◌∙◌, arith}
 use Rattle.std.proofs.lemmas.List.{take-map}
 use Rattle.std.proofs.Math.Seq.{take-append-add}
-use Rattle.tp_token.specs.declared.token.Placed.{Placed}
-use Rattle.tp_token.specs.Lexeme.{PlacedLexeme, placed_lexeme}
+use Rattle.tp_syntax.specs.declared.token.Placed.{Placed}
+use Rattle.tp_syntax.specs.Lexeme.{PlacedLexeme, placed_lexeme}
 use Rattle.tp_syntax.specs.Faults.{fault_line}
 
 -- the tokens up to one of them

@@ -1,8 +1,8 @@
 -- Definitions by the tokens that they begin with, and where their parts may stand.
 use Rattle.std.proofs.Common.{◌≡◌, true, List, ◌∷◌, map, refl}
 use Rattle.std.proofs.lemmas.Bool.{and_parts}
-use Rattle.tp_token.specs.declared.token.Symbol.TheVariants.{RightBrace}
-use Rattle.tp_token.specs.Lexeme.{Lexeme, symbol}
+use Rattle.tp_syntax.specs.declared.token.Symbol.TheVariants.{RightBrace}
+use Rattle.tp_syntax.specs.Lexeme.{Lexeme, symbol}
 use Rattle.tp_tree.specs.declared.tree.PortType.{PortType}
 use Rattle.tp_tree.specs.declared.tree.ComponentType.{ComponentType}
 use Rattle.tp_tree.specs.declared.tree.Defined.TheVariants as defined

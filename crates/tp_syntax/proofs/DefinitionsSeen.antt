@@ -2,10 +2,10 @@
 use Rattle.std.proofs.Common.{inl, inr, ◌⊎◌, ◌≡◌, ◌≢◌, ℕ, ◌+◌, ◌<◌, Bool, true, false, not, List, [], ◌∷◌, ◌++◌, Option, Some, map, length, refl, ap, sym, subst, ◌∙◌, append_assoc, arith}
 use Rattle.std.specs.List.{AllByRecursion}
 use Rattle.std.proofs.lemmas.Bool.{false≢true}
-use Rattle.tp_token.specs.declared.token.Placed.{Placed}
-use Rattle.tp_token.specs.declared.token.Symbol.TheVariants.{LeftBrace, LeftParen, RightBrace, RightParen}
-use Rattle.tp_token.specs.declared.word.Word.TheVariants as w
-use Rattle.tp_token.specs.Lexeme.{Lexeme, name, word, symbol, lexeme_of}
+use Rattle.tp_syntax.specs.declared.token.Placed.{Placed}
+use Rattle.tp_syntax.specs.declared.token.Symbol.TheVariants.{LeftBrace, LeftParen, RightBrace, RightParen}
+use Rattle.tp_syntax.specs.declared.word.Word.TheVariants as w
+use Rattle.tp_syntax.specs.Lexeme.{Lexeme, name, word, symbol, lexeme_of}
 use Rattle.tp_tree.specs.declared.tree.Parameter.{Parameter}
 use Rattle.tp_tree.specs.declared.tree.Function.{Function}
 use Rattle.tp_tree.specs.declared.tree.TestCase.{TestCase}

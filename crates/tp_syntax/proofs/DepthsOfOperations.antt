@@ -1,12 +1,12 @@
 -- Operations nest as deep as brackets are open among their tokens.
 use Rattle.std.proofs.Common.{◌≡◌, ℕ, ◌+◌, Bool, true, false, List, [], ◌∷◌, ◌++◌, Option, Some, None, refl, append_assoc, arith}
-use Rattle.tp_event.specs.declared.operation.PortOperation.{PortOperation}
-use Rattle.tp_event.specs.declared.operation.PortOperation.TheVariants as port_operation
-use Rattle.tp_event.specs.declared.operation.ReceiveKind.{ReceiveKind}
-use Rattle.tp_event.specs.declared.operation.ReceiveKind.TheVariants as receive_kind
-use Rattle.tp_token.specs.declared.word.Word.TheVariants as w
-use Rattle.tp_token.specs.declared.token.Symbol.TheVariants.{Arrow, Assign, Colon, Dot, Less, Plus, Semicolon}
-use Rattle.tp_token.specs.Lexeme.{Lexeme, name, number, word, symbol}
+use Rattle.tp_common.specs.declared.operation.PortOperation.{PortOperation}
+use Rattle.tp_common.specs.declared.operation.PortOperation.TheVariants as port_operation
+use Rattle.tp_common.specs.declared.operation.ReceiveKind.{ReceiveKind}
+use Rattle.tp_common.specs.declared.operation.ReceiveKind.TheVariants as receive_kind
+use Rattle.tp_syntax.specs.declared.word.Word.TheVariants as w
+use Rattle.tp_syntax.specs.declared.token.Symbol.TheVariants.{Arrow, Assign, Colon, Dot, Less, Plus, Semicolon}
+use Rattle.tp_syntax.specs.Lexeme.{Lexeme, name, number, word, symbol}
 use Rattle.tp_tree.specs.declared.message.MessageTemplate.{MessageTemplate}
 use Rattle.tp_tree.specs.declared.message.TypeName.{TypeName}
 use Rattle.tp_tree.specs.declared.message.TypeName.TheVariants as type_name

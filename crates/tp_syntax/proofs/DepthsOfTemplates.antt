@@ -2,9 +2,9 @@
 use Rattle.std.proofs.Common.{◌≡◌, ℕ, zero, suc, ◌<◌, ℤ, true, List, ◌∷◌, ◌++◌, Option, Some, None, map, refl, sym, subst, ◌∙◌, arith}
 use Rattle.std.specs.List.{AllByRecursion}
 use Rattle.std.proofs.lemmas.Bool.{and_parts}
-use Rattle.tp_token.specs.declared.word.Word.TheVariants as w
-use Rattle.tp_token.specs.declared.token.Symbol.TheVariants.{Assign, DotDot, Minus, Question, Star}
-use Rattle.tp_token.specs.Lexeme.{name, text, word, symbol}
+use Rattle.tp_syntax.specs.declared.word.Word.TheVariants as w
+use Rattle.tp_syntax.specs.declared.token.Symbol.TheVariants.{Assign, DotDot, Minus, Question, Star}
+use Rattle.tp_syntax.specs.Lexeme.{name, text, word, symbol}
 use Rattle.tp_tree.specs.declared.message.Template.{Template}
 use Rattle.tp_tree.specs.declared.message.TemplateField.{TemplateField, out-TemplateField}
 use Rattle.tp_syntax.specs.Grammar.{is_bound, is_template, is_template_field}

@@ -1,8 +1,8 @@
 -- Values nest as deep as brackets are open among their tokens.
 use Rattle.std.proofs.Common.{◌≡◌, ℕ, zero, suc, ◌<◌, Bool, true, false, [], ◌∷◌, map, refl, sym, subst, ◌∙◌, arith}
-use Rattle.tp_token.specs.declared.word.Word.TheVariants as w
-use Rattle.tp_token.specs.declared.token.Symbol.TheVariants.{Assign}
-use Rattle.tp_token.specs.Lexeme.{name, text, word, symbol}
+use Rattle.tp_syntax.specs.declared.word.Word.TheVariants as w
+use Rattle.tp_syntax.specs.declared.token.Symbol.TheVariants.{Assign}
+use Rattle.tp_syntax.specs.Lexeme.{name, text, word, symbol}
 use Rattle.tp_tree.specs.declared.message.Value.{Value}
 use Rattle.tp_tree.specs.declared.message.ValueField.{ValueField, out-ValueField}
 use Rattle.tp_syntax.specs.Grammar.{is_value, is_value_field}

@@ -1,9 +1,9 @@
 -- What comes next, seen through the `-` that is left out before the number 0; and sequences, as a loop reads them.
 use Rattle.std.proofs.Common.{inl, inr, ◌⊎◌, ◌≡◌, ℕ, zero, Bool, true, false, List, [], ◌∷◌, Option, Some, refl, ap, sym, subst, ◌∙◌}
 use Rattle.std.proofs.lemmas.Bool.{false≢true}
-use Rattle.tp_token.specs.declared.token.Placed.{Placed}
-use Rattle.tp_token.specs.declared.token.Symbol.TheVariants.{Minus, RightBrace}
-use Rattle.tp_token.specs.Lexeme.{Lexeme, name, number, symbol, lexeme_of}
+use Rattle.tp_syntax.specs.declared.token.Placed.{Placed}
+use Rattle.tp_syntax.specs.declared.token.Symbol.TheVariants.{Minus, RightBrace}
+use Rattle.tp_syntax.specs.Lexeme.{Lexeme, name, number, symbol, lexeme_of}
 use Rattle.tp_syntax.specs.Ahead.{lexemes, is_zero, starts_zero, token_before, plain, ahead, is_name_in, token_at}
 use Rattle.tp_syntax.specs.Faults.{is_minus}
 use Rattle.tp_syntax.specs.Reading.{first}

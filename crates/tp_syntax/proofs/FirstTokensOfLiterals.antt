@@ -1,8 +1,8 @@
 -- Which tokens integers and truth values begin with.
 use Rattle.std.proofs.Common.{◌≡◌, ℕ, ℤ, pos, negsuc, Bool, true, false, List, [], ◌∷◌, ◌++◌, Some, refl, subst}
 use Rattle.std.proofs.lemmas.Bool.{false≢true}
-use Rattle.tp_token.specs.declared.token.Symbol.TheVariants.{Minus, RightBrace}
-use Rattle.tp_token.specs.Lexeme.{Lexeme, name, number, symbol}
+use Rattle.tp_syntax.specs.declared.token.Symbol.TheVariants.{Minus, RightBrace}
+use Rattle.tp_syntax.specs.Lexeme.{Lexeme, name, number, symbol}
 use Rattle.tp_syntax.specs.Ahead.{plain, token_before, starts_zero, is_zero}
 use Rattle.tp_syntax.specs.Values.{int_lexemes, bool_lexeme}
 use Rattle.tp_syntax.specs.Reading.{first}

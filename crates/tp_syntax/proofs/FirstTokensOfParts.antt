@@ -1,7 +1,7 @@
 -- With which tokens parts begin.
 use Rattle.std.proofs.Common.{◌≡◌, true, false, List, [], ◌∷◌, ◌++◌, Some, refl}
-use Rattle.tp_token.specs.declared.token.Symbol.TheVariants.{RightBrace, RightParen}
-use Rattle.tp_token.specs.Lexeme.{Lexeme, name, symbol}
+use Rattle.tp_syntax.specs.declared.token.Symbol.TheVariants.{RightBrace, RightParen}
+use Rattle.tp_syntax.specs.Lexeme.{Lexeme, name, symbol}
 use Rattle.tp_syntax.specs.Ahead.{starts_zero}
 use Rattle.tp_tree.specs.declared.message.TypeName.{TypeName}
 use Rattle.tp_tree.specs.declared.message.TypeName.TheVariants as type_name

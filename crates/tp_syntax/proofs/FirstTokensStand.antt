@@ -1,9 +1,9 @@
 -- Tokens that come next stand where a parser passes what it looks for there: it isn't stuck before them.
 use Rattle.std.proofs.Common.{inr, ◌≡◌, ℕ, ◌+◌, ◌≤◌, true, List, [], ◌∷◌, Some, length, refl, sym, ◌∙◌, arith}
-use Rattle.tp_token.specs.declared.token.Placed.{Placed}
-use Rattle.tp_token.specs.declared.token.Symbol.TheVariants.{Dot}
-use Rattle.tp_token.specs.declared.word.Word.{Word}
-use Rattle.tp_token.specs.Lexeme.{Lexeme, name, word, symbol}
+use Rattle.tp_syntax.specs.declared.token.Placed.{Placed}
+use Rattle.tp_syntax.specs.declared.token.Symbol.TheVariants.{Dot}
+use Rattle.tp_syntax.specs.declared.word.Word.{Word}
+use Rattle.tp_syntax.specs.Lexeme.{Lexeme, name, word, symbol}
 use Rattle.tp_syntax.specs.declared.cursor.Parser.{Parser}
 use Rattle.tp_syntax.specs.declared.stuck.Stuck.{Stuck}
 use Rattle.tp_syntax.specs.declared.stuck.Stuck.TheVariants.{Next, Passed, Memory}

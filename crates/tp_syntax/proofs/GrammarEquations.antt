@@ -14,7 +14,7 @@ use Rattle.tp_tree.specs.declared.message.TemplateField.{TemplateField, out-Temp
 use Rattle.tp_tree.specs.declared.tree.Send.{Send}
 use Rattle.tp_tree.specs.declared.tree.Receive.{Receive}
 use Rattle.tp_tree.specs.declared.tree.Control.{Control}
-use Rattle.tp_event.specs.declared.operation.PortOperation.{PortOperation}
+use Rattle.tp_common.specs.declared.operation.PortOperation.{PortOperation}
 use Rattle.tp_tree.specs.declared.tree.VerdictName.{VerdictName}
 use Rattle.tp_tree.specs.declared.tree.Action.TheVariants as a
 use Rattle.tp_tree.specs.declared.tree.Action.TheOpen as oa

@@ -1,3 +1,13 @@
+pub mod LongestByteRuns
+pub mod LongestTokens
+pub mod QuotedTextSpelling
+pub mod PieceAtFront
+pub mod CutPieceGrowth
+pub mod UniqueTokens
+pub mod ReservedWordsByLength
+pub mod TokensWithoutLineEnds
+pub mod TokenFaults
+pub mod AcceptedTokenTexts
 pub mod TokensPassedWithinLimits
 pub mod FirstTokensOfParts
 pub mod AltHasOneBranch

@@ -1,8 +1,8 @@
 -- Parts of two trees whose lines are noted at the same tokens.
 use Rattle.std.proofs.Common.{◌≡◌, ℕ, true, List, [], ◌∷◌, ◌++◌, Some, None, map, refl, ap, sym, subst, ◌∙◌}
 use Rattle.std.proofs.lemmas.Bool.{false≢true}
-use Rattle.tp_token.specs.declared.token.Symbol.TheVariants.{Comma, LeftBrace, RightBrace}
-use Rattle.tp_token.specs.Lexeme.{Lexeme, PlacedLexeme, symbol}
+use Rattle.tp_syntax.specs.declared.token.Symbol.TheVariants.{Comma, LeftBrace, RightBrace}
+use Rattle.tp_syntax.specs.Lexeme.{Lexeme, PlacedLexeme, symbol}
 use Rattle.tp_syntax.specs.Lines.{Noted, AreNoted, unnoted, noted_at, noted_in_order, noted_more, noted_by_commas, noted_braced}
 use Rattle.tp_syntax.specs.Reading.{first}
 use Rattle.tp_syntax.proofs.PartsLeftToRead.{is_begin}

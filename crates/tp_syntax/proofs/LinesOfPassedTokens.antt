@@ -2,9 +2,9 @@
 use Rattle.std.proofs.Common.{◌≡◌, ℕ, ◌-◌, ◌<◌, ◌≤◌, zero, Bool, true, false, List, [], ◌∷◌, ◌++◌, None, map, length, take, drop, refl, ap, sym, subst, ◌∙◌, append_assoc, append-nil, arith}
 use Rattle.std.proofs.lemmas.Bool.{false≢true}
 use Rattle.std.proofs.lemmas.List.{append_cancel_right, map-append, map_push, length-map, take_all}
-use Rattle.tp_token.specs.declared.token.Placed.{Placed}
-use Rattle.tp_token.specs.declared.token.Symbol.TheVariants.{Comma, Minus}
-use Rattle.tp_token.specs.Lexeme.{Lexeme, PlacedLexeme, number, symbol, lexeme_of, placed_lexeme}
+use Rattle.tp_syntax.specs.declared.token.Placed.{Placed}
+use Rattle.tp_syntax.specs.declared.token.Symbol.TheVariants.{Comma, Minus}
+use Rattle.tp_syntax.specs.Lexeme.{Lexeme, PlacedLexeme, number, symbol, lexeme_of, placed_lexeme}
 use Rattle.tp_syntax.specs.Ahead.{lexemes, is_zero, starts_zero, token_before, plain, ahead}
 use Rattle.tp_syntax.specs.Lines.{Noted, AreNoted, unnoted, noted_at, noted_in_order, noted_more, noted_by_commas, placed_before, plain_placed}
 use Rattle.tp_syntax.specs.Forward.{IsTail, PassesNoted, next_line, placed_ahead}

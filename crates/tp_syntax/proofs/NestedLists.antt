@@ -1,8 +1,8 @@
 -- Lists of tokens whose brackets are closed among them: one after the other, or with a comma between two.
 use Rattle.std.proofs.Common.{◌≡◌, ℕ, ◌<◌, Bool, true, List, [], ◌∷◌, map, refl, arith}
 use Rattle.std.specs.List.{AllByRecursion}
-use Rattle.tp_token.specs.declared.token.Symbol.TheVariants.{Comma}
-use Rattle.tp_token.specs.Lexeme.{Lexeme, symbol}
+use Rattle.tp_syntax.specs.declared.token.Symbol.TheVariants.{Comma}
+use Rattle.tp_syntax.specs.Lexeme.{Lexeme, symbol}
 use Rattle.tp_syntax.specs.Nesting.{deepest}
 use Rattle.tp_syntax.specs.Sequences.{all_of, by_commas, more_by_commas}
 use Rattle.tp_syntax.proofs.NestedTokens.{IsNested, free_before, nested_behind, none_nested}

@@ -2,9 +2,9 @@
 use Rattle.std.proofs.Common.{◌≡◌, ℕ, ◌+◌, ◌-◌, ◌<◌, ◌≤◌, max, ℤ, pos, negsuc, Bool, true, false, List, [], ◌∷◌, ◌++◌, refl, ap, sym, subst, append_assoc, arith}
 use Rattle.std.specs.Prelude.{nat_lt}
 use Rattle.std.proofs.lemmas.Bool.{false≢true, ltb-true}
-use Rattle.tp_token.specs.declared.token.Symbol.{Symbol}
-use Rattle.tp_token.specs.declared.token.Symbol.TheVariants.{LeftBrace, LeftParen, RightBrace, RightParen}
-use Rattle.tp_token.specs.Lexeme.{Lexeme, name, word, number, text, symbol}
+use Rattle.tp_syntax.specs.declared.token.Symbol.{Symbol}
+use Rattle.tp_syntax.specs.declared.token.Symbol.TheVariants.{LeftBrace, LeftParen, RightBrace, RightParen}
+use Rattle.tp_syntax.specs.Lexeme.{Lexeme, name, word, number, text, symbol}
 use Rattle.tp_syntax.specs.declared.faults.Bracket.{Bracket}
 use Rattle.tp_syntax.specs.declared.faults.Bracket.TheVariants.{Opens, Closes, Neither}
 use Rattle.tp_syntax.specs.Faults.{IsAllowed, MayStandOpen, bracket_behind, is_minus, opened_behind, symbol_bracket}

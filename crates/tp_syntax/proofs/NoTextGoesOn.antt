@@ -3,9 +3,9 @@ use Rattle.std.proofs.Common.{inl, inr, ◌⊎◌, ◌≡◌, ℕ, zero, suc, �
 use Rattle.std.proofs.lemmas.Bool.{false≢true}
 use Rattle.std.proofs.lemmas.List.{length-map, length-take-le, length_push, map-append, take-append-drop, take-map}
 use Rattle.std.proofs.Math.Seq.{drop-append_seam, take-append-add}
-use Rattle.tp_token.specs.declared.token.Placed.{Placed}
-use Rattle.tp_token.specs.declared.token.Symbol.TheVariants.{Minus}
-use Rattle.tp_token.specs.Lexeme.{Lexeme, PlacedLexeme, placed_lexeme, symbol}
+use Rattle.tp_syntax.specs.declared.token.Placed.{Placed}
+use Rattle.tp_syntax.specs.declared.token.Symbol.TheVariants.{Minus}
+use Rattle.tp_syntax.specs.Lexeme.{Lexeme, PlacedLexeme, placed_lexeme, symbol}
 use Rattle.tp_tree.specs.declared.tree.Module.{Module}
 use Rattle.tp_syntax.specs.declared.cursor.Parser.{Parser}
 use Rattle.tp_syntax.specs.declared.stuck.Stuck.{Stuck}

@@ -1,13 +1,13 @@
 -- Operations by what is seen of them.
 use Rattle.std.proofs.Common.{inl, inr, ◌⊎◌, ◌≡◌, ℕ, pos, true, false, List, [], ◌∷◌, ◌++◌, Option, Some, None, append_assoc, refl, ap, sym, subst, ◌∙◌}
 use Rattle.std.proofs.lemmas.Bool.{false≢true}
-use Rattle.tp_token.specs.declared.token.Placed.{Placed}
-use Rattle.tp_token.specs.declared.token.Symbol.TheVariants.{Arrow, Colon, LeftParen, RightParen}
-use Rattle.tp_token.specs.declared.word.Word.{Word}
-use Rattle.tp_token.specs.declared.word.Word.TheVariants as w
-use Rattle.tp_token.specs.Lexeme.{Lexeme, name, word, symbol, lexeme_of}
-use Rattle.tp_event.specs.declared.operation.ReceiveKind.{ReceiveKind}
-use Rattle.tp_event.specs.declared.operation.ReceiveKind.TheVariants as receive_kind
+use Rattle.tp_syntax.specs.declared.token.Placed.{Placed}
+use Rattle.tp_syntax.specs.declared.token.Symbol.TheVariants.{Arrow, Colon, LeftParen, RightParen}
+use Rattle.tp_syntax.specs.declared.word.Word.{Word}
+use Rattle.tp_syntax.specs.declared.word.Word.TheVariants as w
+use Rattle.tp_syntax.specs.Lexeme.{Lexeme, name, word, symbol, lexeme_of}
+use Rattle.tp_common.specs.declared.operation.ReceiveKind.{ReceiveKind}
+use Rattle.tp_common.specs.declared.operation.ReceiveKind.TheVariants as receive_kind
 use Rattle.tp_tree.specs.declared.message.Message.{Message}
 use Rattle.tp_tree.specs.declared.message.MessageTemplate.{MessageTemplate}
 use Rattle.tp_tree.specs.declared.message.Template.TheVariants as template

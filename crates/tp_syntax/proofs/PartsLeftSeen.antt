@@ -2,9 +2,9 @@
 use Rattle.std.proofs.Common.{inl, inr, ◌≡◌, ℕ, ◌<◌, Bool, true, List, [], ◌∷◌, ◌++◌, Some, map, length, refl, ap, sym, subst, ◌∙◌, append_assoc, arith}
 use Rattle.std.specs.List.{AllByRecursion}
 use Rattle.std.proofs.lemmas.Bool.{false≢true}
-use Rattle.tp_token.specs.declared.token.Placed.{Placed}
-use Rattle.tp_token.specs.declared.token.Symbol.TheVariants.{Assign, Comma, RightBrace}
-use Rattle.tp_token.specs.Lexeme.{Lexeme, name, symbol, lexeme_of}
+use Rattle.tp_syntax.specs.declared.token.Placed.{Placed}
+use Rattle.tp_syntax.specs.declared.token.Symbol.TheVariants.{Assign, Comma, RightBrace}
+use Rattle.tp_syntax.specs.Lexeme.{Lexeme, name, symbol, lexeme_of}
 use Rattle.tp_syntax.specs.Ahead.{ahead, lexemes, is_name_in, token_at}
 use Rattle.tp_syntax.specs.Grammar.{has_one, one_and_each}
 use Rattle.tp_syntax.specs.HiddenTokens.{AllHidden, CouldBe}

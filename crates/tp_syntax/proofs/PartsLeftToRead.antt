@@ -2,8 +2,8 @@
 use Rattle.std.proofs.Common.{◌≡◌, Bool, true, false, ◌&&◌, List, [], ◌∷◌, ◌++◌, Option, Some, None, map, refl, ap, sym, subst, ◌∙◌, append_assoc}
 use Rattle.std.specs.List.{AllByRecursion}
 use Rattle.std.proofs.lemmas.Bool.{and_from, and_parts, false≢true}
-use Rattle.tp_token.specs.declared.token.Symbol.TheVariants.{Semicolon, RightBrace}
-use Rattle.tp_token.specs.Lexeme.{Lexeme, symbol}
+use Rattle.tp_syntax.specs.declared.token.Symbol.TheVariants.{Semicolon, RightBrace}
+use Rattle.tp_syntax.specs.Lexeme.{Lexeme, symbol}
 use Rattle.tp_syntax.specs.Sequences.{more_by_commas, by_commas, all_of}
 use Rattle.tp_syntax.specs.Grammar.{Part, each, one_and_each, has_one, are_parts}
 use Rattle.tp_syntax.specs.Reading.{first, may_end_before, may_all_stand, AllStand}

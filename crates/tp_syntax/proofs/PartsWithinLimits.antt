@@ -1,6 +1,6 @@
 -- The parts of tokens that are within the limits, and the token that comes next behind some of them.
 use Rattle.std.proofs.Common.{◌≡◌, ℕ, min, Bool, List, [], ◌∷◌, ◌++◌, map, take, refl, ap, subst, arith}
-use Rattle.tp_token.specs.Lexeme.{Lexeme, name, word, number, text, symbol, PlacedLexeme}
+use Rattle.tp_syntax.specs.Lexeme.{Lexeme, name, word, number, text, symbol, PlacedLexeme}
 use Rattle.tp_syntax.specs.Faults.{AreAllowed, IsAllowed, brought_within, greatest_number, is_minus, fault_line, next_within, opened_behind}
 
 -- where some tokens and others behind them are within the limits, both are

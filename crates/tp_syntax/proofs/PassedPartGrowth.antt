@@ -2,10 +2,10 @@
 use Rattle.std.proofs.Common.{◌≡◌, ◌<◌, inl, inr, Bool, true, false, ◌&&◌, List, [], ◌∷◌, ◌++◌, Option, Some, map, length, refl, ap, sym, subst, ◌∙◌, append_assoc, append-nil, arith}
 use Rattle.std.proofs.lemmas.Bool.{and_from, and_parts, false≢true}
 use Rattle.std.proofs.lemmas.List.{map_push}
-use Rattle.tp_token.specs.declared.token.Placed.{Placed}
-use Rattle.tp_token.specs.declared.word.Word.{Word}
-use Rattle.tp_token.specs.declared.token.Symbol.TheVariants.{LeftBracket, RightBrace}
-use Rattle.tp_token.specs.Lexeme.{Lexeme, word, symbol}
+use Rattle.tp_syntax.specs.declared.token.Placed.{Placed}
+use Rattle.tp_syntax.specs.declared.word.Word.{Word}
+use Rattle.tp_syntax.specs.declared.token.Symbol.TheVariants.{LeftBracket, RightBrace}
+use Rattle.tp_syntax.specs.Lexeme.{Lexeme, word, symbol}
 use Rattle.tp_syntax.specs.Ahead.{token_at}
 use Rattle.tp_syntax.specs.Grammar.{each, one_and_each, has_one, Part, are_parts}
 use Rattle.tp_syntax.specs.Standing.{AreLeft, Between, IsClosing, IsLeft, are_ended}

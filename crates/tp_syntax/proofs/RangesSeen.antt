@@ -1,10 +1,10 @@
 -- A range or templates in parentheses, by what is seen of them.
 use Rattle.std.proofs.Common.{inl, inr, ◌⊎◌, ◌≡◌, ℕ, ◌+◌, ◌≤◌, ◌<◌, ℤ, pos, true, ◌&&◌, List, [], ◌∷◌, ◌++◌, Option, Some, map, length, append_assoc, refl, ap, sym, subst, ◌∙◌, arith}
 use Rattle.std.proofs.lemmas.Bool.{and_parts, false≢true}
-use Rattle.tp_token.specs.declared.token.Placed.{Placed}
-use Rattle.tp_token.specs.declared.word.Word.TheVariants as w
-use Rattle.tp_token.specs.declared.token.Symbol.TheVariants.{Comma, DotDot, Minus, RightParen}
-use Rattle.tp_token.specs.Lexeme.{Lexeme, word, number, symbol}
+use Rattle.tp_syntax.specs.declared.token.Placed.{Placed}
+use Rattle.tp_syntax.specs.declared.word.Word.TheVariants as w
+use Rattle.tp_syntax.specs.declared.token.Symbol.TheVariants.{Comma, DotDot, Minus, RightParen}
+use Rattle.tp_syntax.specs.Lexeme.{Lexeme, word, number, symbol}
 use Rattle.tp_tree.specs.declared.message.Template.{Template}
 use Rattle.tp_tree.specs.declared.message.Template.TheVariants as v
 use Rattle.tp_syntax.specs.Ahead.{is_number_in, lexemes, token_at}

@@ -1,8 +1,8 @@
 -- Sequences, as a loop reads them.
 use Rattle.std.proofs.Common.{◌≡◌, ◌<◌, List, [], ◌∷◌, ◌++◌, map, length, ap, sym, ◌∙◌, append_assoc, append-nil, arith}
 use Rattle.std.proofs.lemmas.List.{map_push, length-map}
-use Rattle.tp_token.specs.declared.token.Symbol.TheVariants.{Comma, LeftBrace, RightBrace}
-use Rattle.tp_token.specs.Lexeme.{Lexeme, symbol}
+use Rattle.tp_syntax.specs.declared.token.Symbol.TheVariants.{Comma, LeftBrace, RightBrace}
+use Rattle.tp_syntax.specs.Lexeme.{Lexeme, symbol}
 use Rattle.tp_syntax.specs.Sequences.{more_by_commas, by_commas, all_of, braced}
 
 pub more_by_commas_push : (xs : List (List Lexeme)) (x : List Lexeme) → more_by_commas (xs ++ x ∷ []) ≡ more_by_commas xs ++ symbol Comma ∷ x

@@ -1,8 +1,8 @@
 -- What comes next of a statement, a branch, a counted `for` and an `alt` that is right, part by part, as the parser reads it.
 use Rattle.std.proofs.Common.{◌≡◌, ◌≢◌, true, ◌&&◌, ◌||◌, List, [], ◌∷◌, ◌++◌, Option, Some, append_assoc, ap, sym, subst, ◌∙◌}
 use Rattle.std.proofs.lemmas.Bool.{and_parts}
-use Rattle.tp_token.specs.declared.token.Symbol.TheVariants.{LeftBracket, RightBracket, LeftBrace, RightBrace}
-use Rattle.tp_token.specs.Lexeme.{Lexeme, symbol}
+use Rattle.tp_syntax.specs.declared.token.Symbol.TheVariants.{LeftBracket, RightBracket, LeftBrace, RightBrace}
+use Rattle.tp_syntax.specs.Lexeme.{Lexeme, symbol}
 use Rattle.tp_tree.specs.declared.tree.Statement.{Statement, out-Statement}
 use Rattle.tp_tree.specs.declared.tree.Branch.{Branch, out-Branch}
 use Rattle.tp_tree.specs.declared.tree.Counted.{Counted, out-Counted}

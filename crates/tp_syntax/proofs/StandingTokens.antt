@@ -1,7 +1,7 @@
 -- How many tokens stand before the parser is stuck, where some were passed before, or are hidden.
 use Rattle.std.proofs.Common.{inl, inr, ◌⊎◌, ◌≡◌, ℕ, ◌+◌, ◌≤◌, false, List, ◌∷◌, [], Some, length, refl, ap, subst, ◌∙◌, arith}
-use Rattle.tp_token.specs.declared.token.Placed.{Placed}
-use Rattle.tp_token.specs.Lexeme.{Lexeme, lexeme_of}
+use Rattle.tp_syntax.specs.declared.token.Placed.{Placed}
+use Rattle.tp_syntax.specs.Lexeme.{Lexeme, lexeme_of}
 use Rattle.tp_syntax.specs.declared.cursor.Parser.{Parser}
 use Rattle.tp_syntax.specs.declared.stuck.Stuck.{Stuck}
 use Rattle.tp_syntax.specs.Ahead.{ahead, is_zero, lexemes, token_at}

@@ -11,9 +11,9 @@ use Rattle.tp_tree.specs.declared.tree.Branch.{Branch}
 use Rattle.tp_tree.specs.declared.tree.Counted.{Counted, out-Counted}
 use Rattle.tp_tree.specs.declared.tree.ElseBranch.{ElseBranch, out-ElseBranch}
 use Rattle.tp_tree.specs.declared.tree.Statement.{Statement}
-use Rattle.tp_token.specs.declared.word.Word.TheVariants as w
-use Rattle.tp_token.specs.declared.token.Symbol.TheVariants.{LeftBracket, RightBracket}
-use Rattle.tp_token.specs.Lexeme.{Lexeme, word, symbol}
+use Rattle.tp_syntax.specs.declared.word.Word.TheVariants as w
+use Rattle.tp_syntax.specs.declared.token.Symbol.TheVariants.{LeftBracket, RightBracket}
+use Rattle.tp_syntax.specs.Lexeme.{Lexeme, word, symbol}
 use Rattle.std.specs.Prelude.{◌++◌, ◌&&◌, true, false}
 use Rattle.tp_syntax.specs.Sequences.{braced, end_lexemes}
 use Rattle.tp_syntax.specs.Statements.{send_lexemes, receive_lexemes, control_lexemes, all_ports_lexemes, set_verdict_lexemes, for_lexemes, turns_lexemes, action_lexemes, body_lexemes, counted_lexemes, statements_lexemes, branches_lexemes, otherwise_lexemes}

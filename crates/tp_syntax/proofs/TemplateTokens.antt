@@ -1,8 +1,8 @@
 -- The tokens of templates, an equation for each variant.
 use Rattle.std.proofs.Common.{◌≡◌, ℕ, ℤ, Bool, List, [], ◌∷◌, ◌++◌, Option, map, append_assoc, ap, sym, ◌∙◌}
-use Rattle.tp_token.specs.declared.word.Word.TheVariants as w
-use Rattle.tp_token.specs.declared.token.Symbol.TheVariants.{Assign, Question, Star, DotDot}
-use Rattle.tp_token.specs.Lexeme.{Lexeme, name, word, text, symbol}
+use Rattle.tp_syntax.specs.declared.word.Word.TheVariants as w
+use Rattle.tp_syntax.specs.declared.token.Symbol.TheVariants.{Assign, Question, Star, DotDot}
+use Rattle.tp_syntax.specs.Lexeme.{Lexeme, name, word, text, symbol}
 use Rattle.tp_tree.specs.declared.message.Template.{Template}
 use Rattle.tp_tree.specs.declared.message.Template.TheVariants as v
 use Rattle.tp_tree.specs.declared.message.Template.TheOpen as o

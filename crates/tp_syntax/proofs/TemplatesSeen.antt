@@ -2,10 +2,10 @@
 use Rattle.std.proofs.Common.{inl, inr, ◌⊎◌, ◌≡◌, ℕ, ◌≤◌, ℤ, pos, Bool, true, false, ◌&&◌, Option, None, List, [], ◌∷◌, ◌++◌, Some, map, length, append_assoc, refl, ap, sym, subst, ◌∙◌, arith}
 use Rattle.std.proofs.lemmas.Bool.{false≢true}
 use Rattle.std.specs.List.{list_all}
-use Rattle.tp_token.specs.declared.token.Placed.{Placed}
-use Rattle.tp_token.specs.declared.word.Word.TheVariants as w
-use Rattle.tp_token.specs.declared.token.Symbol.TheVariants.{Assign, DotDot, LeftBrace, LeftParen, Minus, Question, RightBrace, RightParen, Star}
-use Rattle.tp_token.specs.Lexeme.{Lexeme, name, word, number, text, symbol, lexeme_of}
+use Rattle.tp_syntax.specs.declared.token.Placed.{Placed}
+use Rattle.tp_syntax.specs.declared.word.Word.TheVariants as w
+use Rattle.tp_syntax.specs.declared.token.Symbol.TheVariants.{Assign, DotDot, LeftBrace, LeftParen, Minus, Question, RightBrace, RightParen, Star}
+use Rattle.tp_syntax.specs.Lexeme.{Lexeme, name, word, number, text, symbol, lexeme_of}
 use Rattle.tp_tree.specs.declared.message.Template.{Template}
 use Rattle.tp_tree.specs.declared.message.Template.TheVariants as v
 use Rattle.tp_tree.specs.declared.message.TemplateField.{TemplateField, out-TemplateField}

@@ -1,8 +1,8 @@
 -- How a text goes on behind a token within the limits.
 use Rattle.std.proofs.Common.{◌≡◌, ℕ, ◌+◌, ◌<◌, ◌≤◌, Bool, false, List, [], ◌∷◌, ◌++◌, Option, map, length, drop, get_or, refl, ap, sym, subst, ◌∙◌, append_assoc, append-nil, arith}
 use Rattle.std.proofs.lemmas.List.{drop_all, drop_more, length_push}
-use Rattle.tp_token.specs.declared.token.Placed.{Placed}
-use Rattle.tp_token.specs.Lexeme.{Lexeme, name, word, number, text, symbol, PlacedLexeme, lexeme_of, placed_lexeme}
+use Rattle.tp_syntax.specs.declared.token.Placed.{Placed}
+use Rattle.tp_syntax.specs.Lexeme.{Lexeme, name, word, number, text, symbol, PlacedLexeme, lexeme_of, placed_lexeme}
 use Rattle.tp_syntax.specs.declared.faults.Bracket.{Bracket}
 use Rattle.tp_syntax.specs.declared.faults.Bracket.TheVariants.{Opens, Closes, Neither}
 use Rattle.tp_syntax.specs.Faults.{Input, GoesOnWith, IsAllowed, IsCut, IsCutOf, AreAllowed, AreWithin, MayStandOpen, bracket_behind, input_of, is_minus, opened_behind, symbol_bracket}

@@ -1,8 +1,8 @@
 -- Tokens within the limits, wherever the text ends, with each `-` that stands directly before the number 0 or without.
 use Rattle.std.proofs.Common.{◌≡◌, ℕ, zero, ◌≤◌, Bool, true, false, List, [], ◌∷◌, refl, arith}
 use Rattle.std.proofs.lemmas.Bool.{false≢true}
-use Rattle.tp_token.specs.declared.token.Symbol.TheVariants.{Minus}
-use Rattle.tp_token.specs.Lexeme.{Lexeme, name, word, number, text, symbol, PlacedLexeme}
+use Rattle.tp_syntax.specs.declared.token.Symbol.TheVariants.{Minus}
+use Rattle.tp_syntax.specs.Lexeme.{Lexeme, name, word, number, text, symbol, PlacedLexeme}
 use Rattle.tp_syntax.specs.Ahead.{plain, starts_zero, token_before}
 use Rattle.tp_syntax.specs.Faults.{AreAllowed, IsAllowed, greatest_number, is_minus, opened_behind}
 use Rattle.tp_syntax.proofs.LinesOfPassedTokens.{lexemes_of}

@@ -1,9 +1,9 @@
 -- The parts of definitions with the same tokens are the same, and the same stands behind them.
 use Rattle.std.proofs.Common.{◌≡◌, ℕ, Bool, true, false, List, [], ◌∷◌, ◌++◌, length, map, refl, ap, sym, ◌∙◌, append_assoc, arith}
 use Rattle.std.proofs.lemmas.Bool.{false≢true}
-use Rattle.tp_token.specs.declared.word.Word.TheVariants as w
-use Rattle.tp_token.specs.declared.token.Symbol.TheVariants.{Dot, LeftParen, RightBrace, RightParen}
-use Rattle.tp_token.specs.Lexeme.{Lexeme, name, word, symbol}
+use Rattle.tp_syntax.specs.declared.word.Word.TheVariants as w
+use Rattle.tp_syntax.specs.declared.token.Symbol.TheVariants.{Dot, LeftParen, RightBrace, RightParen}
+use Rattle.tp_syntax.specs.Lexeme.{Lexeme, name, word, symbol}
 use Rattle.tp_tree.specs.declared.message.TypeName.{TypeName}
 use Rattle.tp_tree.specs.declared.message.TypeName.TheVariants as type_name
 use Rattle.tp_tree.specs.declared.tree.ComponentName.{ComponentName}

@@ -1,10 +1,10 @@
 -- Modules with the same tokens are the same, and so a text is one module.
 use Rattle.std.proofs.Common.{ℕ, ◌≡◌, ◌≢◌, Bool, true, false, not, List, [], ◌∷◌, ◌++◌, length, Option, Some, None, map, refl, ap, sym, subst, ◌∙◌, append_assoc, arith}
 use Rattle.std.proofs.lemmas.Bool.{and_parts}
-use Rattle.tp_token.specs.declared.word.Word.TheVariants as w
-use Rattle.tp_token.specs.declared.token.Symbol.TheVariants.{LeftBrace, LeftParen, RightBrace, RightParen}
-use Rattle.tp_token.specs.Lexeme.{Lexeme, PlacedLexeme, name, word, symbol}
-use Rattle.tp_token.proofs.UniqueTokens.{tokens_are_unique}
+use Rattle.tp_syntax.specs.declared.word.Word.TheVariants as w
+use Rattle.tp_syntax.specs.declared.token.Symbol.TheVariants.{LeftBrace, LeftParen, RightBrace, RightParen}
+use Rattle.tp_syntax.specs.Lexeme.{Lexeme, PlacedLexeme, name, word, symbol}
+use Rattle.tp_syntax.proofs.UniqueTokens.{tokens_are_unique}
 use Rattle.tp_tree.specs.declared.tree.Statement.{Statement}
 use Rattle.tp_tree.specs.declared.tree.RecordType.{RecordType}
 use Rattle.tp_tree.specs.declared.tree.ListType.{ListType}

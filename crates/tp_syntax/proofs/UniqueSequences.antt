@@ -1,8 +1,8 @@
 -- Sequences of the same tokens are the same, and the same stands behind them.
 use Rattle.std.proofs.Common.{◌≡◌, ℕ, suc, ◌≤◌, ℤ, pos, negsuc, Bool, true, false, ◌&&◌, List, [], ◌∷◌, ◌++◌, length, Option, Some, map, refl, ap, sym, subst, ◌∙◌, append_assoc, length-append, arith}
 use Rattle.std.proofs.lemmas.Bool.{and_parts, false≢true}
-use Rattle.tp_token.specs.declared.token.Symbol.TheVariants.{Assign, RightBrace, RightParen, Semicolon}
-use Rattle.tp_token.specs.Lexeme.{Lexeme, name, symbol}
+use Rattle.tp_syntax.specs.declared.token.Symbol.TheVariants.{Assign, RightBrace, RightParen, Semicolon}
+use Rattle.tp_syntax.specs.Lexeme.{Lexeme, name, symbol}
 use Rattle.tp_syntax.specs.Sequences.{more_by_commas, by_commas, all_of, end_lexemes}
 use Rattle.tp_syntax.specs.Values.{int_lexemes, bool_lexeme}
 use Rattle.tp_syntax.specs.Grammar.{Part, each}

@@ -2,8 +2,8 @@
 use Rattle.std.proofs.Common.{◌≡◌, ℕ, zero, suc, ◌≤◌, ℤ, pos, negsuc, Bool, true, false, List, [], ◌∷◌, ◌++◌, length, Option, Some, None, map, refl, ap, sym, subst, ◌∙◌, append_assoc, arith}
 use Rattle.std.proofs.lemmas.Bool.{false≢true}
 use Rattle.std.proofs.lemmas.List.{nil_from_length}
-use Rattle.tp_token.specs.declared.token.Symbol.TheVariants.{Assign, DotDot, LeftBrace, LeftParen, RightBrace, RightParen}
-use Rattle.tp_token.specs.Lexeme.{Lexeme, name, symbol}
+use Rattle.tp_syntax.specs.declared.token.Symbol.TheVariants.{Assign, DotDot, LeftBrace, LeftParen, RightBrace, RightParen}
+use Rattle.tp_syntax.specs.Lexeme.{Lexeme, name, symbol}
 use Rattle.tp_tree.specs.declared.message.Template.{Template}
 use Rattle.tp_tree.specs.declared.message.Template.TheOpen as o
 use Rattle.tp_tree.specs.declared.message.Template.TheViews.{roll-Template, out-Template, roll-out-Template, roll-TemplateField, roll-out-TemplateField}

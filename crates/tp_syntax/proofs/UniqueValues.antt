@@ -2,8 +2,8 @@
 use Rattle.std.proofs.Common.{◌≡◌, ℕ, zero, suc, ◌≤◌, Bool, true, false, List, [], ◌∷◌, ◌++◌, length, map, refl, ap, sym, subst, ◌∙◌, arith}
 use Rattle.std.proofs.lemmas.Bool.{false≢true}
 use Rattle.std.proofs.lemmas.List.{nil_from_length}
-use Rattle.tp_token.specs.declared.token.Symbol.TheVariants.{Assign, LeftBrace, RightBrace}
-use Rattle.tp_token.specs.Lexeme.{Lexeme, name, symbol}
+use Rattle.tp_syntax.specs.declared.token.Symbol.TheVariants.{Assign, LeftBrace, RightBrace}
+use Rattle.tp_syntax.specs.Lexeme.{Lexeme, name, symbol}
 use Rattle.tp_tree.specs.declared.message.Value.{Value}
 use Rattle.tp_tree.specs.declared.message.Value.TheOpen as o
 use Rattle.tp_tree.specs.declared.message.Value.TheViews.{roll-Value, out-Value, roll-out-Value, roll-ValueField, roll-out-ValueField}

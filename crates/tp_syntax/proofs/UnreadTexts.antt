@@ -1,13 +1,13 @@
 -- A text that is refused in the front of its tokens is no module of the grammar within the limits.
 use Rattle.std.proofs.Common.{inl, inr, ◌⊎◌, ◌≡◌, ◌+◌, ◌<◌, ◌≤◌, ℕ, zero, suc, false, List, ◌∷◌, ◌++◌, Option, Some, None, length, map, take, ap, sym, subst, ◌∙◌}
-use Rattle.tp_token.specs.Fault.{IsMemory}
-use Rattle.tp_token.specs.declared.fault.ScriptFault.{ScriptFault}
-use Rattle.tp_token.specs.declared.fault.TextRule.TheVariants.{Syntax, Limit}
-use Rattle.tp_token.specs.declared.fault.ScriptFault.TheVariants.{Refused, Memory}
-use Rattle.tp_token.specs.declared.token.Placed.{Placed}
-use Rattle.tp_token.specs.Lexeme.{Lexeme, PlacedLexeme, placed_lexeme}
-use Rattle.tp_token.specs.Cut.{AreTokens, newlines}
-use Rattle.tp_token.proofs.UniqueTokens.{tokens_are_unique}
+use Rattle.tp_syntax.specs.TextFaults.{IsMemory}
+use Rattle.tp_syntax.specs.declared.script_fault.ScriptFault.{ScriptFault}
+use Rattle.tp_syntax.specs.declared.script_fault.TextRule.TheVariants.{Syntax, Limit}
+use Rattle.tp_syntax.specs.declared.script_fault.ScriptFault.TheVariants.{Refused, Memory}
+use Rattle.tp_syntax.specs.declared.token.Placed.{Placed}
+use Rattle.tp_syntax.specs.Lexeme.{Lexeme, PlacedLexeme, placed_lexeme}
+use Rattle.tp_syntax.specs.Cut.{AreTokens, newlines}
+use Rattle.tp_syntax.proofs.UniqueTokens.{tokens_are_unique}
 use Rattle.tp_tree.specs.declared.tree.Module.{Module}
 use Rattle.tp_syntax.specs.declared.stuck.Stuck.{Stuck}
 use Rattle.tp_syntax.specs.declared.stuck.Stuck.TheVariants as stuck

@@ -1,7 +1,7 @@
 -- The tokens of values, an equation for each variant.
 use Rattle.std.proofs.Common.{◌≡◌, ℕ, ℤ, Bool, List, [], ◌∷◌, map, append_assoc, ap, sym, ◌∙◌}
-use Rattle.tp_token.specs.declared.token.Symbol.TheVariants.{Assign}
-use Rattle.tp_token.specs.Lexeme.{Lexeme, name, text, symbol}
+use Rattle.tp_syntax.specs.declared.token.Symbol.TheVariants.{Assign}
+use Rattle.tp_syntax.specs.Lexeme.{Lexeme, name, text, symbol}
 use Rattle.tp_tree.specs.declared.message.Value.{Value}
 use Rattle.tp_tree.specs.declared.message.Value.TheVariants as v
 use Rattle.tp_tree.specs.declared.message.Value.TheOpen as o

@@ -1,10 +1,10 @@
 -- What is left to read: the tokens, each `-` directly before the number 0 left out.
 use Rattle.std.specs.Prelude.{ℕ, zero, Bool, true, false, List, [], ◌∷◌, map, Option, Some, None, option_map, slice_get}
-use Rattle.tp_token.specs.declared.word.Word.{Word}
-use Rattle.tp_token.specs.declared.token.Symbol.{Symbol}
-use Rattle.tp_token.specs.declared.token.Symbol.TheVariants.{Minus}
-use Rattle.tp_token.specs.declared.token.Placed.{Placed}
-use Rattle.tp_token.specs.Lexeme.{Lexeme, name, word, number, symbol, lexeme_of}
+use Rattle.tp_syntax.specs.declared.word.Word.{Word}
+use Rattle.tp_syntax.specs.declared.token.Symbol.{Symbol}
+use Rattle.tp_syntax.specs.declared.token.Symbol.TheVariants.{Minus}
+use Rattle.tp_syntax.specs.declared.token.Placed.{Placed}
+use Rattle.tp_syntax.specs.Lexeme.{Lexeme, name, word, number, symbol, lexeme_of}
 
 -- the tokens without their lines
 abbrev pub lexemes : List Placed → List Lexeme

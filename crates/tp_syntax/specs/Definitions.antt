@@ -1,9 +1,9 @@
 -- The tokens of definitions and of a module, an equation for each line of the grammar.
 use Rattle.std.specs.Prelude.{◌≡◌, ℕ, List, [], ◌∷◌, ◌++◌, map, Option, Some, None}
-use Rattle.tp_token.specs.declared.word.Word.TheVariants as w
-use Rattle.tp_token.specs.declared.token.Symbol.TheVariants.{LeftParen, RightParen, Comma, Colon, Dot, Assign}
-use Rattle.tp_token.specs.Lexeme.{Lexeme, PlacedLexeme, name, word, symbol}
-use Rattle.tp_token.specs.Cut.{AreTokens}
+use Rattle.tp_syntax.specs.declared.word.Word.TheVariants as w
+use Rattle.tp_syntax.specs.declared.token.Symbol.TheVariants.{LeftParen, RightParen, Comma, Colon, Dot, Assign}
+use Rattle.tp_syntax.specs.Lexeme.{Lexeme, PlacedLexeme, name, word, symbol}
+use Rattle.tp_syntax.specs.Cut.{AreTokens}
 use Rattle.tp_tree.specs.declared.tree.DeclaredName.{DeclaredName}
 use Rattle.tp_tree.specs.declared.message.TypeName.{TypeName}
 use Rattle.tp_tree.specs.declared.tree.ComponentName.{ComponentName}

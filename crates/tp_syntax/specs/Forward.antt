@@ -1,7 +1,7 @@
 -- How the parser goes on through the tokens: what is left then is an end of what was left first.
 use Rattle.std.specs.Prelude.{◌≡◌, ℕ, List, [], ◌∷◌, ◌++◌, map}
-use Rattle.tp_token.specs.declared.token.Placed.{Placed}
-use Rattle.tp_token.specs.Lexeme.{PlacedLexeme, placed_lexeme}
+use Rattle.tp_syntax.specs.declared.token.Placed.{Placed}
+use Rattle.tp_syntax.specs.Lexeme.{PlacedLexeme, placed_lexeme}
 use Rattle.tp_syntax.specs.declared.cursor.Parser.{Parser}
 use Rattle.tp_syntax.specs.Lines.{Noted, AreNoted, plain_placed}
 

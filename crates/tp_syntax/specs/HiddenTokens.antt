@@ -1,10 +1,10 @@
 -- What is read where only the front of a text is seen: so no parser is stuck before the first token with which no text of
 -- the grammar goes on.
 use Rattle.std.specs.Prelude.{◌≡◌, ℕ, ◌+◌, ◌<◌, ◌⊎◌, true, List, [], ◌∷◌, ◌++◌, length, Some, Result, MatchResult}
-use Rattle.tp_token.specs.declared.token.Placed.{Placed}
-use Rattle.tp_token.specs.declared.token.Symbol.TheVariants.{Dot}
-use Rattle.tp_token.specs.declared.word.Word.TheVariants.{Start, Var}
-use Rattle.tp_token.specs.Lexeme.{Lexeme, symbol, word}
+use Rattle.tp_syntax.specs.declared.token.Placed.{Placed}
+use Rattle.tp_syntax.specs.declared.token.Symbol.TheVariants.{Dot}
+use Rattle.tp_syntax.specs.declared.word.Word.TheVariants.{Start, Var}
+use Rattle.tp_syntax.specs.Lexeme.{Lexeme, symbol, word}
 use Rattle.tp_syntax.specs.declared.cursor.Parser.{Parser}
 use Rattle.tp_syntax.specs.declared.stuck.Stuck.{Stuck}
 use Rattle.tp_syntax.specs.declared.stuck.Stuck.TheVariants.{Next, Passed, Memory}

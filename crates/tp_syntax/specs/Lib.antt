@@ -1,3 +1,10 @@
+pub mod Byte
+pub mod Cut
+pub mod TextFaults
+pub mod Lexeme
+pub mod Spelling
+pub mod Word
+pub mod Told
 pub mod Ahead
 pub mod Definitions
 pub mod Faults

@@ -1,6 +1,6 @@
 -- That brackets nest in a module as deep as they are open at once among its tokens.
 use Rattle.std.specs.Prelude.{◌≡◌, ◌≤◌, ◌↔◌, List, map}
-use Rattle.tp_token.specs.Lexeme.{PlacedLexeme}
+use Rattle.tp_syntax.specs.Lexeme.{PlacedLexeme}
 use Rattle.tp_tree.specs.declared.tree.Module.{Module}
 use Rattle.tp_syntax.specs.Ahead.{plain}
 use Rattle.tp_syntax.specs.Definitions.{module_lexemes}

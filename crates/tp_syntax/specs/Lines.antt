@@ -1,9 +1,9 @@
 -- The lines that a tree notes: each is that of the first token of what it is noted of.
 use Rattle.std.specs.Prelude.{◌≡◌, ℕ, Bool, true, List, [], ◌∷◌, ◌++◌, map, Option, Some, None}
-use Rattle.tp_token.specs.declared.word.Word.TheVariants as w
-use Rattle.tp_token.specs.declared.token.Symbol.TheVariants.{Comma, LeftBrace, LeftBracket, LeftParen, Minus, RightBrace, RightBracket, RightParen}
-use Rattle.tp_token.specs.Lexeme.{Lexeme, PlacedLexeme, name, word, symbol}
-use Rattle.tp_token.specs.Cut.{AreTokens}
+use Rattle.tp_syntax.specs.declared.word.Word.TheVariants as w
+use Rattle.tp_syntax.specs.declared.token.Symbol.TheVariants.{Comma, LeftBrace, LeftBracket, LeftParen, Minus, RightBrace, RightBracket, RightParen}
+use Rattle.tp_syntax.specs.Lexeme.{Lexeme, PlacedLexeme, name, word, symbol}
+use Rattle.tp_syntax.specs.Cut.{AreTokens}
 use Rattle.tp_tree.specs.declared.tree.DeclaredName.{DeclaredName}
 use Rattle.tp_tree.specs.declared.tree.Variable.{Variable}
 use Rattle.tp_tree.specs.declared.tree.Statement.{Statement}

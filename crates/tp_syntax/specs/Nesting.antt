@@ -11,8 +11,8 @@ use Rattle.tp_tree.specs.declared.message.TemplateField.{TemplateField}
 use Rattle.tp_tree.specs.declared.message.MessageTemplate.{MessageTemplate}
 use Rattle.tp_tree.specs.declared.tree.SentExpression.{SentExpression}
 use Rattle.tp_tree.specs.declared.tree.SentExpression.TheVariants as sent
-use Rattle.tp_event.specs.declared.operation.ReceiveKind.{ReceiveKind}
-use Rattle.tp_event.specs.declared.operation.ReceiveKind.TheVariants as receive_kind
+use Rattle.tp_common.specs.declared.operation.ReceiveKind.{ReceiveKind}
+use Rattle.tp_common.specs.declared.operation.ReceiveKind.TheVariants as receive_kind
 use Rattle.tp_tree.specs.declared.tree.Receive.{Receive}
 use Rattle.tp_tree.specs.declared.tree.Statement.{Statement}
 use Rattle.tp_tree.specs.declared.tree.Action.{Action}

@@ -1,6 +1,6 @@
 -- What a step of the parser passes.
 use Rattle.std.specs.Prelude.{◌≡◌, List, ◌++◌}
-use Rattle.tp_token.specs.Lexeme.{Lexeme}
+use Rattle.tp_syntax.specs.Lexeme.{Lexeme}
 use Rattle.tp_syntax.specs.declared.cursor.Parser.{Parser}
 use Rattle.tp_syntax.specs.Ahead.{ahead}
 

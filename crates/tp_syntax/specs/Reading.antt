@@ -1,12 +1,12 @@
 -- Where a part may stand, and which tokens it begins with.
 use Rattle.std.specs.Prelude.{ℕ, ◌≡◌, Bool, true, false, ◌&&◌, ◌⊎◌, IsTrue, List, [], ◌∷◌, Option, Some, None}
-use Rattle.tp_token.specs.declared.word.Word.{Word}
-use Rattle.tp_token.specs.declared.word.Word.TheVariants as w
-use Rattle.tp_token.specs.declared.token.Placed.{Placed}
-use Rattle.tp_token.specs.declared.token.Symbol.TheVariants.{Assign, Dot, DotDot, Minus, LeftBrace, LeftBracket, LeftParen, RightBrace, RightParen, Semicolon}
-use Rattle.tp_token.specs.Lexeme.{Lexeme, name, word, symbol}
-use Rattle.tp_event.specs.declared.operation.ReceiveKind.{ReceiveKind}
-use Rattle.tp_event.specs.declared.operation.ReceiveKind.TheVariants as receive_kind
+use Rattle.tp_syntax.specs.declared.word.Word.{Word}
+use Rattle.tp_syntax.specs.declared.word.Word.TheVariants as w
+use Rattle.tp_syntax.specs.declared.token.Placed.{Placed}
+use Rattle.tp_syntax.specs.declared.token.Symbol.TheVariants.{Assign, Dot, DotDot, Minus, LeftBrace, LeftBracket, LeftParen, RightBrace, RightParen, Semicolon}
+use Rattle.tp_syntax.specs.Lexeme.{Lexeme, name, word, symbol}
+use Rattle.tp_common.specs.declared.operation.ReceiveKind.{ReceiveKind}
+use Rattle.tp_common.specs.declared.operation.ReceiveKind.TheVariants as receive_kind
 use Rattle.tp_tree.specs.declared.tree.Defined.{Defined}
 use Rattle.tp_tree.specs.declared.tree.Defined.TheVariants as defined
 use Rattle.tp_syntax.specs.Ahead.{is_name_in, is_number_in, token_at}

@@ -1,9 +1,9 @@
 -- When a text is refused, and how long it may be.
 use Rattle.std.specs.Prelude.{ℕ, ◌+◌, ◌≤◌, ◌⊎◌, List, length}
-use Rattle.tp_token.specs.declared.fault.ScriptFault.{ScriptFault}
-use Rattle.tp_token.specs.Lexeme.{PlacedLexeme}
-use Rattle.tp_token.specs.Cut.{AreTokens, newlines}
-use Rattle.tp_token.specs.Fault.{AreWithinLimits, IsRefused}
+use Rattle.tp_syntax.specs.declared.script_fault.ScriptFault.{ScriptFault}
+use Rattle.tp_syntax.specs.Lexeme.{PlacedLexeme}
+use Rattle.tp_syntax.specs.Cut.{AreTokens, newlines}
+use Rattle.tp_syntax.specs.TextFaults.{AreWithinLimits, IsRefused}
 use Rattle.tp_tree.specs.declared.tree.Module.{Module}
 use Rattle.tp_syntax.specs.Definitions.{IsReadAs}
 use Rattle.tp_syntax.specs.Faults.{IsFaultIn}

@@ -1,7 +1,7 @@
 -- The tokens of sequences, and of parts that may be missing.
 use Rattle.std.specs.Prelude.{Bool, true, false, List, [], ◌∷◌, ◌++◌}
-use Rattle.tp_token.specs.declared.token.Symbol.TheVariants.{Comma, Semicolon, LeftBrace, RightBrace, LeftParen, RightParen}
-use Rattle.tp_token.specs.Lexeme.{Lexeme, symbol}
+use Rattle.tp_syntax.specs.declared.token.Symbol.TheVariants.{Comma, Semicolon, LeftBrace, RightBrace, LeftParen, RightParen}
+use Rattle.tp_syntax.specs.Lexeme.{Lexeme, symbol}
 
 -- what follows the first of several, a comma before each
 abbrev pub more_by_commas : List (List Lexeme) → List Lexeme

@@ -1,9 +1,9 @@
 -- The tokens of statements, an equation for each line of the grammar.
 use Rattle.std.specs.Prelude.{ℕ, List, [], ◌∷◌, ◌++◌, map, Option, Some, None}
-use Rattle.tp_token.specs.declared.word.Word.{Word}
-use Rattle.tp_token.specs.declared.word.Word.TheVariants as w
-use Rattle.tp_token.specs.declared.token.Symbol.TheVariants.{Dot, LeftParen, RightParen, LeftBracket, RightBracket, Arrow, Assign, Semicolon, Less, Plus}
-use Rattle.tp_token.specs.Lexeme.{Lexeme, name, word, number, symbol}
+use Rattle.tp_syntax.specs.declared.word.Word.{Word}
+use Rattle.tp_syntax.specs.declared.word.Word.TheVariants as w
+use Rattle.tp_syntax.specs.declared.token.Symbol.TheVariants.{Dot, LeftParen, RightParen, LeftBracket, RightBracket, Arrow, Assign, Semicolon, Less, Plus}
+use Rattle.tp_syntax.specs.Lexeme.{Lexeme, name, word, number, symbol}
 use Rattle.tp_tree.specs.declared.tree.ComponentName.{ComponentName}
 use Rattle.tp_tree.specs.declared.tree.ComponentName.TheVariants as component_name
 use Rattle.tp_tree.specs.declared.tree.SentExpression.{SentExpression}
@@ -12,12 +12,12 @@ use Rattle.tp_tree.specs.declared.tree.Receivers.{Receivers}
 use Rattle.tp_tree.specs.declared.tree.Receivers.TheVariants as destination
 use Rattle.tp_tree.specs.declared.message.MessageTemplate.{MessageTemplate}
 use Rattle.tp_tree.specs.declared.tree.Send.{Send}
-use Rattle.tp_event.specs.declared.operation.ReceiveKind.{ReceiveKind}
-use Rattle.tp_event.specs.declared.operation.ReceiveKind.TheVariants as receive_kind
+use Rattle.tp_common.specs.declared.operation.ReceiveKind.{ReceiveKind}
+use Rattle.tp_common.specs.declared.operation.ReceiveKind.TheVariants as receive_kind
 use Rattle.tp_tree.specs.declared.tree.Redirect.{Redirect}
 use Rattle.tp_tree.specs.declared.tree.Receive.{Receive}
-use Rattle.tp_event.specs.declared.operation.PortOperation.{PortOperation}
-use Rattle.tp_event.specs.declared.operation.PortOperation.TheVariants as port_operation
+use Rattle.tp_common.specs.declared.operation.PortOperation.{PortOperation}
+use Rattle.tp_common.specs.declared.operation.PortOperation.TheVariants as port_operation
 use Rattle.tp_tree.specs.declared.tree.Control.{Control}
 use Rattle.tp_tree.specs.declared.tree.VerdictName.{VerdictName}
 use Rattle.tp_tree.specs.declared.tree.VerdictName.TheVariants as verdict_name

@@ -1,8 +1,8 @@
 -- Where the parser is stuck, and why.
 use Rattle.std.specs.Prelude.{◌≡◌, ℕ, ◌+◌, Bool, true, false, length, Option, Some, ◌≤◌, Result, MatchResult}
-use Rattle.tp_token.specs.declared.token.Symbol.TheVariants.{Minus, LeftBrace, LeftParen}
-use Rattle.tp_token.specs.declared.word.Word.TheVariants.{Complement, Pattern}
-use Rattle.tp_token.specs.Lexeme.{Lexeme, number, word, symbol}
+use Rattle.tp_syntax.specs.declared.token.Symbol.TheVariants.{Minus, LeftBrace, LeftParen}
+use Rattle.tp_syntax.specs.declared.word.Word.TheVariants.{Complement, Pattern}
+use Rattle.tp_syntax.specs.Lexeme.{Lexeme, number, word, symbol}
 use Rattle.tp_syntax.specs.declared.cursor.Parser.{Parser}
 use Rattle.tp_syntax.specs.declared.stuck.Stuck.{Stuck}
 use Rattle.tp_syntax.specs.declared.stuck.Stuck.TheVariants.{Next, Passed, Memory}

@@ -1,8 +1,8 @@
 -- The tokens of templates, an equation for each line of the grammar.
 use Rattle.std.specs.Prelude.{ℤ, List, [], ◌∷◌, ◌++◌, Option, Some, None}
-use Rattle.tp_token.specs.declared.word.Word.TheVariants as w
-use Rattle.tp_token.specs.declared.token.Symbol.TheVariants.{Colon, Minus, Assign, Question, Star, DotDot}
-use Rattle.tp_token.specs.Lexeme.{Lexeme, name, word, text, symbol}
+use Rattle.tp_syntax.specs.declared.word.Word.TheVariants as w
+use Rattle.tp_syntax.specs.declared.token.Symbol.TheVariants.{Colon, Minus, Assign, Question, Star, DotDot}
+use Rattle.tp_syntax.specs.Lexeme.{Lexeme, name, word, text, symbol}
 use Rattle.tp_tree.specs.declared.message.MessageTemplate.{MessageTemplate}
 use Rattle.tp_tree.specs.declared.message.Template.{Template}
 use Rattle.tp_tree.specs.declared.message.Template.TheOpen as t

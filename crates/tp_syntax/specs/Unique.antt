@@ -1,6 +1,6 @@
 -- That a text is one module.
 use Rattle.std.specs.Prelude.{◌≡◌, ℕ, List, []}
-use Rattle.tp_token.specs.Lexeme.{PlacedLexeme}
+use Rattle.tp_syntax.specs.Lexeme.{PlacedLexeme}
 use Rattle.tp_tree.specs.declared.tree.Module.{Module}
 use Rattle.tp_syntax.specs.Definitions.{module_lexemes, IsReadAs}
 use Rattle.tp_syntax.specs.Grammar.{IsGrammatical}

@@ -1,8 +1,8 @@
 -- The tokens of values, types and messages, an equation for each line of the grammar.
 use Rattle.std.specs.Prelude.{suc, ℤ, pos, negsuc, Bool, true, false, List, [], ◌∷◌, ◌++◌}
-use Rattle.tp_token.specs.declared.word.Word.TheVariants as w
-use Rattle.tp_token.specs.declared.token.Symbol.TheVariants.{Colon, Minus, Assign}
-use Rattle.tp_token.specs.Lexeme.{Lexeme, name, word, number, text, symbol}
+use Rattle.tp_syntax.specs.declared.word.Word.TheVariants as w
+use Rattle.tp_syntax.specs.declared.token.Symbol.TheVariants.{Colon, Minus, Assign}
+use Rattle.tp_syntax.specs.Lexeme.{Lexeme, name, word, number, text, symbol}
 use Rattle.tp_tree.specs.declared.message.TypeName.{TypeName}
 use Rattle.tp_tree.specs.declared.message.TypeName.TheVariants as type_name
 use Rattle.tp_tree.specs.declared.message.Message.{Message}

@@ -1,7 +1,7 @@
 //! The tokens that are left to read, and a look at the first of them.
 ghost use Rattle.std.specs.Prelude.{[], ℕ, ◌<◌, ◌≢◌, Bool, true, List, ◌≡◌, ◌+◌, ◌≤◌, ◌∷◌, ◌||◌, ◌↔◌, IsTrue, length, IfErr, IfOk, OnErr, OnOk, Some};
 ghost use Rattle.std.specs.Bool.{OnTrue, OnFalse};
-ghost use Rattle.tp_token.specs.Lexeme.{Lexeme, name, symbol, word, lexeme_of};
+ghost use Rattle.tp_syntax.specs.Lexeme.{Lexeme, name, symbol, word, lexeme_of};
 ghost use Rattle.tp_syntax.specs.Ahead.{ahead, lexemes, lexemes_from, is_name_in, is_number_in, symbol_in, token_at, word_in};
 ghost use Rattle.tp_syntax.specs.Forward.{GoesForward, next_line};
 ghost use Rattle.tp_syntax.specs.HiddenTokens.{Reads};
@@ -12,9 +12,9 @@ ghost use Rattle.tp_syntax.specs.Standing.{IsPartEnded};
 ghost use Rattle.tp_syntax.specs.Stuck.{IsStuckAt, IsStuckBehind, IsWrongBehind, GoesBeyond};
 
 use crate::stuck::Stuck;
+use crate::token::{Placed, Symbol, Token};
+use crate::word::Word;
 use std::alloc::Global;
-use tp_token::token::{Placed, Symbol, Token};
-use tp_token::word::Word;
 use tp_tree::name::Name;
 
 #[derive(Drop)]

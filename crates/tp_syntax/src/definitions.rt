@@ -1,6 +1,6 @@
 //! Functions, definitions and the module.
 ghost use Rattle.std.specs.Prelude.{◌≢◌, List, Some, ◌≡◌, ◌+◌, ◌<◌, ◌≤◌, IsTrue, length, map, IfOk, OnOk, IfErr, ℕ};
-ghost use Rattle.tp_token.specs.Lexeme.{Lexeme, symbol};
+ghost use Rattle.tp_syntax.specs.Lexeme.{Lexeme, symbol};
 ghost use Rattle.tp_syntax.specs.Definitions.{parameter_lexemes, parameters_lexemes, function_lexemes, defined_lexemes, definition_lexemes, definitions_lexemes, module_lexemes};
 ghost use Rattle.tp_syntax.specs.Grammar.{defined_part, definition_part, IsGrammatical};
 ghost use Rattle.tp_syntax.specs.Nesting.{defined_depth, definitions_depth, module_depth};
@@ -14,9 +14,9 @@ ghost use Rattle.tp_syntax.specs.HiddenTokens.{Reads};
 
 use crate::cursor::Parser;
 use crate::stuck::Stuck;
+use crate::token::Symbol;
+use crate::word::Word;
 use std::alloc::Global;
-use tp_token::token::Symbol;
-use tp_token::word::Word;
 use tp_tree::tree::{Defined, Definition, Function, Module, Parameter};
 use tp_value::items::Items;
 

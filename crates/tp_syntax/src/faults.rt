@@ -1,10 +1,10 @@
 //! The first fault of a text, by its tokens.
 ghost use Rattle.std.specs.Prelude.{◌≡◌, ◌<◌, ◌≤◌, ◌↔◌, ◌∷◌, ◌++◌, ◌-◌, IsTrue, List, drop, length, map};
-ghost use Rattle.tp_token.specs.Lexeme.{PlacedLexeme, lexeme_of, placed_lexeme};
+ghost use Rattle.tp_syntax.specs.Lexeme.{PlacedLexeme, lexeme_of, placed_lexeme};
 ghost use Rattle.tp_syntax.specs.Faults.{IsAllowed, IsCutOf, AreTokensSeen, brought_within, fault_in, greatest_number, is_minus, fault_line, opened_behind, symbol_bracket};
 
-use tp_token::fault::ScriptFault;
-use tp_token::token::{Placed, Symbol, Token};
+use crate::script_fault::ScriptFault;
+use crate::token::{Placed, Symbol, Token};
 
 /// The maximum number of brackets `{`, `(` and `[` that are open at once.
 const BRACKETS: u32 = 32;

@@ -1,6 +1,6 @@
 //! Operations on ports: sends, receiving operations, and `start`, `stop`, `halt` and `clear`.
 ghost use Rattle.std.specs.Prelude.{[], true, ◌↔◌, ◌≢◌, List, Option, Some, ◌≡◌, ◌<◌, ◌≤◌, ◌∷◌, ◌++◌, IsTrue, length, IfOk, OnOk, IfErr, ℕ};
-ghost use Rattle.tp_token.specs.Lexeme.{Lexeme, symbol, word};
+ghost use Rattle.tp_syntax.specs.Lexeme.{Lexeme, symbol, word};
 ghost use Rattle.tp_syntax.specs.Ahead.{ahead, is_name_in, token_at};
 ghost use Rattle.tp_syntax.specs.Forward.{GoesForward};
 ghost use Rattle.tp_syntax.specs.Passing.{Passes};
@@ -12,10 +12,10 @@ ghost use Rattle.tp_syntax.specs.HiddenTokens.{Reads};
 
 use crate::cursor::Parser;
 use crate::stuck::Stuck;
+use crate::token::{Symbol, Token};
+use crate::word::Word;
 use std::alloc::Global;
-use tp_event::operation::{PortOperation, ReceiveKind};
-use tp_token::token::{Symbol, Token};
-use tp_token::word::Word;
+use tp_common::operation::{PortOperation, ReceiveKind};
 use tp_tree::message::MessageTemplate;
 use tp_tree::name::Name;
 use tp_tree::tree::{ComponentName, Control, Receive, Receivers, Redirect, Send, SentExpression};

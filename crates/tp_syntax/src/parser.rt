@@ -1,8 +1,8 @@
 //! From a text to its module.
 ghost use Rattle.std.specs.Prelude.{◌≡◌, ◌+◌, ◌≤◌, ◌⊎◌, IfErr, IfOk, OnOk, length, map};
-ghost use Rattle.tp_token.specs.Cut.{newlines};
-ghost use Rattle.tp_token.specs.Fault.{IsMemory};
-ghost use Rattle.tp_token.specs.Lexeme.{placed_lexeme};
+ghost use Rattle.tp_syntax.specs.Cut.{newlines};
+ghost use Rattle.tp_syntax.specs.TextFaults.{IsMemory};
+ghost use Rattle.tp_syntax.specs.Lexeme.{placed_lexeme};
 ghost use Rattle.tp_syntax.specs.Definitions.{IsReadAs};
 ghost use Rattle.tp_syntax.specs.Faults.{fault_in};
 ghost use Rattle.tp_syntax.specs.Grammar.{IsGrammatical};
@@ -13,11 +13,11 @@ ghost use Rattle.tp_syntax.specs.Stuck.{IsForMemory, left_where_stuck};
 
 use crate::cursor::Parser;
 use crate::faults::{Front, front_of};
+use crate::lexer::lex;
+use crate::script_fault::ScriptFault;
 use crate::stuck::Stuck;
 use std::alloc::Global;
-use tp_refusal::memory::Memory;
-use tp_token::fault::ScriptFault;
-use tp_token::lexer::lex;
+use tp_common::memory::Memory;
 use tp_tree::tree::Module;
 
 /// Returns the module that the text spells (clause `read`). Each line in it is that of the first

@@ -1,6 +1,6 @@
 //! Parts of statements: variables, verdicts, the head of a `for`, and `[else]`.
 ghost use Rattle.std.specs.Prelude.{ℤ, [], ◌≢◌, false, List, Some, MatchResult, ◌≡◌, ◌+◌, ◌<◌, ◌≤◌, ◌∷◌, IsTrue, length, map, IfOk, OnOk, IfErr, ℕ, true};
-ghost use Rattle.tp_token.specs.Lexeme.{Lexeme, number, symbol, word};
+ghost use Rattle.tp_syntax.specs.Lexeme.{Lexeme, number, symbol, word};
 ghost use Rattle.tp_syntax.specs.Ahead.{ahead, is_name_in, token_at};
 ghost use Rattle.tp_syntax.specs.Forward.{GoesForward, PassesLines};
 ghost use Rattle.tp_syntax.specs.Lines.{noted_in_order, variable_notes};
@@ -15,9 +15,9 @@ ghost use Rattle.tp_syntax.specs.HiddenTokens.{CouldBe, IsStuckInHidden, Reads};
 
 use crate::cursor::Parser;
 use crate::stuck::Stuck;
+use crate::token::{Symbol, Token};
+use crate::word::Word;
 use std::alloc::Global;
-use tp_token::token::{Symbol, Token};
-use tp_token::word::Word;
 use tp_tree::name::Name;
 use tp_tree::tree::{Turns, Variable, VerdictName};
 use tp_value::items::Items;

@@ -1,9 +1,9 @@
 //! Statements: `alt`, `for`, blocks, and their contents.
 ghost use Rattle.std.specs.Prelude.{◌↔◌, ◌++◌, ◌≢◌, true, false, List, Option, Some, ◌≡◌, ◌<◌, ◌≤◌, ◌∷◌, IsTrue, length, IfOk, OnOk, IfErr, ℕ, [], None, ◌⊎◌};
 ghost use Rattle.std.specs.Bool.{OnFalse};
-ghost use Rattle.tp_event.specs.declared.operation.PortOperation.{PortOperation};
-ghost use Rattle.tp_event.specs.declared.operation.ReceiveKind.{ReceiveKind};
-ghost use Rattle.tp_token.specs.Lexeme.{Lexeme, symbol, word};
+ghost use Rattle.tp_common.specs.declared.operation.PortOperation.{PortOperation};
+ghost use Rattle.tp_common.specs.declared.operation.ReceiveKind.{ReceiveKind};
+ghost use Rattle.tp_syntax.specs.Lexeme.{Lexeme, symbol, word};
 ghost use Rattle.tp_syntax.specs.Ahead.{is_name_in, token_at};
 ghost use Rattle.tp_syntax.specs.Forward.{PassesLines};
 ghost use Rattle.tp_syntax.specs.Lines.{noted_braced, action_notes, body_notes, branch_notes, branches_notes, counted_notes, otherwise_notes, statement_notes, statements_notes};
@@ -18,9 +18,9 @@ ghost use Rattle.tp_syntax.specs.HiddenTokens.{IsCutAt, Reads, ReadsOr};
 
 use crate::cursor::Parser;
 use crate::stuck::Stuck;
+use crate::token::Symbol;
+use crate::word::Word;
 use std::alloc::Global;
-use tp_token::token::Symbol;
-use tp_token::word::Word;
 use tp_tree::tree::{Action, Branch, BranchBody, Counted, ElseBranch, Statement};
 use tp_value::items::Items;
 

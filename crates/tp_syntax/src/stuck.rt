@@ -2,7 +2,7 @@
 ghost use Rattle.std.specs.Prelude.{◌≡◌};
 ghost use Rattle.tp_syntax.specs.declared.stuck.Stuck.TheVariants as stuck;
 
-use tp_refusal::memory::Memory;
+use tp_common::memory::Memory;
 
 /// Why the parser stops. It says where; the tokens decide which fault that is.
 #[derive(Clone, Copy)]

@@ -1,7 +1,7 @@
 //! Templates.
 ghost use Rattle.std.specs.Prelude.{false, ℕ, ℤ, ◌↔◌, [], List, Option, Some, ◌≡◌, ◌+◌, ◌<◌, ◌≤◌, ◌∷◌, ◌++◌, IsTrue, length, map, IfOk, OnOk, IfErr};
 ghost use Rattle.std.specs.List.{list_all};
-ghost use Rattle.tp_token.specs.Lexeme.{Lexeme, symbol, text, word};
+ghost use Rattle.tp_syntax.specs.Lexeme.{Lexeme, symbol, text, word};
 ghost use Rattle.tp_syntax.specs.Ahead.{ahead, token_at};
 ghost use Rattle.tp_syntax.specs.Forward.{GoesForward};
 ghost use Rattle.tp_syntax.specs.HiddenTokens.{Reads};
@@ -14,9 +14,9 @@ ghost use Rattle.tp_syntax.specs.Stuck.{IsStuckAt, IsStuckBehind, integer_stands
 
 use crate::cursor::Parser;
 use crate::stuck::Stuck;
+use crate::token::{Symbol, Token};
+use crate::word::Word;
 use std::alloc::Global;
-use tp_token::token::{Symbol, Token};
-use tp_token::word::Word;
 use tp_tree::message::{MessageTemplate, Template, TemplateField};
 use tp_tree::name::Name;
 use tp_value::items::Items;

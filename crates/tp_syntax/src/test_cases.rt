@@ -1,7 +1,7 @@
 //! Test cases, with their setup statements and starts.
 ghost use Rattle.std.specs.Prelude.{[], ◌≢◌, ◌↔◌, false, List, Option, Some, ◌≡◌, ◌+◌, ◌<◌, ◌≤◌, ◌∷◌, IsTrue, length, map, IfOk, OnOk, IfErr, ℕ, true, MatchResult};
 ghost use Rattle.std.specs.Bool.{OnTrue};
-ghost use Rattle.tp_token.specs.Lexeme.{Lexeme, symbol, word};
+ghost use Rattle.tp_syntax.specs.Lexeme.{Lexeme, symbol, word};
 ghost use Rattle.tp_syntax.specs.Ahead.{ahead, is_name_in, token_at};
 ghost use Rattle.tp_syntax.specs.Definitions.{end_component_lexeme, end_point_lexemes, ends_lexemes, setup_action_lexemes, setup_lexemes, setups_lexemes, arguments_lexemes, start_lexemes, starts_lexemes, all_done_lexemes, system_lexemes, test_case_lexemes};
 ghost use Rattle.tp_syntax.specs.Grammar.{all_done_parts, defined_part, setup_part, start_part};
@@ -16,9 +16,9 @@ ghost use Rattle.tp_syntax.specs.HiddenTokens.{IsCutCreation, IsCutStart, Reads,
 
 use crate::cursor::Parser;
 use crate::stuck::Stuck;
+use crate::token::{Symbol, Token};
+use crate::word::Word;
 use std::alloc::Global;
-use tp_token::token::{Symbol, Token};
-use tp_token::word::Word;
 use tp_tree::name::Name;
 use tp_tree::tree::{
     AllDone, ComponentName, ComponentStart, Creation, Defined, EndComponent, PairEnd, SetupAction,

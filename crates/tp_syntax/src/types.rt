@@ -1,6 +1,6 @@
 //! Types: of records and lists, of ports, of components.
 ghost use Rattle.std.specs.Prelude.{ℕ, List, Some, [], ◌≡◌, ◌+◌, ◌<◌, ◌≤◌, ◌∷◌, IsTrue, length, map, IfOk, OnOk, IfErr};
-ghost use Rattle.tp_token.specs.Lexeme.{Lexeme, name, symbol, word};
+ghost use Rattle.tp_syntax.specs.Lexeme.{Lexeme, name, symbol, word};
 ghost use Rattle.tp_syntax.specs.Ahead.{ahead, token_at};
 ghost use Rattle.tp_syntax.specs.Definitions.{field_type_lexemes, field_types_lexemes, record_type_lexemes, list_type_lexemes, way_lexeme, types_lexemes, direction_lexemes, directions_lexemes, port_type_lexemes, declared_name_lexemes, declared_names_lexemes, port_declaration_lexemes, port_declarations_lexemes, component_type_lexemes, defined_lexemes};
 ghost use Rattle.tp_syntax.specs.Grammar.{defined_part, direction_part, has_one, port_declaration_part};
@@ -15,9 +15,9 @@ ghost use Rattle.tp_syntax.specs.HiddenTokens.{Reads};
 
 use crate::cursor::Parser;
 use crate::stuck::Stuck;
+use crate::token::{Symbol, Token};
+use crate::word::Word;
 use std::alloc::Global;
-use tp_token::token::{Symbol, Token};
-use tp_token::word::Word;
 use tp_tree::message::TypeName;
 use tp_tree::tree::{
     ComponentType, DeclaredName, Defined, Direction, FieldType, ListType, PortDeclaration,

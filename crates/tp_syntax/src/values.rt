@@ -1,6 +1,6 @@
 //! Values, types and messages.
 ghost use Rattle.std.specs.Prelude.{ℤ, List, MatchResult, [], OnErr, ◌≡◌, ◌≢◌, ◌+◌, ◌<◌, ◌≤◌, ◌∷◌, ◌++◌, IsTrue, length, map, pos, IfOk, OnOk, Some, IfErr, ℕ, true};
-ghost use Rattle.tp_token.specs.Lexeme.{Lexeme, name, symbol};
+ghost use Rattle.tp_syntax.specs.Lexeme.{Lexeme, name, symbol};
 ghost use Rattle.tp_syntax.specs.Ahead.{ahead, is_name_in, lexemes_from, token_at};
 ghost use Rattle.tp_syntax.specs.Forward.{GoesForward};
 ghost use Rattle.tp_syntax.specs.HiddenTokens.{CouldBe, CouldBeBehind, IsStuckInHidden, Reads};
@@ -14,9 +14,9 @@ ghost use Rattle.tp_syntax.specs.Stuck.{IsStuckAt, IsStuckBehind, IsWrongBehind,
 use crate::cursor::Parser;
 use crate::faults::GREATEST;
 use crate::stuck::Stuck;
+use crate::token::{Symbol, Token};
+use crate::word::Word;
 use std::alloc::Global;
-use tp_token::token::{Symbol, Token};
-use tp_token::word::Word;
 use tp_tree::message::{Message, TypeName, Value, ValueField};
 use tp_tree::name::Name;
 use tp_value::items::Items;

@@ -4,13 +4,13 @@ use crate::making::{add, at, connect, empty, four, four_again, map, port, port_t
 use crate::showing::{display, says};
 use indexmap::IndexMap;
 use std::process::Abort;
+use tp_common::memory::Memory;
 use tp_config::config::Config;
 use tp_config::connecting::ConnectFault;
 use tp_config::creating::CreateFault;
 use tp_config::mapping::MapFault;
 use tp_config::port_type::{COMPONENT_LIMIT, CompId, CompType, PORT_LIMIT, Role};
 use tp_config::routes::RouteFault;
-use tp_refusal::memory::Memory;
 use tp_value::types::Ty;
 
 const STAR: &[(Question, &str)] = &[

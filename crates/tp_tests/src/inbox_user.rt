@@ -11,14 +11,14 @@ use crate::inbox_user::room::room;
 use std::alloc::{AllocError, Global};
 use std::sync::Wait;
 use std::thread::Threads;
+use tp_common::memory::Memory;
 use tp_config::config::Config;
 use tp_config::port_type::CompId;
 use tp_floor::floor::Floor;
-use tp_history::desk::Desk;
-use tp_history::entry::Entry;
+use tp_inbox::desk::Desk;
+use tp_inbox::entry::Entry;
 use tp_inbox::gathered::{Rest, gather};
 use tp_inbox::making::inbox;
-use tp_refusal::memory::Memory;
 
 /// The desk of the counter, which has what was drained, and the rest.
 fn evening<R>(

@@ -4,12 +4,12 @@ use crate::making::route;
 use crate::showing::{debug, says};
 use std::process::Abort;
 use std::sync::Wait;
+use tp_common::memory::Memory;
 use tp_config::port_type::{CompId, PortRef, RouteId};
 use tp_floor::floor::Floor;
 use tp_floor::notifier::Woken;
 use tp_inbox::sender::{PutFault, ROUTE_LIMIT};
 use tp_inbox::settled::put_on_route;
-use tp_refusal::memory::Memory;
 
 enum InboxCall {
     Put(usize, i64),

@@ -5,13 +5,13 @@ ghost use Rattle.tp_config.specs.Setup.{IsPort};
 use indexmap::IndexMap;
 use std::alloc::Global;
 use std::process::Abort;
+use tp_common::memory::Memory;
 use tp_config::config::Config;
 use tp_config::connecting::ConnectFault;
 use tp_config::creating::CreateFault;
 use tp_config::mapping::MapFault;
 use tp_config::port_type::{CompId, CompType, PORT_LIMIT, PortRef, PortType, Role, RouteId};
 use tp_config::type_list::TypeList;
-use tp_refusal::memory::Memory;
 use tp_value::items::Items;
 use tp_value::types::Ty;
 

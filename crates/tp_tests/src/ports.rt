@@ -5,13 +5,13 @@ use crate::writers::Short;
 use std::io;
 use std::io::{ErrorKind, Read};
 use std::process::Abort;
-use tp_event::event::{Env, Event};
+use tp_common::event::{Env, Event};
+use tp_common::limit::TEXT_LIMIT;
+use tp_common::text::{ReadFault, read_text};
+use tp_common::watched::Watched;
 use tp_port::pattern::IntegerPattern;
 use tp_port::port_queue::PortQueue;
 use tp_port::replay::{QueueFault, replay, replay_text};
-use tp_refusal::limit::TEXT_LIMIT;
-use tp_text::text::{ReadFault, read_text};
-use tp_text::watched::Watched;
 
 fn env(sender: u32, number: u64, msg: i64) -> Env<i64> {
     Env {

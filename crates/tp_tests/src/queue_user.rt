@@ -1,16 +1,16 @@
 //! The queue of a port in another executor. A counter takes orders, which are texts. Its port is
 //! halted when it closes: what was ordered before is still served, and what comes later is not. It
-//! uses only `tp_queue`, `tp_event` and `tp_refusal`.
+//! uses only `tp_queue` and `tp_common`.
 ghost use Rattle.std.specs.Prelude.{◌≡◌, ◌≤◌, ◌∷◌, ◌++◌, [], OnErr, OnOk};
 ghost use Rattle.std.specs.String.{string_len};
-ghost use Rattle.tp_event.specs.declared.event.Event.TheVariants as event;
+ghost use Rattle.tp_common.specs.declared.event.Event.TheVariants as event;
 ghost use Rattle.tp_queue.specs.Queues.{AtHistory, StandsFor};
 
 use std::alloc::{AllocError, Global};
-use tp_event::event::Env;
-use tp_event::payload::Wanted;
+use tp_common::event::Env;
+use tp_common::memory::Memory;
+use tp_common::payload::Wanted;
 use tp_queue::queue::Queue;
-use tp_refusal::memory::Memory;
 
 /// Matches each order of at least so many bytes.
 struct AtLeast {

@@ -4,7 +4,7 @@ use crate::showing::{debug, says};
 use crate::values::{LEVELS, deep_value, record_and_list, records, text};
 use std::alloc::Global;
 use std::process::Abort;
-use tp_refusal::memory::Memory;
+use tp_common::memory::Memory;
 use tp_value::equal::are_equal;
 use tp_value::fitting::template_fits;
 use tp_value::items::Items;

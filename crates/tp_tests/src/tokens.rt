@@ -1,11 +1,11 @@
 //! The tokens of texts, and the printed faults.
 use crate::showing::{display, says};
 use std::process::Abort;
-use tp_refusal::memory::Memory;
-use tp_token::fault::ScriptFault;
-use tp_token::lexer::lex;
-use tp_token::token::{Placed, Symbol};
-use tp_token::word::{Word, word_of};
+use tp_common::memory::Memory;
+use tp_syntax::lexer::lex;
+use tp_syntax::script_fault::ScriptFault;
+use tp_syntax::token::{Placed, Symbol};
+use tp_syntax::word::{Word, word_of};
 
 const WORDS: &str = "module type record of port message component in out inout function testcase \
     runs on system var create connect map mtc self start stop halt clear send receive trigger \

@@ -3,10 +3,10 @@
 use crate::writers::Short;
 use std::alloc::Global;
 use std::process::Abort;
-use tp_event::event::{Env, TriggerAnswer};
+use tp_common::event::{Env, TriggerAnswer};
+use tp_common::memory::Memory;
+use tp_common::watched::Watched;
 use tp_port::port_queue::PortQueue;
-use tp_refusal::memory::Memory;
-use tp_text::watched::Watched;
 use tp_value::equal::are_equal;
 use tp_value::items::Items;
 use tp_value::message::{Message, MsgTemplate};

@@ -3,7 +3,7 @@ ghost use Rattle.std.specs.Prelude.{◌≡◌, IfOk};
 
 use std::alloc::Global;
 use std::marker::Model;
-use tp_refusal::memory::Memory;
+use tp_common::memory::Memory;
 
 /// A name (ES 201 873-1, 5.2.2), which contracts see as its bytes: two names of the same bytes are
 /// equal.

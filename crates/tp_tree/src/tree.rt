@@ -4,7 +4,7 @@
 //! `has_semicolon` says whether a `;` follows.
 use crate::message::{Message, MessageTemplate, TypeName, Value};
 use crate::name::Name;
-use tp_event::operation::{PortOperation, ReceiveKind};
+use tp_common::operation::{PortOperation, ReceiveKind};
 use tp_value::items::Items;
 
 /// A name where it is declared (ES 201 873-1, 5.2.2).

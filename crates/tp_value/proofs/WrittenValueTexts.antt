@@ -6,9 +6,9 @@ use Rattle.std.proofs.lemmas.List.Quantifiers.{position-Some}
 use Rattle.std.proofs.lemmas.List.Sums.{fails_before_first}
 use Rattle.std.specs.List.{position_or_len}
 use Rattle.std.specs.Fmt.{signed_decimal}
-use Rattle.tp_text.specs.declared.watched.Watched.{Watched}
-use Rattle.tp_text.specs.Watching.{Writes}
-use Rattle.tp_text.proofs.WatchedWriterGrowth.{writes_both, writes_nothing}
+use Rattle.tp_common.specs.declared.watched.Watched.{Watched}
+use Rattle.tp_common.specs.Watching.{Writes}
+use Rattle.tp_common.proofs.WatchedWriterGrowth.{writes_both, writes_nothing}
 use Rattle.tp_value.specs.declared.types.Ty.{Ty}
 use Rattle.tp_value.specs.declared.types.Field.{Field}
 use Rattle.tp_value.specs.declared.types.TypeDef.{TypeDef}

@@ -4,7 +4,7 @@ ghost use Rattle.std.specs.Option.{option_copied};
 
 use std::alloc::Global;
 use std::marker::Model;
-use tp_refusal::memory::Memory;
+use tp_common::memory::Memory;
 
 /// A list of items that contracts see as the list of its items alone: two lists of the same items
 /// are equal, whatever room is allocated for each. So a copy can equal its original.

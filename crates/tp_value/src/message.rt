@@ -4,8 +4,8 @@ use crate::template::Template;
 use crate::types::Ty;
 use crate::value::Value;
 use std::alloc::Global;
-use tp_event::payload::{Payload, Wanted};
-use tp_refusal::memory::Memory;
+use tp_common::memory::Memory;
+use tp_common::payload::{Payload, Wanted};
 
 /// A message to send: a value under a type (ES 201 873-1, 22.2.1). A message of a script has a
 /// value of its type; one that a caller builds may have another.

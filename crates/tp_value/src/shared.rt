@@ -5,7 +5,7 @@ use crate::items::Items;
 use std::alloc::Global;
 use std::marker::Model;
 use std::sync::Arc;
-use tp_refusal::memory::Memory;
+use tp_common::memory::Memory;
 
 /// A list of items with one or several owners, in any threads. Contracts see it as the list of its
 /// items alone. No call changes it, and its last owner drops it. So a copy of the list copies no

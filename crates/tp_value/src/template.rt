@@ -4,7 +4,7 @@ ghost use Rattle.std.specs.Prelude.{◌≡◌, IfOk};
 use crate::items::Items;
 use crate::value::Value;
 use std::alloc::Global;
-use tp_refusal::memory::Memory;
+use tp_common::memory::Memory;
 
 /// A part of a pattern (ES 201 873-1, B.1.5).
 #[derive(Clone, Copy, Debug)]

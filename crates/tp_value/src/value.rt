@@ -3,7 +3,7 @@ ghost use Rattle.std.specs.Prelude.{◌≡◌, IfOk};
 
 use crate::shared::Shared;
 use std::alloc::Global;
-use tp_refusal::memory::Memory;
+use tp_common::memory::Memory;
 
 /// A value, fully specified (ES 201 873-1, 6). [`has_type`](crate::typing::has_type) says which
 /// values have a type.

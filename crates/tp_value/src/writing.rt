@@ -1,7 +1,7 @@
 //! The text of a value.
 ghost use Rattle.std.specs.Prelude.{◌≡◌, ◌==◌, ◌<◌, ◌++◌, IfSome, MatchOption, codes, length, position};
 ghost use Rattle.std.specs.Fmt.{signed_decimal};
-ghost use Rattle.tp_text.specs.Watching.{Writes};
+ghost use Rattle.tp_common.specs.Watching.{Writes};
 ghost use Rattle.tp_value.specs.ValueText.{bool_text, braced_text, element_texts, escaped, field_texts, quoted, value_text};
 ghost use Rattle.tp_value.specs.Separators.{separator};
 
@@ -9,7 +9,7 @@ use crate::types::{Field, Ty, TypeDef, Types};
 use crate::value::Value;
 use itoa::Buffer;
 use std::io::Write;
-use tp_text::watched::{Watched, write_bytes};
+use tp_common::watched::{Watched, write_bytes};
 
 fn write_number<W: Write>(number: i64, out: &mut Watched<W>)
     ensures { Writes W.contents out.old out.new (signed_decimal number) }

@@ -5,9 +5,9 @@ use Rattle.std.specs.Global.{Global}
 use Rattle.std.specs.declared.io.buffered.BufWriter.{BufWriter}
 use Rattle.std.specs.Io.Buffered.{writer_contents}
 use Rattle.std.specs.Io.KnownBytes.{Appends, Keeps, append_known}
-use Rattle.tp_text.specs.declared.watched.Watched.{Watched}
-use Rattle.tp_text.specs.Watching.{AppendsFront, HasFailed, Writes, reader_left}
-use Rattle.tp_text.proofs.WatchedWriterGrowth.{not_both, writes_first}
+use Rattle.tp_common.specs.declared.watched.Watched.{Watched}
+use Rattle.tp_common.specs.Watching.{AppendsFront, HasFailed, Writes, reader_left}
+use Rattle.tp_common.proofs.WatchedWriterGrowth.{not_both, writes_first}
 use Rattle.tp_port.specs.declared.replay.QueueFault.{QueueFault}
 use Rattle.tp_port.specs.declared.replay.QueueFault.TheVariants as q
 use Rattle.tp_port.specs.Faults.{HasFault, IsReplayed}

@@ -2,9 +2,9 @@
 use Rattle.std.proofs.Common.{◌≡◌, ℕ, ◌≤◌, inl, inr, Option, Some, None, List, length, refl, ap, subst, arith}
 use Rattle.std.specs.Prelude.{IfSome}
 use Rattle.std.proofs.lemmas.List.{length-append}
-use Rattle.tp_text.specs.declared.text.ReadFault.{ReadFault}
-use Rattle.tp_text.specs.declared.text.ReadFault.TheVariants as read
-use Rattle.tp_text.specs.Reading.{TakesBytes}
+use Rattle.tp_common.specs.declared.text.ReadFault.{ReadFault}
+use Rattle.tp_common.specs.declared.text.ReadFault.TheVariants as read
+use Rattle.tp_common.specs.Reading.{TakesBytes}
 use Rattle.tp_script.specs.declared.fault.TestCaseFault.{TestCaseFault}
 use Rattle.tp_script.specs.declared.fault.TestCaseFault.TheVariants as script
 use Rattle.tpr.specs.declared.checking.CheckFault.TheVariants as fault

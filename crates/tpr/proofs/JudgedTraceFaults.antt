@@ -2,14 +2,14 @@
 use Rattle.std.proofs.Common.{◌≡◌, ℕ, ◌≤◌, inl, inr, Option, Some, None, List, length, ap, subst, arith}
 use Rattle.std.specs.Prelude.{IfSome}
 use Rattle.std.proofs.lemmas.List.{length-append}
-use Rattle.tp_text.specs.declared.text.ReadFault.{ReadFault}
-use Rattle.tp_text.specs.declared.text.ReadFault.TheVariants as read
-use Rattle.tp_text.specs.Reading.{TakesWithin}
-use Rattle.tp_referee.specs.declared.reading.TraceFault.{TraceFault}
-use Rattle.tp_referee.specs.declared.reading.TraceFault.TheVariants as trace
-use Rattle.tp_referee.specs.Faults.{IsFaultOf}
-use Rattle.tp_referee.specs.declared.ruling.Ruling.{Ruling}
-use Rattle.tp_referee.specs.Rulings.{IsRulingOf}
+use Rattle.tp_common.specs.declared.text.ReadFault.{ReadFault}
+use Rattle.tp_common.specs.declared.text.ReadFault.TheVariants as read
+use Rattle.tp_common.specs.Reading.{TakesWithin}
+use Rattle.tp_judge.specs.declared.referee.reading.TraceFault.{TraceFault}
+use Rattle.tp_judge.specs.declared.referee.reading.TraceFault.TheVariants as trace
+use Rattle.tp_judge.specs.Faults.{IsFaultOf}
+use Rattle.tp_judge.specs.declared.referee.ruling.Ruling.{Ruling}
+use Rattle.tp_judge.specs.Rulings.{IsRulingOf}
 use Rattle.tpr.specs.declared.judging.JudgeFault.TheVariants as fault
 use Rattle.tpr.specs.Judged.{HasJudgeFault, IsTraceFaultIn, judge_fault_of}
 

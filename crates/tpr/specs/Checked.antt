@@ -1,12 +1,12 @@
 -- The outcome of mode check: what is printed of a script, and the status.
 use Rattle.std.specs.Prelude.{◌≡◌, ℕ, ◌≤◌, ◌⊎◌, Option, List, length, codes, IfSome}
 use Rattle.std.specs.Io.KnownBytes.{Consumes}
-use Rattle.tp_text.specs.Reading.{IsCapacity}
-use Rattle.tp_text.specs.declared.watched.Watched.{Watched}
-use Rattle.tp_text.specs.Watching.{HasFailed, reader_left}
-use Rattle.tp_text.specs.declared.text.ReadFault.{ReadFault}
-use Rattle.tp_text.specs.declared.text.ReadFault.TheVariants as read_fault
-use Rattle.tp_token.specs.declared.fault.TextRule.TheVariants as text_rule
+use Rattle.tp_common.specs.Reading.{IsCapacity}
+use Rattle.tp_common.specs.declared.watched.Watched.{Watched}
+use Rattle.tp_common.specs.Watching.{HasFailed, reader_left}
+use Rattle.tp_common.specs.declared.text.ReadFault.{ReadFault}
+use Rattle.tp_common.specs.declared.text.ReadFault.TheVariants as read_fault
+use Rattle.tp_syntax.specs.declared.script_fault.TextRule.TheVariants as text_rule
 use Rattle.tp_play.specs.TestCases.{Made}
 use Rattle.tp_script.specs.declared.fault.ScriptRule.TheVariants as script_rule
 use Rattle.tp_script.specs.declared.fault.TestCaseFault.{TestCaseFault}

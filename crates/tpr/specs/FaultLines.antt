@@ -1,11 +1,11 @@
 -- The outcome of a mode: what is printed of a fault, and the status.
 use Rattle.std.specs.Prelude.{◌≡◌, ℕ, ◌⊎◌, Option, List, [], ◌++◌, codes, IfSome}
 use Rattle.std.specs.Fmt.{decimal}
-use Rattle.tp_text.specs.declared.watched.Watched.{Watched}
-use Rattle.tp_text.specs.Watching.{HasFailed, reader_left}
-use Rattle.tp_refusal.specs.declared.refusal.Refusal.{Refusal}
-use Rattle.tp_refusal.specs.declared.refusal.Refusal.TheVariants as refusal
-use Rattle.tp_refusal.specs.Label.{label}
+use Rattle.tp_common.specs.declared.watched.Watched.{Watched}
+use Rattle.tp_common.specs.Watching.{HasFailed, reader_left}
+use Rattle.tp_common.specs.declared.refusal.Refusal.{Refusal}
+use Rattle.tp_common.specs.declared.refusal.Refusal.TheVariants as refusal
+use Rattle.tp_common.specs.Label.{label}
 use Rattle.tp_port.specs.declared.replay.QueueFault.{QueueFault}
 use Rattle.tp_port.specs.declared.replay.QueueFault.TheVariants as queue_fault
 use Rattle.tp_port.specs.Faults.{HasFault, IsAnswerTo}

@@ -4,8 +4,8 @@ use Rattle.std.specs.Global.{Global}
 use Rattle.std.specs.declared.io.buffered.BufWriter.{BufWriter}
 use Rattle.std.specs.Io.Buffered.{writer_contents}
 use Rattle.std.specs.Io.KnownBytes.{Appends, Keeps}
-use Rattle.tp_text.specs.declared.watched.Watched.{Watched}
-use Rattle.tp_text.specs.Watching.{AppendsFront, HasFailed, Writes}
+use Rattle.tp_common.specs.declared.watched.Watched.{Watched}
+use Rattle.tp_common.specs.Watching.{AppendsFront, HasFailed, Writes}
 use Rattle.tpr.specs.declared.handing.FailedWriter.{FailedWriter}
 use Rattle.tpr.specs.declared.handing.FailedWriter.TheVariants as failed_writer
 

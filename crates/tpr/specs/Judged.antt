@@ -1,18 +1,18 @@
 -- The outcome of mode judge: what is printed of a trace, and the status.
 use Rattle.std.specs.Prelude.{◌≡◌, ℕ, ◌≤◌, ◌⊎◌, Option, List, length, IfSome}
 use Rattle.std.specs.Io.KnownBytes.{Consumes}
-use Rattle.tp_text.specs.Reading.{IsCapacity}
-use Rattle.tp_text.specs.declared.watched.Watched.{Watched}
-use Rattle.tp_text.specs.Watching.{HasFailed, reader_left}
-use Rattle.tp_text.specs.declared.text.ReadFault.{ReadFault}
-use Rattle.tp_text.specs.declared.text.ReadFault.TheVariants as read_fault
-use Rattle.tp_refusal.specs.declared.refusal.Refusal.TheVariants as refusal
-use Rattle.tp_referee.specs.declared.reading.TraceFault.{TraceFault}
-use Rattle.tp_referee.specs.declared.reading.TraceFault.TheVariants as trace_fault
-use Rattle.tp_referee.specs.Faults.{IsFaultOf}
-use Rattle.tp_referee.specs.declared.ruling.Ruling.{Ruling}
-use Rattle.tp_referee.specs.Answers.{ruling_status, ruling_text}
-use Rattle.tp_referee.specs.Rulings.{IsRulingOf}
+use Rattle.tp_common.specs.Reading.{IsCapacity}
+use Rattle.tp_common.specs.declared.watched.Watched.{Watched}
+use Rattle.tp_common.specs.Watching.{HasFailed, reader_left}
+use Rattle.tp_common.specs.declared.text.ReadFault.{ReadFault}
+use Rattle.tp_common.specs.declared.text.ReadFault.TheVariants as read_fault
+use Rattle.tp_common.specs.declared.refusal.Refusal.TheVariants as refusal
+use Rattle.tp_judge.specs.declared.referee.reading.TraceFault.{TraceFault}
+use Rattle.tp_judge.specs.declared.referee.reading.TraceFault.TheVariants as trace_fault
+use Rattle.tp_judge.specs.Faults.{IsFaultOf}
+use Rattle.tp_judge.specs.declared.referee.ruling.Ruling.{Ruling}
+use Rattle.tp_judge.specs.RulingTexts.{ruling_status, ruling_text}
+use Rattle.tp_judge.specs.Rulings.{IsRulingOf}
 use Rattle.tpr.specs.declared.judging.JudgeFault.{JudgeFault}
 use Rattle.tpr.specs.declared.judging.JudgeFault.TheVariants as judge_fault
 use Rattle.tpr.specs.FaultLines.{memory_text, refused_text, unread_text}

@@ -1,6 +1,6 @@
 -- What each mode may print.
 use Rattle.std.specs.Prelude.{ℕ, Option, List}
-use Rattle.tp_text.specs.declared.watched.Watched.{Watched}
+use Rattle.tp_common.specs.declared.watched.Watched.{Watched}
 use Rattle.tpr.specs.declared.line.Mode.{Mode}
 use Rattle.tpr.specs.declared.line.Mode.TheVariants as mode
 use Rattle.tpr.specs.Checked.{IsCheckAnswer}

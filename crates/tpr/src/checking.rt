@@ -1,6 +1,6 @@
 //! Mode `check`.
 ghost use Rattle.std.specs.Prelude.{◌≡◌, IfErr, IfOk, IfSome, OnOk};
-ghost use Rattle.tp_text.specs.Watching.{HasFailed, Writes, reader_left};
+ghost use Rattle.tp_common.specs.Watching.{HasFailed, Writes, reader_left};
 ghost use Rattle.tp_script.specs.Scripts.{IsScriptOf};
 ghost use Rattle.tpr.specs.Handed.{IsAnswered, IsJust};
 ghost use Rattle.tpr.specs.Checked.{HasCheckFault, IsCheckAnswer, IsRight, accepted_text, check_fault_status, check_fault_text};
@@ -10,13 +10,13 @@ use crate::modes::{
 };
 use std::alloc::Global;
 use std::io::{Read, Write};
+use tp_common::memory::Memory;
+use tp_common::text::{ReadFault, read_text};
+use tp_common::watched::{Watched, write_bytes};
 use tp_play::test_case::TestCase;
-use tp_refusal::memory::Memory;
 use tp_script::fault::{ScriptRule, TestCaseFault};
 use tp_script::reading::read_script;
-use tp_text::text::{ReadFault, read_text};
-use tp_text::watched::{Watched, write_bytes};
-use tp_token::fault::TextRule;
+use tp_syntax::script_fault::TextRule;
 
 /// Why a script isn't accepted.
 #[derive(Clone, Copy)]

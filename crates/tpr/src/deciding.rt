@@ -1,6 +1,6 @@
 //! Mode `verdicts`.
 ghost use Rattle.std.specs.Prelude.{◌≡◌};
-ghost use Rattle.tp_text.specs.Watching.{reader_left};
+ghost use Rattle.tp_common.specs.Watching.{reader_left};
 ghost use Rattle.tpr.specs.Found.{IsVerdictsOf};
 ghost use Rattle.tpr.specs.Texts.{verdicts_status};
 ghost use Rattle.tpr.specs.Decided.{IsDecided, IsDecidedOf, IsAlwaysKept, IsVerdictsAnswer};
@@ -14,8 +14,8 @@ use crate::verdicts::finding::find_verdicts;
 use crate::verdicts::writing::write_verdicts;
 use std::alloc::Global;
 use std::io::{Read, Write};
+use tp_common::watched::Watched;
 use tp_play::test_case::TestCase;
-use tp_text::watched::Watched;
 
 /// The status if a test case can have several verdicts.
 const SEVERAL: u8 = 2;

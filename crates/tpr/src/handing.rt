@@ -5,7 +5,7 @@ ghost use Rattle.std.specs.Io.KnownBytes.{Keeps};
 ghost use Rattle.tpr.specs.Handed.{BeginsWith, IsFailed, IsFinished, got_by};
 
 use std::io::{BufWriter, Write};
-use tp_text::watched::{Watched, write_bytes};
+use tp_common::watched::{Watched, write_bytes};
 
 /// The writer that failed while an answer was written.
 #[derive(Drop)]

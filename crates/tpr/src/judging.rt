@@ -1,8 +1,8 @@
 //! Mode `judge`.
 ghost use Rattle.std.specs.Prelude.{◌≡◌, IfErr, IfOk, IfSome};
-ghost use Rattle.tp_text.specs.Watching.{HasFailed, Writes, reader_left};
-ghost use Rattle.tp_referee.specs.Answers.{ruling_status, ruling_text};
-ghost use Rattle.tp_referee.specs.Rulings.{IsRulingOf};
+ghost use Rattle.tp_common.specs.Watching.{HasFailed, Writes, reader_left};
+ghost use Rattle.tp_judge.specs.RulingTexts.{ruling_status, ruling_text};
+ghost use Rattle.tp_judge.specs.Rulings.{IsRulingOf};
 ghost use Rattle.tpr.specs.Handed.{IsAnswered, IsJust};
 ghost use Rattle.tpr.specs.Judged.{HasJudgeFault, IsJudgeAnswer, judge_fault_status, judge_fault_text};
 
@@ -11,12 +11,12 @@ use crate::modes::{
 };
 use std::alloc::Global;
 use std::io::{Read, Write};
-use tp_referee::reading::{TRACE_LIMIT, TraceFault};
-use tp_referee::ruling::{Ruling, referee};
-use tp_referee::writing::write_ruling;
-use tp_refusal::refusal::Refusal;
-use tp_text::text::{ReadFault, read_within};
-use tp_text::watched::Watched;
+use tp_common::refusal::Refusal;
+use tp_common::text::{ReadFault, read_within};
+use tp_common::watched::Watched;
+use tp_judge::referee::reading::{TRACE_LIMIT, TraceFault};
+use tp_judge::referee::ruling::{Ruling, referee};
+use tp_judge::referee::writing::write_ruling;
 
 /// Why a text isn't judged.
 #[derive(Clone, Copy)]

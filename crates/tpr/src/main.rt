@@ -9,7 +9,7 @@
 
 ghost use Rattle.std.specs.Prelude.{◌≡◌};
 ghost use Rattle.std.specs.Io.Buffered.{writer_contents};
-ghost use Rattle.tp_text.specs.Watching.{reader_left};
+ghost use Rattle.tp_common.specs.Watching.{reader_left};
 ghost use Rattle.tpr.specs.Decided.{IsAlwaysKept};
 ghost use Rattle.tpr.specs.FaultLines.{unread_text};
 ghost use Rattle.tpr.specs.Handed.{IsAnswered, IsHanded, IsJust};
@@ -39,9 +39,9 @@ use std::rt::Files;
 use std::sync::Wait;
 use std::thread::Threads;
 use std::{env, io};
+use tp_common::watched::Watched;
 use tp_exec::gate::OpenGate;
 use tp_port::replay::QueueFault;
-use tp_text::watched::Watched;
 
 /// The status if the words aren't a command line of the program.
 const USAGE: u8 = 4;

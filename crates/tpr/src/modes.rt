@@ -1,14 +1,14 @@
 //! The results of modes, and mode `queue`, over any reader and writer.
 ghost use Rattle.std.specs.Prelude.{◌≡◌, [], MatchOption, false};
-ghost use Rattle.tp_text.specs.Watching.{HasFailed, Writes};
+ghost use Rattle.tp_common.specs.Watching.{HasFailed, Writes};
 ghost use Rattle.tpr.specs.Handed.{IsAnswered, IsJust};
 ghost use Rattle.tpr.specs.FaultLines.{IsQueueAnswer, fault_status, fault_text, label_text, memory_text, refused_text, unread_text};
 
 use std::alloc::Global;
 use std::io::{Read, Write};
+use tp_common::refusal::Refusal;
+use tp_common::watched::{Watched, flush, write_bytes, write_number};
 use tp_port::replay::{QueueFault, replay};
-use tp_refusal::refusal::Refusal;
-use tp_text::watched::{Watched, flush, write_bytes, write_number};
 
 /// The status of a run with an answer.
 pub const ANSWERED: u8 = 0;

@@ -10,13 +10,13 @@ use std::io::{Read, Write};
 use std::mem;
 use std::sync::Wait;
 use std::thread::Threads;
+use tp_common::watched::Watched;
 use tp_exec::fault::{RunFault, write_run_fault};
 use tp_exec::gate::Gate;
 use tp_exec::run::run;
 use tp_play::test_case::TestCase;
 use tp_report::telling::Telling;
 use tp_report::writing::write_report;
-use tp_text::watched::Watched;
 
 fn answer_run_fault<W: Write>(writer: &mut Watched<W>, fault: RunFault) -> Option<u8>
     ensures { IsAnswered W.contents (IsJust (run_fault_text fault) 3) writer.old writer.new result }

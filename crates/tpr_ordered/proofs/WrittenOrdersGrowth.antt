@@ -1,9 +1,9 @@
 -- What is written of one order more.
 use Rattle.std.proofs.Common.{◌≡◌, ℕ, ◌+◌, ◌<◌, ◌≤◌, false, Option, List, [], ◌∷◌, ◌++◌, length, take, drop, get_or, refl, ap, sym, ◌∙◌, subst, take-append-drop}
 use Rattle.std.proofs.lemmas.List.{drop_all, take_more}
-use Rattle.tp_text.specs.declared.watched.Watched.{Watched}
-use Rattle.tp_text.specs.Watching.{Writes}
-use Rattle.tp_text.proofs.WatchedWriterGrowth.{nothing_yet, writes_both}
+use Rattle.tp_common.specs.declared.watched.Watched.{Watched}
+use Rattle.tp_common.specs.Watching.{Writes}
+use Rattle.tp_common.proofs.WatchedWriterGrowth.{nothing_yet, writes_both}
 use Rattle.tp_play.specs.TestCases.{Made}
 use Rattle.tpr_ordered.specs.declared.orders.StepOrder.{StepOrder}
 use Rattle.tpr_ordered.specs.Ordered.{AreOrderTexts, AreWritten, IsOrderText, none, one_more}

@@ -1,10 +1,10 @@
 //! Reasons why no order was run.
 use std::alloc::{AllocError, AllocFailed};
 use thiserror::Error;
-use tp_refusal::memory::Memory;
-use tp_refusal::refusal::Refusal;
+use tp_common::memory::Memory;
+use tp_common::refusal::Refusal;
+use tp_common::text::ReadFault;
 use tp_script::fault::TestCaseFault;
-use tp_text::text::ReadFault;
 
 #[derive(Clone, Copy, Debug, PartialEq, Eq, Error)]
 pub enum FileFault {

@@ -20,12 +20,12 @@ use std::rt::Files;
 use std::sync::Wait;
 use std::thread::Threads;
 use std::{env, io, mem};
+use tp_common::memory::Memory;
+use tp_common::text::read_text;
+use tp_common::watched::Watched;
 use tp_play::test_case::TestCase;
-use tp_refusal::memory::Memory;
 use tp_script::fault::TestCaseFault;
 use tp_script::reading::read_script;
-use tp_text::text::read_text;
-use tp_text::watched::Watched;
 
 /// The status if all orders were run.
 const ANSWERED: u8 = 0;

@@ -1,6 +1,6 @@
 //! A test case that runs in each of some orders.
 ghost use Rattle.std.specs.Prelude.{ℕ, List};
-ghost use Rattle.tp_text.specs.Watching.{Writes};
+ghost use Rattle.tp_common.specs.Watching.{Writes};
 ghost use Rattle.tpr_ordered.specs.Ordered.{AreWritten, IsOrderText, IsRunText};
 
 use crate::order_gate::OrderGate;
@@ -9,12 +9,12 @@ use std::alloc::Global;
 use std::io::Write;
 use std::sync::Wait;
 use std::thread::Threads;
+use tp_common::watched::{Watched, flush, write_bytes};
 use tp_exec::fault::{RunFault, write_run_fault};
 use tp_exec::run::run;
 use tp_play::test_case::TestCase;
 use tp_report::telling::Telling;
 use tp_report::writing::write_report;
-use tp_text::watched::{Watched, flush, write_bytes};
 
 #[derive(Drop)]
 pub struct Trial<'t, R> {

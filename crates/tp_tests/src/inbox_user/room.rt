@@ -3,11 +3,11 @@ ghost use Rattle.std.specs.Prelude.{◌≤◌, IfOk, length};
 
 use indexmap::IndexMap;
 use std::alloc::Global;
+use tp_common::memory::Memory;
 use tp_config::config::Config;
 use tp_config::port_type::{CompType, PORT_LIMIT, PortType, Role};
 use tp_config::type_list::TypeList;
-use tp_history::stamped::Stamped;
-use tp_refusal::memory::Memory;
+use tp_inbox::stamped::Stamped;
 use tp_value::items::Items;
 use tp_value::message::Message;
 use tp_value::types::Ty;

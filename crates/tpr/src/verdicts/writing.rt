@@ -1,16 +1,16 @@
 //! The text of a test case's verdicts.
 ghost use Rattle.std.specs.Prelude.{◌∷◌, All, true};
 ghost use Rattle.std.specs.List.{flat_map};
-ghost use Rattle.tp_text.specs.Watching.{Writes};
+ghost use Rattle.tp_common.specs.Watching.{Writes};
 ghost use Rattle.tp_config.specs.Setup.{IsComponent};
 ghost use Rattle.tpr.specs.Texts.{HasNames, always_line, name_behind, order_line, orders_of, said_of, several_line, states_line, undecided_lines, verdicts_text, word_behind};
 
 use crate::verdicts::{FoundVerdict, Verdicts};
 use std::io::Write;
+use tp_common::watched::{Watched, write_bytes, write_number};
 use tp_config::config::Config;
 use tp_config::port_type::CompId;
 use tp_report::words::{verdict_word, write_component_name};
-use tp_text::watched::{Watched, write_bytes, write_number};
 use tp_value::verdict::Verdict;
 
 fn write_words<W: Write>(before: &[u8], found: &[FoundVerdict], out: &mut Watched<W>)

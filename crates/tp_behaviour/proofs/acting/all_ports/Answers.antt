@@ -1,7 +1,7 @@
 -- One entry for each port, in their order, and there are as many as the component has.
 use Rattle.std.proofs.Common.{◌≡◌, ◌∙◌, add-one, ap, arith, length, refl, subst, sym}
 use Rattle.tp_config.specs.Setup.{ports_at}
-use Rattle.tp_history.specs.Desks.{Journal}
+use Rattle.tp_inbox.specs.Desks.{Journal}
 use Rattle.tp_behaviour.specs.LookOutcomes.{TraceGrew}
 use Rattle.tp_behaviour.specs.Workers.{role_of}
 use Rattle.tp_behaviour.proofs.PortOperationOutcomes.{AreSoFar, few_ports, grew_further, grew_start, stepped_all}

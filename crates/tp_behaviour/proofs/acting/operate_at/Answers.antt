@@ -1,6 +1,6 @@
 -- An operation on a port makes one moment, and the worker stays consistent.
 use Rattle.std.proofs.Common.{ap, sym, subst}
-use Rattle.tp_history.specs.Desks.{Journal}
+use Rattle.tp_inbox.specs.Desks.{Journal}
 use Rattle.tp_behaviour.specs.Fresh.{HasOwn}
 use Rattle.tp_behaviour.specs.Paths.{operated}
 use Rattle.tp_behaviour.specs.Workers.{role_of}

@@ -1,7 +1,7 @@
 -- A `trigger` discards a message only where its top is not what it wants.
 use Rattle.std.proofs.Common.{subst}
 use Rattle.tp_value.specs.Admits.{Admits}
-use Rattle.tp_history.specs.Desks.{TriggersAt}
+use Rattle.tp_inbox.specs.Desks.{TriggersAt}
 use Rattle.tp_behaviour.specs.Views.{viewed}
 use Rattle.tp_behaviour.proofs.choice.try_trigger.Goals as goal
 

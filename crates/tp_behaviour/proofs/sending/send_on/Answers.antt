@@ -1,9 +1,9 @@
 -- The worker after a message was put and noted: what holds of it, its new entry, and what stayed the same.
 use Rattle.std.proofs.Common.{◌∙◌, ap, refl}
 use Rattle.std.specs.Prelude.{◌++◌, ◌∷◌, [], map}
-use Rattle.tp_history.specs.declared.entry.Entry.TheVariants as entry
-use Rattle.tp_history.specs.History.{next_of}
-use Rattle.tp_history.specs.Desks.{Journal}
+use Rattle.tp_inbox.specs.declared.entry.Entry.TheVariants as entry
+use Rattle.tp_inbox.specs.History.{next_of}
+use Rattle.tp_inbox.specs.Desks.{Journal}
 use Rattle.tp_behaviour.specs.Looks.{moment}
 use Rattle.tp_behaviour.specs.Moments.{moments}
 use Rattle.tp_inbox.specs.Ledgers.{end_of}

@@ -1,7 +1,7 @@
 -- Both are what is of the route among what went from the one to the other.
 use Rattle.std.proofs.Common.{◌∙◌, ap, sym}
 use Rattle.tp_config.specs.declared.port_type.CompId.{CompId}
-use Rattle.tp_history.specs.History.{arrived_from, posted_on}
+use Rattle.tp_inbox.specs.History.{arrived_from, posted_on}
 use Rattle.tp_inbox.proofs.ComponentMessagesByRoute.{came_on, sent_by_routes}
 use Rattle.tp_exec.proofs.laws.routes_follow.Goals as goal
 

@@ -6,7 +6,7 @@ use Rattle.std.specs.declared.vec.IntoIter.{IntoIter}
 use Rattle.std.specs.Vec.Iter.{into_iter_items}
 use Rattle.std.proofs.lemmas.List.{append-nil}
 use Rattle.tp_config.specs.declared.port_type.CompId.{CompId}
-use Rattle.tp_history.specs.declared.entry.Entry.{Entry}
+use Rattle.tp_inbox.specs.declared.entry.Entry.{Entry}
 use Rattle.tp_inbox.specs.Ledgers.{Inbox, SenderLedger}
 use Rattle.tp_inbox.proofs.RoutesAfterSendersJoin.{move_one}
 use Rattle.tp_exec.specs.ReturnedSenders.{AreAtHand, CanTake, IsHandedBack, links_by}

@@ -2,11 +2,11 @@
 use Rattle.std.proofs.Common.{◌≡◌, ◌∷◌, ◌<◌, [], ℕ, List, All, ap, sym, ◌∙◌, subst}
 use Rattle.std.specs.Vec.Iter.{into_iter_items}
 use Rattle.std.proofs.lemmas.List.Elements.{All-tail}
-use Rattle.tp_event.specs.declared.event.Env.{Env}
+use Rattle.tp_common.specs.declared.event.Env.{Env}
 use Rattle.tp_value.specs.declared.message.Message.{Message}
-use Rattle.tp_history.specs.Desks.{Journal, adding_all}
+use Rattle.tp_inbox.specs.Desks.{Journal, adding_all}
 use Rattle.tp_inbox.specs.Routed.{rest_arrivals}
-use Rattle.tp_history.specs.declared.entry.Entry.TheVariants as entry
+use Rattle.tp_inbox.specs.declared.entry.Entry.TheVariants as entry
 use Rattle.tp_inbox.proofs.OwnerDrainedEnvelopes.{adding_twice}
 use Rattle.tp_exec.proofs.settling.append.Goals as goal
 

@@ -1,7 +1,7 @@
 -- The desk with the rest is the desk with all.
 use Rattle.std.proofs.Common.{◌≡◌, ◌<◌, All}
 use Rattle.std.specs.Vec.Iter.{into_iter_items}
-use Rattle.tp_history.specs.Desks.{adding_all}
+use Rattle.tp_inbox.specs.Desks.{adding_all}
 use Rattle.tp_inbox.specs.Routed.{rest_arrivals}
 use Rattle.tp_exec.proofs.settling.append.Given as goal
 

@@ -1,6 +1,6 @@
 -- What had arrived and the rest are what the senders have put, on the inbox's routes and at ports that there are.
 use Rattle.std.proofs.Common.{ℕ, ◌<◌, ◌++◌, All, map, sym, subst}
-use Rattle.tp_event.specs.declared.event.Env.{Env}
+use Rattle.tp_common.specs.declared.event.Env.{Env}
 use Rattle.tp_value.specs.declared.message.Message.{Message}
 use Rattle.tp_inbox.specs.Routed.{AreDelivered, AreArrivalsNumbered, IsArrivalOn, rest_arrivals}
 use Rattle.tp_inbox.specs.Ledgers.{Inbox, put_by}

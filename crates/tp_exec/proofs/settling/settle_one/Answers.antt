@@ -1,7 +1,7 @@
 -- The senders that came back are the inbox's, and what they have put is what has come.
 use Rattle.std.proofs.Common.{◌≡◌, All, map, refl, sym, ap, subst}
-use Rattle.tp_history.specs.Desks.{Journal, adding_all}
-use Rattle.tp_history.specs.History.{arrivals}
+use Rattle.tp_inbox.specs.Desks.{Journal, adding_all}
+use Rattle.tp_inbox.specs.History.{arrivals}
 use Rattle.tp_inbox.specs.Ledgers.{put_by}
 use Rattle.tp_inbox.specs.Routed.{AreDelivered, AreArrivalsNumbered, IsArrivalOn, rest_arrivals}
 use Rattle.tp_exec.proofs.AllInboxSendersReturn.{are_senders, has_all}

@@ -1,8 +1,8 @@
 -- An envelope arrives at a port that there is.
 use Rattle.std.proofs.Common.{◌≡◌, ◌∙◌, ap}
-use Rattle.tp_history.specs.declared.entry.Entry.{Entry}
-use Rattle.tp_history.specs.declared.entry.Entry.TheVariants as entry
-use Rattle.tp_history.specs.Desks.{adding}
+use Rattle.tp_inbox.specs.declared.entry.Entry.{Entry}
+use Rattle.tp_inbox.specs.declared.entry.Entry.TheVariants as entry
+use Rattle.tp_inbox.specs.Desks.{adding}
 use Rattle.tp_inbox.specs.Routed.{arrival_of}
 use Rattle.tp_inbox.proofs.OwnerDrainedEnvelopes.{port_within}
 use Rattle.tp_inbox.proofs.owner.deliver.Goals as goal

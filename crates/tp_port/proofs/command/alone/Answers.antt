@@ -1,7 +1,7 @@
 -- Where words follow a verb that has no operands, no line is spelled.
 use Rattle.std.proofs.Common.{ap}
 use Rattle.std.specs.Option.{option_copied}
-use Rattle.tp_text.specs.Cutting.{words_after}
+use Rattle.tp_common.specs.Cutting.{words_after}
 use Rattle.tp_port.proofs.QueueLinesByVerb.{alone_words}
 use Rattle.tp_port.proofs.command.alone.Goals as goal
 

@@ -1,7 +1,7 @@
 -- Where a space follows the first word, there are two words or more.
 use Rattle.std.proofs.Common.{◌∙◌, ap, sym, ◌∷◌}
 use Rattle.std.specs.Option.{option_copied}
-use Rattle.tp_text.specs.Cutting.{words_after}
+use Rattle.tp_common.specs.Cutting.{words_after}
 use Rattle.tp_port.proofs.SplitTextHasWords.{more_words}
 use Rattle.tp_port.proofs.command.only_word.Goals as goal
 

@@ -2,8 +2,8 @@
 use Rattle.std.proofs.Common.{◌∙◌, ap, subst, ◌++◌, map, Option}
 use Rattle.std.specs.Prelude.{ℤ, codes, string_bytes}
 use Rattle.std.specs.Option.{option_to_list}
-use Rattle.tp_event.specs.declared.event.Env.{Env}
-use Rattle.tp_event.specs.declared.event.Event.TheVariants as event
+use Rattle.tp_common.specs.declared.event.Env.{Env}
+use Rattle.tp_common.specs.declared.event.Event.TheVariants as event
 use Rattle.tp_queue.specs.Queues.{StandsFor}
 use Rattle.tp_port.specs.Replay.{envelope_or_no}
 use Rattle.tp_port.proofs.IntegerQueueAnswers.{receives_found, received_is}

@@ -1,7 +1,7 @@
 -- All lines before the rest are good, and they are counted.
 use Rattle.std.proofs.Common.{◌≡◌, ◌+◌, ◌≤◌, ◌++◌, List, ℕ, length}
 use Rattle.std.specs.Prelude.{All}
-use Rattle.tp_text.specs.Cutting.{lines_of}
+use Rattle.tp_common.specs.Cutting.{lines_of}
 use Rattle.tp_port.specs.QueueLine.{IsGood}
 use Rattle.tp_port.proofs.replay.first_bad.Given as goal
 

@@ -1,5 +1,5 @@
 -- At first nothing is written, and nothing is kept; each entry adds its text.
-use Rattle.tp_text.proofs.WatchedWriterGrowth.{nothing_yet, one_more}
+use Rattle.tp_common.proofs.WatchedWriterGrowth.{nothing_yet, one_more}
 use Rattle.tp_report.proofs.entry_texts.write_entries.Goals as goal
 
 pub loop-entry-init : goal.loop-entry-init

@@ -1,7 +1,7 @@
 -- The texts of the first entries are written, and what is kept is the text of what it is of.
 use Rattle.std.proofs.Common.{take}
 use Rattle.std.specs.List.{flat_map}
-use Rattle.tp_text.specs.Watching.{Writes}
+use Rattle.tp_common.specs.Watching.{Writes}
 use Rattle.tp_report.specs.Lines.{entry_text}
 use Rattle.tp_report.specs.LineOpenings.{HasItsText}
 use Rattle.tp_report.proofs.entry_texts.write_entries.Given as goal

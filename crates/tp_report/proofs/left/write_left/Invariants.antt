@@ -1,5 +1,5 @@
 -- What is left at the first ports is written.
-use Rattle.tp_text.specs.Watching.{Writes}
+use Rattle.tp_common.specs.Watching.{Writes}
 use Rattle.tp_report.specs.Lines.{left_below}
 use Rattle.tp_report.proofs.left.write_left.Given as goal
 

@@ -1,10 +1,10 @@
 -- The next of the queued has the next line, and the queue has all that are counted.
 use Rattle.std.proofs.Common.{codes, sym, arith}
-use Rattle.tp_event.specs.declared.event.Env.{Env}
+use Rattle.tp_common.specs.declared.event.Env.{Env}
 use Rattle.tp_value.specs.declared.message.Message.{Message}
 use Rattle.tp_config.specs.Setup.{IsComponent}
 use Rattle.tp_report.specs.Lines.{envelope_line, sender_of}
-use Rattle.tp_text.proofs.WatchedWriterGrowth.{nothing_yet}
+use Rattle.tp_common.proofs.WatchedWriterGrowth.{nothing_yet}
 use Rattle.tp_report.proofs.PiecewiseWrittenText.{all_at, not_past, one_more_at}
 use Rattle.tp_report.proofs.left.write_queued.Goals.{in-Some, in_default}
 use Rattle.tp_report.proofs.left.write_queued.Goals as goal

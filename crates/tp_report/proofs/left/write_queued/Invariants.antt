@@ -1,7 +1,7 @@
 -- The lines of the first of the queued are written.
 use Rattle.std.proofs.Common.{take, codes}
 use Rattle.std.specs.List.{flat_map}
-use Rattle.tp_text.specs.Watching.{Writes}
+use Rattle.tp_common.specs.Watching.{Writes}
 use Rattle.tp_report.specs.Lines.{envelope_line}
 use Rattle.tp_report.specs.LineOpenings.{HasItsText}
 use Rattle.tp_report.proofs.left.write_queued.Given as goal

@@ -1,5 +1,5 @@
 -- An opening without room is written first.
-use Rattle.tp_text.proofs.WatchedWriterGrowth.{writes_both}
+use Rattle.tp_common.proofs.WatchedWriterGrowth.{writes_both}
 use Rattle.tp_report.proofs.lines.write_line.Goals as goal
 
 pub returns-clause-written : goal.returns-clause-written

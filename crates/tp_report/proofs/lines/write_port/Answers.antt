@@ -1,5 +1,5 @@
 -- A word, the port, and the end of the line.
-use Rattle.tp_text.proofs.WatchedWriterGrowth.{writes_both}
+use Rattle.tp_common.proofs.WatchedWriterGrowth.{writes_both}
 use Rattle.tp_report.proofs.lines.write_port.Goals as goal
 
 pub returns : goal.returns

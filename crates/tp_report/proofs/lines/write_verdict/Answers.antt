@@ -1,5 +1,5 @@
 -- A word, the verdict, and the end of the line.
-use Rattle.tp_text.proofs.WatchedWriterGrowth.{writes_both}
+use Rattle.tp_common.proofs.WatchedWriterGrowth.{writes_both}
 use Rattle.tp_report.proofs.lines.write_verdict.Goals as goal
 
 pub returns : goal.returns

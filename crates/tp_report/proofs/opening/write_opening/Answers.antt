@@ -1,7 +1,7 @@
 -- The pieces, one after the other.
 use Rattle.std.proofs.Common.{ℕ, List, subst}
-use Rattle.tp_text.specs.Watching.{Writes}
-use Rattle.tp_text.proofs.WatchedWriterGrowth.{writes_both}
+use Rattle.tp_common.specs.Watching.{Writes}
+use Rattle.tp_common.proofs.WatchedWriterGrowth.{writes_both}
 use Rattle.tp_report.proofs.opening.write_opening.Goals as goal
 
 pub returns : goal.returns

@@ -1,8 +1,8 @@
 -- The text of an integer is its type's name, a colon and its digits.
 use Rattle.std.proofs.Common.{List, ℕ, [], ◌∷◌, ◌++◌, append_assoc, subst, to_z-of_z}
 use Rattle.std.specs.Fmt.{decimal}
-use Rattle.tp_text.specs.Watching.{Writes}
-use Rattle.tp_text.proofs.WatchedWriterGrowth.{writes_both}
+use Rattle.tp_common.specs.Watching.{Writes}
+use Rattle.tp_common.proofs.WatchedWriterGrowth.{writes_both}
 use Rattle.tp_report.specs.ReportWords.{rest_of_line}
 use Rattle.tp_report.proofs.IntegerMessageText.{integer_text}
 use Rattle.tp_report.proofs.rest.write_opened.Goals as goal

@@ -1,7 +1,7 @@
 -- An entry that sets a verdict joins it, a failure makes it `error`, and another one leaves it.
 use Rattle.std.proofs.Common.{◌∙◌, sym, ap, ◌∷◌, [], ◌++◌}
 use Rattle.tp_value.specs.Verdicts.{worse}
-use Rattle.tp_history.specs.declared.entry.Entry.{Entry}
+use Rattle.tp_inbox.specs.declared.entry.Entry.{Entry}
 use Rattle.tp_report.specs.Verdicts.{local_verdict}
 use Rattle.tp_report.proofs.WorstVerdictGrowth.{after_set, after_failure, after_other}
 use Rattle.tp_report.proofs.verdicts.verdict_after.Goals as goal

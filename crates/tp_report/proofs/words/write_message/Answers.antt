@@ -1,7 +1,7 @@
 -- The text is that of a value that has its type, or of one that hasn't.
 use Rattle.std.proofs.Common.{◌∙◌, sym, subst}
-use Rattle.tp_text.specs.Watching.{Writes}
-use Rattle.tp_text.proofs.WatchedWriterGrowth.{writes_both}
+use Rattle.tp_common.specs.Watching.{Writes}
+use Rattle.tp_common.proofs.WatchedWriterGrowth.{writes_both}
 use Rattle.tp_report.proofs.PiecewiseWrittenText.{typed_text, untyped_text}
 use Rattle.tp_report.proofs.words.write_message.Goals as goal
 

@@ -1,6 +1,6 @@
 -- A number has 20 digits at most, so that a space is left on each side.
 use Rattle.std.proofs.Common.{rules, subst, arith}
-use Rattle.tp_text.specs.Watching.{Writes}
+use Rattle.tp_common.specs.Watching.{Writes}
 use Rattle.std.specs.Fmt.{decimal}
 use Rattle.std.proofs.lemmas.Fmt.{length-decimal-le}
 use Rattle.tp_report.proofs.NumberBetweenSpaces.{between}

@@ -1,5 +1,5 @@
 -- The name of the type, and a colon.
-use Rattle.tp_text.proofs.WatchedWriterGrowth.{writes_both}
+use Rattle.tp_common.proofs.WatchedWriterGrowth.{writes_both}
 use Rattle.tp_report.proofs.words.write_type.Goals as goal
 
 pub returns-in-Named : goal.returns-in-Named

@@ -1,5 +1,5 @@
 -- Each component adds its text.
-use Rattle.tp_text.proofs.WatchedWriterGrowth.{nothing_yet, one_more}
+use Rattle.tp_common.proofs.WatchedWriterGrowth.{nothing_yet, one_more}
 use Rattle.tp_report.proofs.writing.write_components.Goals as goal
 
 pub loop-component-init : goal.loop-component-init

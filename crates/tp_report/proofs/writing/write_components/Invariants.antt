@@ -1,7 +1,7 @@
 -- The texts of the first components are written.
 use Rattle.std.proofs.Common.{take}
 use Rattle.std.specs.List.{flat_map}
-use Rattle.tp_text.specs.Watching.{Writes}
+use Rattle.tp_common.specs.Watching.{Writes}
 use Rattle.tp_report.specs.Reports.{component_text}
 use Rattle.tp_report.proofs.writing.write_components.Given as goal
 

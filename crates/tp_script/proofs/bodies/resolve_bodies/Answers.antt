@@ -1,6 +1,6 @@
 -- The body that is refused is the test case's own, or else that of a function.
-use Rattle.tp_name.specs.Refused.{Tells}
-use Rattle.tp_setup.proofs.ModuleFaultPropagation.{handed, tells_map}
+use Rattle.tp_checks.specs.Refused.{Tells}
+use Rattle.tp_checks.proofs.ModuleFaultPropagation.{handed, tells_map}
 use Rattle.tp_script.specs.BrokenModules.{BodiesBreak, FunctionsBreak, MainBreaks, in_function, in_main}
 use Rattle.tp_script.specs.Instances.{known_in}
 use Rattle.tp_script.proofs.bodies.resolve_bodies.Goals as goal

@@ -1,12 +1,12 @@
 -- A function whose body is refused has none.
 use Rattle.std.proofs.Common.{◌∙◌, ap, map}
-use Rattle.tp_setup.specs.Definitions.{declared}
+use Rattle.tp_checks.specs.Definitions.{declared}
 use Rattle.tp_script.specs.Instances.{known_in}
 use Rattle.tp_script.specs.Scopes.{plays_of}
 use Rattle.tp_script.proofs.RefusedBodiesInScopes.{body_refused}
-use Rattle.tp_name.specs.Refused.{Tells}
-use Rattle.tp_name.specs.Tables.{IsNumbered}
-use Rattle.tp_setup.proofs.ModuleFaultPropagation.{handed, memory_left, tells_memory}
+use Rattle.tp_checks.specs.Refused.{Tells}
+use Rattle.tp_checks.specs.Tables.{IsNumbered}
+use Rattle.tp_checks.proofs.ModuleFaultPropagation.{handed, memory_left, tells_memory}
 use Rattle.tp_script.specs.BrokenModules.{FunctionBreaks}
 use Rattle.tp_script.proofs.ModuleFaultsTold.{body_told}
 use Rattle.tp_script.proofs.bodies.resolve_function.Goals as goal

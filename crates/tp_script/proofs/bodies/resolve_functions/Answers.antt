@@ -5,8 +5,8 @@ use Rattle.tp_script.specs.Instances.{known_in}
 use Rattle.tp_script.specs.Scopes.{IsFunctionBody}
 use Rattle.tp_script.proofs.FunctionBodyGrowth.{no_function, one_function, one_refused, own_parameters}
 use Rattle.tp_script.proofs.RulesBrokenByParts.{handed_on}
-use Rattle.tp_name.specs.Refused.{Tells}
-use Rattle.tp_setup.proofs.ModuleFaultPropagation.{handed}
+use Rattle.tp_checks.specs.Refused.{Tells}
+use Rattle.tp_checks.proofs.ModuleFaultPropagation.{handed}
 use Rattle.tp_script.specs.BrokenModules.{FunctionsBreak}
 use Rattle.tp_script.proofs.ModuleFaultsTold.{can_run, function_told}
 use Rattle.tp_script.proofs.bodies.resolve_functions.Goals as goal

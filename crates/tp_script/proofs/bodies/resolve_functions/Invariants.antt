@@ -1,7 +1,7 @@
 -- Each function among the definitions so far has its body, in the order of the text.
 use Rattle.std.proofs.Common.{take}
 use Rattle.std.specs.List.{AllZip}
-use Rattle.tp_setup.specs.Definitions.{of_kind, function_of}
+use Rattle.tp_checks.specs.Definitions.{of_kind, function_of}
 use Rattle.tp_script.specs.Instances.{known_in}
 use Rattle.tp_script.specs.Scopes.{IsFunctionBody}
 use Rattle.tp_script.proofs.bodies.resolve_functions.Given as goal

@@ -1,10 +1,10 @@
 -- A test case whose body is refused has none.
 use Rattle.std.proofs.Common.{[], refl}
-use Rattle.tp_body.specs.declared.scope.BehaviourKind.TheVariants as behaviour_kind
+use Rattle.tp_checks.specs.declared.scope.BehaviourKind.TheVariants as behaviour_kind
 use Rattle.tp_script.specs.Instances.{known_in}
 use Rattle.tp_script.proofs.RefusedBodiesInScopes.{body_refused}
-use Rattle.tp_name.specs.Refused.{Tells}
-use Rattle.tp_setup.proofs.ModuleFaultPropagation.{handed}
+use Rattle.tp_checks.specs.Refused.{Tells}
+use Rattle.tp_checks.proofs.ModuleFaultPropagation.{handed}
 use Rattle.tp_script.specs.BrokenModules.{MainBreaks}
 use Rattle.tp_script.proofs.ModuleFaultsTold.{body_told}
 use Rattle.tp_script.proofs.bodies.resolve_main.Goals as goal

@@ -1,14 +1,14 @@
 -- What the passes made is the test case of a module that obeys the rules, and can be executed.
 use Rattle.std.proofs.Common.{◌≤◌, sym, subst}
 use Rattle.std.specs.List.{AllZip}
-use Rattle.tp_setup.specs.Definitions.{functions}
+use Rattle.tp_checks.specs.Definitions.{functions}
 use Rattle.tp_script.specs.Scopes.{IsMainBody, IsFunctionBody}
 use Rattle.tp_script.specs.TestCases.{IsTestCaseOf, size_of_test_case}
 use Rattle.tp_script.proofs.TestCaseFromPasses.{kinds, known_is, test_case_of}
 use Rattle.tp_script.proofs.ExecutableTestCases.{ready}
-use Rattle.tp_name.specs.Refused.{Tells}
-use Rattle.tp_setup.specs.Broken.{DeclarationsBreak}
-use Rattle.tp_setup.proofs.ModuleFaultPropagation.{handed, tells_map}
+use Rattle.tp_checks.specs.Refused.{Tells}
+use Rattle.tp_checks.specs.Broken.{DeclarationsBreak}
+use Rattle.tp_checks.proofs.ModuleFaultPropagation.{handed, tells_map}
 use Rattle.tp_script.specs.BrokenModules.{ModuleBreaks, declarations}
 use Rattle.tp_script.proofs.checking.check.Goals as goal
 

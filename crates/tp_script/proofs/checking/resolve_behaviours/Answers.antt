@@ -1,6 +1,6 @@
 -- Bodies that are refused, or a size, are those of a module that doesn't obey the rules.
 use Rattle.std.proofs.Common.{◌≤◌, List, Option, map, sum, subst}
-use Rattle.tp_name.specs.Refused.{IsRefusedBy}
+use Rattle.tp_checks.specs.Refused.{IsRefusedBy}
 use Rattle.tp_play.specs.Behaviours.{size_of_behaviour}
 use Rattle.tp_play.specs.Instances.{behaviour_of}
 use Rattle.tp_play.specs.declared.instance.Instance.{Instance}
@@ -10,9 +10,9 @@ use Rattle.tp_script.proofs.RulesBrokenByParts.{handed_on, no_memory}
 use Rattle.tp_script.proofs.SoundBodyScopes.{sound_known}
 use Rattle.tp_script.proofs.PreparedModulesKeepRules.{are_few, has_bodies, is_small}
 use Rattle.std.proofs.Common.{◌≡◌, ◌<◌}
-use Rattle.tp_name.specs.Refused.{Tells, TellsAt}
-use Rattle.tp_name.specs.declared.fault.ModuleRule.TheVariants as module_rule
-use Rattle.tp_setup.proofs.ModuleFaultPropagation.{handed, tells_memory}
+use Rattle.tp_checks.specs.Refused.{Tells, TellsAt}
+use Rattle.tp_checks.specs.declared.fault.ModuleRule.TheVariants as module_rule
+use Rattle.tp_checks.proofs.ModuleFaultPropagation.{handed, tells_memory}
 use Rattle.tp_script.specs.BrokenModules.{ModuleBreaks}
 use Rattle.tp_script.proofs.ModuleFaultsTold.{all_run, bodies_told, main_runs, size_told}
 use Rattle.tp_script.proofs.checking.resolve_behaviours.Goals as goal

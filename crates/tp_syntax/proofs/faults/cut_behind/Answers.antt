@@ -1,7 +1,7 @@
 -- What is kept is those passed and the one behind them, brought within the limits.
 use Rattle.std.proofs.Common.{◌≡◌, List, [], ◌∷◌, ◌++◌, Some, map, ap, ◌∙◌}
-use Rattle.tp_token.specs.declared.token.Placed.{Placed}
-use Rattle.tp_token.specs.Lexeme.{Lexeme, PlacedLexeme, lexeme_of, placed_lexeme}
+use Rattle.tp_syntax.specs.declared.token.Placed.{Placed}
+use Rattle.tp_syntax.specs.Lexeme.{Lexeme, PlacedLexeme, lexeme_of, placed_lexeme}
 use Rattle.tp_syntax.specs.Faults.{brought_within}
 use Rattle.tp_syntax.proofs.CutTokens.{last_kept, last_set, taken_to}
 use Rattle.tp_syntax.proofs.faults.cut_behind.Goals as goal

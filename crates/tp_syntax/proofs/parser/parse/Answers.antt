@@ -1,7 +1,7 @@
 -- The module that was read, or the fault in the front of the text's tokens.
 use Rattle.std.proofs.Common.{inl, inr, ◌⊎◌, ◌≡◌, ◌<◌, ◌≤◌, List, [], ◌∷◌, ◌++◌, None, length, map, ap, sym, subst, ◌∙◌, append-nil, arith}
-use Rattle.tp_token.specs.declared.token.Placed.{Placed}
-use Rattle.tp_token.specs.Lexeme.{Lexeme, PlacedLexeme, placed_lexeme}
+use Rattle.tp_syntax.specs.declared.token.Placed.{Placed}
+use Rattle.tp_syntax.specs.Lexeme.{Lexeme, PlacedLexeme, placed_lexeme}
 use Rattle.tp_syntax.specs.Ahead.{plain, ahead}
 use Rattle.tp_syntax.specs.Definitions.{module_lexemes}
 use Rattle.tp_syntax.specs.Forward.{placed_ahead}

@@ -1,7 +1,7 @@
 -- An owner, its desk and a sender may go into a thread.
 use denote.Param.Send.{sendable}
 use Rattle.std.proofs.Crossing.{crosses}
-use Rattle.tp_history.proofs.DeskThreadSafety.{desk_send}
+use Rattle.tp_inbox.proofs.DeskThreadSafety.{desk_send}
 use Rattle.tp_inbox.proofs.InboxThreadSafety.{owner_send, sender_send}
 use Rattle.tp_tests.proofs.wakings.beside.Goals as goal
 

@@ -1,7 +1,7 @@
 -- The next field or element behind its separator, and then the rest, is what was left to write.
 use Rattle.std.proofs.Common.{rules, arith, subst, length, ◌<◌}
-use Rattle.tp_text.specs.Watching.{Writes}
-use Rattle.tp_text.proofs.WatchedWriterGrowth.{writes_nothing}
+use Rattle.tp_common.specs.Watching.{Writes}
+use Rattle.tp_common.proofs.WatchedWriterGrowth.{writes_nothing}
 use Rattle.tp_value.specs.ValueText.{value_text}
 use Rattle.tp_value.proofs.WrittenValueTexts.{elements_grow, elements_end, fields_grow, fields_end, in_braces, text_int, text_bool, text_text, text_record, text_list}
 use Rattle.tp_value.proofs.writing.+write.Goals as goal

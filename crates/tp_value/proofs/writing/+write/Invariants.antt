@@ -1,7 +1,7 @@
 -- What writes the rest writes the whole.
 use Rattle.std.proofs.Common.{drop}
-use Rattle.tp_text.specs.declared.watched.Watched.{Watched}
-use Rattle.tp_text.specs.Watching.{Writes}
+use Rattle.tp_common.specs.declared.watched.Watched.{Watched}
+use Rattle.tp_common.specs.Watching.{Writes}
 use Rattle.tp_value.specs.ValueText.{element_texts, field_texts, comma_separated, value_text}
 use Rattle.tp_value.specs.Separators.{listed_from}
 use Rattle.tp_value.proofs.writing.+write.Given as goal

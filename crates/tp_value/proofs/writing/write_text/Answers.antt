@@ -1,7 +1,7 @@
 -- A piece up to a quote, and another quote, are written as the text has them.
 use Rattle.std.proofs.Common.{sym, subst}
-use Rattle.tp_text.specs.Watching.{Writes}
-use Rattle.tp_text.proofs.WatchedWriterGrowth.{writes_both}
+use Rattle.tp_common.specs.Watching.{Writes}
+use Rattle.tp_common.proofs.WatchedWriterGrowth.{writes_both}
 use Rattle.tp_value.proofs.writing.write_text.Goals as goal
 
 pub loop-front-preserved : goal.loop-front-preserved

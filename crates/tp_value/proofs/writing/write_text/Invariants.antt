@@ -1,7 +1,7 @@
 -- What writes the rest writes the whole.
 use Rattle.std.proofs.Common.{length}
-use Rattle.tp_text.specs.declared.watched.Watched.{Watched}
-use Rattle.tp_text.specs.Watching.{Writes}
+use Rattle.tp_common.specs.declared.watched.Watched.{Watched}
+use Rattle.tp_common.specs.Watching.{Writes}
 use Rattle.tp_value.specs.ValueText.{escaped}
 use Rattle.tp_value.proofs.writing.write_text.Given as goal
 

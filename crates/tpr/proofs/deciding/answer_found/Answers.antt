@@ -1,6 +1,6 @@
 -- What is said of the verdicts, and then nothing more.
 use Rattle.std.proofs.Common.{refl}
-use Rattle.tp_text.proofs.WatchedWriterGrowth.{writes_first}
+use Rattle.tp_common.proofs.WatchedWriterGrowth.{writes_first}
 use Rattle.tpr.specs.Texts.{verdicts_status, verdicts_text}
 use Rattle.tpr.proofs.AlwaysMeansEachReport.{named}
 use Rattle.tpr.proofs.deciding.answer_found.Goals as goal

@@ -1,6 +1,6 @@
 -- What is said of a trace belongs to what was read.
 use Rattle.std.proofs.Common.{List, ℕ, subst}
-use Rattle.tp_referee.specs.Rulings.{IsRulingOf}
+use Rattle.tp_judge.specs.Rulings.{IsRulingOf}
 use Rattle.tpr.proofs.JudgedTraceFaults.{read_judged, untraced}
 use Rattle.tpr.proofs.judging.judge_text.Goals as goal
 

@@ -1,5 +1,5 @@
 -- The number, a space, and the name.
-use Rattle.tp_text.proofs.WatchedWriterGrowth.{writes_both}
+use Rattle.tp_common.proofs.WatchedWriterGrowth.{writes_both}
 use Rattle.tpr.proofs.modes.write_label.Goals as goal
 
 pub returns : goal.returns

@@ -1,5 +1,5 @@
 -- The words of the line, one after the other.
-use Rattle.tp_text.proofs.WatchedWriterGrowth.{writes_both}
+use Rattle.tp_common.proofs.WatchedWriterGrowth.{writes_both}
 use Rattle.tpr.proofs.modes.write_unread.Goals as goal
 
 pub returns : goal.returns

@@ -1,6 +1,6 @@
 -- The report that the run gave is printed, or the line of its fault.
 use Rattle.std.proofs.Common.{inl, inr, refl}
-use Rattle.tp_text.proofs.WatchedWriterGrowth.{writes_first}
+use Rattle.tp_common.proofs.WatchedWriterGrowth.{writes_first}
 use Rattle.tp_report.specs.Reports.{told_text}
 use Rattle.tpr.proofs.AnswersThroughBuffers.{answered_as}
 use Rattle.tpr.proofs.running.answer_test_case.Goals as goal

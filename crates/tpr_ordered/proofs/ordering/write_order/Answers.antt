@@ -1,7 +1,7 @@
 -- The line, what came of the run, and an empty line.
 use Rattle.std.proofs.Common.{◌++◌, codes, refl}
 use Rattle.std.specs.Prelude.{string_bytes}
-use Rattle.tp_text.proofs.WatchedWriterGrowth.{writes_both, writes_first}
+use Rattle.tp_common.proofs.WatchedWriterGrowth.{writes_both, writes_first}
 use Rattle.tpr_ordered.proofs.ordering.write_order.Goals as goal
 
 pub returns : goal.returns

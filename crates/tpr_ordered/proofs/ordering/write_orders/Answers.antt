@@ -1,6 +1,6 @@
 -- One more order is written after the others, until all are, or the writer has failed.
 use Rattle.std.proofs.Common.{sym}
-use Rattle.tp_text.proofs.WatchedWriterGrowth.{not_both}
+use Rattle.tp_common.proofs.WatchedWriterGrowth.{not_both}
 use Rattle.tpr_ordered.proofs.WrittenOrdersGrowth.{first_of_them, none_yet, written_more}
 use Rattle.tpr_ordered.proofs.ordering.write_orders.Goals as goal
 

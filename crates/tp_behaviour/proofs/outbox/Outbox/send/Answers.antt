@@ -4,9 +4,9 @@ use Rattle.std.specs.Prelude.{◌≤◌, IfErr, OnOk, length, slice_set}
 use Rattle.std.proofs.lemmas.Option.{get_or_from_slice_get}
 use Rattle.tp_config.specs.declared.port_type.RouteId.{RouteId}
 use Rattle.tp_value.specs.declared.message.Message.{Message}
-use Rattle.tp_history.specs.declared.entry.Entry.TheVariants as entry
-use Rattle.tp_history.specs.History.{next_of, posted_on}
-use Rattle.tp_history.specs.Desks.{adding}
+use Rattle.tp_inbox.specs.declared.entry.Entry.TheVariants as entry
+use Rattle.tp_inbox.specs.History.{next_of, posted_on}
+use Rattle.tp_inbox.specs.Desks.{adding}
 use Rattle.tp_inbox.specs.Ledgers.{SenderLedger, put_on_way}
 use Rattle.tp_inbox.specs.Routed.{absent_route, route_at}
 use Rattle.tp_behaviour.specs.Outboxes.{HasPut}

@@ -1,6 +1,6 @@
 -- What was moved more is in the desk, and was drained.
 use Rattle.std.proofs.Common.{◌++◌, ap, ◌∙◌, append_assoc}
-use Rattle.tp_history.specs.Desks.{Journal, adding_all}
+use Rattle.tp_inbox.specs.Desks.{Journal, adding_all}
 use Rattle.tp_inbox.proofs.OwnerDrainedEnvelopes.{adding_twice, arrivals_more}
 use Rattle.tp_inbox.proofs.owner.Owner.drain.Goals as goal
 

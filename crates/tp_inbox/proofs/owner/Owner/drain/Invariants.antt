@@ -1,8 +1,8 @@
 -- What was moved so far is behind the desk's history, and behind what was drained.
 use Rattle.std.proofs.Common.{◌≡◌, List, ◌++◌}
-use Rattle.tp_history.specs.declared.entry.Entry.{Entry}
-use Rattle.tp_history.specs.History.{arrivals}
-use Rattle.tp_history.specs.Desks.{adding_all}
+use Rattle.tp_inbox.specs.declared.entry.Entry.{Entry}
+use Rattle.tp_inbox.specs.History.{arrivals}
+use Rattle.tp_inbox.specs.Desks.{adding_all}
 use Rattle.tp_inbox.proofs.owner.Owner.drain.Given as goal
 
 abbrev pub invariant-loop : goal.invariant-loop

@@ -2,12 +2,12 @@
 use Rattle.std.proofs.Common.{◌≡◌, ◌<◌, ◌+◌, ◌∙◌, [], ◌∷◌, ◌++◌, length, length-append, ap, arith, refl, rules, subst, sym}
 use Rattle.std.specs.Arc.{arc_value}
 use Rattle.tp_inbox.specs.declared.channel.Channel.{Channel}
-use Rattle.tp_history.specs.Desks.{Journal, adding}
+use Rattle.tp_inbox.specs.Desks.{Journal, adding}
 use Rattle.tp_inbox.specs.Envelopes.{AreCounts}
 use Rattle.tp_inbox.specs.Ledgers.{Draining}
 use Rattle.tp_inbox.specs.Routed.{AreArrivals, arrival_of, arrivals_of}
 use Rattle.tp_inbox.proofs.EnvelopesOfOneRoute.{append_nil}
-use Rattle.tp_history.proofs.HistoryClockGrowth.{arrivals_none}
+use Rattle.tp_inbox.proofs.HistoryClockGrowth.{arrivals_none}
 use Rattle.tp_inbox.proofs.ArrivalsOfEnvelopes.{arrivals_one}
 use Rattle.tp_inbox.proofs.OwnerDrainedEnvelopes.{adding_nothing, counts-push, drained-none, drained-push, drained_within, ends-none, hand-back, next_of_route, owner_arrivals}
 use Rattle.tp_inbox.proofs.owner.Owner.move_next.Goals as goal

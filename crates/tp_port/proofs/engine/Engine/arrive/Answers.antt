@@ -2,7 +2,7 @@
 use Rattle.std.proofs.Common.{subst, refl, ◌∷◌, ◌++◌, []}
 use Rattle.std.specs.Prelude.{ℤ}
 use Rattle.std.proofs.lemmas.Int.{to_z-of_z}
-use Rattle.tp_event.specs.declared.event.Event.TheVariants as event
+use Rattle.tp_common.specs.declared.event.Event.TheVariants as event
 use Rattle.tp_queue.specs.Queues.{StandsFor}
 use Rattle.tp_port.proofs.ReplayedLineOutcomes.{carries_arrive}
 use Rattle.tp_port.proofs.engine.Engine.arrive.Goals as goal

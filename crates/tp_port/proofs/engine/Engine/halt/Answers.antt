@@ -1,7 +1,7 @@
 -- With a `halt` nothing arrives; the answer counts what is ahead of the mark, if one was put.
 use Rattle.std.proofs.Common.{◌∙◌, ap, sym, refl, ◌++◌, arith}
 use Rattle.std.specs.Prelude.{string_bytes}
-use Rattle.tp_event.specs.declared.event.Event.TheVariants as event
+use Rattle.tp_common.specs.declared.event.Event.TheVariants as event
 use Rattle.tp_port.specs.QueueLine.{halt}
 use Rattle.tp_port.specs.Replay.{halted_text}
 use Rattle.tp_port.proofs.ReplayedLineOutcomes.{carries_quiet, quiet_one}

@@ -1,7 +1,7 @@
 -- With a `start` nothing arrives, and the answer counts what was queued.
 use Rattle.std.proofs.Common.{◌∙◌, ap, refl, ◌++◌, arith}
 use Rattle.std.specs.Prelude.{codes, string_bytes}
-use Rattle.tp_event.specs.declared.event.Event.TheVariants as event
+use Rattle.tp_common.specs.declared.event.Event.TheVariants as event
 use Rattle.tp_port.specs.QueueLine.{start}
 use Rattle.tp_port.specs.Replay.{counted_text}
 use Rattle.tp_port.proofs.ReplayedLineOutcomes.{carries_quiet, quiet_one}

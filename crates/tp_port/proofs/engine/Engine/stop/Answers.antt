@@ -1,6 +1,6 @@
 -- With a `stop` nothing arrives, and the answer says that the port is stopped.
 use Rattle.std.proofs.Common.{refl, arith}
-use Rattle.tp_event.specs.declared.event.Event.TheVariants as event
+use Rattle.tp_common.specs.declared.event.Event.TheVariants as event
 use Rattle.tp_port.specs.QueueLine.{stop}
 use Rattle.tp_port.proofs.ReplayedLineOutcomes.{carries_quiet, quiet_one}
 use Rattle.tp_port.proofs.engine.Engine.stop.Goals as goal

@@ -1,7 +1,7 @@
 -- The answer is the top, which meets the criteria, and the history ends with its being found.
 use Rattle.std.proofs.Common.{refl, ◌≡◌, List}
 use Rattle.std.specs.Option.{option_copied}
-use Rattle.tp_event.specs.declared.event.Event.{Event}
+use Rattle.tp_common.specs.declared.event.Event.{Event}
 use Rattle.tp_queue.specs.History.{Lawful}
 use Rattle.tp_queue.specs.Answers.{Checks, checked}
 use Rattle.tp_port.proofs.CheckAnswerIsFound.{check_done}

@@ -1,7 +1,7 @@
 -- The queue stands for the history with the arrival behind it.
 use Rattle.std.proofs.Common.{arith, refl, ◌≡◌, ◌∷◌, ◌++◌, []}
 use Rattle.std.proofs.lemmas.Grind.{common_steps}
-use Rattle.tp_event.specs.declared.event.Event.TheVariants as event
+use Rattle.tp_common.specs.declared.event.Event.TheVariants as event
 use Rattle.tp_queue.proofs.QueueStateTransitions.{arrive_stands, goes_on}
 use Rattle.tp_queue.proofs.queue.Queue.arrive.Goals as goal
 

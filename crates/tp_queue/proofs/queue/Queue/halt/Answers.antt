@@ -1,6 +1,6 @@
 -- A halt puts the mark of a started port behind all that is queued, and moves no other mark.
 use Rattle.std.proofs.Common.{refl, ◌∙◌}
-use Rattle.tp_event.specs.declared.event.Event.TheVariants as event
+use Rattle.tp_common.specs.declared.event.Event.TheVariants as event
 use Rattle.tp_queue.proofs.QueueStateTransitions.{halt_stands, halt_again_stands, count_again, goes_on}
 use Rattle.tp_queue.proofs.queue.Queue.halt.Goals as goal
 

@@ -1,6 +1,6 @@
 -- The queue stands for the history with the stop behind it.
 use Rattle.std.proofs.Common.{refl}
-use Rattle.tp_event.specs.declared.event.Event.TheVariants as event
+use Rattle.tp_common.specs.declared.event.Event.TheVariants as event
 use Rattle.tp_queue.proofs.QueueStateTransitions.{stop_stands, goes_on}
 use Rattle.tp_queue.proofs.queue.Queue.stop.Goals as goal
 

@@ -1,8 +1,8 @@
 -- One more statement or branch is read behind the others; a `for` and an `[else]` have their block.
 use Rattle.std.proofs.Common.{◌≡◌, inr, Some, ◌&&◌, not, length, inl, refl, List, ◌∷◌, ◌++◌, append_assoc, ap, sym, ◌∙◌, arith, subst, rules, [], true, true≢false}
-use Rattle.tp_token.specs.declared.word.Word.TheVariants as w
-use Rattle.tp_token.specs.declared.token.Symbol.TheVariants.{Dot, LeftBracket, RightBracket, RightBrace}
-use Rattle.tp_token.specs.Lexeme.{Lexeme, word, symbol}
+use Rattle.tp_syntax.specs.declared.word.Word.TheVariants as w
+use Rattle.tp_syntax.specs.declared.token.Symbol.TheVariants.{Dot, LeftBracket, RightBracket, RightBrace}
+use Rattle.tp_syntax.specs.Lexeme.{Lexeme, word, symbol}
 use Rattle.tp_syntax.specs.Sequences.{braced, end_lexemes}
 use Rattle.tp_syntax.specs.Statements.{statement_lexemes, branch_lexemes, statements_lexemes, turns_lexemes, receive_lexemes, otherwise_lexemes, send_lexemes, control_lexemes, all_ports_lexemes, set_verdict_lexemes}
 use Rattle.tp_syntax.proofs.TokensBeyond.{stuck_hidden}
@@ -31,7 +31,7 @@ use Rattle.tp_syntax.proofs.StatementNotes as notes
 use Rattle.tp_syntax.specs.Lines.{branch_notes, statement_notes}
 use Rattle.tp_syntax.specs.declared.cursor.Parser.{Parser}
 use Rattle.tp_syntax.specs.declared.statements.Beginning.TheVariants as begins
-use Rattle.tp_event.specs.declared.operation.PortOperation.TheVariants as port_operation
+use Rattle.tp_common.specs.declared.operation.PortOperation.TheVariants as port_operation
 use Rattle.tp_syntax.specs.HiddenTokens.{AllHidden, CouldBe}
 use Rattle.tp_syntax.specs.Stuck.{StandAtLeast}
 use Rattle.tp_syntax.proofs.FirstTokensSeen.{handed_as, handed_seen, hidden_could, hidden_place, hidden_result, same_could}

@@ -4,12 +4,12 @@ use Rattle.tp_syntax.specs.Ahead.{ahead, is_name_in, token_at}
 use Rattle.tp_syntax.specs.HiddenTokens.{CouldBe}
 use Rattle.tp_syntax.proofs.StandingTokens.{IsSameOrBeyond}
 use Rattle.tp_syntax.proofs.PartsInOrderSeen.{RemainAllSeen}
-use Rattle.tp_token.specs.declared.token.Symbol.TheVariants.{Dot}
-use Rattle.tp_token.specs.declared.word.Word.TheVariants.{Start}
+use Rattle.tp_syntax.specs.declared.token.Symbol.TheVariants.{Dot}
+use Rattle.tp_syntax.specs.declared.word.Word.TheVariants.{Start}
 use Rattle.tp_syntax.specs.Statements.{statements_lexemes, branches_lexemes, statement_lexemes, branch_lexemes}
 use Rattle.tp_syntax.specs.Grammar.{branches_parts, statements_parts, statement_part, branch_part}
 use Rattle.tp_syntax.specs.Standing.{GoesOver}
-use Rattle.tp_token.specs.Lexeme.{Lexeme, symbol, word}
+use Rattle.tp_syntax.specs.Lexeme.{Lexeme, symbol, word}
 use Rattle.tp_syntax.specs.Reading.{AllStand, is_end_ahead, is_branch_ahead}
 use Rattle.tp_tree.specs.declared.tree.Statement.{Statement}
 use Rattle.tp_tree.specs.declared.tree.Branch.{Branch}

@@ -8,17 +8,17 @@ use Rattle.tp_syntax.proofs.PassedPartGrowth.{each_of_one, push_right}
 use Rattle.std.proofs.lemmas.Grind.{common_steps}
 use Rattle.tp_syntax.proofs.PartsLeftToRead.{one_right, one_of}
 use Rattle.std.proofs.lemmas.Bool.{iff_false}
-use Rattle.tp_token.specs.declared.token.Token.TheVariants as token
-use Rattle.tp_token.specs.declared.word.Word.TheVariants as w
-use Rattle.tp_token.specs.Lexeme.{symbol}
-use Rattle.tp_token.specs.declared.token.Symbol.TheVariants.{Minus, LeftBrace, RightBrace}
+use Rattle.tp_syntax.specs.declared.token.Token.TheVariants as token
+use Rattle.tp_syntax.specs.declared.word.Word.TheVariants as w
+use Rattle.tp_syntax.specs.Lexeme.{symbol}
+use Rattle.tp_syntax.specs.declared.token.Symbol.TheVariants.{Minus, LeftBrace, RightBrace}
 use Rattle.tp_syntax.specs.declared.cursor.Parser.{Parser}
 use Rattle.tp_syntax.specs.Ahead.{lexemes}
 use Rattle.tp_syntax.specs.Sequences.{by_commas}
 use Rattle.tp_syntax.proofs.ValueReading.{value_some, value_no_brace, value_field_no_brace, value_field_opens}
 use Rattle.tp_tree.specs.declared.message.ValueField.{out-ValueField}
 use Rattle.tp_tree.specs.declared.message.Value.TheVariants as v
-use Rattle.tp_token.specs.Lexeme.{Lexeme}
+use Rattle.tp_syntax.specs.Lexeme.{Lexeme}
 use Rattle.tp_syntax.specs.Ahead.{token_at}
 use Rattle.tp_syntax.specs.HiddenTokens.{AllHidden, CouldBe}
 use Rattle.tp_syntax.specs.Stuck.{StandAtLeast}

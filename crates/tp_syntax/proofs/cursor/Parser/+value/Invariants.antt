@@ -4,7 +4,7 @@ use Rattle.tp_syntax.specs.Ahead.{ahead}
 use Rattle.tp_syntax.specs.Sequences.{by_commas}
 use Rattle.tp_syntax.specs.Values.{value_lexemes, value_field_lexemes}
 use Rattle.tp_syntax.specs.Grammar.{one_and_each, is_value, is_value_field}
-use Rattle.tp_token.specs.Lexeme.{Lexeme}
+use Rattle.tp_syntax.specs.Lexeme.{Lexeme}
 use Rattle.tp_syntax.specs.Reading.{BeginsField, Stops}
 use Rattle.tp_syntax.specs.HiddenTokens.{CouldBe}
 use Rattle.tp_syntax.proofs.PartsLeftSeen.{RemainSeen}

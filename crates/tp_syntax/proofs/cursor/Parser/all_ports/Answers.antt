@@ -1,5 +1,5 @@
 -- `all port`, a `.` and an operation.
-use Rattle.tp_token.specs.declared.word.Word.TheVariants.{All}
+use Rattle.tp_syntax.specs.declared.word.Word.TheVariants.{All}
 use Rattle.tp_syntax.specs.Statements.{all_ports_lexemes}
 use Rattle.tp_syntax.specs.Stuck.{StandAtLeast}
 use Rattle.tp_syntax.proofs.FirstTokensSeen.{handed_as, handed_seen}

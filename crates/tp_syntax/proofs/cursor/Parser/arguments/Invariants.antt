@@ -2,12 +2,12 @@
 use Rattle.std.proofs.Common.{ℕ, ◌≡◌, ◌<◌, ◌++◌, length, List, Some}
 use Rattle.tp_syntax.specs.Ahead.{ahead}
 use Rattle.tp_syntax.specs.Definitions.{arguments_lexemes}
-use Rattle.tp_token.specs.Lexeme.{Lexeme, symbol}
+use Rattle.tp_syntax.specs.Lexeme.{Lexeme, symbol}
 use Rattle.tp_syntax.specs.Reading.{first}
 use Rattle.tp_syntax.proofs.PartsLeftSeen.{RemainSeen}
 use Rattle.tp_syntax.specs.HiddenTokens.{CouldBe}
 use Rattle.tp_tree.specs.declared.tree.ComponentName.{ComponentName}
-use Rattle.tp_token.specs.declared.token.Symbol.TheVariants.{RightParen}
+use Rattle.tp_syntax.specs.declared.token.Symbol.TheVariants.{RightParen}
 use Rattle.tp_syntax.specs.Statements.{component_lexemes}
 use Rattle.tp_syntax.specs.Forward.{GoesForward}
 use Rattle.tp_syntax.proofs.cursor.Parser.arguments.Given as goal

@@ -7,11 +7,11 @@ use Rattle.tp_syntax.specs.Definitions.{component_type_lexemes}
 use Rattle.tp_syntax.proofs.DefinitionReading.{ports_stand}
 use Rattle.tp_syntax.specs.Lines.{component_type_notes}
 use Rattle.tp_syntax.proofs.LinesOfPassedTokens.{passes_next, passes_one, passes_then}
-use Rattle.tp_token.specs.Lexeme.{word}
+use Rattle.tp_syntax.specs.Lexeme.{word}
 use Rattle.tp_syntax.proofs.FirstTokensSeen.{handed_as, handed_seen}
 use Rattle.tp_syntax.proofs.TokensBeyond.{behind_stands, beyond_stands, wrong_stands}
 use Rattle.tp_syntax.specs.Stuck.{StandAtLeast}
-use Rattle.tp_token.specs.declared.word.Word.TheVariants as w
+use Rattle.tp_syntax.specs.declared.word.Word.TheVariants as w
 use Rattle.tp_syntax.proofs.FirstTokensStand.{memory_alone, own_could}
 use Rattle.tp_syntax.proofs.cursor.Parser.component_type.Goals as goal
 

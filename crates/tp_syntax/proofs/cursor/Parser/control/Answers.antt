@@ -1,10 +1,10 @@
 -- A name, a `.` and an operation.
-use Rattle.tp_token.specs.declared.word.Word.TheVariants.{Start}
+use Rattle.tp_syntax.specs.declared.word.Word.TheVariants.{Start}
 use Rattle.tp_syntax.specs.Statements.{control_lexemes}
 use Rattle.tp_syntax.specs.Stuck.{StandAtLeast}
 use Rattle.tp_syntax.proofs.FirstTokensSeen.{handed_as, handed_seen}
 use Rattle.tp_syntax.proofs.FirstTokensStand.{memory_alone, name_dot_own, name_dot_word_own, name_own}
-use Rattle.tp_event.specs.declared.operation.PortOperation.TheVariants as port_operation
+use Rattle.tp_common.specs.declared.operation.PortOperation.TheVariants as port_operation
 use Rattle.tp_syntax.proofs.cursor.Parser.control.Goals as goal
 
 pub returns-in_err-port-clause-reads : goal.returns-in_err-port-clause-reads

@@ -7,7 +7,7 @@ use Rattle.tp_syntax.proofs.TypesSeen.{component_seen, cut_passed, cut_stuck, di
 use Rattle.tp_syntax.proofs.FirstTokensSeen.{handed_as, handed_seen, hidden_could}
 use Rattle.std.proofs.Common.{arith, inl, inr}
 use Rattle.tp_syntax.specs.Stuck.{StandAtLeast}
-use Rattle.tp_token.specs.declared.word.Word.TheVariants as w
+use Rattle.tp_syntax.specs.declared.word.Word.TheVariants as w
 use Rattle.tp_syntax.proofs.cursor.Parser.defined_type.Goals as goal
 
 pub returns-then-is_word_at-clause-lines : goal.returns-then-is_word_at-clause-lines

@@ -1,6 +1,6 @@
 -- A definition, and whether it needs its `;`.
 use Rattle.std.proofs.Common.{inl, inr, arith, ◌||◌, List, ap, sym, subst, ◌∙◌, append_assoc}
-use Rattle.tp_token.specs.Lexeme.{Lexeme}
+use Rattle.tp_syntax.specs.Lexeme.{Lexeme}
 use Rattle.tp_syntax.specs.Sequences.{end_lexemes}
 use Rattle.tp_syntax.specs.Definitions.{defined_lexemes}
 use Rattle.tp_syntax.specs.Reading.{MayStandBefore}

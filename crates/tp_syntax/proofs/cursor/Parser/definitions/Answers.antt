@@ -1,7 +1,7 @@
 -- One more definition is read behind the others.
 use Rattle.std.proofs.Common.{inl, inr, arith, refl, rules}
-use Rattle.tp_token.specs.declared.token.Symbol.TheVariants.{RightBrace}
-use Rattle.tp_token.specs.Lexeme.{symbol}
+use Rattle.tp_syntax.specs.declared.token.Symbol.TheVariants.{RightBrace}
+use Rattle.tp_syntax.specs.Lexeme.{symbol}
 use Rattle.tp_syntax.specs.Definitions.{definition_lexemes}
 use Rattle.tp_syntax.specs.Grammar.{definition_part}
 use Rattle.tp_syntax.proofs.ReadSequenceGrowth.{push_read_all}

@@ -4,12 +4,12 @@ use Rattle.tp_syntax.specs.Ahead.{ahead}
 use Rattle.tp_syntax.specs.Definitions.{definitions_lexemes, definition_lexemes}
 use Rattle.tp_syntax.specs.Grammar.{definition_part}
 use Rattle.tp_syntax.specs.Standing.{GoesOver}
-use Rattle.tp_token.specs.Lexeme.{Lexeme, symbol}
+use Rattle.tp_syntax.specs.Lexeme.{Lexeme, symbol}
 use Rattle.tp_syntax.specs.Reading.{AllStand, first}
 use Rattle.tp_syntax.specs.HiddenTokens.{CouldBe}
 use Rattle.tp_syntax.proofs.PartsInOrderSeen.{RemainAllSeen}
 use Rattle.tp_tree.specs.declared.tree.Definition.{Definition}
-use Rattle.tp_token.specs.declared.token.Symbol.TheVariants.{RightBrace}
+use Rattle.tp_syntax.specs.declared.token.Symbol.TheVariants.{RightBrace}
 use Rattle.tp_syntax.specs.Lines.{noted_in_order, definition_notes}
 use Rattle.tp_syntax.specs.Forward.{PassesNoted}
 use Rattle.tp_syntax.proofs.cursor.Parser.definitions.Given as goal

@@ -9,9 +9,9 @@ use Rattle.std.proofs.lemmas.Grind.{common_steps}
 use Rattle.tp_syntax.proofs.PartsLeftToRead.{all_any}
 use Rattle.tp_syntax.proofs.FirstTokensOfParts.{direction_begins}
 use Rattle.tp_syntax.proofs.PartsInOrderSeen.{none_left_seen}
-use Rattle.tp_token.specs.Lexeme.{symbol}
+use Rattle.tp_syntax.specs.Lexeme.{symbol}
 use Rattle.tp_syntax.proofs.FirstTokensSeen.{handed_as, handed_seen}
-use Rattle.tp_token.specs.declared.token.Symbol.TheVariants.{RightBrace}
+use Rattle.tp_syntax.specs.declared.token.Symbol.TheVariants.{RightBrace}
 use Rattle.tp_syntax.proofs.TokensBeyond.{beyond_stands, hidden_stuck}
 use Rattle.tp_syntax.proofs.PartsEndSeen.{closed_all_seen, next_or_hidden, push_some}
 use Rattle.tp_syntax.specs.Stuck.{StandAtLeast}

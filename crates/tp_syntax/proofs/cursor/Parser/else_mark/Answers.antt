@@ -1,7 +1,7 @@
 -- An `[else]` is passed, or the parser is stuck in it.
 use Rattle.std.proofs.Common.{arith, refl}
-use Rattle.tp_token.specs.declared.token.Symbol.TheVariants.{LeftBracket}
-use Rattle.tp_token.specs.Lexeme.{symbol}
+use Rattle.tp_syntax.specs.declared.token.Symbol.TheVariants.{LeftBracket}
+use Rattle.tp_syntax.specs.Lexeme.{symbol}
 use Rattle.tp_syntax.proofs.FirstTokensAhead.{raw}
 use Rattle.tp_syntax.proofs.FirstTokensSeen.{handed_as, handed_seen}
 use Rattle.tp_syntax.proofs.FirstTokensStand.{memory_alone, own_could}

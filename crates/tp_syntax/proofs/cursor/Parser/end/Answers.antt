@@ -1,9 +1,9 @@
 -- A `;` that is missing is missing before a `}`, or where it may.
 use Rattle.std.proofs.Common.{inl, inr, ◌∷◌, ℕ, ◌≡◌, ◌≢◌, Bool, true, false, ◌||◌, List, ◌++◌, Option, Some, refl, ap, sym, ◌∙◌}
 use Rattle.std.proofs.lemmas.Bool.{iff_false, false≢true}
-use Rattle.tp_token.specs.declared.token.Placed.{Placed}
-use Rattle.tp_token.specs.declared.token.Symbol.TheVariants.{Semicolon, RightBrace}
-use Rattle.tp_token.specs.Lexeme.{Lexeme, symbol}
+use Rattle.tp_syntax.specs.declared.token.Placed.{Placed}
+use Rattle.tp_syntax.specs.declared.token.Symbol.TheVariants.{Semicolon, RightBrace}
+use Rattle.tp_syntax.specs.Lexeme.{Lexeme, symbol}
 use Rattle.tp_syntax.specs.declared.cursor.Parser.{Parser}
 use Rattle.tp_syntax.specs.Ahead.{ahead, lexemes, token_at}
 use Rattle.tp_syntax.specs.HiddenTokens.{AllHidden, CouldBe}

@@ -3,11 +3,11 @@ use Rattle.std.proofs.Common.{List, ◌++◌, map, refl, ◌∷◌, subst}
 use Rattle.tp_syntax.specs.Grammar.{statements_parts, variable_part}
 use Rattle.tp_syntax.proofs.PassedPartGrowth.{between_parts, between_then}
 use Rattle.tp_syntax.proofs.TestCaseReading.{function_variables, function_statements, statements_no_var}
-use Rattle.tp_token.specs.Lexeme.{Lexeme, symbol}
+use Rattle.tp_syntax.specs.Lexeme.{Lexeme, symbol}
 use Rattle.tp_syntax.specs.HiddenTokens.{CouldBe}
 use Rattle.tp_syntax.proofs.DefinitionsSeen.{function_opens, uncut}
 use Rattle.tp_syntax.proofs.FirstTokensSeen.{handed_seen}
-use Rattle.tp_token.specs.declared.token.Symbol.TheVariants.{RightBrace}
+use Rattle.tp_syntax.specs.declared.token.Symbol.TheVariants.{RightBrace}
 use Rattle.tp_syntax.specs.Lines.{function_notes}
 use Rattle.tp_syntax.proofs.LinesOfPassedTokens.{passes_next, passes_one, passes_then}
 use Rattle.tp_syntax.proofs.cursor.Parser.function.Goals as goal

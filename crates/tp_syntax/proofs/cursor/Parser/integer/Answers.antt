@@ -1,8 +1,8 @@
 -- A `-` that comes next is passed before its number.
 use Rattle.std.proofs.Common.{◌≡◌, rules, arith}
-use Rattle.tp_token.specs.declared.token.Symbol.TheVariants.{Minus}
-use Rattle.tp_token.specs.declared.token.Token.TheVariants as token
-use Rattle.tp_token.specs.Lexeme.{symbol}
+use Rattle.tp_syntax.specs.declared.token.Symbol.TheVariants.{Minus}
+use Rattle.tp_syntax.specs.declared.token.Token.TheVariants as token
+use Rattle.tp_syntax.specs.Lexeme.{symbol}
 use Rattle.tp_syntax.proofs.FirstTokensSeen.{passed_before, token_first}
 use Rattle.tp_syntax.proofs.cursor.Parser.integer.Goals as goal
 

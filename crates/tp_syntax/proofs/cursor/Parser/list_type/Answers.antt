@@ -1,11 +1,11 @@
 -- Behind `type` and `record` the parser is stuck behind them.
-use Rattle.tp_token.specs.Lexeme.{Lexeme, word}
+use Rattle.tp_syntax.specs.Lexeme.{Lexeme, word}
 use Rattle.tp_syntax.proofs.FirstTokensSeen.{handed_as, handed_seen}
 use Rattle.tp_syntax.proofs.TokensBeyond.{behind_stands, wrong_stands}
 use Rattle.std.proofs.Common.{◌∷◌, List, ap, arith, refl, sym, ◌∙◌, append_assoc}
 use Rattle.tp_syntax.specs.Stuck.{StandAtLeast}
 use Rattle.tp_syntax.proofs.FirstTokensAhead.{raw}
-use Rattle.tp_token.specs.declared.word.Word.TheVariants as w
+use Rattle.tp_syntax.specs.declared.word.Word.TheVariants as w
 use Rattle.tp_syntax.specs.Definitions.{list_type_lexemes}
 use Rattle.tp_syntax.proofs.FirstTokensStand.{memory_alone, own_could}
 use Rattle.tp_syntax.proofs.cursor.Parser.list_type.Goals as goal

@@ -1,8 +1,8 @@
 -- The lower bound of a range is `-infinity`, or a number.
 use Rattle.std.proofs.Common.{inl, inr, refl, arith}
 use Rattle.std.proofs.lemmas.Bool.{iff_false}
-use Rattle.tp_token.specs.declared.word.Word.TheVariants as w
-use Rattle.tp_token.specs.Lexeme.{word}
+use Rattle.tp_syntax.specs.declared.word.Word.TheVariants as w
+use Rattle.tp_syntax.specs.Lexeme.{word}
 use Rattle.tp_syntax.proofs.FirstTokensAhead.{minus_then}
 use Rattle.tp_syntax.proofs.FirstTokensSeen.{handed_seen, hidden_could}
 use Rattle.tp_syntax.proofs.FirstTokensStand.{own_could}

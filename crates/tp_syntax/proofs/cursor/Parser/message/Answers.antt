@@ -1,7 +1,7 @@
 -- A message by what is seen of it: its type, a `:` and its value.
 use Rattle.std.proofs.Common.{List, ◌∷◌, subst, append_assoc}
-use Rattle.tp_token.specs.declared.token.Symbol.TheVariants.{Colon}
-use Rattle.tp_token.specs.Lexeme.{Lexeme, symbol}
+use Rattle.tp_syntax.specs.declared.token.Symbol.TheVariants.{Colon}
+use Rattle.tp_syntax.specs.Lexeme.{Lexeme, symbol}
 use Rattle.tp_syntax.specs.HiddenTokens.{CouldBe}
 use Rattle.tp_syntax.specs.Values.{type_lexemes, value_lexemes}
 use Rattle.tp_syntax.proofs.FirstTokensSeen.{handed_seen}

@@ -3,11 +3,11 @@ use Rattle.std.proofs.Common.{List, map, refl, ◌∷◌, ◌++◌, ap, subst}
 use Rattle.tp_syntax.specs.Grammar.{definition_part}
 use Rattle.tp_syntax.proofs.PassedPartGrowth.{between_parts}
 use Rattle.tp_syntax.proofs.TestCaseReading.{ended_stands}
-use Rattle.tp_token.specs.Lexeme.{Lexeme, symbol}
+use Rattle.tp_syntax.specs.Lexeme.{Lexeme, symbol}
 use Rattle.tp_syntax.specs.HiddenTokens.{CouldBe}
 use Rattle.tp_syntax.proofs.DefinitionsSeen.{module_opens}
 use Rattle.tp_syntax.proofs.FirstTokensSeen.{handed_seen}
-use Rattle.tp_token.specs.declared.token.Symbol.TheVariants.{RightBrace}
+use Rattle.tp_syntax.specs.declared.token.Symbol.TheVariants.{RightBrace}
 use Rattle.tp_syntax.proofs.PartsLeftToRead.{parts_stand}
 use Rattle.tp_syntax.specs.Sequences.{end_lexemes}
 use Rattle.tp_syntax.specs.Reading.{first}

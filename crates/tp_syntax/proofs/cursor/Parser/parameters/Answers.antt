@@ -1,7 +1,7 @@
 -- One more parameter of a function is read behind its comma.
 use Rattle.std.proofs.Common.{inl, inr, arith, [], length-append, refl, ap, rules}
-use Rattle.tp_token.specs.declared.token.Symbol.TheVariants.{RightParen}
-use Rattle.tp_token.specs.Lexeme.{symbol}
+use Rattle.tp_syntax.specs.declared.token.Symbol.TheVariants.{RightParen}
+use Rattle.tp_syntax.specs.Lexeme.{symbol}
 use Rattle.tp_syntax.specs.Definitions.{parameter_lexemes}
 use Rattle.tp_syntax.proofs.ReadSequenceGrowth.{push_read}
 use Rattle.std.proofs.lemmas.Grind.{common_steps}

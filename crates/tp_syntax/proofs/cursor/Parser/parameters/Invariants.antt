@@ -2,12 +2,12 @@
 use Rattle.std.proofs.Common.{◌≡◌, ℕ, ◌<◌, ◌++◌, length, List, Some, map}
 use Rattle.tp_syntax.specs.Ahead.{ahead}
 use Rattle.tp_syntax.specs.Definitions.{parameters_lexemes, parameter_lexemes}
-use Rattle.tp_token.specs.Lexeme.{Lexeme, symbol}
+use Rattle.tp_syntax.specs.Lexeme.{Lexeme, symbol}
 use Rattle.tp_syntax.specs.Reading.{first}
 use Rattle.tp_syntax.specs.HiddenTokens.{CouldBe}
 use Rattle.tp_syntax.proofs.PartsLeftSeen.{RemainSeen}
 use Rattle.tp_tree.specs.declared.tree.Parameter.{Parameter}
-use Rattle.tp_token.specs.declared.token.Symbol.TheVariants.{RightParen}
+use Rattle.tp_syntax.specs.declared.token.Symbol.TheVariants.{RightParen}
 use Rattle.tp_syntax.specs.Lines.{noted_by_commas, parameter_notes}
 use Rattle.tp_syntax.specs.Forward.{PassesNoted}
 use Rattle.tp_syntax.proofs.cursor.Parser.parameters.Given as goal

@@ -6,11 +6,11 @@ use Rattle.tp_syntax.proofs.PassedPartGrowth.{between_parts, has_one_some}
 use Rattle.tp_syntax.proofs.FirstTokensAhead.{raw}
 use Rattle.tp_syntax.specs.Definitions.{port_type_lexemes}
 use Rattle.tp_syntax.proofs.DefinitionReading.{directions_stand}
-use Rattle.tp_token.specs.Lexeme.{word}
+use Rattle.tp_syntax.specs.Lexeme.{word}
 use Rattle.tp_syntax.proofs.FirstTokensSeen.{handed_as, handed_seen}
 use Rattle.tp_syntax.proofs.TokensBeyond.{behind_stands, beyond_stands, wrong_stands}
 use Rattle.tp_syntax.specs.Stuck.{StandAtLeast}
-use Rattle.tp_token.specs.declared.word.Word.TheVariants as w
+use Rattle.tp_syntax.specs.declared.word.Word.TheVariants as w
 use Rattle.tp_syntax.proofs.TypesSeen.{way_hidden}
 use Rattle.tp_syntax.proofs.FirstTokensStand.{memory_alone, own_could}
 use Rattle.tp_syntax.proofs.cursor.Parser.port_type.Goals as goal

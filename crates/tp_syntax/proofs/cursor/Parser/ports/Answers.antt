@@ -11,9 +11,9 @@ use Rattle.tp_syntax.proofs.FirstTokensOfParts.{port_declaration_begins}
 use Rattle.tp_syntax.specs.Lines.{port_declaration_notes}
 use Rattle.tp_syntax.proofs.LinesOfPassedTokens.{passes_none, passes_push}
 use Rattle.tp_syntax.proofs.PartsInOrderSeen.{none_left_seen}
-use Rattle.tp_token.specs.Lexeme.{symbol}
+use Rattle.tp_syntax.specs.Lexeme.{symbol}
 use Rattle.tp_syntax.proofs.FirstTokensSeen.{handed_as, handed_seen}
-use Rattle.tp_token.specs.declared.token.Symbol.TheVariants.{RightBrace}
+use Rattle.tp_syntax.specs.declared.token.Symbol.TheVariants.{RightBrace}
 use Rattle.tp_syntax.proofs.TokensBeyond.{beyond_stands, hidden_stuck}
 use Rattle.tp_syntax.proofs.PartsEndSeen.{closed_all_seen, next_or_hidden}
 use Rattle.tp_syntax.specs.Stuck.{StandAtLeast}

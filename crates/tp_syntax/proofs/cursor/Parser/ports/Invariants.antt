@@ -4,10 +4,10 @@ use Rattle.tp_syntax.specs.Ahead.{ahead}
 use Rattle.tp_syntax.specs.Definitions.{port_declarations_lexemes, port_declaration_lexemes}
 use Rattle.tp_syntax.specs.Grammar.{port_declaration_part}
 use Rattle.tp_syntax.specs.Standing.{GoesOver}
-use Rattle.tp_token.specs.Lexeme.{Lexeme, symbol}
+use Rattle.tp_syntax.specs.Lexeme.{Lexeme, symbol}
 use Rattle.tp_syntax.specs.Reading.{AllStand, first}
 use Rattle.tp_tree.specs.declared.tree.PortDeclaration.{PortDeclaration}
-use Rattle.tp_token.specs.declared.token.Symbol.TheVariants.{RightBrace}
+use Rattle.tp_syntax.specs.declared.token.Symbol.TheVariants.{RightBrace}
 use Rattle.tp_syntax.specs.Lines.{noted_in_order, port_declaration_notes}
 use Rattle.tp_syntax.specs.Forward.{PassesNoted}
 use Rattle.tp_syntax.specs.HiddenTokens.{CouldBe}

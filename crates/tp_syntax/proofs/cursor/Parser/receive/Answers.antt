@@ -1,7 +1,7 @@
 -- A receiving operation by its word: `check` and its parentheses, `trigger`, or `receive`.
 use Rattle.std.proofs.Common.{◌∷◌, sym, ◌∙◌, refl, arith, [], None, ap, inl, inr}
-use Rattle.tp_token.specs.declared.token.Symbol.TheVariants.{RightParen}
-use Rattle.tp_token.specs.Lexeme.{symbol}
+use Rattle.tp_syntax.specs.declared.token.Symbol.TheVariants.{RightParen}
+use Rattle.tp_syntax.specs.Lexeme.{symbol}
 use Rattle.tp_syntax.specs.Statements.{receive_lexemes, received_lexemes}
 use Rattle.tp_syntax.specs.declared.cursor.Parser.{Parser}
 use Rattle.tp_syntax.specs.Ahead.{token_at}

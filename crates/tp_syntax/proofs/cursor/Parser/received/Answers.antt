@@ -1,6 +1,6 @@
 -- A template, a sender and a redirect, one after the other.
 use Rattle.std.proofs.Common.{List, subst}
-use Rattle.tp_token.specs.Lexeme.{Lexeme}
+use Rattle.tp_syntax.specs.Lexeme.{Lexeme}
 use Rattle.tp_syntax.specs.HiddenTokens.{CouldBe}
 use Rattle.tp_syntax.specs.Statements.{from_lexemes, redirect_lexemes, template_part}
 use Rattle.tp_syntax.proofs.FirstTokensSeen.{handed_seen}

@@ -1,13 +1,13 @@
 -- A record type is passed with the lines of its fields.
 use Rattle.tp_syntax.specs.Lines.{record_type_notes}
 use Rattle.tp_syntax.proofs.LinesOfPassedTokens.{passes_next, passes_one, passes_then}
-use Rattle.tp_token.specs.Lexeme.{Lexeme, word}
+use Rattle.tp_syntax.specs.Lexeme.{Lexeme, word}
 use Rattle.tp_syntax.proofs.FirstTokensSeen.{handed_as, handed_seen}
 use Rattle.tp_syntax.proofs.TokensBeyond.{behind_stands, beyond_stands, wrong_stands}
 use Rattle.std.proofs.Common.{◌∷◌, List, ap, arith, refl, sym, ◌∙◌, append_assoc}
 use Rattle.tp_syntax.specs.Stuck.{StandAtLeast}
 use Rattle.tp_syntax.proofs.FirstTokensAhead.{raw}
-use Rattle.tp_token.specs.declared.word.Word.TheVariants as w
+use Rattle.tp_syntax.specs.declared.word.Word.TheVariants as w
 use Rattle.tp_syntax.specs.Definitions.{record_type_lexemes}
 use Rattle.tp_syntax.proofs.FirstTokensStand.{memory_alone, own_could}
 use Rattle.tp_syntax.proofs.cursor.Parser.record_type.Goals as goal

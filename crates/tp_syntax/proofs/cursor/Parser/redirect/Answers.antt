@@ -1,7 +1,7 @@
 -- What stands behind `->`: a value and perhaps a sender, or a sender alone.
 use Rattle.std.proofs.Common.{refl}
-use Rattle.tp_token.specs.declared.word.Word.TheVariants.{Sender}
-use Rattle.tp_token.specs.Lexeme.{word}
+use Rattle.tp_syntax.specs.declared.word.Word.TheVariants.{Sender}
+use Rattle.tp_syntax.specs.Lexeme.{word}
 use Rattle.tp_syntax.proofs.FirstTokensSeen.{handed_seen, same_could}
 use Rattle.tp_syntax.proofs.OperationsSeen.{arrow_seen, redirect_unseen, sender_name_seen, stops_other, value_name_seen}
 use Rattle.tp_syntax.proofs.cursor.Parser.redirect.Goals as goal

@@ -1,7 +1,7 @@
 -- A send by what is seen of it: a name, `.send`, what is sent in its parentheses, and receivers.
 use Rattle.std.proofs.Common.{List, ◌∷◌, subst, refl}
-use Rattle.tp_token.specs.declared.token.Symbol.TheVariants.{LeftParen}
-use Rattle.tp_token.specs.Lexeme.{Lexeme, symbol}
+use Rattle.tp_syntax.specs.declared.token.Symbol.TheVariants.{LeftParen}
+use Rattle.tp_syntax.specs.Lexeme.{Lexeme, symbol}
 use Rattle.tp_syntax.specs.HiddenTokens.{CouldBe}
 use Rattle.tp_syntax.specs.Statements.{send_lexemes, sent_lexemes, to_lexemes}
 use Rattle.tp_syntax.specs.Stuck.{StandAtLeast}

@@ -1,6 +1,6 @@
 -- A setup statement is passed on its line.
 use Rattle.std.proofs.Common.{List, ap, append_assoc, ◌∙◌}
-use Rattle.tp_token.specs.Lexeme.{Lexeme}
+use Rattle.tp_syntax.specs.Lexeme.{Lexeme}
 use Rattle.tp_syntax.specs.Ahead.{starts_zero}
 use Rattle.tp_syntax.specs.Sequences.{end_lexemes}
 use Rattle.tp_syntax.specs.Definitions.{setup_action_lexemes}

@@ -1,11 +1,11 @@
 -- The start of a component is passed on its line.
 use Rattle.std.proofs.Common.{List, [], ◌∷◌, ◌++◌, ap, append_assoc, refl}
-use Rattle.tp_token.specs.Lexeme.{Lexeme, symbol}
+use Rattle.tp_syntax.specs.Lexeme.{Lexeme, symbol}
 use Rattle.tp_syntax.specs.Ahead.{starts_zero}
 use Rattle.tp_syntax.specs.Sequences.{end_lexemes}
 use Rattle.tp_syntax.specs.Definitions.{arguments_lexemes, start_lexemes}
 use Rattle.tp_syntax.proofs.LinesOfPassedTokens.{passes_at, passes_next, passes_one, passes_unnoted, unnoted_then}
-use Rattle.tp_token.specs.declared.token.Symbol.TheVariants.{RightParen}
+use Rattle.tp_syntax.specs.declared.token.Symbol.TheVariants.{RightParen}
 use Rattle.tp_syntax.specs.Stuck.{StandAtLeast}
 use Rattle.tp_syntax.proofs.FirstTokensSeen.{handed_as, handed_seen}
 use Rattle.tp_syntax.proofs.TestCaseCutsSeen.{name_ahead, name_dot_ahead, name_start_ahead}

@@ -4,7 +4,7 @@ use Rattle.tp_syntax.specs.Ahead.{ahead, is_name_in, token_at}
 use Rattle.tp_syntax.specs.Definitions.{starts_lexemes, start_lexemes}
 use Rattle.tp_syntax.specs.Grammar.{start_part}
 use Rattle.tp_syntax.specs.Standing.{GoesOver}
-use Rattle.tp_token.specs.Lexeme.{Lexeme}
+use Rattle.tp_syntax.specs.Lexeme.{Lexeme}
 use Rattle.tp_syntax.specs.Reading.{AllStand, is_start_ahead}
 use Rattle.tp_syntax.proofs.PartsInOrderSeen.{RemainAllSeen}
 use Rattle.tp_syntax.specs.HiddenTokens.{CouldBe}

@@ -6,8 +6,8 @@ use Rattle.tp_syntax.specs.Definitions.{test_case_lexemes, behaviour_lexemes, al
 use Rattle.tp_syntax.proofs.TestCaseReading.{case_stands, case_no_setup, case_no_start, case_no_var, case_ends, behind_setups, behind_starts, behind_variables, behind_statements}
 use Rattle.tp_syntax.specs.Lines.{test_case_notes, behaviour_notes}
 use Rattle.tp_syntax.proofs.LinesOfPassedTokens.{passes_next, passes_one, passes_then, passes_unnoted}
-use Rattle.tp_token.specs.declared.token.Symbol.TheVariants.{RightBrace}
-use Rattle.tp_token.specs.Lexeme.{symbol}
+use Rattle.tp_syntax.specs.declared.token.Symbol.TheVariants.{RightBrace}
+use Rattle.tp_syntax.specs.Lexeme.{symbol}
 use Rattle.tp_syntax.specs.declared.cursor.Parser.{Parser}
 use Rattle.tp_syntax.proofs.FirstTokensSeen.{handed_seen}
 use Rattle.tp_syntax.proofs.TestCaseCutsSeen.{done_behind, done_stuck, starts_behind, starts_stuck, statements_behind, statements_stuck, variables_behind, variables_stuck}

@@ -4,10 +4,10 @@ use Rattle.tp_syntax.proofs.FirstTokensSeen.{handed_as, handed_seen}
 use Rattle.tp_syntax.proofs.TokensBeyond.{behind_stands, beyond_stands, wrong_stands}
 use Rattle.tp_syntax.specs.Stuck.{StandAtLeast}
 use Rattle.tp_syntax.specs.Statements.{for_lexemes, step_lexemes}
-use Rattle.tp_token.specs.declared.token.Symbol.TheVariants.{Assign}
+use Rattle.tp_syntax.specs.declared.token.Symbol.TheVariants.{Assign}
 use Rattle.tp_syntax.specs.Values.{int_lexemes}
 use Rattle.tp_syntax.proofs.VariablesAhead.{own_name}
-use Rattle.tp_token.specs.Lexeme.{symbol}
+use Rattle.tp_syntax.specs.Lexeme.{symbol}
 use Rattle.tp_syntax.proofs.cursor.Parser.turns.Goals as goal
 
 pub returns-in_err-word-clause-beyond : goal.returns-in_err-word-clause-beyond

@@ -2,7 +2,7 @@
 use Rattle.std.proofs.Common.{◌≡◌, ℕ, ◌<◌, ◌++◌, length, List, true}
 use Rattle.tp_syntax.specs.Ahead.{ahead}
 use Rattle.tp_syntax.specs.Definitions.{types_lexemes}
-use Rattle.tp_token.specs.Lexeme.{Lexeme}
+use Rattle.tp_syntax.specs.Lexeme.{Lexeme}
 use Rattle.tp_syntax.specs.Reading.{Stops}
 use Rattle.tp_tree.specs.declared.message.TypeName.{TypeName}
 use Rattle.tp_syntax.specs.Grammar.{has_one}

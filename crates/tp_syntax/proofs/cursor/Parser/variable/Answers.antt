@@ -1,6 +1,6 @@
 -- A variable is passed on its line.
 use Rattle.std.proofs.Common.{◌≡◌, List, [], ◌∷◌, ap, arith, refl, sym, ◌∙◌, append_assoc}
-use Rattle.tp_token.specs.Lexeme.{Lexeme, name, word}
+use Rattle.tp_syntax.specs.Lexeme.{Lexeme, name, word}
 use Rattle.tp_syntax.specs.Ahead.{ahead, starts_zero}
 use Rattle.tp_syntax.specs.Sequences.{end_lexemes}
 use Rattle.tp_syntax.specs.Values.{type_lexemes}
@@ -11,7 +11,7 @@ use Rattle.tp_syntax.proofs.VariablesAhead.{name_at, type_ahead, type_passed, va
 use Rattle.tp_syntax.specs.Stuck.{StandAtLeast}
 use Rattle.tp_syntax.proofs.FirstTokensAhead.{raw}
 use Rattle.tp_syntax.proofs.FirstTokensStand.{memory_alone, own_could}
-use Rattle.tp_token.specs.declared.word.Word.TheVariants as w
+use Rattle.tp_syntax.specs.declared.word.Word.TheVariants as w
 use Rattle.tp_syntax.proofs.cursor.Parser.variable.Goals as goal
 
 pub returns-clause-lines : goal.returns-clause-lines

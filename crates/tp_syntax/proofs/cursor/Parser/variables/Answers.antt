@@ -1,6 +1,6 @@
 -- One more `var` statement is read behind the others.
 use Rattle.std.proofs.Common.{arith, sym, subst, ap, ◌∙◌, rules, refl, Some, inl, inr, length, true, ◌≡◌}
-use Rattle.tp_token.specs.declared.word.Word.TheVariants as w
+use Rattle.tp_syntax.specs.declared.word.Word.TheVariants as w
 use Rattle.tp_syntax.specs.Statements.{variable_lexemes}
 use Rattle.tp_syntax.specs.Grammar.{variable_part}
 use Rattle.tp_syntax.proofs.ReadSequenceGrowth.{push_read_all}
@@ -8,7 +8,7 @@ use Rattle.tp_syntax.proofs.PassedPartGrowth.{between_push, word_goes_on, betwee
 use Rattle.std.proofs.lemmas.Grind.{common_steps}
 use Rattle.tp_syntax.proofs.PartsLeftToRead.{all_any}
 use Rattle.tp_syntax.proofs.FirstTokensOfParts.{variable_begins}
-use Rattle.tp_token.specs.Lexeme.{word}
+use Rattle.tp_syntax.specs.Lexeme.{word}
 use Rattle.std.proofs.lemmas.Bool.{iff_false}
 use Rattle.tp_syntax.specs.Lines.{variable_notes}
 use Rattle.tp_syntax.proofs.LinesOfPassedTokens.{passes_none, passes_push}

@@ -1,11 +1,11 @@
 -- The tokens passed are those of the `var` statements so far.
 use Rattle.std.proofs.Common.{◌≡◌, ℕ, ◌⊎◌, ◌+◌, ◌≤◌, ◌++◌, length, map, ◌≢◌, List, Some}
-use Rattle.tp_token.specs.declared.word.Word.TheVariants as w
+use Rattle.tp_syntax.specs.declared.word.Word.TheVariants as w
 use Rattle.tp_syntax.specs.Ahead.{ahead, token_at}
 use Rattle.tp_syntax.specs.Statements.{variables_lexemes, variable_lexemes}
 use Rattle.tp_syntax.specs.Grammar.{variable_part}
 use Rattle.tp_syntax.specs.Standing.{GoesOver}
-use Rattle.tp_token.specs.Lexeme.{Lexeme, word}
+use Rattle.tp_syntax.specs.Lexeme.{Lexeme, word}
 use Rattle.tp_syntax.specs.Reading.{AllStand, first}
 use Rattle.tp_tree.specs.declared.tree.Variable.{Variable}
 use Rattle.tp_syntax.specs.Lines.{noted_in_order, variable_notes}

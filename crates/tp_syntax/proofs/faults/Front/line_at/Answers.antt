@@ -1,7 +1,7 @@
 -- The line is that of the token there.
 use Rattle.std.proofs.Common.{◌≡◌, ◌-◌, List, drop, length, map, ap, ◌∙◌, arith}
-use Rattle.tp_token.specs.declared.token.Placed.{Placed}
-use Rattle.tp_token.specs.Lexeme.{placed_lexeme}
+use Rattle.tp_syntax.specs.declared.token.Placed.{Placed}
+use Rattle.tp_syntax.specs.Lexeme.{placed_lexeme}
 use Rattle.tp_syntax.specs.Faults.{fault_line}
 use Rattle.tp_syntax.proofs.CutTokens.{line_there}
 use Rattle.tp_syntax.proofs.faults.Front.line_at.Goals as goal

@@ -2,7 +2,7 @@
 use Rattle.std.proofs.Common.{get_or}
 use Rattle.std.proofs.lemmas.List.{get_or_default}
 use Rattle.tp_config.specs.declared.port_type.CompId.{CompId}
-use Rattle.tp_text.proofs.WatchedWriterGrowth.{nothing_yet, one_more, writes_both}
+use Rattle.tp_common.proofs.WatchedWriterGrowth.{nothing_yet, one_more, writes_both}
 use Rattle.tpr.specs.Texts.{name_behind}
 use Rattle.tpr.proofs.verdicts.writing.write_names.Goals as goal
 

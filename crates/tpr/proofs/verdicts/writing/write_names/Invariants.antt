@@ -1,7 +1,7 @@
 -- The names of the first components are written.
 use Rattle.std.proofs.Common.{take}
 use Rattle.std.specs.List.{flat_map}
-use Rattle.tp_text.specs.Watching.{Writes}
+use Rattle.tp_common.specs.Watching.{Writes}
 use Rattle.tpr.specs.Texts.{name_behind}
 use Rattle.tpr.proofs.verdicts.writing.write_names.Given as goal
 

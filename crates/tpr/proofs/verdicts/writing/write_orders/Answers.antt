@@ -1,5 +1,5 @@
 -- Each verdict adds its line.
-use Rattle.tp_text.proofs.WatchedWriterGrowth.{nothing_yet, one_more}
+use Rattle.tp_common.proofs.WatchedWriterGrowth.{nothing_yet, one_more}
 use Rattle.tpr.proofs.verdicts.writing.write_orders.Goals as goal
 
 pub loop-one-init : goal.loop-one-init

@@ -1,7 +1,7 @@
 -- The lines of the first verdicts are written.
 use Rattle.std.proofs.Common.{take}
 use Rattle.std.specs.List.{flat_map}
-use Rattle.tp_text.specs.Watching.{Writes}
+use Rattle.tp_common.specs.Watching.{Writes}
 use Rattle.tpr.specs.Texts.{order_line}
 use Rattle.tpr.proofs.verdicts.writing.write_orders.Given as goal
 

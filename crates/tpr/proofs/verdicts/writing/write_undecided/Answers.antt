@@ -1,7 +1,7 @@
 -- The first line, and then the second, where there is one.
 use Rattle.std.proofs.Common.{subst}
-use Rattle.tp_text.specs.Watching.{Writes}
-use Rattle.tp_text.proofs.WatchedWriterGrowth.{writes_both}
+use Rattle.tp_common.specs.Watching.{Writes}
+use Rattle.tp_common.proofs.WatchedWriterGrowth.{writes_both}
 use Rattle.tpr.proofs.SeenVerdictLines.{seen_is}
 use Rattle.tpr.proofs.verdicts.writing.write_undecided.Goals as goal
 

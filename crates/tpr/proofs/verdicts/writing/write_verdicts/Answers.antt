@@ -1,5 +1,5 @@
 -- What is said, the number of states, and the orders, one after the other.
-use Rattle.tp_text.proofs.WatchedWriterGrowth.{writes_both}
+use Rattle.tp_common.proofs.WatchedWriterGrowth.{writes_both}
 use Rattle.tpr.specs.Texts.{verdicts_text}
 use Rattle.tpr.proofs.verdicts.writing.write_verdicts.Goals as goal
 

@@ -1,5 +1,5 @@
 -- Each verdict adds its word.
-use Rattle.tp_text.proofs.WatchedWriterGrowth.{nothing_yet, one_more, writes_both}
+use Rattle.tp_common.proofs.WatchedWriterGrowth.{nothing_yet, one_more, writes_both}
 use Rattle.tpr.proofs.verdicts.writing.write_words.Goals as goal
 
 pub loop-one-init : goal.loop-one-init

@@ -1,7 +1,7 @@
 -- The words of the first verdicts are written.
 use Rattle.std.proofs.Common.{take}
 use Rattle.std.specs.List.{flat_map}
-use Rattle.tp_text.specs.Watching.{Writes}
+use Rattle.tp_common.specs.Watching.{Writes}
 use Rattle.tpr.specs.Texts.{word_behind}
 use Rattle.tpr.proofs.verdicts.writing.write_words.Given as goal
 

@@ -1,9 +1,0 @@
-pub mod Scoping
-pub mod Placing
-pub mod Messages
-pub mod Bodies
-pub mod NeededLoopVariables
-pub mod BrokenValues
-pub mod BrokenTemplates
-pub mod BrokenOperations
-pub mod BrokenBodies

@@ -1,0 +1,84 @@
+-- Two lists that agree item by item, and names that stand once.
+use Rattle.std.proofs.Common.{◌≡◌, ℕ, zero, suc, ◌<◌, inl, inr, List, [], ◌∷◌, ◌++◌, Some, Contains, length, get_or, map, slice_get, refl, sym, ap, ◌∙◌, subst, arith}
+use Rattle.std.specs.List.{AllZip}
+use Rattle.std.proofs.lemmas.Bool.{cases_lt}
+use Rattle.std.proofs.lemmas.List.{get_or_at, get_or_append_left, length-append}
+use Rattle.std.proofs.lemmas.Option.{slice_get_within, get_or_from_slice_get}
+use Rattle.tp_checks.specs.Tables.{AreDistinct}
+
+module _ {A B : Type 0} (R : A → B → Type 0) where
+  -- what stands in the other list beside an item
+  pub zip_here : (xs : List A) (ys : List B) (i : ℕ) (x : A) → AllZip R xs ys → i < length xs → x ≡ get_or xs i x → (y : B) × R x y
+  zip_here [] ys i x each lt is = absurd (omega (arith, lt))
+  zip_here (a ∷ xs) [] i x each lt is = absurd each
+  zip_here (a ∷ xs) (b ∷ ys) zero x each lt is = (b, subst (λ z. R z b) (sym is) each.0)
+  zip_here (a ∷ xs) (b ∷ ys) (suc i) x each lt is = zip_here xs ys i x each.1 (omega (arith, lt)) is
+
+  -- what agrees with two lists, one behind the other
+  pub zip_split : (xs more : List A) (zs : List B) → AllZip R (xs ++ more) zs
+      → (us : List B) × (vs : List B) × (zs ≡ us ++ vs) × AllZip R xs us × AllZip R more vs
+  zip_split [] more zs each = ([], zs, refl, tt, each)
+  zip_split (x ∷ xs) more [] each = absurd each
+  zip_split (x ∷ xs) more (z ∷ zs) each =
+      let r = zip_split xs more zs each.1 in
+      (z ∷ r.0, r.1, ap (λ l. z ∷ l) r.2, (each.0, r.3), r.4)
+
+  -- what stands in the other list beside an item in the middle
+  pub zip_middle : (xs : List A) (x : A) (more : List A) (zs : List B) → AllZip R (xs ++ x ∷ more) zs → (z : B) × R x z
+  zip_middle [] x more [] each = absurd each
+  zip_middle [] x more (z ∷ zs) each = (z, each.0)
+  zip_middle (a ∷ xs) x more [] each = absurd each
+  zip_middle (a ∷ xs) x more (z ∷ zs) each = zip_middle xs x more zs each.1
+
+  -- where an item determines what stands beside it, a list does
+  pub zip_same : ((x : A) (y z : B) → R x y → R x z → y ≡ z) → (xs : List A) (ys zs : List B) → AllZip R xs ys → AllZip R xs zs → ys ≡ zs
+  zip_same one [] [] [] first second = refl
+  zip_same one [] [] (z ∷ zs) first second = absurd second
+  zip_same one [] (y ∷ ys) zs first second = absurd first
+  zip_same one (x ∷ xs) [] zs first second = absurd first
+  zip_same one (x ∷ xs) (y ∷ ys) [] first second = absurd second
+  zip_same one (x ∷ xs) (y ∷ ys) (z ∷ zs) first second =
+      let here : y ≡ z = one x y z first.0 second.0 in
+      let rest : ys ≡ zs = zip_same one xs ys zs first.1 second.1 in
+      rw (here, rest)
+
+-- where an item determines what is seen of what stands beside it, a list does
+pub zip_seen : {A B C : Type 0} (R : A → B → Type 0) (f : B → C) → ((x : A) (y z : B) → R x y → R x z → f y ≡ f z) → (xs : List A) (ys zs : List B)
+    → AllZip R xs ys → AllZip R xs zs → map f ys ≡ map f zs
+zip_seen R f one [] [] [] first second = refl
+zip_seen R f one [] [] (z ∷ zs) first second = absurd second
+zip_seen R f one [] (y ∷ ys) zs first second = absurd first
+zip_seen R f one (x ∷ xs) [] zs first second = absurd first
+zip_seen R f one (x ∷ xs) (y ∷ ys) [] first second = absurd second
+zip_seen R f one (x ∷ xs) (y ∷ ys) (z ∷ zs) first second =
+    ap (λ a. a ∷ map f ys) (one x y z first.0 second.0) ∙ ap (λ l. f z ∷ l) (zip_seen R f one xs ys zs first.1 second.1)
+
+-- what stands in a third list beside the items of two
+pub zip_both : {A B C : Type 0} (R : A → C → Type 0) (S : B → C → Type 0) (xs : List A) (ys : List B) (zs : List C) (i : ℕ) (x : A) (y : B)
+    → AllZip R xs zs → AllZip S ys zs → i < length xs → x ≡ get_or xs i x → y ≡ get_or ys i y → (z : C) × R x z × S y z
+zip_both R S [] ys zs i x y first second lt is at = absurd (omega (arith, lt))
+zip_both R S (a ∷ xs) ys [] i x y first second lt is at = absurd first
+zip_both R S (a ∷ xs) [] (c ∷ zs) i x y first second lt is at = absurd second
+zip_both R S (a ∷ xs) (b ∷ ys) (c ∷ zs) zero x y first second lt is at = (c, subst (λ w. R w c) (sym is) first.0, subst (λ w. S w c) (sym at) second.0)
+zip_both R S (a ∷ xs) (b ∷ ys) (c ∷ zs) (suc i) x y first second lt is at = zip_both R S xs ys zs i x y first.1 second.1 (omega (arith, lt)) is at
+
+-- a name that stands once has one place
+pub once : (names : List (List ℕ)) (name : List ℕ) (j k : ℕ) → AreDistinct names → slice_get names j ≡ Some name → slice_get names k ≡ Some name → j ≡ k
+once names name j k apart e f =
+    elim (cases_lt j k) [
+      | inl low ↦
+          absurd (apart j k name low (slice_get_within names k name f)
+          (get_or_from_slice_get names j name name e ∙ sym (get_or_from_slice_get names k name name f)))
+      | inr high ↦ elim (cases_lt k j) [
+        | inl low ↦
+            absurd (apart k j name low (slice_get_within names j name e)
+            (get_or_from_slice_get names k name name f ∙ sym (get_or_from_slice_get names j name name e)))
+        | inr low ↦ omega (arith, high, low)
+      ]
+    ]
+
+-- a name that stands once behind others is none of them
+pub not_before : (names more : List (List ℕ)) (name : List ℕ) → AreDistinct (names ++ name ∷ more) → Contains names name → ⊥
+not_before names more name apart (k, below, is) =
+    apart k (length names) name below (omega (arith, length-append names (name ∷ more)))
+    (get_or_append_left names (name ∷ more) name k below ∙ is ∙ sym (get_or_at names name more name (length names) refl))

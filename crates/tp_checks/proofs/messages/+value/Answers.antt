@@ -1,0 +1,230 @@
+-- The next value stands for what is made of it, and at the end each field has one.
+use Rattle.std.proofs.Common.{◌≡◌, ◌≤◌, length, arith, ap, sym, ◌∙◌, refl, map, slice_get, Some, get_or, rules, subst, take, All}
+use Rattle.std.proofs.lemmas.List.Elements.{All-push}
+use Rattle.std.proofs.lemmas.Option.{slice_get_read}
+use Rattle.std.proofs.lemmas.List.{length-set, length-map}
+use Rattle.std.proofs.lemmas.Result.{IfErr-weaker}
+use Rattle.tp_value.specs.declared.types.TypeDef.TheVariants as def
+use Rattle.tp_value.specs.Types.{named}
+use Rattle.tp_checks.specs.declared.fault.ModuleRule.TheVariants as rule
+use Rattle.tp_checks.specs.Named.{texts}
+use Rattle.tp_checks.specs.Placing.{IsPlacing}
+use Rattle.tp_checks.specs.Messages.{IsValue, no_element, no_field, no_name, one_name_more, AreNamed}
+use Rattle.tp_checks.specs.BrokenValues as b
+use Rattle.tp_checks.specs.BrokenValues.{IsEntry}
+use Rattle.tp_checks.proofs.EntriesInDeclaredOrder.{place_below, placed_entries, placed_name, filled_more, all_filled, in_order}
+use Rattle.tp_checks.proofs.ValueRules.{elements_more, fields_more, pushed}
+use Rattle.tp_checks.proofs.RuleFaultPropagation.{tells_at, tells_rule, told_at, told_rule}
+use Rattle.tp_checks.proofs.BrokenValueRules.{breaks_element, breaks_field, record_behind}
+use Rattle.tp_checks.proofs.messages.+value.Goals as goal
+use Rattle.tp_checks.proofs.messages.+value.Goals.{resolve_value-in_default-via-in-Some+in_default, resolve_value-in_default-via-in_default}
+
+pub resolve_elements-loop-value-init : goal.resolve_elements-loop-value-init
+resolve_elements-loop-value-init t c = rw c.new-made.ensures (no_element c.args.ty)
+
+pub resolve_elements-loop-value-preserved : goal.resolve_elements-loop-value-preserved
+resolve_elements-loop-value-preserved t c =
+    rw c.in_ok-push.ensures.ok (elements_more _ _ c.args.ty c.args.values.now c.loop-value.value-index c.value-item.result c.loop-value.made c.in_ok-one.one
+    (omega arith) c.value-item.is c.loop-value.invariant c.in_ok-one.ensures.stands)
+
+pub resolve_fields-loop-index-init : goal.resolve_fields-loop-index-init
+resolve_fields-loop-index-init t c = rw c.new-made.ensures no_field
+
+pub resolve_fields-loop-index-preserved : goal.resolve_fields-loop-index-preserved
+resolve_fields-loop-index-preserved t c =
+    rw c.in_ok-push.ensures.ok (fields_more _ _ c.args.fields.now c.args.values.now c.loop-index.index
+    (get_or c.args.fields.now c.loop-index.index c.index-fields-index.result) c.index-values-index.result c.loop-index.made c.in_ok-one.one
+    (omega arith) (ap (get_or c.args.fields.now c.loop-index.index) c.index-fields-index.is) (omega arith) c.index-values-index.is c.loop-index.invariant
+    c.in_ok-one.ensures.stands)
+
+pub resolve_named-index_mut-requires : goal.resolve_named-index_mut-requires
+resolve_named-index_mut-requires t c = omega (arith, c.in-Some.ensures.lookup.3.0, c.loop-index.invariant.as_many, c.loop-index.made.ok.0)
+
+pub resolve_named-loop-index-init : goal.resolve_named-loop-index-init
+resolve_named-loop-index-init t c = record {
+  as_many = search rules;
+  filled = λ i k below there. absurd (omega (arith, below));
+  fit = λ k d below. absurd (omega (arith, below));
+}
+
+pub resolve_named-loop-index-preserved : goal.resolve_named-loop-index-preserved
+resolve_named-loop-index-preserved t c =
+    let i = c.loop-index.invariant in
+    let placing : IsPlacing c.args.fields.now (map (λ x. x.name) c.args.entries.now) c.in_ok-places.places.items =
+    c.in_ok-places.ensures.placed in
+    let is_place : slice_get c.in_ok-places.places.items c.loop-index.index ≡ Some c.index-place.result.now =
+    slice_get_read c.in_ok-places.places.items (length c.in_ok-places.places.items) c.loop-index.index c.index-place.result.now refl
+    (omega (arith, placing.as_many, length-map c.args.entries.now (λ x. x.name))) c.index-place.ensures in
+    let is_field : slice_get c.args.fields.now c.index-place.result.now ≡ Some c.in-Some.field.now =
+    slice_get_read c.args.fields.now (length c.args.fields.now) c.index-place.result.now c.in-Some.field.now refl c.in-Some.ensures.lookup.3.0
+    c.in-Some.ensures.lookup.1 in
+    let is_entry : slice_get c.args.entries.now c.loop-index.index ≡ Some c.index-entries-index.result =
+    slice_get_read c.args.entries.now (length c.args.entries.now) c.loop-index.index c.index-entries-index.result refl (omega arith)
+    c.index-entries-index.is in
+    let same : c.index-entries-index.result.name ≡ c.in-Some.field.now.name =
+    placed_name (λ x. x.name) (λ f x. IsValue c.args.context.now.scope.now.types.now (texts c.args.context.now.turns.now) f.ty x.value)
+    c.args.entries.now c.args.fields.now placing c.loop-index.index c.index-place.result.now c.in-Some.field.now c.index-entries-index.result is_place is_field
+    is_entry in
+    let fits : IsEntry c.args.context.now.scope.now.types.now (texts c.args.context.now.turns.now) c.args.fields.now c.index-entries-index.result =
+    record {
+      place = c.index-place.result.now;
+      field = c.in-Some.field.now;
+      made = c.in_ok-one.one;
+      declared = is_field;
+      same_name = same;
+      fits = c.in_ok-one.ensures.stands;
+    } in
+    record {
+      fit =
+          subst (All (IsEntry c.args.context.now.scope.now.types.now (texts c.args.context.now.turns.now) c.args.fields.now))
+          (pushed c.args.entries.now c.loop-index.index c.index-entries-index.result (omega arith) c.index-entries-index.is)
+          (All-push (IsEntry c.args.context.now.scope.now.types.now (texts c.args.context.now.turns.now) c.args.fields.now) (take c.loop-index.index c.args.entries.now) c.index-entries-index.result i.fit fits);
+      as_many = length-set c.loop-index.made.items c.index-place.result.now c.in_ok-one.one ∙ i.as_many;
+      filled =
+          filled_more (λ x. x.name) (λ f x. IsValue c.args.context.now.scope.now.types.now (texts c.args.context.now.turns.now) f.ty x.value)
+          c.args.entries.now c.args.fields.now
+          c.in_ok-places.places.items c.loop-index.index c.loop-index.made.items c.index-place.result.now c.in_ok-one.one c.in-Some.field.now
+          c.index-entries-index.result placing i.as_many is_place is_field is_entry c.in_ok-one.ensures.stands i.filled;
+    }
+
+pub resolve_named-returns-clause-named : goal.resolve_named-returns-clause-named
+resolve_named-returns-clause-named t c =
+    let i = c.loop-index.invariant in
+    let placing : IsPlacing c.args.fields.now (map (λ x. x.name) c.args.entries.now) c.in_ok-places.places.items =
+    c.in_ok-places.ensures.placed in
+    let end : length c.in_ok-places.places.items ≤ c.loop-index.index =
+    omega (arith, placing.as_many, length-map c.args.entries.now (λ x. x.name)) in
+    let types = c.args.context.now.scope.now.types.now in
+    let turns = texts c.args.context.now.turns.now in
+    rw c.from_vec.ensures (in_order (λ x. x.name) (λ f x. IsValue types turns f.ty x.value) c.args.entries.now c.args.fields.now
+    (AreNamed types turns c.args.entries.now) (no_name c.args.entries.now) (λ fs ws f j x y. one_name_more c.args.entries.now fs ws f j x y)
+    c.loop-index.made.items i.as_many
+    (all_filled (λ x. x.name) (λ f x. IsValue types turns f.ty x.value) c.args.entries.now c.args.fields.now c.in_ok-places.places.items
+    c.loop-index.index c.loop-index.made.items placing end i.filled))
+
+pub resolve_elements-returns-in_err-one-clause-told : goal.resolve_elements-returns-in_err-one-clause-told
+resolve_elements-returns-in_err-one-clause-told t c = λ sound.
+    tells_at _ _ _ c.from_residual.result c.in_err-one.field-0.0 c.from_residual.ensures.1
+    (breaks_element c.args.context.now.scope.now.types.now c.args.context.now.variables.now (texts c.args.context.now.turns.now) c.args.ty c.args.values.now
+    c.loop-value.made c.loop-value.value-index c.value-item.result (omega arith) c.value-item.is c.loop-value.invariant)
+    (c.in_err-one.ensures.told sound)
+
+pub resolve_fields-returns-then-fields-values-clause-told : goal.resolve_fields-returns-then-fields-values-clause-told
+resolve_fields-returns-then-fields-values-clause-told t c = λ sound.
+    told_rule _ _ _ _ (cc) (b.count c.args.fields.now c.args.values.now c.if-fields-values.true)
+
+pub resolve_fields-returns-in_err-one-clause-told : goal.resolve_fields-returns-in_err-one-clause-told
+resolve_fields-returns-in_err-one-clause-told t c = λ sound.
+    tells_at _ _ _ c.from_residual.result c.in_err-one.field-0.0 c.from_residual.ensures.1
+    (breaks_field c.args.context.now.scope.now.types.now c.args.context.now.variables.now (texts c.args.context.now.turns.now) c.args.fields.now
+    c.args.values.now c.loop-index.made c.loop-index.index (get_or c.args.fields.now c.loop-index.index c.index-fields-index.result)
+    c.index-values-index.result c.if-fields-values.false (omega arith) (ap (get_or c.args.fields.now c.loop-index.index) c.index-fields-index.is) (omega arith)
+    c.index-values-index.is c.loop-index.invariant)
+    (c.in_err-one.ensures.told sound)
+
+pub resolve_named-returns-in_err-places-clause-told : goal.resolve_named-returns-in_err-places-clause-told
+resolve_named-returns-in_err-places-clause-told t c = λ sound apart.
+    tells_at _ _ _ c.from_residual.result c.in_err-places.field-0.0 c.from_residual.ensures.1
+    (λ r h. rw h.0 (b.names c.args.fields.now c.args.entries.now h.1)) (c.in_err-places.ensures.told apart)
+
+pub resolve_named-returns-in_default-clause-told : goal.resolve_named-returns-in_default-clause-told
+resolve_named-returns-in_default-clause-told t c =
+    let placing : IsPlacing c.args.fields.now (map (λ x. x.name) c.args.entries.now) c.in_ok-places.places.items =
+    c.in_ok-places.ensures.placed in
+    absurd (omega (
+      arith,
+      c.in_default.ensures.lookup.3,
+      c.index-place.ensures,
+      place_below c.args.fields.now (map (λ x. x.name) c.args.entries.now) c.in_ok-places.places.items placing c.loop-index.index
+          c.index-place.result.now (omega (arith, placing.as_many, length-map c.args.entries.now (λ x. x.name))),
+    ))
+
+pub resolve_named-returns-in_err-one-clause-told : goal.resolve_named-returns-in_err-one-clause-told
+resolve_named-returns-in_err-one-clause-told t c = λ sound apart.
+    let placing : IsPlacing c.args.fields.now (map (λ x. x.name) c.args.entries.now) c.in_ok-places.places.items =
+    c.in_ok-places.ensures.placed in
+    let is_place : slice_get c.in_ok-places.places.items c.loop-index.index ≡ Some c.index-place.result.now =
+    slice_get_read c.in_ok-places.places.items (length c.in_ok-places.places.items) c.loop-index.index c.index-place.result.now refl
+    (omega (arith, placing.as_many, length-map c.args.entries.now (λ x. x.name))) c.index-place.ensures in
+    let is_field : slice_get c.args.fields.now c.index-place.result.now ≡ Some c.in-Some.field.now =
+    slice_get_read c.args.fields.now (length c.args.fields.now) c.index-place.result.now c.in-Some.field.now refl c.in-Some.ensures.lookup.3.0
+    c.in-Some.ensures.lookup.1 in
+    let is_entry : slice_get c.args.entries.now c.loop-index.index ≡ Some c.index-entries-index.result =
+    slice_get_read c.args.entries.now (length c.args.entries.now) c.loop-index.index c.index-entries-index.result refl (omega arith)
+    c.index-entries-index.is in
+    let same : c.index-entries-index.result.name ≡ c.in-Some.field.now.name =
+    placed_name (λ x. x.name) (λ f x. IsValue c.args.context.now.scope.now.types.now (texts c.args.context.now.turns.now) f.ty x.value)
+    c.args.entries.now c.args.fields.now placing c.loop-index.index c.index-place.result.now c.in-Some.field.now c.index-entries-index.result is_place is_field
+    is_entry in
+    tells_at _ _ _ c.from_residual-in_err-one.result c.in_err-one.field-0.0 c.from_residual-in_err-one.ensures.1
+    (λ r broken. b.entry c.args.fields.now c.args.entries.now c.loop-index.index c.index-place.result.now c.in-Some.field.now c.index-entries-index.result r
+    (placed_entries c.args.fields.now (map (λ x. x.name) c.args.entries.now) c.in_ok-places.places.items placing) c.loop-index.invariant.fit
+    is_entry is_field same broken)
+    (c.in_err-one.ensures.told sound)
+
+pub resolve_value-returns-in_err-place-in-Name-clause-told : goal.resolve_value-returns-in_err-place-in-Name-clause-told
+resolve_value-returns-in_err-place-in-Name-clause-told t c = λ sound.
+    tells_at _ _ _ c.from_residual-in_err-place-in-Name.result c.in_err-place-in-Name.field-0.0 c.from_residual-in_err-place-in-Name.ensures.1
+    (λ r broken. rw c.in-Name.is (b.name c.args.ty c.in-Name.name r broken))
+    (rw c.as_str.ensures at c.in_err-place-in-Name.ensures.told)
+
+pub resolve_in_braces-returns-in_err-made-in-Some-Record-clause-told : goal.resolve_in_braces-returns-in_err-made-in-Some-Record-clause-told
+resolve_in_braces-returns-in_err-made-in-Some-Record-clause-told t c = λ sound.
+    let defined : named c.args.context.now.scope.now.types.now c.args.ty ≡ Some (def.Record c.in-Some-Record.fields) =
+    sym c.in-Some-Record.ensures ∙ ap Some c.in-Some-Record.field-0-is in
+    tells_at _ _ _ c.from_residual-in_err-made-in-Some-Record.result c.in_err-made-in-Some-Record.field-0.0
+    c.from_residual-in_err-made-in-Some-Record.ensures.1
+    (λ r broken. b.places c.args.ty c.in-Some-Record.fields c.args.values.now r defined broken)
+    (rw c.as_slice.ensures at (c.in_err-made-in-Some-Record.ensures.told sound))
+
+pub resolve_value-returns-in_err-check_type-in-Int-clause-told : goal.resolve_value-returns-in_err-check_type-in-Int-clause-told
+resolve_value-returns-in_err-check_type-in-Int-clause-told t c = λ sound.
+    tells_rule _ rule.WrongType _ c.from_residual.result _ c.from_residual.ensures.1 c.in_err-check_type-in-Int.ensures.err
+    (rw c.in-Int.is (b.no_integer c.args.ty c.in-Int.number c.in_err-check_type-in-Int.ensures.other))
+
+pub resolve_value-returns-in_err-check_type-in-Bool-clause-told : goal.resolve_value-returns-in_err-check_type-in-Bool-clause-told
+resolve_value-returns-in_err-check_type-in-Bool-clause-told t c = λ sound.
+    tells_rule _ rule.WrongType _ c.from_residual-in_err-check_type-in-Bool.result _ c.from_residual-in_err-check_type-in-Bool.ensures.1
+    c.in_err-check_type-in-Bool.ensures.err (rw c.in-Bool.is (b.no_boolean c.args.ty c.in-Bool.truth c.in_err-check_type-in-Bool.ensures.other))
+
+pub resolve_value-returns-in_err-text-in-Text-clause-told : goal.resolve_value-returns-in_err-text-in-Text-clause-told
+resolve_value-returns-in_err-text-in-Text-clause-told t c = λ sound.
+    tells_at _ _ _ c.from_residual-in_err-text-in-Text.result _ c.from_residual-in_err-text-in-Text.ensures.1
+    (λ r broken. rw c.in-Text.is (b.text c.args.ty c.in-Text.text r broken)) (rw c.as_slice.ensures at c.in_err-text-in-Text.ensures.told)
+
+pub resolve_in_braces-returns-in_err-made-in-Some-ListOf-clause-told : goal.resolve_in_braces-returns-in_err-made-in-Some-ListOf-clause-told
+resolve_in_braces-returns-in_err-made-in-Some-ListOf-clause-told t c = λ sound.
+    let defined : named c.args.context.now.scope.now.types.now c.args.ty ≡ Some (def.ListOf c.in-Some-ListOf.element) =
+    sym c.in-Some-ListOf.ensures ∙ ap Some c.in-Some-ListOf.field-0-is in
+    tells_at _ _ _ c.from_residual.result _ c.from_residual.ensures.1
+    (λ r broken. b.elements c.args.ty c.in-Some-ListOf.element c.args.values.now r defined broken)
+    (c.in_err-made-in-Some-ListOf.ensures.told sound)
+
+pub resolve_in_braces-returns-in-None-clause-told : goal.resolve_in_braces-returns-in-None-clause-told
+resolve_in_braces-returns-in-None-clause-told t c = λ sound.
+    told_rule _ rule.WrongType _ _ (cc) (b.no_braces c.args.ty c.args.values.now (sym c.in-None.ensures))
+
+pub resolve_value-returns-in-List-clause-told : goal.resolve_value-returns-in-List-clause-told
+resolve_value-returns-in-List-clause-told t c = λ sound.
+    IfErr-weaker c.resolve_in_braces.result _ _ (λ f. told_at _ _ _ f (λ r broken. rw c.in-List.is broken))
+    (rw c.as_slice-in-List.ensures at (c.resolve_in_braces.ensures.told sound))
+
+pub resolve_value-returns-in_err-made-in-Record-clause-told : goal.resolve_value-returns-in_err-made-in-Record-clause-told
+resolve_value-returns-in_err-made-in-Record-clause-told t c = λ sound.
+    let defined : named c.args.context.now.scope.now.types.now c.args.ty ≡ Some (def.Record c.in-Some-Record.fields) =
+    sym c.in-Some-Record.ensures ∙ ap Some c.in-Some-Record.field-0-is in
+    tells_at _ _ _ c.from_residual-in_err-made-in-Record.result _ c.from_residual-in_err-made-in-Record.ensures.1
+    (λ r broken. rw c.in-Record.is (b.fields c.args.ty c.in-Some-Record.fields c.in-Record.entries r defined broken))
+    ((rw (c.as_slice-in-Record.ensures, c.as_slice-in-Record-2.ensures) at c.in_err-made-in-Record.ensures.told) sound
+    (sound.own_names c.args.ty c.in-Some-Record.fields defined))
+
+pub resolve_value-returns-in_default-clause-told : goal.resolve_value-returns-in_default-clause-told
+resolve_value-returns-in_default-clause-told t c = λ sound.
+    told_rule _ rule.WrongType _ _ (cc) (rw c.in-Record.is (b.no_record c.args.ty c.in-Record.entries (λ fs is.
+    let p = record_behind c.definition.result fs (c.definition.ensures ∙ is) in
+    let found : c.definition.result ≡ Some p.0 = p.1 in
+    let held : p.0.now ≡ def.Record fs = p.2 in
+    elim c.in_default.branch [
+      | resolve_value-in_default-via-in-Some+in_default w ↦ absurd (cc)
+      | resolve_value-in_default-via-in_default w ↦ absurd (cc)
+    ])))

@@ -1,0 +1,49 @@
+-- There are as many starts as components, so where there are any they are waited for.
+use Rattle.std.proofs.Common.{◌≡◌, ◌<◌, ◌∙◌, arith, length, subst, sym}
+use Rattle.std.specs.List.{AllZip}
+use Rattle.std.proofs.lemmas.List.{length-map}
+use Rattle.std.proofs.lemmas.Slice.Zip.{AllZip-long}
+use Rattle.tp_checks.specs.Components.{creations, variable_name, variables}
+use Rattle.tp_checks.specs.Starting.{IsStartPlace}
+use Rattle.std.proofs.Common.{ℕ}
+use Rattle.tp_checks.specs.declared.fault.ModuleRule.{ModuleRule}
+use Rattle.tp_checks.specs.declared.fault.ModuleRule.TheVariants.{NotStarted}
+use Rattle.tp_checks.specs.Refused.{Tells}
+use Rattle.tp_checks.specs.BrokenStarts.{AfterStartsBreaks, IsNeverStarted, never_started, no_done}
+use Rattle.tp_checks.proofs.StartFaultsTold.{all_started, some_creations}
+use Rattle.tp_checks.proofs.ModuleFaultPropagation.{handed, tells_map}
+use Rattle.tp_checks.proofs.starting.place_starts.Goals as goal
+
+pub returns-clause-places : goal.returns-clause-places
+returns-clause-places c = rw (← c.as_slice.ensures) c.in_ok-places.ensures.places
+
+pub returns-clause-done : goal.returns-clause-done
+returns-clause-done c =
+    let case = c.args.case.case.now in
+    let all : AllZip (IsStartPlace c.args.started.now) (variables case.setups) c.in_ok-places.places.items =
+    rw (← c.as_slice.ensures) c.in_ok-places.ensures.places in
+    let count : length c.in_ok-places.places.items ≡ length (creations case.setups) =
+    AllZip-long (IsStartPlace c.args.started.now) (variables case.setups) c.in_ok-places.places.items all
+    ∙ length-map (creations case.setups) variable_name in
+    λ some. c.in_ok-check_done.ensures.done (subst (λ l. 0 < length l) (sym c.deref.ensures.value) (omega (arith, some, count)))
+
+pub returns-in_err-places-clause-told : goal.returns-in_err-places-clause-told
+returns-in_err-places-clause-told c =
+    let case = c.args.case.case.now in
+    let P = AfterStartsBreaks c.args.started.now case c.args.case.line in
+    handed (Tells P) c.from_residual.result _ c.from_residual.ensures.1
+    (tells_map (λ (rule : ModuleRule) (line : ℕ). (rule ≡ NotStarted) × IsNeverStarted c.args.started.now case.setups line) P
+    c.in_err-places.field-0.0 (λ rule line b. subst (λ r. P r line) (sym b.0) (never_started line b.1))
+    (rw c.as_slice.ensures at c.in_err-places.ensures.told))
+
+pub returns-in_err-check_done-clause-told : goal.returns-in_err-check_done-clause-told
+returns-in_err-check_done-clause-told c =
+    let case = c.args.case.case.now in
+    let started = c.args.started.now in
+    let places = c.in_ok-places.places.items in
+    let all : AllZip (IsStartPlace started) (variables case.setups) places = rw (← c.as_slice.ensures) c.in_ok-places.ensures.places in
+    let told = c.in_err-check_done.ensures.told in
+    handed (Tells (AfterStartsBreaks started case c.args.case.line)) c.from_residual-in_err-check_done.result _
+    c.from_residual-in_err-check_done.ensures.1
+    (rw told.0 (no_done (all_started started (variables case.setups) places all)
+    (some_creations started case.setups places all (rw c.deref.ensures.value at told.1)) told.2))

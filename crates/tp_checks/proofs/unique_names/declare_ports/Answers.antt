@@ -1,0 +1,27 @@
+-- A name that is refused is among those of all ports.
+use Rattle.std.proofs.Common.{◌+◌, arith, drop, map, subst}
+use Rattle.tp_tree.specs.declared.tree.PortDeclaration.{PortDeclaration}
+use Rattle.tp_checks.specs.Tables.{IsNumbered}
+use Rattle.tp_checks.specs.Definitions.{declared, declared_ports}
+use Rattle.tp_checks.proofs.DistinctNamesInParts.{numbered_first}
+use Rattle.tp_checks.proofs.ModuleRefusalPropagation.{flat_behind, handed_on}
+use Rattle.tp_checks.specs.BrokenNames.{DeclaringBreaks, port_name_list}
+use Rattle.tp_checks.specs.Refused.{Tells}
+use Rattle.tp_checks.proofs.NameFaultsTold.{port_among}
+use Rattle.tp_checks.proofs.ModuleFaultPropagation.{handed}
+use Rattle.tp_checks.proofs.unique_names.declare_ports.Goals as goal
+
+pub returns-in_err-declare_all-clause-refused : goal.returns-in_err-declare_all-clause-refused
+returns-in_err-declare_all-clause-refused c =
+    handed_on c.from_residual.result _ c.from_residual.ensures.1 c.in_err-declare_all.ensures.refused
+    (λ h. rw c.as_slice.ensures
+    (numbered_first _ (declared_ports (drop (c.loop-port.port-index + 1) c.args.ports.now))
+    (subst IsNumbered
+    (flat_behind (λ (p : PortDeclaration). map declared p.names) c.args.names.now c.loop-port.names c.args.ports.now c.loop-port.port-index
+    c.port-item.result (omega arith) c.port-item.is c.loop-port.invariant.names) h)))
+
+pub returns-in_err-declare_all-clause-told : goal.returns-in_err-declare_all-clause-told
+returns-in_err-declare_all-clause-told c =
+    handed (Tells (DeclaringBreaks c.args.names.now (port_name_list c.args.ports.now))) c.from_residual.result _ c.from_residual.ensures.1
+    (port_among c.args.names.now c.loop-port.names c.args.ports.now c.loop-port.port-index c.port-item.result _ (omega arith) c.port-item.is
+    c.loop-port.invariant.names (rw c.as_slice.ensures at c.in_err-declare_all.ensures.told))

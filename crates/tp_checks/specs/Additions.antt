@@ -1,0 +1,55 @@
+-- What can't be added to a configuration, and where making the components stops.
+use Rattle.std.specs.Prelude.{◌≡◌, ◌<◌, ◌≤◌, ◌+◌, ◌⊎◌, ℕ, true, Some, IfSome, IsSome, List, ◌∷◌, ◌++◌}
+use Rattle.std.specs.Prelude.{Contains, codes, length}
+use Rattle.tp_tree.specs.declared.tree.Creation.{Creation}
+use Rattle.tp_tree.specs.declared.tree.SetupStatement.{SetupStatement}
+use Rattle.tp_tree.specs.declared.tree.TestCase.{TestCase}
+use Rattle.tp_config.specs.Setup.{Setup, is_system_role, names_of_components}
+use Rattle.tp_config.specs.Causes.{HasSystem}
+use Rattle.tp_checks.specs.declared.fault.ModuleRule.{ModuleRule}
+use Rattle.tp_checks.specs.declared.fault.ModuleRule.TheVariants.{Unknown, Duplicate, Limit}
+use Rattle.tp_checks.specs.declared.fault.ModuleFault.{ModuleFault}
+use Rattle.tp_checks.specs.Refused.{TellsAt}
+use Rattle.tp_checks.specs.Components.{Declared, HasSoundVariables, creation_of, creations, variables}
+use Rattle.tp_checks.specs.BrokenSetup.{CreationBreaks}
+
+-- a component can't be added to a configuration, where its component types have these names
+pub data AdditionBreaks (types : List (List ℕ)) (x : Declared) (s : Setup) : ModuleRule → Type 0 where
+  -- its type is unknown (11)
+  addition_unknown : (Contains types x.type_name → ⊥) → AdditionBreaks types x s Unknown
+  -- a component has its name, or it is a second test system interface (12)
+  addition_taken : Contains (names_of_components s) x.name ⊎ ((is_system_role x.role ≡ true) × HasSystem s.components)
+      → AdditionBreaks types x s Duplicate
+  -- 64 components are there (15)
+  addition_many : 64 ≤ length s.components → AdditionBreaks types x s Limit
+
+-- a configuration has the components of these names and of these variables, and there is room for as many variables as
+-- may be
+pub record HasRoomForVariables (types others variables : List (List ℕ)) (most : ℕ) (s : Setup) : Type 0 where
+  pub typed : length types ≡ length s.types
+  pub named : names_of_components s ≡ others ++ variables
+  pub few : length variables ≤ most
+  pub room : length others + most ≤ 64
+
+-- the test system interface can't be added, since a component has its name (12)
+pub data InterfaceBreaks (case : TestCase) (s : Setup) : ModuleRule → Type 0 where
+  interface_named : IsSome case.system → Contains (names_of_components s) (codes "system") → InterfaceBreaks case s Duplicate
+
+-- but for its name, the test system interface can be added
+pub record AwaitsInterface (types : List (List ℕ)) (case : TestCase) (s : Setup) : Type 0 where
+  pub typed : length types ≡ length s.types
+  pub known : IfSome case.system (λ name. Contains types name)
+  pub tests : HasSystem s.components → ⊥
+  pub room : IsSome case.system → length s.components < 64
+
+-- the `var` at which making the components stopped: those of the statements before it obey the rules on variables, and
+-- it breaks the rule that is told at its line
+pub record StopsCreating (types ports others : List (List ℕ)) (most : ℕ) (list before : List SetupStatement)
+    (fault : ModuleFault) : Type 0 where
+  pub statement : SetupStatement
+  pub creation : Creation
+  pub after : List SetupStatement
+  pub split : list ≡ before ++ statement ∷ after
+  pub makes : creation_of statement ≡ Some creation
+  pub sound : HasSoundVariables types ports most (creations before)
+  pub told : TellsAt statement.line (CreationBreaks types ports others (variables before) most creation) fault

@@ -1,0 +1,223 @@
+-- What the statements of the text stand for, a case for each line of the grammar. A statement in which a fault
+-- stands stands for nothing.
+use Rattle.std.specs.Prelude.{◌≡◌, ◌≢◌, ◌<◌, ℕ, List, length, [], ◌∷◌, ◌++◌, Option, None, Some, Contains, slice_get}
+use Rattle.tp_value.specs.declared.types.Ty.{Ty}
+use Rattle.tp_value.specs.declared.types.Ty.TheVariants as ty
+use Rattle.tp_value.specs.declared.verdict.Verdict.{Verdict}
+use Rattle.tp_value.specs.declared.verdict.Verdict.TheVariants as verdict
+use Rattle.tp_value.specs.Types.{type_number}
+use Rattle.tp_config.specs.declared.port_type.PortType.{PortType}
+use Rattle.tp_tree.specs.declared.message.TypeName.TheVariants as type_name
+use Rattle.tp_tree.specs.declared.message.TypeName.{TypeName}
+use Rattle.tp_tree.specs.declared.tree.ComponentName.{ComponentName}
+use Rattle.tp_tree.specs.declared.tree.ComponentName.TheVariants as component_name
+use Rattle.tp_tree.specs.declared.message.Message.{Message}
+use Rattle.tp_tree.specs.declared.message.MessageTemplate.{MessageTemplate}
+use Rattle.tp_tree.specs.declared.tree.SentExpression.{SentExpression}
+use Rattle.tp_tree.specs.declared.tree.SentExpression.TheVariants as sent
+use Rattle.tp_tree.specs.declared.tree.Receivers.{Receivers}
+use Rattle.tp_tree.specs.declared.tree.Receivers.TheVariants as destination
+use Rattle.tp_tree.specs.declared.tree.Send.{Send}
+use Rattle.tp_tree.specs.declared.tree.Receive.{Receive}
+use Rattle.tp_common.specs.declared.operation.PortOperation.{PortOperation}
+use Rattle.tp_tree.specs.declared.tree.Control.{Control}
+use Rattle.tp_tree.specs.declared.tree.VerdictName.{VerdictName}
+use Rattle.tp_tree.specs.declared.tree.VerdictName.TheVariants as verdict_name
+use Rattle.tp_tree.specs.declared.tree.Variable.{Variable}
+use Rattle.tp_tree.specs.declared.tree.Statement.{Statement as StatementText}
+use Rattle.tp_tree.specs.declared.tree.Action.{Action}
+use Rattle.tp_tree.specs.declared.tree.Action.TheVariants as action
+use Rattle.tp_tree.specs.declared.tree.Branch.{Branch as BranchText}
+use Rattle.tp_tree.specs.declared.tree.BranchBody.{BranchBody}
+use Rattle.tp_tree.specs.declared.tree.BranchBody.TheVariants as branch_body
+use Rattle.tp_tree.specs.declared.tree.ElseBranch.{ElseBranch, out-ElseBranch}
+use Rattle.tp_tree.specs.declared.tree.Counted.{Counted, out-Counted}
+use Rattle.tp_play.specs.declared.body.SendMsg.{SendMsg}
+use Rattle.tp_play.specs.declared.body.SendValue.TheVariants as send_value
+use Rattle.tp_play.specs.declared.body.RecvTemplate.{RecvTemplate}
+use Rattle.tp_play.specs.declared.body.RecvMsg.{RecvMsg}
+use Rattle.tp_play.specs.declared.body.RecvMsg.TheVariants as recv_msg
+use Rattle.tp_play.specs.declared.body.Sent.{Sent}
+use Rattle.tp_play.specs.declared.body.Sent.TheVariants as s
+use Rattle.tp_play.specs.declared.body.Receiver.{Receiver}
+use Rattle.tp_play.specs.declared.body.Receiver.TheVariants as to
+use Rattle.tp_play.specs.declared.body.SendOperation.{SendOperation}
+use Rattle.tp_play.specs.declared.body.Receiving.{Receiving}
+use Rattle.tp_play.specs.declared.body.ResolvedStatement.{ResolvedStatement}
+use Rattle.tp_play.specs.declared.body.ResolvedStatement.TheVariants as statement
+use Rattle.tp_play.specs.declared.body.ResolvedBranch.{ResolvedBranch}
+use Rattle.tp_play.specs.declared.body.VariableType.{VariableType}
+use Rattle.tp_play.specs.declared.body.VariableType.TheVariants as variable_type
+use Rattle.tp_play.specs.declared.body.Body.{Body}
+use Rattle.tp_checks.specs.declared.scope.BehaviourKind.TheVariants as behaviour_kind
+use Rattle.tp_checks.specs.declared.scope.Scope.{Scope}
+use Rattle.tp_checks.specs.declared.scope.Variables.{Variables}
+use Rattle.tp_checks.specs.Named.{IsPlace, IsAbsent}
+use Rattle.tp_checks.specs.Scoping.{IsPortNamed, sendable_types, receivable_types, IsType, IsVariable, IsReference, IsNew, declared_port_names}
+use Rattle.tp_checks.specs.Messages.{IsMessage, IsTemplate}
+
+-- what is sent, where this is the list of the types that can be sent there
+pub data IsSent (scope : Scope) (variables : Variables) (turns : List (List ℕ)) (sendable : List Ty)
+    : SentExpression → Sent → Type 0 where
+  written : (x : Message) (m : SendMsg) → IsMessage scope.types.now turns x m → Contains sendable m.ty
+      → IsSent scope variables turns sendable (sent.Message x) (s.Written m)
+  -- what a loop variable holds, as an integer
+  counter : (n : List ℕ) (k : ℕ) → IsPlace turns n k → Contains sendable ty.Integer
+      → IsSent scope variables turns sendable (sent.Variable n)
+      (s.Written (record { ty = ty.Integer; value = send_value.Turn k }))
+  -- what a variable holds, under its type
+  held : (n : List ℕ) (k : ℕ) (u : Ty) → IsAbsent turns n
+      → IsVariable variables n k (variable_type.Message u) → Contains sendable u
+      → IsSent scope variables turns sendable (sent.Variable n) (s.Variable k)
+
+-- to whom is sent
+pub data IsReceiver (scope : Scope) (variables : Variables) (turns : List (List ℕ))
+    : Option Receivers → Receiver → Type 0 where
+  nobody : IsReceiver scope variables turns None to.Nobody
+  reference : (x : ComponentName) (k : ℕ) → IsReference scope variables turns x k
+      → IsReceiver scope variables turns (Some (destination.Component x)) (to.Reference k)
+  variable : (n : List ℕ) (k : ℕ) → IsAbsent turns n
+      → IsVariable variables n k variable_type.Component
+      → IsReceiver scope variables turns (Some (destination.Component (component_name.Named n))) (to.Variable k)
+  all : IsReceiver scope variables turns (Some destination.AllComponents) to.All
+
+-- a send: the port is known, and its type lists the type of what is sent
+pub record IsSend (scope : Scope) (variables : Variables) (turns : List (List ℕ)) (x : Send) (y : SendOperation)
+    : Type 0 where
+  pub port : PortType
+  pub port_known : IsPortNamed scope.component_type.now x.port y.port port
+  pub sent : IsSent scope variables turns (sendable_types scope.behaviour port) x.sent y.sent
+  pub receiver : IsReceiver scope variables turns x.to y.to
+
+-- what is wanted, where this is the list of the types that can be received there
+pub data IsWanted (scope : Scope) (turns : List (List ℕ)) (receivable : List Ty)
+    : Option MessageTemplate → RecvMsg → Type 0 where
+  every_message : IsWanted scope turns receivable None recv_msg.Any
+  matching : (x : MessageTemplate) (u : Ty) (r : RecvTemplate) → IsType scope.types.now x.type_name u
+      → Contains receivable u → IsTemplate scope.types.now turns u x.template r
+      → IsWanted scope turns receivable (Some x) (recv_msg.Of u r)
+
+-- the component behind `from`, if there is one
+pub data IsFrom (scope : Scope) (variables : Variables) (turns : List (List ℕ))
+    : Option ComponentName → Option ℕ → Type 0 where
+  whoever : IsFrom scope variables turns None None
+  this_one : (x : ComponentName) (k : ℕ) → IsReference scope variables turns x k
+      → IsFrom scope variables turns (Some x) (Some k)
+
+-- the variable behind `value`: it has the type of the template
+pub data IsValueTarget (variables : Variables) (turns : List (List ℕ))
+    : RecvMsg → Option (List ℕ) → Option ℕ → Type 0 where
+  no_target : (m : RecvMsg) → IsValueTarget variables turns m None None
+  target : (u : Ty) (r : RecvTemplate) (n : List ℕ) (k : ℕ) → IsAbsent turns n
+      → IsVariable variables n k (variable_type.Message u)
+      → IsValueTarget variables turns (recv_msg.Of u r) (Some n) (Some k)
+
+-- the variable behind `sender`: it holds components
+pub data IsSenderTarget (variables : Variables) (turns : List (List ℕ))
+    : Option (List ℕ) → Option ℕ → Type 0 where
+  no_sender_target : IsSenderTarget variables turns None None
+  sender_target : (n : List ℕ) (k : ℕ) → IsAbsent turns n
+      → IsVariable variables n k variable_type.Component
+      → IsSenderTarget variables turns (Some n) (Some k)
+
+-- a receiving operation: the port is known, and its type lists the type of what is wanted
+pub record IsReceive (scope : Scope) (variables : Variables) (turns : List (List ℕ)) (x : Receive) (y : Receiving)
+    : Type 0 where
+  pub port : PortType
+  pub port_known : IsPortNamed scope.component_type.now x.port y.port port
+  pub same_kind : y.kind ≡ x.kind
+  pub wants : IsWanted scope turns (receivable_types scope.behaviour port) x.template y.wanted
+  pub from_known : IsFrom scope variables turns x.sender y.sender
+  pub value_known : IsValueTarget variables turns y.wanted x.redirect.value y.value_to
+  pub sender_known : IsSenderTarget variables turns x.redirect.sender y.sender_to
+
+-- a verdict that a statement can name: not `error`
+pub data IsVerdict : VerdictName → Verdict → Type 0 where
+  no_verdict : IsVerdict verdict_name.NoVerdict verdict.None
+  pass : IsVerdict verdict_name.Pass verdict.Pass
+  inconc : IsVerdict verdict_name.Inconc verdict.Inconc
+  fail : IsVerdict verdict_name.Fail verdict.Fail
+
+mutual
+  -- what a statement does
+  pub data IsStatement (scope : Scope) (variables : Variables) : List (List ℕ) → Action → ResolvedStatement → Type 0 where
+    send : (turns : List (List ℕ)) (x : Send) (y : SendOperation) → IsSend scope variables turns x y
+        → IsStatement scope variables turns (action.Send x) (statement.Send y)
+    receive : (turns : List (List ℕ)) (x : Receive) (y : Receiving) → IsReceive scope variables turns x y
+        → IsStatement scope variables turns (action.Receive x) (statement.Receive y)
+    -- not in the system under test
+    control : (turns : List (List ℕ)) (x : Control) (k : ℕ) (port : PortType)
+        → scope.behaviour ≢ behaviour_kind.SystemUnderTest → IsPortNamed scope.component_type.now x.port k port
+        → IsStatement scope variables turns (action.Control x) (statement.Control k x.operation)
+    all_ports : (turns : List (List ℕ)) (x : PortOperation) → scope.behaviour ≢ behaviour_kind.SystemUnderTest
+        → IsStatement scope variables turns (action.AllPorts x) (statement.AllPorts x)
+    set_verdict : (turns : List (List ℕ)) (x : VerdictName) (y : Verdict)
+        → scope.behaviour ≢ behaviour_kind.SystemUnderTest
+        → IsVerdict x y
+        → IsStatement scope variables turns (action.SetVerdict x) (statement.SetVerdict y)
+    alt : (turns : List (List ℕ)) (xs : List BranchText) (ys : List ResolvedBranch)
+        → AreBranches scope variables turns xs ys
+        → IsStatement scope variables turns (action.Alt xs None) (statement.Alt ys None)
+    alt_else : (turns : List (List ℕ)) (xs : List BranchText) (ys : List ResolvedBranch) (e : ElseBranch)
+        (otherwise : List ResolvedStatement) → AreBranches scope variables turns xs ys
+        → IsBlock scope variables turns (out-ElseBranch e).block otherwise
+        → IsStatement scope variables turns (action.Alt xs (Some e)) (statement.Alt ys (Some otherwise))
+    -- inside of it there is one loop variable more
+    counted : (turns : List (List ℕ)) (x : Counted) (block : List ResolvedStatement)
+        → IsNew scope variables turns (out-Counted x).turns.name
+        → IsBlock scope variables (turns ++ (out-Counted x).turns.name ∷ [])
+        (out-Counted x).block block
+        → IsStatement scope variables turns (action.For x)
+        (statement.For (out-Counted x).turns.first (out-Counted x).turns.bound block)
+
+  pub data IsBlock (scope : Scope) (variables : Variables)
+      : List (List ℕ) → List StatementText → List ResolvedStatement → Type 0 where
+    no_statement : (turns : List (List ℕ)) → IsBlock scope variables turns [] []
+    one_statement_more :
+        (turns : List (List ℕ)) (xs : List StatementText) (ys : List ResolvedStatement) (x : StatementText) (y : ResolvedStatement)
+        → IsBlock scope variables turns xs ys → IsStatement scope variables turns x.action y
+        → IsBlock scope variables turns (xs ++ x ∷ []) (ys ++ y ∷ [])
+
+  pub data IsBranch (scope : Scope) (variables : Variables) : List (List ℕ) → BranchText → ResolvedBranch → Type 0 where
+    branch : (turns : List (List ℕ)) (x : BranchText) (y : ResolvedBranch)
+        → IsReceive scope variables turns x.receive y.receiving → IsAfter scope variables turns x.body y.block
+        → IsBranch scope variables turns x y
+
+  -- what stands behind the operation of a branch: nothing, or a block
+  pub data IsAfter (scope : Scope) (variables : Variables) : List (List ℕ) → BranchBody → List ResolvedStatement → Type 0 where
+    nothing : (turns : List (List ℕ)) → IsAfter scope variables turns branch_body.Nothing []
+    block : (turns : List (List ℕ)) (xs : List StatementText) (ys : List ResolvedStatement)
+        → IsBlock scope variables turns xs ys
+        → IsAfter scope variables turns (branch_body.Block xs) ys
+
+  pub data AreBranches (scope : Scope) (variables : Variables)
+      : List (List ℕ) → List BranchText → List ResolvedBranch → Type 0 where
+    no_branch : (turns : List (List ℕ)) → AreBranches scope variables turns [] []
+    one_branch_more : (turns : List (List ℕ)) (xs : List BranchText) (ys : List ResolvedBranch) (x : BranchText) (y : ResolvedBranch)
+        → AreBranches scope variables turns xs ys → IsBranch scope variables turns x y
+        → AreBranches scope variables turns (xs ++ x ∷ []) (ys ++ y ∷ [])
+
+-- the type of a variable: a type of messages, or a component type where no type of messages has the name
+pub data IsVariableType (scope : Scope) : TypeName → VariableType → Type 0 where
+  message : (x : TypeName) (u : Ty) → IsType scope.types.now x u → IsVariableType scope x (variable_type.Message u)
+  component : (n : List ℕ) (k : ℕ) → type_number scope.types.now n ≡ None
+      → IsPlace scope.component_types.now n k
+      → IsVariableType scope (type_name.Named n) variable_type.Component
+
+-- the variables of a body, each with a new name: 4,294,967,295 at most
+pub data AreVariables (scope : Scope) : List Variable → Variables → Type 0 where
+  no_variable : (vs : Variables) → vs.names ≡ [] → vs.types ≡ [] → AreVariables scope [] vs
+  one_variable_more : (xs : List Variable) (vs ws : Variables) (x : Variable) (held : VariableType)
+      → AreVariables scope xs vs → length vs.names < 4294967295 → IsVariableType scope x.type_name held
+      → IsNew scope vs [] x.name
+      → ws.names ≡ vs.names ++ x.name ∷ [] → ws.types ≡ vs.types ++ held ∷ []
+      → AreVariables scope (xs ++ x ∷ []) ws
+
+-- a body: no parameter has the name of a port, the variables come first, and the statements may speak of them
+pub record IsBody (scope : Scope) (xs : List Variable) (statements : List StatementText) (body : Body) : Type 0 where
+  pub variables : Variables
+  pub no_port : (k : ℕ) (name : List ℕ) → slice_get (declared_port_names scope.component_type.now) k ≡ Some name
+      → IsAbsent scope.parameters.now name
+  pub declared : AreVariables scope xs variables
+  pub same_types : body.variables ≡ variables.types
+  pub block : IsBlock scope variables [] statements body.statements

@@ -1,0 +1,72 @@
+-- The starts of the components (ES 201 873-1, 21.3.2).
+use Rattle.std.specs.Prelude.{◌≡◌, ◌≢◌, ◌<◌, ◌+◌, ℕ, Option, Some, List, ◌∷◌, IsSome}
+use Rattle.std.specs.Prelude.{length, map, slice_get}
+use Rattle.std.specs.Option.{option_map}
+use Rattle.std.specs.List.{AllZip}
+use Rattle.tp_tree.specs.declared.tree.ComponentName.{ComponentName}
+use Rattle.tp_tree.specs.declared.tree.ComponentName.TheVariants as component_name
+use Rattle.tp_tree.specs.declared.tree.ComponentStart.{ComponentStart}
+use Rattle.tp_tree.specs.declared.tree.Function.{Function}
+use Rattle.tp_tree.specs.declared.tree.Parameter.{Parameter}
+use Rattle.tp_tree.specs.declared.tree.Creation.{Creation}
+use Rattle.tp_tree.specs.declared.tree.TestCase.{TestCase}
+use Rattle.tp_config.specs.declared.port_type.CompId.{CompId}
+use Rattle.tp_checks.specs.declared.starts.StartedComponent.{StartedComponent}
+use Rattle.tp_checks.specs.declared.starts.Starts.{Starts}
+use Rattle.tp_checks.specs.Tables.{IsNumbered, place_of_name}
+use Rattle.tp_checks.specs.Rules.{sut}
+use Rattle.tp_checks.specs.Components.{creations, variables}
+
+-- the number of the component that an argument names, where the component variables have these names; `self` is `mtc`
+abbrev pub component_named : List (List ℕ) → ComponentName → Option ℕ
+component_named names (component_name.Named x) = option_map (λ k. k + 1) (place_of_name names x)
+component_named names component_name.Mtc = Some 0
+component_named names component_name.SelfComponent = Some 0
+
+-- the argument names this component
+abbrev pub IsArgument : List (List ℕ) → ComponentName → CompId → Type 0
+IsArgument names x comp = component_named names x ≡ Some comp.0
+
+-- the component has the type of the parameter, where the components have types of these names
+abbrev pub HasParameterType : List (List ℕ) → Parameter → CompId → Type 0
+HasParameterType types p comp = slice_get types comp.0 ≡ Some p.type_name
+
+-- the names of the types of `mtc` and of the components that are made, in their order
+abbrev pub type_names_of : TestCase → List (List ℕ)
+type_names_of case =
+    case.runs_on ∷ map (λ (c : Creation). c.type_name) (creations case.setups)
+
+-- a start obeys its rules and starts this, where the functions are these, the component variables have these names and
+-- the components types of these names
+pub record IsStartOf (functions : List Function) (names types : List (List ℕ)) (x : ComponentStart) (made : StartedComponent)
+    : Type 0 where
+  pub variable : ℕ
+  pub variable_known : place_of_name names x.component ≡ Some variable
+  pub function : Function
+  pub function_known : slice_get functions made.function ≡ Some function
+  pub named : function.name ≡ x.function
+  pub not_sut : x.function ≢ sut
+  -- the function runs on the component's type
+  pub runs_on : slice_get types (variable + 1) ≡ Some function.runs_on
+  -- each argument is known and of its parameter's type, and there are as many
+  pub arguments_known : AllZip (IsArgument names) x.arguments made.arguments.items
+  pub arguments_fit : AllZip (HasParameterType types) function.parameters made.arguments.items
+
+-- the components that are started
+abbrev pub started_names : List ComponentStart → List (List ℕ)
+started_names xs = map (λ (x : ComponentStart). x.component) xs
+
+-- the place of a component variable's start
+abbrev pub IsStartPlace : List (List ℕ) → List ℕ → ℕ → Type 0
+IsStartPlace started name k = place_of_name started name ≡ Some k
+
+-- the starts of a test case obey their rules and start this
+pub record AreStarts (functions : List Function) (case : TestCase) (made : Starts) : Type 0 where
+  pub starts : AllZip (IsStartOf functions (variables case.setups) (type_names_of case))
+      case.starts made.starts.items
+  -- no component is started twice, and the starts are fewer than 2 ^ 32
+  pub once : IsNumbered (started_names case.starts)
+  -- each component is started
+  pub all : AllZip (IsStartPlace (started_names case.starts)) (variables case.setups) made.places.items
+  -- a test case that makes components ends with `all component.done`
+  pub done : 0 < length (creations case.setups) → IsSome case.all_done

@@ -1,3 +1,0 @@
-pub mod HistoryClockGrowth
-pub mod DeskThreadSafety
-pub mod PortQueuesMatchLog

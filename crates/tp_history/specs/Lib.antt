@@ -1,4 +1,0 @@
-pub mod Faults
-pub mod History
-pub mod Desks
-pub mod Lending

@@ -1,0 +1,42 @@
+-- What of a desk may go into a thread, or be shared with one.
+-- A message holds values of a recursive type, so `search` has to be told of the values first, and then of each type in turn.
+use denote.Param.Send.{IsSend, IsSync, sendable}
+use Rattle.std.proofs.Crossing.{crosses}
+use Rattle.tp_value.proofs.value.Value.TheLaws.TheKnot.{crosses_both as knot}
+use Rattle.tp_value.specs.contracts.message.Message as message
+use Rattle.tp_inbox.specs.contracts.stamped.Stamped as stamped
+use Rattle.tp_inbox.specs.contracts.entry.Entry as entry
+use Rattle.tp_inbox.specs.contracts.desk.Desk as desk
+use Rattle.tp_inbox.specs.contracts.desk.Desk.TheInside as desk_inside
+
+pub message_send : IsSend message.the_row
+message_send = search (sendable, crosses, knot) depth 20
+
+-- a message as it stands in another type's field
+pub message_field_send : IsSend (message.the_field).row
+message_field_send = search (sendable, crosses, knot) depth 20
+
+pub message_field_sync : IsSync (message.the_field).row
+message_field_sync = search (sendable, crosses, knot) depth 20
+
+pub stamped_send : IsSend stamped.the_row
+stamped_send = search (sendable, crosses, message_field_send) depth 20
+
+pub stamped_sync : IsSync stamped.the_row
+stamped_sync = search (sendable, crosses, message_field_sync) depth 20
+
+-- a stamped message as it stands in another type's field
+pub stamped_field_send : IsSend (stamped.the_field).row
+stamped_field_send = search (sendable, crosses, message_field_send) depth 20
+
+pub stamped_field_sync : IsSync (stamped.the_field).row
+stamped_field_sync = search (sendable, crosses, message_field_sync) depth 20
+
+pub entry_send : IsSend entry.the_row
+entry_send = search (sendable, crosses, knot, stamped_field_send) depth 40 fits 20000
+
+desk_inside_send : IsSend desk_inside.the_row
+desk_inside_send = search (sendable, crosses, knot, message_send, entry_send) depth 40 fits 20000
+
+pub desk_send : IsSend desk.the_row
+desk_send = search (sendable, crosses, desk_inside_send) depth 40

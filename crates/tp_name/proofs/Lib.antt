@@ -1,4 +1,0 @@
-pub mod NameSetLookups
-pub mod NameSearchGrowth
-pub mod FirstPlacesOfNames
-pub mod MemoryRefusals

@@ -1,4 +1,0 @@
-pub mod Tables
-pub mod Named
-pub mod Refused
-pub mod Told

@@ -1,8 +1,0 @@
--- The fields so far are made, in their order.
-use Rattle.std.proofs.Common.{take}
-use Rattle.std.specs.List.{AllZip}
-use Rattle.tp_setup.specs.Resolved.{IsField}
-use Rattle.tp_setup.proofs.resolving.make_fields.Given as goal
-
-abbrev pub invariant-loop-field : goal.invariant-loop-field
-invariant-loop-field l = AllZip (IsField l.types) (take l.field-index l.fields) l.made

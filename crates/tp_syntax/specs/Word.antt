@@ -1,0 +1,95 @@
+-- The reserved words.
+use Rattle.std.specs.Prelude.{◌≡◌, ◌↔◌, ℕ, Bool, List, [], ◌∷◌, map, length, Option, Some, None, codes, if◌then◌else◌, ◌==◌}
+use Rattle.std.specs.Str.{bytes_eq}
+use Rattle.tp_syntax.specs.declared.word.Word.{Word}
+use Rattle.tp_syntax.specs.declared.word.Word.TheVariants as w
+
+-- how a reserved word is spelled
+abbrev pub word_spelling : Word → List ℕ
+word_spelling w.Module = codes "module"
+word_spelling w.Type = codes "type"
+word_spelling w.Record = codes "record"
+word_spelling w.Of = codes "of"
+word_spelling w.Port = codes "port"
+word_spelling w.Message = codes "message"
+word_spelling w.Component = codes "component"
+word_spelling w.In = codes "in"
+word_spelling w.Out = codes "out"
+word_spelling w.Inout = codes "inout"
+word_spelling w.Function = codes "function"
+word_spelling w.Testcase = codes "testcase"
+word_spelling w.Runs = codes "runs"
+word_spelling w.On = codes "on"
+word_spelling w.System = codes "system"
+word_spelling w.Var = codes "var"
+word_spelling w.Create = codes "create"
+word_spelling w.Connect = codes "connect"
+word_spelling w.Map = codes "map"
+word_spelling w.Mtc = codes "mtc"
+word_spelling w.SelfWord = codes "self"
+word_spelling w.Start = codes "start"
+word_spelling w.Stop = codes "stop"
+word_spelling w.Halt = codes "halt"
+word_spelling w.Clear = codes "clear"
+word_spelling w.Send = codes "send"
+word_spelling w.Receive = codes "receive"
+word_spelling w.Trigger = codes "trigger"
+word_spelling w.Check = codes "check"
+word_spelling w.To = codes "to"
+word_spelling w.From = codes "from"
+word_spelling w.Alt = codes "alt"
+word_spelling w.Else = codes "else"
+word_spelling w.For = codes "for"
+word_spelling w.Setverdict = codes "setverdict"
+word_spelling w.NoneWord = codes "none"
+word_spelling w.Pass = codes "pass"
+word_spelling w.Inconc = codes "inconc"
+word_spelling w.Fail = codes "fail"
+word_spelling w.Error = codes "error"
+word_spelling w.All = codes "all"
+word_spelling w.Done = codes "done"
+word_spelling w.True = codes "true"
+word_spelling w.False = codes "false"
+word_spelling w.Integer = codes "integer"
+word_spelling w.Boolean = codes "boolean"
+word_spelling w.Charstring = codes "charstring"
+word_spelling w.Complement = codes "complement"
+word_spelling w.Pattern = codes "pattern"
+word_spelling w.Infinity = codes "infinity"
+word_spelling w.Value = codes "value"
+word_spelling w.Sender = codes "sender"
+
+-- all of them, from the shortest to the longest
+abbrev pub words : List Word
+words =
+    w.Of ∷ w.In ∷ w.On ∷ w.To ∷
+    w.Out ∷ w.Var ∷ w.Map ∷ w.Mtc ∷ w.Alt ∷ w.For ∷ w.All ∷
+    w.Type ∷ w.Port ∷ w.Runs ∷ w.SelfWord ∷ w.Stop ∷ w.Halt ∷ w.Send ∷ w.From ∷ w.Else ∷ w.NoneWord ∷ w.Pass ∷
+    w.Fail ∷ w.Done ∷ w.True ∷
+    w.Inout ∷ w.Start ∷ w.Clear ∷ w.Check ∷ w.Error ∷ w.False ∷ w.Value ∷
+    w.Module ∷ w.Record ∷ w.System ∷ w.Create ∷ w.Inconc ∷ w.Sender ∷
+    w.Message ∷ w.Connect ∷ w.Receive ∷ w.Trigger ∷ w.Integer ∷ w.Boolean ∷ w.Pattern ∷
+    w.Function ∷ w.Testcase ∷ w.Infinity ∷
+    w.Component ∷
+    w.Setverdict ∷ w.Charstring ∷ w.Complement ∷ []
+
+-- the word of the first entry of a table that is spelled so
+abbrev pub first_spelled : List ℕ → List (List ℕ × Word) → Option Word
+first_spelled bs [] = None
+first_spelled bs (entry ∷ more) = if bytes_eq bs entry.0 then Some entry.1 else first_spelled bs more
+
+-- the reserved words as they are spelled
+unfoldable pub reserved : List (List ℕ × Word)
+reserved = map (λ word. (word_spelling word, word)) words
+
+-- the reserved word that the bytes spell, if they spell one
+abbrev pub word_of : List ℕ → Option Word
+word_of bs = first_spelled bs reserved
+
+-- the bytes spell a reserved word exactly where they are its spelling
+abbrev pub WordsAreSpelled : Type 0
+WordsAreSpelled = (bs : List ℕ) (word : Word) → (word_of bs ≡ Some word) ↔ (bs ≡ word_spelling word)
+
+-- whether the word of an entry has so many characters
+abbrev pub has_length : ℕ → List ℕ × Word → Bool
+has_length n entry = length entry.0 == n

@@ -1,6 +1,0 @@
--- The first bytes are written; a writer that had failed before has written nothing.
-use Rattle.tp_text.proofs.WatchedWriterGrowth.{HasWritten}
-use Rattle.tp_text.proofs.watched.write_rest.Given as goal
-
-abbrev pub invariant-loop : goal.invariant-loop
-invariant-loop g l = HasWritten g.W.Write.contents l.initial.out l.out l.bytes l.at
