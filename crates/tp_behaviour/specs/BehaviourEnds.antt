@@ -1,5 +1,6 @@
 -- How a behaviour ends, and what it means that a history follows a behaviour to its end.
-use Rattle.std.specs.Prelude.{◌≡◌, ◌<◌, ◌⊎◌, ◌+ℤ◌, ℕ, ℤ, pos, Bool, true, Option, Some, None, List, [], ◌∷◌, ◌++◌, All, slice_get}
+use Rattle.std.specs.Prelude.{◌≡◌, ◌<◌, ◌⊎◌, ◌+ℤ◌, ℕ, ℤ, pos, Bool, true, Option, Some, None, List, [], ◌∷◌, ◌++◌, All}
+use Rattle.std.specs.Prelude.{slice_get}
 use Rattle.tp_common.specs.declared.event.Env.{Env}
 use Rattle.tp_config.specs.declared.port_type.CompId.{CompId}
 use Rattle.tp_config.specs.declared.routes.RouteFault.{RouteFault}

@@ -1,6 +1,7 @@
 -- What it means that what a component did follows its behaviour (ES 201 873-1, 19 to 24; 201 873-4 in its own words:
 -- the states of an entity that evaluates its statements one after the other). A path is a list of moments.
-use Rattle.std.specs.Prelude.{◌≡◌, ◌≢◌, ℕ, suc, ℤ, pos, ◌+ℤ◌, Bool, true, false, Option, Some, None, List, [], ◌∷◌, ◌++◌, All, length, map, slice_get}
+use Rattle.std.specs.Prelude.{◌≡◌, ◌≢◌, ℕ, suc, ℤ, pos, ◌+ℤ◌, Bool, true, false, Option, Some, None, List, [], ◌∷◌}
+use Rattle.std.specs.Prelude.{◌++◌, All, length, map, slice_get}
 use Rattle.std.specs.List.{AllZip}
 use Rattle.tp_common.specs.declared.event.Env.{Env}
 use Rattle.tp_common.specs.declared.event.Status.TheVariants as status

@@ -1,6 +1,7 @@
 -- What each call does to the queue of a port, with what crosses to C and back. The definitions are those of tp_queue;
 -- here an answer is read as what the call of the queue answered.
-use Rattle.std.specs.Prelude.{◌≡◌, ◌↔◌, ℕ, zero, suc, Option, Some, None, [], ◌∷◌, ◌++◌, Bool, true, false, IsTrue, length, slice_get}
+use Rattle.std.specs.Prelude.{◌≡◌, ◌↔◌, ℕ, zero, suc, Option, Some, None, [], ◌∷◌, ◌++◌, Bool, true, false, IsTrue}
+use Rattle.std.specs.Prelude.{length, slice_get}
 use Rattle.tp_common.specs.declared.event.Env.{Env}
 use Rattle.tp_common.specs.declared.event.Event.TheVariants as event
 use Rattle.tp_common.specs.declared.event.Status.{Status}

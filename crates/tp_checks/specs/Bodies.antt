@@ -53,7 +53,8 @@ use Rattle.tp_checks.specs.declared.scope.BehaviourKind.TheVariants as behaviour
 use Rattle.tp_checks.specs.declared.scope.Scope.{Scope}
 use Rattle.tp_checks.specs.declared.scope.Variables.{Variables}
 use Rattle.tp_checks.specs.Named.{IsPlace, IsAbsent}
-use Rattle.tp_checks.specs.Scoping.{IsPortNamed, sendable_types, receivable_types, IsType, IsVariable, IsReference, IsNew, declared_port_names}
+use Rattle.tp_checks.specs.Scoping.{IsPortNamed, sendable_types, receivable_types, IsType, IsVariable, IsReference}
+use Rattle.tp_checks.specs.Scoping.{IsNew, declared_port_names}
 use Rattle.tp_checks.specs.Messages.{IsMessage, IsTemplate}
 
 -- what is sent, where this is the list of the types that can be sent there

@@ -23,7 +23,8 @@ use Rattle.tp_checks.specs.declared.fault.ModuleRule.TheVariants as rule
 use Rattle.tp_checks.specs.Named.{IsPlace, IsAbsent}
 use Rattle.tp_checks.specs.declared.scope.Scope.{Scope}
 use Rattle.tp_checks.specs.declared.scope.Variables.{Variables}
-use Rattle.tp_checks.specs.Scoping.{IsPortNamed, IsReference, IsType, IsVariable, declared_port_names, receivable_types, sendable_types}
+use Rattle.tp_checks.specs.Scoping.{IsPortNamed, IsReference, IsType, IsVariable, declared_port_names, receivable_types}
+use Rattle.tp_checks.specs.Scoping.{sendable_types}
 use Rattle.tp_checks.specs.Bodies.{IsFrom, IsSent, IsValueTarget, IsWanted}
 use Rattle.tp_checks.specs.BrokenValues.{ValueBreaks}
 use Rattle.tp_checks.specs.BrokenTemplates.{TemplateBreaks}

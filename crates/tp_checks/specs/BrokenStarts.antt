@@ -11,7 +11,8 @@ use Rattle.tp_tree.specs.declared.tree.SetupStatement.{SetupStatement}
 use Rattle.tp_tree.specs.declared.tree.TestCase.{TestCase}
 use Rattle.tp_config.specs.declared.port_type.CompId.{CompId}
 use Rattle.tp_checks.specs.declared.fault.ModuleRule.{ModuleRule}
-use Rattle.tp_checks.specs.declared.fault.ModuleRule.TheVariants.{Unknown, WrongType, Limit, NotInSut, NoDone, NotStarted}
+use Rattle.tp_checks.specs.declared.fault.ModuleRule.TheVariants.{Unknown, WrongType, Limit, NotInSut, NoDone}
+use Rattle.tp_checks.specs.declared.fault.ModuleRule.TheVariants.{NotStarted}
 use Rattle.tp_checks.specs.Tables.{IsNumbered, place_of_name}
 use Rattle.tp_checks.specs.declared.starts.StartedComponent.{StartedComponent}
 use Rattle.tp_checks.specs.Components.{creation_of, creations, variable_name, variables}

@@ -13,7 +13,8 @@ use Rattle.tp_checks.specs.Rules.{AreMessagesKnown, AreSoundTypes, IsSound, IsSo
 use Rattle.tp_checks.specs.Resolved.{IsComponentType, IsMade}
 use Rattle.std.specs.List.{AllZip}
 use Rattle.tp_tree.specs.declared.tree.TestCase.{TestCase}
-use Rattle.tp_checks.specs.Definitions.{of_kind, component_type_of, component_type_names, function_of, name_of, port_type_of}
+use Rattle.tp_checks.specs.Definitions.{of_kind, component_type_of, component_type_names, function_of, name_of}
+use Rattle.tp_checks.specs.Definitions.{port_type_of}
 use Rattle.tp_checks.specs.Definitions.{port_type_names, type_names, type_of}
 
 -- these are the definitions of one kind, and their names

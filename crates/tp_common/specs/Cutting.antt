@@ -1,5 +1,6 @@
 -- The lines of a text, and the words of a line.
-use Rattle.std.specs.Prelude.{◌≡◌, ℕ, ◌-◌, ◌≤◌, ◌==◌, Bool, not, Option, Some, None, List, [], ◌∷◌, length, take, drop, cond}
+use Rattle.std.specs.Prelude.{◌≡◌, ℕ, ◌-◌, ◌≤◌, ◌==◌, Bool, not, Option, Some, None, List, [], ◌∷◌, length, take, drop}
+use Rattle.std.specs.Prelude.{cond}
 use Rattle.std.specs.List.{onto_first, slice_split, list_all}
 
 -- the lines of a text: each ends at a byte 10, which the last may lack

@@ -1,7 +1,8 @@
 -- Which configurations are allowed (ES 201 873-1, 9.1 and 21.1).
 use Rattle.std.specs.Prelude.{◌≡◌, ◌≤◌, ◌<◌, ◌≢◌, true, false, List, length, All, AllPairs, Contains}
 use Rattle.tp_config.specs.declared.port_type.PortRef.{PortRef}
-use Rattle.tp_config.specs.Setup.{Setup, PortDecl, Member, IsPort, is_system, is_system_member, ins, outs, connecting, mapping}
+use Rattle.tp_config.specs.Setup.{Setup, PortDecl, Member, IsPort, is_system, is_system_member, ins, outs, connecting}
+use Rattle.tp_config.specs.Setup.{mapping}
 use Rattle.tp_config.specs.Pairs.{partners}
 
 -- what each port sends the other receives

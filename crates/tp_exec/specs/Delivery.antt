@@ -1,5 +1,6 @@
 -- What a report promises of the messages of a run.
-use Rattle.std.specs.Prelude.{◌≡◌, ◌<◌, ℕ, List, [], ◌∷◌, Option, Some, None, Contains, length, map, slice_get, string_bytes, ◌+◌, ⊤}
+use Rattle.std.specs.Prelude.{◌≡◌, ◌<◌, ℕ, List, [], ◌∷◌, Option, Some, None, Contains, length, map, slice_get}
+use Rattle.std.specs.Prelude.{string_bytes, ◌+◌, ⊤}
 use Rattle.tp_queue.specs.History.{Lawful}
 use Rattle.tp_config.specs.declared.port_type.CompId.{CompId}
 use Rattle.tp_config.specs.declared.port_type.RouteId.{RouteId}

@@ -1,5 +1,6 @@
 -- How the workers of a run come about: first each with its inbox alone, then with the senders of the links from it.
-use Rattle.std.specs.Prelude.{◌≡◌, ◌≢◌, ◌<◌, ◌==◌, ◌++◌, ℕ, Bool, Some, List, [], ◌∷◌, All, AllPairs, filter, length, map, slice_get, slice_set}
+use Rattle.std.specs.Prelude.{◌≡◌, ◌≢◌, ◌<◌, ◌==◌, ◌++◌, ℕ, Bool, Some, List, [], ◌∷◌, All, AllPairs, filter, length}
+use Rattle.std.specs.Prelude.{map, slice_get, slice_set}
 use Rattle.tp_config.specs.Setup.{Setup, ports_at}
 use Rattle.tp_config.specs.Routes.{routes_into}
 use Rattle.tp_inbox.specs.Desks.{Journal, new_desk}

@@ -1,5 +1,6 @@
 -- Envelopes, read route by route.
-use Rattle.std.specs.Prelude.{◌≡◌, ℕ, ◌<◌, ◌==◌, ◌-◌, ◌||◌, Bool, false, cond, Option, Some, None, List, [], ◌∷◌, ◌++◌, length, take, filter, slice_index_or, All}
+use Rattle.std.specs.Prelude.{◌≡◌, ℕ, ◌<◌, ◌==◌, ◌-◌, ◌||◌, Bool, false, cond, Option, Some, None, List, [], ◌∷◌, ◌++◌}
+use Rattle.std.specs.Prelude.{length, take, filter, slice_index_or, All}
 use Rattle.tp_inbox.specs.declared.envelope.InboxEnvelope.{InboxEnvelope}
 use Rattle.tp_inbox.specs.declared.stamped.Stamped.{Stamped}
 use Rattle.tp_inbox.specs.History.{numbered}

@@ -1,6 +1,7 @@
 -- The history of a component, and what it says: of each port, of each route, and of what its behaviour did.
 -- A history is the whole list of the component's entries, the oldest first. It only grows; a definition filters it.
-use Rattle.std.specs.Prelude.{◌≡◌, ℕ, ◌+◌, ◌<◌, max, Bool, true, false, not, ◌&&◌, ◌==◌, cond, Option, Some, None, List, [], ◌∷◌, filter, slice_get, take}
+use Rattle.std.specs.Prelude.{◌≡◌, ℕ, ◌+◌, ◌<◌, max, Bool, true, false, not, ◌&&◌, ◌==◌, cond, Option, Some, None, List}
+use Rattle.std.specs.Prelude.{[], ◌∷◌, filter, slice_get, take}
 use Rattle.std.specs.List.{filter_map}
 use Rattle.tp_common.specs.declared.event.Event.{Event}
 use Rattle.tp_common.specs.declared.event.Event.TheVariants as event

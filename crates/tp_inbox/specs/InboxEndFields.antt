@@ -1,5 +1,6 @@
 -- What the fields of an inbox's ends have to do with its queue.
-use Rattle.std.specs.Prelude.{◌≡◌, ◌≢◌, ◌<◌, ◌≤◌, ◌==◌, ◌%◌, ◌^◌, ℕ, Option, Some, None, List, [], ◌∷◌, ◌++◌, length, map, slice_index_or, vec_capacity, All, AllPairs}
+use Rattle.std.specs.Prelude.{◌≡◌, ◌≢◌, ◌<◌, ◌≤◌, ◌==◌, ◌%◌, ◌^◌, ℕ, Option, Some, None, List, [], ◌∷◌, ◌++◌, length}
+use Rattle.std.specs.Prelude.{map, slice_index_or, vec_capacity, All, AllPairs}
 use Rattle.std.specs.Arc.{arc_value}
 use Rattle.crossbeam_queue.specs.SegTies.{IsSegPassOf}
 use Rattle.tp_inbox.specs.declared.posted.Posted.{Posted}
@@ -11,7 +12,8 @@ use Rattle.tp_inbox.specs.declared.envelope.InboxEnvelope.{InboxEnvelope}
 use Rattle.tp_inbox.specs.declared.rule.View.{View}
 use Rattle.tp_inbox.specs.declared.sender.Sender.TheInside as sender
 use Rattle.tp_inbox.specs.declared.owner.Owner.TheInside as owner
-use Rattle.tp_inbox.specs.Envelopes.{of, has, one_of, envelopes_before, AreRouted, AreWhole, EndsWith, AreCounts, Ledger}
+use Rattle.tp_inbox.specs.Envelopes.{of, has, one_of, envelopes_before, AreRouted, AreWhole, EndsWith, AreCounts}
+use Rattle.tp_inbox.specs.Envelopes.{Ledger}
 use Rattle.tp_inbox.specs.Rule.{sender_pass, Sound}
 use Rattle.tp_inbox.specs.Routed.{arrivals_of, posted_of, route_at}
 use Rattle.tp_inbox.specs.Places.{AreFiled}

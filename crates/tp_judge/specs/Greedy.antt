@@ -1,5 +1,6 @@
 -- What it is that a component can go on in its history, and that none can.
-use Rattle.std.specs.Prelude.{◌≡◌, ℕ, zero, suc, ◌+◌, ◌<◌, ◌≤◌, ◌==◌, Some, List, cond, length, take, slice_get, slice_index}
+use Rattle.std.specs.Prelude.{◌≡◌, ℕ, zero, suc, ◌+◌, ◌<◌, ◌≤◌, ◌==◌, Some, List, cond, length, take, slice_get}
+use Rattle.std.specs.Prelude.{slice_index}
 use Rattle.std.specs.List.{sum_by}
 use Rattle.tp_judge.specs.declared.progress.OrderProgress.{OrderProgress}
 use Rattle.tp_judge.specs.declared.kind.EntryKind.{EntryKind}

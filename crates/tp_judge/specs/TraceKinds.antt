@@ -1,5 +1,6 @@
 -- The lines of a trace, as histories by kinds.
-use Rattle.std.specs.Prelude.{◌≡◌, ◌≤◌, ◌<◌, ◌==◌, ◌+◌, ℕ, List, [], if◌then◌else◌, length, map, slice_index, slice_index_or}
+use Rattle.std.specs.Prelude.{◌≡◌, ◌≤◌, ◌<◌, ◌==◌, ◌+◌, ℕ, List, [], if◌then◌else◌, length, map, slice_index}
+use Rattle.std.specs.Prelude.{slice_index_or}
 use Rattle.std.specs.Prelude.{take}
 use Rattle.std.proofs.Common.{ap}
 use Rattle.std.proofs.lemmas.List.{get_or_past}

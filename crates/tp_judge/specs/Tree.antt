@@ -16,7 +16,8 @@ use Rattle.tp_judge.specs.declared.referee.form.TracePosition.TheVariants as pla
 use Rattle.tp_judge.specs.declared.referee.line.MessageWords.{MessageWords}
 use Rattle.tp_judge.specs.declared.referee.line.Line.{Line}
 use Rattle.tp_judge.specs.declared.referee.line.Line.TheVariants as line
-use Rattle.tp_judge.specs.LineTexts.{Letter, Told, begins, passed, operated, otherwise, remarked, ended, resulted, Spells}
+use Rattle.tp_judge.specs.LineTexts.{Letter, Told, begins, passed, operated, otherwise, remarked, ended, resulted}
+use Rattle.tp_judge.specs.LineTexts.{Spells}
 use Rattle.tp_judge.specs.LineTexts.{Says, verb_text}
 
 abbrev pub letter_of : MessageWords → Letter

@@ -1,5 +1,6 @@
 -- How many statements a body has, once each `for` stands for its copies.
-use Rattle.std.specs.Prelude.{ℕ, ◌+◌, ◌*◌, ℤ, ◌-ℤ◌, List, Option, Some, None, map, sum, length, nat_lt, int_lt, unsigned_abs, if◌then◌else◌}
+use Rattle.std.specs.Prelude.{ℕ, ◌+◌, ◌*◌, ℤ, ◌-ℤ◌, List, Option, Some, None, map, sum, length, nat_lt, int_lt}
+use Rattle.std.specs.Prelude.{unsigned_abs, if◌then◌else◌}
 use Rattle.tp_play.specs.declared.body.ResolvedStatement.{ResolvedStatement}
 use Rattle.tp_play.specs.declared.body.ResolvedStatement.TheOpen as o
 use Rattle.tp_play.specs.declared.body.ResolvedStatement.TheFolds.{fold-ResolvedBranch, fold-ResolvedStatement}

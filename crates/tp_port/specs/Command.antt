@@ -7,7 +7,8 @@ use Rattle.tp_port.specs.declared.command.Criteria.{Criteria}
 use Rattle.tp_port.specs.declared.command.CommandVerb.{CommandVerb}
 use Rattle.tp_port.specs.declared.command.Command.{Command}
 use Rattle.tp_port.specs.declared.command.Command.TheVariants as command
-use Rattle.tp_port.specs.QueueLine.{QueueLine, Wish, IsQueueLine, arrive, receive, check, trigger, clear, start, stop, halt, operands, verb_of}
+use Rattle.tp_port.specs.QueueLine.{QueueLine, Wish, IsQueueLine, arrive, receive, check, trigger, clear, start, stop}
+use Rattle.tp_port.specs.QueueLine.{halt, operands, verb_of}
 
 -- the words that are left of a line
 abbrev pub words_left : Option (Bor (List ℕ)) → List (List ℕ)

@@ -1,5 +1,6 @@
 -- The lines of a queue file: what each one says, and how it is spelled.
-use Rattle.std.specs.Prelude.{◌≡◌, ◌⊎◌, ℕ, ℤ, ◌-◌, ◌<◌, ◌≤◌, Bool, true, false, Option, Some, None, List, [], ◌∷◌, length, take, slice_get, get_or, codes, IfSome, All, FitsSigned}
+use Rattle.std.specs.Prelude.{◌≡◌, ◌⊎◌, ℕ, ℤ, ◌-◌, ◌<◌, ◌≤◌, Bool, true, false, Option, Some, None, List, [], ◌∷◌}
+use Rattle.std.specs.Prelude.{length, take, slice_get, get_or, codes, IfSome, All, FitsSigned}
 use Rattle.std.specs.Int.{IsInRange, w64}
 use Rattle.std.specs.List.{list_all, AllZip}
 use Rattle.std.specs.Char.{is_ascii_alphabetic, is_ascii_alphanumeric}

@@ -2,7 +2,8 @@
 -- A history is the whole list of the port's events, the oldest first, which only grows; a definition filters, cuts and
 -- counts that list.
 -- The clauses are those of ES 201 873-1; ES 201 873-4 has the same as the states of ports and their queues.
-use Rattle.std.specs.Prelude.{◌≡◌, ℕ, ◌+◌, ◌-◌, Bool, true, false, nat_lt, cond, Option, Some, None, List, length, take, drop, slice_get, count_by}
+use Rattle.std.specs.Prelude.{◌≡◌, ℕ, ◌+◌, ◌-◌, Bool, true, false, nat_lt, cond, Option, Some, None, List, length, take}
+use Rattle.std.specs.Prelude.{drop, slice_get, count_by}
 use Rattle.std.specs.List.{filter_map, list_any, after_first, after_last, before_last}
 use Rattle.tp_common.specs.declared.event.Env.{Env}
 use Rattle.tp_common.specs.declared.event.Event.{Event}

@@ -1,5 +1,6 @@
 -- Whether a value has a type, as a test that a text can depend on. It is true exactly where `HasType` holds.
-use Rattle.std.specs.Prelude.{ℕ, ℤ, pos, negsuc, Bool, true, false, ◌&&◌, nat_le, nat_lt, List, [], ◌∷◌, Option, Some, None}
+use Rattle.std.specs.Prelude.{ℕ, ℤ, pos, negsuc, Bool, true, false, ◌&&◌, nat_le, nat_lt, List, [], ◌∷◌, Option, Some}
+use Rattle.std.specs.Prelude.{None}
 use Rattle.std.specs.List.{list_all}
 use Rattle.tp_value.specs.declared.types.Ty.{Ty}
 use Rattle.tp_value.specs.declared.types.Ty.TheVariants as ty

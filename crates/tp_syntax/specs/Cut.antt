@@ -1,5 +1,6 @@
 -- The tokens of a text: how it is cut into pieces.
-use Rattle.std.specs.Prelude.{◌≡◌, ℕ, ◌+◌, ◌<◌, ◌≤◌, Bool, false, List, [], ◌∷◌, ◌++◌, length, take, drop, Option, Some, None, codes, count_by, ◌==◌, if◌then◌else◌}
+use Rattle.std.specs.Prelude.{◌≡◌, ℕ, ◌+◌, ◌<◌, ◌≤◌, Bool, false, List, [], ◌∷◌, ◌++◌, length, take, drop, Option, Some}
+use Rattle.std.specs.Prelude.{None, codes, count_by, ◌==◌, if◌then◌else◌}
 use Rattle.tp_syntax.specs.declared.byte.Kind.{Kind}
 use Rattle.tp_syntax.specs.declared.byte.Kind.TheVariants.{Blank}
 use Rattle.tp_syntax.specs.Lexeme.{Lexeme, PlacedLexeme}

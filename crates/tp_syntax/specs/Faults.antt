@@ -1,10 +1,13 @@
 -- Where the grammar refuses a text that has tokens: which tokens are beyond the limits, and which lines may be named.
-use Rattle.std.specs.Prelude.{◌≡◌, ℕ, zero, ◌+◌, ◌-◌, ◌<◌, ◌≤◌, min, ◌⊎◌, Bool, true, false, List, [], ◌∷◌, ◌++◌, map, length, take, drop, Option, None, Some}
+use Rattle.std.specs.Prelude.{◌≡◌, ℕ, zero, ◌+◌, ◌-◌, ◌<◌, ◌≤◌, min, ◌⊎◌, Bool, true, false, List, [], ◌∷◌, ◌++◌, map}
+use Rattle.std.specs.Prelude.{length, take, drop, Option, None, Some}
 use Rattle.tp_syntax.specs.declared.script_fault.TextRule.TheVariants.{Syntax, Limit}
 use Rattle.tp_syntax.specs.declared.script_fault.ScriptFault.{ScriptFault}
 use Rattle.tp_syntax.specs.declared.script_fault.ScriptFault.TheVariants.{Refused, Memory}
 use Rattle.tp_syntax.specs.declared.token.Symbol.{Symbol}
-use Rattle.tp_syntax.specs.declared.token.Symbol.TheVariants.{LeftBrace, RightBrace, LeftParen, RightParen, LeftBracket, RightBracket, Comma, Semicolon, Colon, Dot, Question, Star, Minus, Less, Plus, DotDot, Assign, Arrow}
+use Rattle.tp_syntax.specs.declared.token.Symbol.TheVariants.{LeftBrace, RightBrace, LeftParen, RightParen, LeftBracket}
+use Rattle.tp_syntax.specs.declared.token.Symbol.TheVariants.{RightBracket, Comma, Semicolon, Colon, Dot, Question}
+use Rattle.tp_syntax.specs.declared.token.Symbol.TheVariants.{Star, Minus, Less, Plus, DotDot, Assign, Arrow}
 use Rattle.tp_syntax.specs.declared.token.Placed.{Placed}
 use Rattle.tp_syntax.specs.Lexeme.{Lexeme, name, word, number, text, symbol, PlacedLexeme, placed_lexeme}
 use Rattle.tp_tree.specs.declared.tree.Module.{Module}

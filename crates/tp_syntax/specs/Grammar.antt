@@ -1,6 +1,7 @@
 -- What the grammar asks of a tree beside its tokens: what may not be empty, which characters a pattern has, and where a
 -- `;` may be missing. That an `[else]` is the last branch, and that a `for` has one name, the tree can't say otherwise.
-use Rattle.std.specs.Prelude.{ℕ, ℤ, pos, negsuc, nat_lt, Bool, true, false, not, ◌&&◌, ◌||◌, ◌==◌, IsTrue, List, [], ◌∷◌, ◌++◌, map, Option, Some, None, option_to_list}
+use Rattle.std.specs.Prelude.{ℕ, ℤ, pos, negsuc, nat_lt, Bool, true, false, not, ◌&&◌, ◌||◌, ◌==◌, IsTrue, List, []}
+use Rattle.std.specs.Prelude.{◌∷◌, ◌++◌, map, Option, Some, None, option_to_list}
 use Rattle.std.specs.List.{list_all, list_any}
 use Rattle.tp_tree.specs.declared.message.Value.{Value}
 use Rattle.tp_tree.specs.declared.message.Value.TheOpen as v
@@ -17,7 +18,8 @@ use Rattle.tp_tree.specs.declared.tree.Variable.{Variable}
 use Rattle.tp_tree.specs.declared.tree.Statement.{Statement}
 use Rattle.tp_tree.specs.declared.tree.Action.{Action}
 use Rattle.tp_tree.specs.declared.tree.Action.TheOpen as s
-use Rattle.tp_tree.specs.declared.tree.Action.TheFolds.{fold-Action, fold-BranchBody, fold-Branch, fold-Counted, fold-ElseBranch, fold-Statement}
+use Rattle.tp_tree.specs.declared.tree.Action.TheFolds.{fold-Action, fold-BranchBody, fold-Branch, fold-Counted}
+use Rattle.tp_tree.specs.declared.tree.Action.TheFolds.{fold-ElseBranch, fold-Statement}
 use Rattle.tp_tree.specs.declared.tree.Branch.{Branch}
 use Rattle.tp_tree.specs.declared.tree.BranchBody.{BranchBody}
 use Rattle.tp_tree.specs.declared.tree.Counted.{Counted}

@@ -1,7 +1,8 @@
 -- The lines that a tree notes: each is that of the first token of what it is noted of.
 use Rattle.std.specs.Prelude.{◌≡◌, ℕ, Bool, true, List, [], ◌∷◌, ◌++◌, map, Option, Some, None}
 use Rattle.tp_syntax.specs.declared.word.Word.TheVariants as w
-use Rattle.tp_syntax.specs.declared.token.Symbol.TheVariants.{Comma, LeftBrace, LeftBracket, LeftParen, Minus, RightBrace, RightBracket, RightParen}
+use Rattle.tp_syntax.specs.declared.token.Symbol.TheVariants.{Comma, LeftBrace, LeftBracket, LeftParen, Minus}
+use Rattle.tp_syntax.specs.declared.token.Symbol.TheVariants.{RightBrace, RightBracket, RightParen}
 use Rattle.tp_syntax.specs.Lexeme.{Lexeme, PlacedLexeme, name, word, symbol}
 use Rattle.tp_syntax.specs.Cut.{AreTokens}
 use Rattle.tp_tree.specs.declared.tree.DeclaredName.{DeclaredName}
@@ -9,7 +10,8 @@ use Rattle.tp_tree.specs.declared.tree.Variable.{Variable}
 use Rattle.tp_tree.specs.declared.tree.Statement.{Statement}
 use Rattle.tp_tree.specs.declared.tree.Action.{Action}
 use Rattle.tp_tree.specs.declared.tree.Action.TheOpen as s
-use Rattle.tp_tree.specs.declared.tree.Action.TheFolds.{fold-Action, fold-BranchBody, fold-Branch, fold-Counted, fold-ElseBranch, fold-Statement}
+use Rattle.tp_tree.specs.declared.tree.Action.TheFolds.{fold-Action, fold-BranchBody, fold-Branch, fold-Counted}
+use Rattle.tp_tree.specs.declared.tree.Action.TheFolds.{fold-ElseBranch, fold-Statement}
 use Rattle.tp_tree.specs.declared.tree.Branch.{Branch}
 use Rattle.tp_tree.specs.declared.tree.BranchBody.{BranchBody}
 use Rattle.tp_tree.specs.declared.tree.Counted.{Counted}
@@ -30,8 +32,10 @@ use Rattle.tp_tree.specs.declared.tree.Module.{Module}
 use Rattle.tp_syntax.specs.Ahead.{starts_zero}
 use Rattle.tp_syntax.specs.Sequences.{end_lexemes}
 use Rattle.tp_syntax.specs.Values.{type_lexemes}
-use Rattle.tp_syntax.specs.Statements.{send_lexemes, receive_lexemes, control_lexemes, all_ports_lexemes, set_verdict_lexemes, turns_lexemes, variable_lexemes}
-use Rattle.tp_syntax.specs.Definitions.{declared_name_lexemes, list_type_lexemes, port_type_lexemes, setup_lexemes, start_lexemes, all_done_lexemes, system_lexemes}
+use Rattle.tp_syntax.specs.Statements.{send_lexemes, receive_lexemes, control_lexemes, all_ports_lexemes}
+use Rattle.tp_syntax.specs.Statements.{set_verdict_lexemes, turns_lexemes, variable_lexemes}
+use Rattle.tp_syntax.specs.Definitions.{declared_name_lexemes, list_type_lexemes, port_type_lexemes, setup_lexemes}
+use Rattle.tp_syntax.specs.Definitions.{start_lexemes, all_done_lexemes, system_lexemes}
 
 -- a token of the tree, and the line that is noted at it, if one is
 pub record Noted : Type 0 where

@@ -17,7 +17,8 @@ use Rattle.tp_tree.specs.declared.tree.Receive.{Receive}
 use Rattle.tp_tree.specs.declared.tree.Statement.{Statement}
 use Rattle.tp_tree.specs.declared.tree.Action.{Action}
 use Rattle.tp_tree.specs.declared.tree.Action.TheOpen as s
-use Rattle.tp_tree.specs.declared.tree.Action.TheFolds.{fold-Action, fold-BranchBody, fold-Branch, fold-Counted, fold-ElseBranch, fold-Statement}
+use Rattle.tp_tree.specs.declared.tree.Action.TheFolds.{fold-Action, fold-BranchBody, fold-Branch, fold-Counted}
+use Rattle.tp_tree.specs.declared.tree.Action.TheFolds.{fold-ElseBranch, fold-Statement}
 use Rattle.tp_tree.specs.declared.tree.Branch.{Branch}
 use Rattle.tp_tree.specs.declared.tree.BranchBody.{BranchBody}
 use Rattle.tp_tree.specs.declared.tree.Counted.{Counted}

@@ -3,7 +3,8 @@ use Rattle.std.specs.Prelude.{ℕ, ◌≡◌, Bool, true, false, ◌&&◌, ◌�
 use Rattle.tp_syntax.specs.declared.word.Word.{Word}
 use Rattle.tp_syntax.specs.declared.word.Word.TheVariants as w
 use Rattle.tp_syntax.specs.declared.token.Placed.{Placed}
-use Rattle.tp_syntax.specs.declared.token.Symbol.TheVariants.{Assign, Dot, DotDot, Minus, LeftBrace, LeftBracket, LeftParen, RightBrace, RightParen, Semicolon}
+use Rattle.tp_syntax.specs.declared.token.Symbol.TheVariants.{Assign, Dot, DotDot, Minus, LeftBrace, LeftBracket}
+use Rattle.tp_syntax.specs.declared.token.Symbol.TheVariants.{LeftParen, RightBrace, RightParen, Semicolon}
 use Rattle.tp_syntax.specs.Lexeme.{Lexeme, name, word, symbol}
 use Rattle.tp_common.specs.declared.operation.ReceiveKind.{ReceiveKind}
 use Rattle.tp_common.specs.declared.operation.ReceiveKind.TheVariants as receive_kind

@@ -1,6 +1,7 @@
 -- The tokens of sequences, and of parts that may be missing.
 use Rattle.std.specs.Prelude.{Bool, true, false, List, [], ◌∷◌, ◌++◌}
-use Rattle.tp_syntax.specs.declared.token.Symbol.TheVariants.{Comma, Semicolon, LeftBrace, RightBrace, LeftParen, RightParen}
+use Rattle.tp_syntax.specs.declared.token.Symbol.TheVariants.{Comma, Semicolon, LeftBrace, RightBrace, LeftParen}
+use Rattle.tp_syntax.specs.declared.token.Symbol.TheVariants.{RightParen}
 use Rattle.tp_syntax.specs.Lexeme.{Lexeme, symbol}
 
 -- what follows the first of several, a comma before each

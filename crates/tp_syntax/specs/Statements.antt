@@ -2,7 +2,8 @@
 use Rattle.std.specs.Prelude.{ℕ, List, [], ◌∷◌, ◌++◌, map, Option, Some, None}
 use Rattle.tp_syntax.specs.declared.word.Word.{Word}
 use Rattle.tp_syntax.specs.declared.word.Word.TheVariants as w
-use Rattle.tp_syntax.specs.declared.token.Symbol.TheVariants.{Dot, LeftParen, RightParen, LeftBracket, RightBracket, Arrow, Assign, Semicolon, Less, Plus}
+use Rattle.tp_syntax.specs.declared.token.Symbol.TheVariants.{Dot, LeftParen, RightParen, LeftBracket, RightBracket}
+use Rattle.tp_syntax.specs.declared.token.Symbol.TheVariants.{Arrow, Assign, Semicolon, Less, Plus}
 use Rattle.tp_syntax.specs.Lexeme.{Lexeme, name, word, number, symbol}
 use Rattle.tp_tree.specs.declared.tree.ComponentName.{ComponentName}
 use Rattle.tp_tree.specs.declared.tree.ComponentName.TheVariants as component_name
@@ -26,7 +27,8 @@ use Rattle.tp_tree.specs.declared.tree.Turns.{Turns}
 use Rattle.tp_tree.specs.declared.tree.Statement.{Statement}
 use Rattle.tp_tree.specs.declared.tree.Action.{Action}
 use Rattle.tp_tree.specs.declared.tree.Action.TheOpen as s
-use Rattle.tp_tree.specs.declared.tree.Action.TheFolds.{fold-Action, fold-BranchBody, fold-Branch, fold-Counted, fold-ElseBranch, fold-Statement}
+use Rattle.tp_tree.specs.declared.tree.Action.TheFolds.{fold-Action, fold-BranchBody, fold-Branch, fold-Counted}
+use Rattle.tp_tree.specs.declared.tree.Action.TheFolds.{fold-ElseBranch, fold-Statement}
 use Rattle.tp_tree.specs.declared.tree.Branch.{Branch}
 use Rattle.tp_tree.specs.declared.tree.BranchBody.{BranchBody}
 use Rattle.tp_tree.specs.declared.tree.Counted.{Counted}
