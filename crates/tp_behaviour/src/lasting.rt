@@ -1,6 +1,7 @@
 //! The templates without a loop variable, which last while a behaviour runs.
 ghost use Rattle.std.specs.Prelude.{IfOk};
-ghost use Rattle.tp_behaviour.specs.Lasting.{AreLasting, AreLastingBranches, IsLasting, IsLastingBranch, IsWantedAlways};
+ghost use Rattle.tp_behaviour.specs.Lasting.{AreLasting, AreLastingBranches, IsLasting, IsLastingBranch};
+ghost use Rattle.tp_behaviour.specs.Lasting.{IsWantedAlways};
 
 use crate::fixed::is_fixed;
 use std::alloc::Global;

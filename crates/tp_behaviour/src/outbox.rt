@@ -1,11 +1,13 @@
 //! A component's senders.
-ghost use Rattle.std.specs.Prelude.{◌≡◌, ◌≢◌, ◌↔◌, ◌<◌, [], ◌∷◌, ◌++◌, ℕ, All, Contains, IfErr, IsTrue, OnErr, OnOk, Some, length, slice_get, vec_capacity, vec_len};
+ghost use Rattle.std.specs.Prelude.{◌≡◌, ◌≢◌, ◌↔◌, ◌<◌, [], ◌∷◌, ◌++◌, ℕ, All, Contains, IfErr, IsTrue, OnErr, OnOk};
+ghost use Rattle.std.specs.Prelude.{Some, length, slice_get, vec_capacity, vec_len};
 ghost use Rattle.tp_inbox.specs.declared.entry.Entry.TheVariants as entry;
 ghost use Rattle.tp_inbox.specs.History.{next_of};
 ghost use Rattle.tp_inbox.specs.Desks.{adding};
 ghost use Rattle.tp_inbox.specs.Ledgers.{SenderLedger};
 ghost use Rattle.tp_inbox.specs.Places.{KeepsOtherRoutes};
-ghost use Rattle.tp_behaviour.specs.Outboxes.{AreFiledAt, HasPut, IsAimed, IsRouteFull, IsHome, IsLevel, IsListed, LeadsBack, routes_of};
+ghost use Rattle.tp_behaviour.specs.Outboxes.{AreFiledAt, HasPut, IsAimed, IsRouteFull, IsHome, IsLevel, IsListed};
+ghost use Rattle.tp_behaviour.specs.Outboxes.{LeadsBack, routes_of};
 
 use indexmap::IndexMap;
 use std::alloc::Global;

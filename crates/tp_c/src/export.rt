@@ -7,7 +7,8 @@
 ghost use Rattle.std.specs.Prelude.{ℕ, []};
 ghost use types.Logic.{sem};
 ghost use Rattle.tp_queue.specs.Queues.{QueueState, StandsFor};
-ghost use Rattle.tp_c.specs.Calls.{Ahead, Arrived, Checked, Cleared, Halted, Length, Placed, Port, Received, Room, Started, StatusIs, Stopped, Triggered};
+ghost use Rattle.tp_c.specs.Calls.{Ahead, Arrived, Checked, Cleared, Halted, Length, Placed, Port, Received, Room};
+ghost use Rattle.tp_c.specs.Calls.{Started, StatusIs, Stopped, Triggered};
 
 use crate::port;
 use crate::port::Answer;

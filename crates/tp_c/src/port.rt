@@ -2,7 +2,8 @@
 //! struct. Each contract is that of the queue's call.
 ghost use Rattle.std.specs.Prelude.{◌≡◌, [], IsTrue};
 ghost use Rattle.tp_queue.specs.Queues.{StandsFor};
-ghost use Rattle.tp_c.specs.Calls.{Ahead, Arrived, Checked, Cleared, Halted, Length, Placed, Received, Started, StatusIs, Stopped, Triggered, answer_with, the_sender};
+ghost use Rattle.tp_c.specs.Calls.{Ahead, Arrived, Checked, Cleared, Halted, Length, Placed, Received, Started};
+ghost use Rattle.tp_c.specs.Calls.{StatusIs, Stopped, Triggered, answer_with, the_sender};
 
 use std::alloc::Global;
 use tp_common::event::{Env, Status, TriggerAnswer};

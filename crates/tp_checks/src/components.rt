@@ -1,10 +1,14 @@
 //! The third pass of the checks: the components of the test case.
-ghost use Rattle.std.specs.Prelude.{◌≡◌, All, ◌<◌, ◌≤◌, ◌+◌, ◌++◌, ◌∷◌, [], List, ℕ, Contains, IfErr, IfNone, IfOk, IfSome, None, OnErr, OnOk, Some, length, map, option_map, slice_get};
+ghost use Rattle.std.specs.Prelude.{◌≡◌, All, ◌<◌, ◌≤◌, ◌+◌, ◌++◌, ◌∷◌, [], List, ℕ, Contains, IfErr, IfNone, IfOk};
+ghost use Rattle.std.specs.Prelude.{IfSome, None, OnErr, OnOk, Some, length, map, option_map, slice_get};
 ghost use Rattle.std.specs.Option.{option_copied};
 ghost use Rattle.tp_checks.specs.Tables.{AreDistinct, IsNumbered, place_of_name};
 ghost use Rattle.tp_checks.specs.Refused.{IsRefusedBy, TellsAt};
-ghost use Rattle.tp_checks.specs.Components.{Adds, AddsAll, HaveDistinctPorts, CanAdd, CanAddAll, HasPorts, HasSoundVariables, HasStopped, IsSoundVariable, component_number, created, creation_of, creations, interface, variable_name, variables};
-ghost use Rattle.tp_checks.specs.Additions.{AdditionBreaks, AwaitsInterface, HasRoomForVariables, InterfaceBreaks, StopsCreating};
+ghost use Rattle.tp_checks.specs.Components.{Adds, AddsAll, HaveDistinctPorts, CanAdd, CanAddAll, HasPorts};
+ghost use Rattle.tp_checks.specs.Components.{HasSoundVariables, HasStopped, IsSoundVariable, component_number, created};
+ghost use Rattle.tp_checks.specs.Components.{creation_of, creations, interface, variable_name, variables};
+ghost use Rattle.tp_checks.specs.Additions.{AdditionBreaks, AwaitsInterface, HasRoomForVariables, InterfaceBreaks};
+ghost use Rattle.tp_checks.specs.Additions.{StopsCreating};
 ghost use Rattle.tp_checks.specs.BrokenSetup.{CreationBreaks};
 ghost use Rattle.tp_checks.specs.Sorted.{AreComponentsNamed, component_types_in};
 

@@ -1,12 +1,16 @@
 //! The second pass of the checks: everything that definitions name is defined.
-ghost use Rattle.std.specs.Prelude.{◌≡◌, ◌≤◌, ◌↔◌, ℕ, All, Contains, IfErr, IfOk, IfSome, IsTrue, List, OnOk, is_some, length};
+ghost use Rattle.std.specs.Prelude.{◌≡◌, ◌≤◌, ◌↔◌, ℕ, All, Contains, IfErr, IfOk, IfSome, IsTrue, List, OnOk, is_some};
+ghost use Rattle.std.specs.Prelude.{length};
 ghost use Rattle.std.specs.List.{AllZip, list_all};
 ghost use Rattle.tp_tree.specs.declared.tree.Defined.{Defined};
 ghost use Rattle.tp_checks.specs.Definitions.{declared_ports};
 ghost use Rattle.tp_checks.specs.Refused.{IsRefusedBy, Tells, TellsAt};
-ghost use Rattle.tp_checks.specs.Rules.{AreComponentTypesKnown, CanPlaySystem, HasUniqueNames, IsComponentFault, IsSoundFunction, NamesType, has_known_messages, has_known_parameters, has_known_ports, sut};
+ghost use Rattle.tp_checks.specs.Rules.{AreComponentTypesKnown, CanPlaySystem, HasUniqueNames, IsComponentFault};
+ghost use Rattle.tp_checks.specs.Rules.{IsSoundFunction, NamesType, has_known_messages, has_known_parameters};
+ghost use Rattle.tp_checks.specs.Rules.{has_known_ports, sut};
 ghost use Rattle.tp_checks.specs.Tables.{place_of_name};
-ghost use Rattle.tp_checks.specs.Sorted.{AreComponentTypesIn, AreSorted, AreSound, ArePortsNamed, HasSoundDefinitions, IsSortedSound, IsSoundIn, types_in};
+ghost use Rattle.tp_checks.specs.Sorted.{AreComponentTypesIn, AreSorted, AreSound, ArePortsNamed, HasSoundDefinitions};
+ghost use Rattle.tp_checks.specs.Sorted.{IsSortedSound, IsSoundIn, types_in};
 ghost use Rattle.tp_checks.specs.Resolved.{IsNamedType};
 ghost use Rattle.tp_checks.specs.Defining.{IsDefined};
 ghost use Rattle.tp_checks.specs.BrokenDefinitions.{DefinitionBreaks, DefinitionsBreak, DefinitionsOfBreak};

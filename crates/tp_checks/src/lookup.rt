@@ -1,7 +1,8 @@
 //! Look-ups of names.
 ghost use Rattle.std.specs.Prelude.{◌≡◌, ◌++◌, ◌↔◌, ◌≤◌, ◌<◌, ◌^◌, ℕ, Contains, IsTrue, IfNone, IfSome, length};
 ghost use Rattle.tp_checks.specs.Named.{IsAbsent, IsPlace, texts};
-ghost use Rattle.tp_checks.specs.Scoping.{AreTyped, IsPortNamed, IsReference, IsType, IsVariable, declared_port_names, receivable_types, sendable_types};
+ghost use Rattle.tp_checks.specs.Scoping.{AreTyped, IsPortNamed, IsReference, IsType, IsVariable, declared_port_names};
+ghost use Rattle.tp_checks.specs.Scoping.{receivable_types, sendable_types};
 
 use crate::context::Context;
 use crate::name::find;

@@ -1,5 +1,6 @@
 //! Names, each once.
-ghost use Rattle.std.specs.Prelude.{◌≡◌, ◌<◌, ◌≤◌, ◌∷◌, ◌++◌, ◌↔◌, [], length, Contains, IfNone, IfSome, OnOk, IsErrOf, IsSome, IsTrue, OnErr, is_some};
+ghost use Rattle.std.specs.Prelude.{◌≡◌, ◌<◌, ◌≤◌, ◌∷◌, ◌++◌, ◌↔◌, [], length, Contains, IfNone, IfSome, OnOk, IsErrOf};
+ghost use Rattle.std.specs.Prelude.{IsSome, IsTrue, OnErr, is_some};
 
 use crate::fault::{ModuleFault, ModuleRule, refused};
 use indexmap::IndexSet;
@@ -66,7 +67,8 @@ impl<'m> Model for NameSet<'m> {
 }
 
 impl<'m> NameSet<'m> {
-    ghost use Rattle.std.specs.Prelude.{◌≡◌, ◌<◌, ◌≤◌, ◌∷◌, ◌++◌, ◌^◌, ◌↔◌, ◌⊎◌, [], length, Contains, IfErr, IfNone, IfSome, OnOk, IsErrOf, IsSome, IsTrue, OnErr, is_some};
+    ghost use Rattle.std.specs.Prelude.{◌≡◌, ◌<◌, ◌≤◌, ◌∷◌, ◌++◌, ◌^◌, ◌↔◌, ◌⊎◌, [], length, Contains, IfErr, IfNone};
+    ghost use Rattle.std.specs.Prelude.{IfSome, OnOk, IsErrOf, IsSome, IsTrue, OnErr, is_some};
     ghost use Rattle.tp_checks.specs.Tables.{AreDistinct, IsNumbered, place_of_name};
     ghost use Rattle.tp_checks.specs.Named.{IsAbsent, IsPlace};
 

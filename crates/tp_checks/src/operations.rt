@@ -4,8 +4,11 @@ ghost use Rattle.tp_checks.specs.Named.{IsAbsent, texts};
 ghost use Rattle.tp_checks.specs.Refused.{TellsAt};
 ghost use Rattle.tp_checks.specs.Scoping.{AreTyped, IsSoundScope, IsVariable};
 ghost use Rattle.tp_checks.specs.Messages.{IsMessage};
-ghost use Rattle.tp_checks.specs.Bodies.{IsReceive, IsReceiver, IsSend, IsFrom, IsSenderTarget, IsSent, IsValueTarget, IsVerdict, IsWanted};
-ghost use Rattle.tp_checks.specs.BrokenOperations.{FromBreaks, MessageBreaks, NamesNoComponent, NamesNoMessage, NamesNoVariable, ReceiveBreaks, ReceiverBreaks, SendBreaks, SenderTargetBreaks, SentBreaks, ValueTargetBreaks, WantedBreaks};
+ghost use Rattle.tp_checks.specs.Bodies.{IsReceive, IsReceiver, IsSend, IsFrom, IsSenderTarget, IsSent, IsValueTarget};
+ghost use Rattle.tp_checks.specs.Bodies.{IsVerdict, IsWanted};
+ghost use Rattle.tp_checks.specs.BrokenOperations.{FromBreaks, MessageBreaks, NamesNoComponent, NamesNoMessage};
+ghost use Rattle.tp_checks.specs.BrokenOperations.{NamesNoVariable, ReceiveBreaks, ReceiverBreaks, SendBreaks};
+ghost use Rattle.tp_checks.specs.BrokenOperations.{SenderTargetBreaks, SentBreaks, ValueTargetBreaks, WantedBreaks};
 
 use crate::context::Context;
 use crate::fault::{ModuleFault, ModuleRule};

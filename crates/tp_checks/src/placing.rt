@@ -1,5 +1,6 @@
 //! The fields that the entries of a record stand for.
-ghost use Rattle.std.specs.Prelude.{◌≡◌, ◌<◌, ◌↔◌, ◌⊎◌, ℕ, List, [], true, IfErr, IfNone, IfOk, IfSome, IsTrue, OnOk, length, map, slice_get, slice_set};
+ghost use Rattle.std.specs.Prelude.{◌≡◌, ◌<◌, ◌↔◌, ◌⊎◌, ℕ, List, [], true, IfErr, IfNone, IfOk, IfSome, IsTrue, OnOk};
+ghost use Rattle.std.specs.Prelude.{length, map, slice_get, slice_set};
 ghost use Rattle.std.specs.Bool.{OnFalse};
 ghost use Rattle.tp_checks.specs.Named.{IsAbsent};
 ghost use Rattle.tp_checks.specs.Refused.{TellsAt};

@@ -1,5 +1,6 @@
 //! The component types of a module, with the types that their ports receive and send.
-ghost use Rattle.std.specs.Prelude.{◌≡◌, ◌+◌, ◌≤◌, ◌↔◌, ◌++◌, ◌∷◌, [], Contains, IfErr, IfNone, IfOk, IfSome, IsTrue, OnOk, All, length, map, slice_get};
+ghost use Rattle.std.specs.Prelude.{◌≡◌, ◌+◌, ◌≤◌, ◌↔◌, ◌++◌, ◌∷◌, [], Contains, IfErr, IfNone, IfOk, IfSome, IsTrue};
+ghost use Rattle.std.specs.Prelude.{OnOk, All, length, map, slice_get};
 ghost use Rattle.std.specs.Option.{option_copied};
 ghost use Rattle.tp_value.specs.declared.types.Ty.{Ty};
 ghost use Rattle.std.specs.List.{AllZip, flat_map};
@@ -8,7 +9,8 @@ ghost use Rattle.tp_checks.specs.Refused.{IsRefusedBy};
 ghost use Rattle.tp_checks.specs.Tables.{AreDistinct};
 ghost use Rattle.tp_checks.specs.Definitions.{declared};
 ghost use Rattle.tp_checks.specs.Rules.{AreMessagesKnown, IsSoundComponent, NamesType};
-ghost use Rattle.tp_checks.specs.Resolved.{Appends, IsComponentType, IsMade, IsMadeOf, port_decl, IsPortType, IsTypeNamed, goes_in, goes_out, received_types, sent_types};
+ghost use Rattle.tp_checks.specs.Resolved.{Appends, IsComponentType, IsMade, IsMadeOf, port_decl, IsPortType};
+ghost use Rattle.tp_checks.specs.Resolved.{IsTypeNamed, goes_in, goes_out, received_types, sent_types};
 ghost use Rattle.tp_checks.specs.Sorted.{AreComponentTypesIn, HasMade, component_types_in, port_types_in};
 
 use crate::fault::{ModuleFault, ModuleRule, refused};

@@ -11,7 +11,8 @@ ghost use Rattle.tp_checks.specs.Defining.{IsDefined};
 ghost use Rattle.tp_checks.specs.Definitions.{BeginsAmong, test_cases};
 ghost use Rattle.tp_checks.specs.Prepared.{IsPreparedOf, IsWellDeclared};
 ghost use Rattle.tp_checks.specs.Rules.{HasUniqueNames};
-ghost use Rattle.tp_checks.specs.Sorted.{AreComponentsNamed, AreFunctionsNamed, HasSoundDefinitions, component_types_in, functions_in};
+ghost use Rattle.tp_checks.specs.Sorted.{AreComponentsNamed, AreFunctionsNamed, HasSoundDefinitions};
+ghost use Rattle.tp_checks.specs.Sorted.{component_types_in, functions_in};
 ghost use Rattle.tp_checks.specs.Starting.{AreStarts};
 ghost use Rattle.tp_checks.specs.declared.starts.Starts.{Starts};
 

@@ -1,18 +1,23 @@
 //! The third pass of the checks: the connections and mappings of the test case.
-ghost use Rattle.std.specs.Prelude.{◌≡◌, ◌≤◌, ◌++◌, ◌∷◌, [], codes, All, IfErr, IfNone, IfOk, IfSome, None, OnOk, length, map};
+ghost use Rattle.std.specs.Prelude.{◌≡◌, ◌≤◌, ◌++◌, ◌∷◌, [], codes, All, IfErr, IfNone, IfOk, IfSome, None, OnOk};
+ghost use Rattle.std.specs.Prelude.{length, map};
 ghost use Rattle.tp_checks.specs.Refused.{IsRefusedBy, Tells, TellsAt};
 ghost use Rattle.tp_checks.specs.Tables.{IsNumbered};
 ghost use Rattle.tp_config.specs.declared.port_type.PortRef.{PortRef};
 ghost use Rattle.tp_config.specs.Setup.{Setup, empty_setup};
 ghost use Rattle.tp_config.specs.Shape.{ports_of};
 ghost use Rattle.tp_checks.specs.Additions.{StopsCreating};
-ghost use Rattle.tp_checks.specs.BrokenSetup.{CaseSetupBreaks, ConnectBreaks, EndsBreak, MapBreaks, PairBreaks, PairsBreak, SetupBreaks};
+ghost use Rattle.tp_checks.specs.BrokenSetup.{CaseSetupBreaks, ConnectBreaks, EndsBreak, MapBreaks, PairBreaks};
+ghost use Rattle.tp_checks.specs.BrokenSetup.{PairsBreak, SetupBreaks};
 ghost use Rattle.tp_checks.specs.Rules.{AreComponentTypesKnown};
 ghost use Rattle.tp_tree.specs.declared.tree.Defined.{Defined};
 ghost use Rattle.tp_checks.specs.Sorted.{AreComponentsNamed, component_types_in};
 ghost use Rattle.std.specs.Option.{option_map, option_to_list};
-ghost use Rattle.tp_checks.specs.Components.{AddsAll, HasSoundVariables, created, creation_of, creations, main_component, component_number, variable_name, variables};
-ghost use Rattle.tp_checks.specs.Configuring.{AreOwnPorts, AreSoundVariables, CanSetUp, CanSetUpBeside, Connects, HasFirst, HaveOwnPorts, HavePorts, IsPortOfEnd, IsConfigBySetup, IsStep, Makes, Maps, end_component_number, most_variables};
+ghost use Rattle.tp_checks.specs.Components.{AddsAll, HasSoundVariables, created, creation_of, creations};
+ghost use Rattle.tp_checks.specs.Components.{main_component, component_number, variable_name, variables};
+ghost use Rattle.tp_checks.specs.Configuring.{AreOwnPorts, AreSoundVariables, CanSetUp, CanSetUpBeside, Connects};
+ghost use Rattle.tp_checks.specs.Configuring.{HasFirst, HaveOwnPorts, HavePorts, IsPortOfEnd, IsConfigBySetup, IsStep};
+ghost use Rattle.tp_checks.specs.Configuring.{Makes, Maps, end_component_number, most_variables};
 
 use crate::components::{
     DeclaredComponent, StoppedCreation, VariableRules, add_component, add_interface,

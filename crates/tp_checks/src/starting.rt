@@ -1,17 +1,20 @@
 //! The third pass of the checks: the rules for starts.
-ghost use Rattle.std.specs.Prelude.{◌≡◌, ◌∷◌, ◌++◌, ◌↔◌, [], ◌<◌, ℕ, List, Contains, IfErr, IfNone, IfOk, IfSome, IsSome, IsTrue, None, OnOk, Some, length, map, slice_get};
+ghost use Rattle.std.specs.Prelude.{◌≡◌, ◌∷◌, ◌++◌, ◌↔◌, [], ◌<◌, ℕ, List, Contains, IfErr, IfNone, IfOk, IfSome};
+ghost use Rattle.std.specs.Prelude.{IsSome, IsTrue, None, OnOk, Some, length, map, slice_get};
 ghost use Rattle.std.specs.Option.{option_copied};
 ghost use Rattle.std.specs.List.{AllZip};
 ghost use Rattle.tp_checks.specs.Sorted.{AreFunctionsNamed, functions_in};
 ghost use Rattle.tp_checks.specs.Tables.{IsNumbered};
 ghost use Rattle.tp_checks.specs.Refused.{IsRefusedBy, Tells, TellsAt};
-ghost use Rattle.tp_checks.specs.BrokenStarts.{AfterStartsBreaks, ArgumentBreaks, ArgumentsBreak, IsNeverStarted, StartBreaks, StartBreaksAmong, StartsBreak};
+ghost use Rattle.tp_checks.specs.BrokenStarts.{AfterStartsBreaks, ArgumentBreaks, ArgumentsBreak, IsNeverStarted};
+ghost use Rattle.tp_checks.specs.BrokenStarts.{StartBreaks, StartBreaksAmong, StartsBreak};
 ghost use Rattle.tp_tree.specs.declared.tree.Function.{Function};
 ghost use Rattle.tp_config.specs.declared.port_type.CompId.{CompId};
 ghost use Rattle.tp_checks.specs.declared.starts.StartedComponent.{StartedComponent};
 ghost use Rattle.tp_checks.specs.declared.starts.Starts.{Starts};
 ghost use Rattle.tp_checks.specs.Components.{creations, variables};
-ghost use Rattle.tp_checks.specs.Starting.{AreStarts, HasParameterType, IsArgument, IsStartPlace, IsStartOf, component_named, started_names, type_names_of};
+ghost use Rattle.tp_checks.specs.Starting.{AreStarts, HasParameterType, IsArgument, IsStartPlace, IsStartOf};
+ghost use Rattle.tp_checks.specs.Starting.{component_named, started_names, type_names_of};
 
 use crate::components::{as_creation, variable_component};
 use crate::definitions::is_sut;

@@ -3,7 +3,8 @@ ghost use Rattle.std.specs.Prelude.{◌≡◌, ◌≢◌, ◌∷◌, ◌++◌, [
 ghost use Rattle.tp_checks.specs.Named.{texts};
 ghost use Rattle.tp_checks.specs.Refused.{IsRefusedBy, Tells, TellsAt};
 ghost use Rattle.tp_checks.specs.Bodies.{AreBranches, IsAfter, IsBlock, IsBody, IsBranch, IsStatement};
-ghost use Rattle.tp_checks.specs.BrokenBodies.{AfterBreaks, BlockBreaks, BodyBreaks, BranchBreaks, BranchesBreak, StatementBreaks};
+ghost use Rattle.tp_checks.specs.BrokenBodies.{AfterBreaks, BlockBreaks, BodyBreaks, BranchBreaks, BranchesBreak};
+ghost use Rattle.tp_checks.specs.BrokenBodies.{StatementBreaks};
 ghost use Rattle.tp_checks.specs.NeededLoopVariables.{needed_around_all};
 ghost use Rattle.tp_checks.specs.Scoping.{AreTyped, IsSoundScope, reference_count};
 ghost use Rattle.tp_play.specs.Playable.{IsPlayable};

@@ -3,8 +3,10 @@ ghost use Rattle.std.specs.Prelude.{◌≡◌, ◌≢◌, IfErr, IfOk, OnErr, le
 ghost use Rattle.tp_checks.specs.Named.{texts};
 ghost use Rattle.tp_checks.specs.Refused.{TellsAt};
 ghost use Rattle.tp_checks.specs.Tables.{AreDistinct};
-ghost use Rattle.tp_checks.specs.Messages.{AreElementTemplates, AreFieldTemplates, AreMembers, AreNamedTemplates, IsElementTemplate, IsListTemplate, IsRecordTemplate, IsTemplate, part_of};
-ghost use Rattle.tp_checks.specs.BrokenTemplates.{ElementTemplatesBreak, EntryTemplatesBreak, FieldTemplatesBreak, ListBreaks, MembersBreak, RangeBreaks, RecordBreaks, TemplateBreaks};
+ghost use Rattle.tp_checks.specs.Messages.{AreElementTemplates, AreFieldTemplates, AreMembers, AreNamedTemplates};
+ghost use Rattle.tp_checks.specs.Messages.{IsElementTemplate, IsListTemplate, IsRecordTemplate, IsTemplate, part_of};
+ghost use Rattle.tp_checks.specs.BrokenTemplates.{ElementTemplatesBreak, EntryTemplatesBreak, FieldTemplatesBreak};
+ghost use Rattle.tp_checks.specs.BrokenTemplates.{ListBreaks, MembersBreak, RangeBreaks, RecordBreaks, TemplateBreaks};
 ghost use Rattle.tp_checks.specs.Placing.{field_names};
 ghost use Rattle.tp_checks.specs.Scoping.{IsSoundScope};
 

@@ -1,11 +1,14 @@
 //! The first pass of the checks: names are given once, and there is one test case.
-ghost use Rattle.std.specs.Prelude.{◌≡◌, ◌<◌, ◌∷◌, ◌++◌, ◌⊎◌, [], All, IfErr, IfOk, IfSome, OnOk, Some, is_some, length, map};
+ghost use Rattle.std.specs.Prelude.{◌≡◌, ◌<◌, ◌∷◌, ◌++◌, ◌⊎◌, [], All, IfErr, IfOk, IfSome, OnOk, Some, is_some};
+ghost use Rattle.std.specs.Prelude.{length, map};
 ghost use Rattle.std.specs.List.{list_any};
 ghost use Rattle.std.specs.Option.{option_to_list};
 ghost use Rattle.tp_checks.specs.Refused.{IsRefusedBy, Tells, TellsAt};
 ghost use Rattle.tp_checks.specs.Tables.{AreDistinct, IsNumbered};
-ghost use Rattle.tp_checks.specs.BrokenNames.{DeclaringBreaks, DefinitionNamesBreak, GivenNamesBreak, NameBreaks, NamesBreak, inner_declared, port_name_list};
-ghost use Rattle.tp_checks.specs.Definitions.{BeginsAmong, of_kind, case_of, name_of, declared, declared_ports, inner_names, test_cases};
+ghost use Rattle.tp_checks.specs.BrokenNames.{DeclaringBreaks, DefinitionNamesBreak, GivenNamesBreak, NameBreaks};
+ghost use Rattle.tp_checks.specs.BrokenNames.{NamesBreak, inner_declared, port_name_list};
+ghost use Rattle.tp_checks.specs.Definitions.{BeginsAmong, of_kind, case_of, name_of, declared, declared_ports};
+ghost use Rattle.tp_checks.specs.Definitions.{inner_names, test_cases};
 ghost use Rattle.tp_checks.specs.Rules.{AreNamed, HasOneTestCase, HasUniqueNames};
 ghost use Rattle.tp_checks.specs.Cases.{cases_of};
 ghost use Rattle.tp_tree.specs.declared.tree.Definition.{Definition};

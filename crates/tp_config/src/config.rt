@@ -1,10 +1,13 @@
 //! The configuration of a test.
-ghost use Rattle.std.specs.Prelude.{◌≡◌, ◌<◌, ◌≤◌, ◌↔◌, All, Contains, IfErr, IfOk, IfSome, IsSome, MatchResult, OnOk, Some, length, map, option_map, slice_get, string_bytes};
-ghost use Rattle.tp_config.specs.Setup.{IsComponent, IsPort, connecting, creating, empty_setup, mapping, names_of_components, port_names, ports_at};
+ghost use Rattle.std.specs.Prelude.{◌≡◌, ◌<◌, ◌≤◌, ◌↔◌, All, Contains, IfErr, IfOk, IfSome, IsSome, MatchResult, OnOk};
+ghost use Rattle.std.specs.Prelude.{Some, length, map, option_map, slice_get, string_bytes};
+ghost use Rattle.tp_config.specs.Setup.{IsComponent, IsPort, connecting, creating, empty_setup, mapping};
+ghost use Rattle.tp_config.specs.Setup.{names_of_components, port_names, ports_at};
 ghost use Rattle.tp_config.specs.Shape.{member, ports_of};
 ghost use Rattle.tp_config.specs.Allowed.{CanConnect, CanMap, IsSetup};
 ghost use Rattle.tp_config.specs.Causes.{CanCreate, ConnectRefused, CreateRefused, MapRefused};
-ghost use Rattle.tp_config.specs.Routes.{AreDistinctRoutes, AreRoutesInto, IsRoute, RouteCause, SendersAreDetermined, routes_from, routes_into};
+ghost use Rattle.tp_config.specs.Routes.{AreDistinctRoutes, AreRoutesInto, IsRoute, RouteCause, SendersAreDetermined};
+ghost use Rattle.tp_config.specs.Routes.{routes_from, routes_into};
 
 use crate::component::{Component, beside, join_ports, port_count, type_in};
 use crate::connecting::{ConnectFault, connect_fault};

@@ -7,7 +7,8 @@ ghost use Rattle.tp_inbox.specs.History.{arrivals};
 ghost use Rattle.tp_inbox.specs.Ledgers.{AreSenders, IsDeskOf, SenderLedger, put_by};
 ghost use Rattle.tp_inbox.specs.Routed.{AreDelivered, AreArrivalsNumbered, AreRoutes, IsArrivalOn};
 ghost use Rattle.tp_inbox.specs.Routed.{rest_arrivals};
-ghost use Rattle.tp_exec.specs.ReturnedSenders.{AllCome, CanTake, Gives, IsCounted, IsEndingOf, IsIdleComponent, Leaves};
+ghost use Rattle.tp_exec.specs.ReturnedSenders.{AllCome, CanTake, Gives, IsCounted, IsEndingOf, IsIdleComponent};
+ghost use Rattle.tp_exec.specs.ReturnedSenders.{Leaves};
 ghost use Rattle.tp_exec.specs.Rounds.{AreWorkers, workers_of, links_in};
 ghost use Rattle.tp_exec.specs.Settlings.{AreSettled};
 

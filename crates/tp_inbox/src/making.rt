@@ -1,5 +1,6 @@
 //! The making of an inbox.
-ghost use Rattle.std.specs.Prelude.{◌≡◌, ◌≢◌, ◌<◌, ◌+◌, [], ◌∷◌, All, AllPairs, IfNone, IfOk, IfSome, OnOk, length, map};
+ghost use Rattle.std.specs.Prelude.{◌≡◌, ◌≢◌, ◌<◌, ◌+◌, [], ◌∷◌, All, AllPairs, IfNone, IfOk, IfSome, OnOk, length};
+ghost use Rattle.std.specs.Prelude.{map};
 ghost use Rattle.std.specs.List.{HoldsAt};
 ghost use Rattle.tp_config.specs.Setup.{IsComponent, ports_at};
 ghost use Rattle.tp_config.specs.declared.port_type.RouteId.{RouteId};

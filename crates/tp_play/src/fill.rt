@@ -1,7 +1,8 @@
 //! Messages and templates, filled with the values of the loop variables.
 ghost use Rattle.std.specs.Prelude.{◌≡◌, ◌≤◌, All, FitsSigned, IfOk, length, map};
 ghost use Rattle.std.specs.Int.{w64};
-ghost use Rattle.tp_play.specs.Fills.{filled, filled_template, filled_wanted, greatest, needed, needed_by_template, needed_by_wanted};
+ghost use Rattle.tp_play.specs.Fills.{filled, filled_template, filled_wanted, greatest, needed, needed_by_template};
+ghost use Rattle.tp_play.specs.Fills.{needed_by_wanted};
 ghost use Rattle.tp_play.specs.Laws.{FitsItsType, HasItsType};
 
 use crate::body::{RecvMsg, RecvTemplate, SendMsg, SendValue};

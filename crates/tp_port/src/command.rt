@@ -5,7 +5,9 @@ ghost use Rattle.std.specs.List.{list_all};
 ghost use Rattle.std.specs.Char.{is_ascii_alphanumeric};
 ghost use Rattle.std.specs.Fmt.{signed_decimal};
 ghost use Rattle.tp_common.specs.Cutting.{words_of};
-ghost use Rattle.tp_port.specs.QueueLine.{BeginsAsInteger, IsArriveLine, IsGood, SaysOneAtMost, IsName, IsWish, PatternFits, Spells, arrival_words, operands, pattern_text, verb_of, verb_text, wish_words};
+ghost use Rattle.tp_port.specs.QueueLine.{BeginsAsInteger, IsArriveLine, IsGood, SaysOneAtMost, IsName, IsWish};
+ghost use Rattle.tp_port.specs.QueueLine.{PatternFits, Spells, arrival_words, operands, pattern_text, verb_of};
+ghost use Rattle.tp_port.specs.QueueLine.{verb_text, wish_words};
 ghost use Rattle.tp_port.specs.Command.{IsRead, queue_line, wish_of, words_left};
 
 use crate::pattern::IntegerPattern;

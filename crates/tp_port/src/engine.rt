@@ -7,7 +7,8 @@ ghost use Rattle.tp_queue.specs.Queues.{AtHistory, StandsFor};
 ghost use Rattle.tp_port.specs.QueueLine.{arrive, check, clear, halt, receive, start, stop, trigger};
 ghost use Rattle.tp_port.specs.Command.{queue_line, wish_of};
 ghost use Rattle.tp_port.specs.Carried.{CarriesLine, HasReached, HasCounted};
-ghost use Rattle.tp_port.specs.Replay.{Progress, envelope_or_no, first_progress, found, left_text, meets, triggered, triggered_text};
+ghost use Rattle.tp_port.specs.Replay.{Progress, envelope_or_no, first_progress, found, left_text, meets, triggered};
+ghost use Rattle.tp_port.specs.Replay.{triggered_text};
 
 use crate::answers::{write_count, write_envelope_or_no, write_left};
 use crate::command::{Command, Criteria};

@@ -1,5 +1,6 @@
 //! The queue of a message port, which keeps its history.
-ghost use Rattle.std.specs.Prelude.{◌≡◌, ◌∷◌, ◌++◌, ◌≤◌, [], length, IfOk, OnOk, OnErr, IfErr, IsTrue, ◌↔◌, ◌-◌, slice_get};
+ghost use Rattle.std.specs.Prelude.{◌≡◌, ◌∷◌, ◌++◌, ◌≤◌, [], length, IfOk, OnOk, OnErr, IfErr, IsTrue, ◌↔◌, ◌-◌};
+ghost use Rattle.std.specs.Prelude.{slice_get};
 ghost use Rattle.std.specs.Option.{option_copied};
 ghost use Rattle.tp_common.specs.declared.event.Event.TheVariants as event;
 ghost use Rattle.tp_common.specs.declared.event.Status.TheVariants as status;

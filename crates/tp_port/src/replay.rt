@@ -1,5 +1,6 @@
 //! A queue file that is read, executed and answered.
-ghost use Rattle.std.specs.Prelude.{◌≡◌, ◌<◌, ◌≤◌, ◌↔◌, length, All, IsErrOf, IfErr, IfOk, IfSome, List, MatchOption, OnOk, Some, false, string_bytes};
+ghost use Rattle.std.specs.Prelude.{◌≡◌, ◌<◌, ◌≤◌, ◌↔◌, length, All, IsErrOf, IfErr, IfOk, IfSome, List, MatchOption};
+ghost use Rattle.std.specs.Prelude.{OnOk, Some, false, string_bytes};
 ghost use Rattle.tp_common.specs.Watching.{HasFailed, reader_left};
 ghost use Rattle.tp_common.specs.Cutting.{lines_of};
 ghost use Rattle.tp_port.specs.Faults.{HasFault, IsFaultOf, IsRefusedFor, IsReplayed};

@@ -5,7 +5,8 @@ ghost use Rattle.tp_common.specs.Watching.{Writes};
 ghost use Rattle.tp_common.specs.Label.{label};
 ghost use Rattle.tp_config.specs.Setup.{IsComponent, IsPort};
 ghost use Rattle.tp_inbox.specs.Faults.{send_refusal};
-ghost use Rattle.tp_report.specs.ReportWords.{component_name, line, message_text, port_name, rest_of_line, verdict_word};
+ghost use Rattle.tp_report.specs.ReportWords.{component_name, line, message_text, port_name, rest_of_line};
+ghost use Rattle.tp_report.specs.ReportWords.{verdict_word};
 ghost use Rattle.tp_report.specs.LineOpenings.{HasItsText, NamesKnown, fate_word, opening_text};
 ghost use Rattle.tp_report.specs.Lines.{end_text, heading, sender_of, sent_line};
 

@@ -7,7 +7,8 @@ ghost use Rattle.tp_play.specs.declared.body.Body.{Body};
 ghost use Rattle.tp_checks.specs.Definitions.{of_kind, declared, function_of, functions};
 ghost use Rattle.tp_script.specs.Instances.{known_in};
 ghost use Rattle.tp_script.specs.BrokenModules.{BodiesBreak, FunctionBreaks, FunctionsBreak, MainBreaks};
-ghost use Rattle.tp_script.specs.Scopes.{CanAllRun, CanRun, HasBodies, HaveOwnNames, IsFunctionBody, IsMainBody, IsSoundKnown, plays_of};
+ghost use Rattle.tp_script.specs.Scopes.{CanAllRun, CanRun, HasBodies, HaveOwnNames, IsFunctionBody, IsMainBody};
+ghost use Rattle.tp_script.specs.Scopes.{IsSoundKnown, plays_of};
 
 use crate::scopes::{parameter_names, scope_of};
 use std::alloc::Global;

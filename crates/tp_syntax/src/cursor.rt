@@ -1,8 +1,10 @@
 //! The tokens that are left to read, and a look at the first of them.
-ghost use Rattle.std.specs.Prelude.{[], ℕ, ◌<◌, ◌≢◌, Bool, true, List, ◌≡◌, ◌+◌, ◌≤◌, ◌∷◌, ◌||◌, ◌↔◌, IsTrue, length, IfErr, IfOk, OnErr, OnOk, Some};
+ghost use Rattle.std.specs.Prelude.{[], ℕ, ◌<◌, ◌≢◌, Bool, true, List, ◌≡◌, ◌+◌, ◌≤◌, ◌∷◌, ◌||◌, ◌↔◌, IsTrue, length};
+ghost use Rattle.std.specs.Prelude.{IfErr, IfOk, OnErr, OnOk, Some};
 ghost use Rattle.std.specs.Bool.{OnTrue, OnFalse};
 ghost use Rattle.tp_syntax.specs.Lexeme.{Lexeme, name, symbol, word, lexeme_of};
-ghost use Rattle.tp_syntax.specs.Ahead.{ahead, lexemes, lexemes_from, is_name_in, is_number_in, symbol_in, token_at, word_in};
+ghost use Rattle.tp_syntax.specs.Ahead.{ahead, lexemes, lexemes_from, is_name_in, is_number_in, symbol_in, token_at};
+ghost use Rattle.tp_syntax.specs.Ahead.{word_in};
 ghost use Rattle.tp_syntax.specs.Forward.{GoesForward, next_line};
 ghost use Rattle.tp_syntax.specs.HiddenTokens.{Reads};
 ghost use Rattle.tp_syntax.specs.Passing.{Passes};

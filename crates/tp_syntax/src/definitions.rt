@@ -1,11 +1,13 @@
 //! Functions, definitions and the module.
 ghost use Rattle.std.specs.Prelude.{◌≢◌, List, Some, ◌≡◌, ◌+◌, ◌<◌, ◌≤◌, IsTrue, length, map, IfOk, OnOk, IfErr, ℕ};
 ghost use Rattle.tp_syntax.specs.Lexeme.{Lexeme, symbol};
-ghost use Rattle.tp_syntax.specs.Definitions.{parameter_lexemes, parameters_lexemes, function_lexemes, defined_lexemes, definition_lexemes, definitions_lexemes, module_lexemes};
+ghost use Rattle.tp_syntax.specs.Definitions.{parameter_lexemes, parameters_lexemes, function_lexemes, defined_lexemes};
+ghost use Rattle.tp_syntax.specs.Definitions.{definition_lexemes, definitions_lexemes, module_lexemes};
 ghost use Rattle.tp_syntax.specs.Grammar.{defined_part, definition_part, IsGrammatical};
 ghost use Rattle.tp_syntax.specs.Nesting.{defined_depth, definitions_depth, module_depth};
 ghost use Rattle.tp_syntax.specs.Forward.{PassesLines};
-ghost use Rattle.tp_syntax.specs.Lines.{noted_in_order, noted_by_commas, parameter_notes, function_notes, defined_notes, definition_notes, module_notes};
+ghost use Rattle.tp_syntax.specs.Lines.{noted_in_order, noted_by_commas, parameter_notes, function_notes};
+ghost use Rattle.tp_syntax.specs.Lines.{defined_notes, definition_notes, module_notes};
 ghost use Rattle.tp_syntax.specs.Passing.{Passes};
 ghost use Rattle.tp_syntax.specs.Reading.{AllStand, IsPlaced, first};
 ghost use Rattle.tp_syntax.specs.Standing.{GoesOver, HasPassed};

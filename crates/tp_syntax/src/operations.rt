@@ -1,10 +1,13 @@
 //! Operations on ports: sends, receiving operations, and `start`, `stop`, `halt` and `clear`.
-ghost use Rattle.std.specs.Prelude.{[], true, ◌↔◌, ◌≢◌, List, Option, Some, ◌≡◌, ◌<◌, ◌≤◌, ◌∷◌, ◌++◌, IsTrue, length, IfOk, OnOk, IfErr, ℕ};
+ghost use Rattle.std.specs.Prelude.{[], true, ◌↔◌, ◌≢◌, List, Option, Some, ◌≡◌, ◌<◌, ◌≤◌, ◌∷◌, ◌++◌, IsTrue, length};
+ghost use Rattle.std.specs.Prelude.{IfOk, OnOk, IfErr, ℕ};
 ghost use Rattle.tp_syntax.specs.Lexeme.{Lexeme, symbol, word};
 ghost use Rattle.tp_syntax.specs.Ahead.{ahead, is_name_in, token_at};
 ghost use Rattle.tp_syntax.specs.Forward.{GoesForward};
 ghost use Rattle.tp_syntax.specs.Passing.{Passes};
-ghost use Rattle.tp_syntax.specs.Statements.{component_lexemes, sent_lexemes, to_lexemes, send_lexemes, template_part, from_lexemes, named_part, redirect_lexemes, receive_lexemes, port_operation_lexeme, control_lexemes, all_ports_lexemes};
+ghost use Rattle.tp_syntax.specs.Statements.{component_lexemes, sent_lexemes, to_lexemes, send_lexemes, template_part};
+ghost use Rattle.tp_syntax.specs.Statements.{from_lexemes, named_part, redirect_lexemes, receive_lexemes};
+ghost use Rattle.tp_syntax.specs.Statements.{port_operation_lexeme, control_lexemes, all_ports_lexemes};
 ghost use Rattle.tp_syntax.specs.Grammar.{is_sent, is_template_part};
 ghost use Rattle.tp_syntax.specs.Reading.{MaybeName, Stops, first};
 ghost use Rattle.tp_syntax.specs.Stuck.{IsStuckAt, IsStuckBehind, IsWrongBehind, GoesBeyond};

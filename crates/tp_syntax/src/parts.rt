@@ -1,12 +1,14 @@
 //! Parts of statements: variables, verdicts, the head of a `for`, and `[else]`.
-ghost use Rattle.std.specs.Prelude.{ℤ, [], ◌≢◌, false, List, Some, MatchResult, ◌≡◌, ◌+◌, ◌<◌, ◌≤◌, ◌∷◌, IsTrue, length, map, IfOk, OnOk, IfErr, ℕ, true};
+ghost use Rattle.std.specs.Prelude.{ℤ, [], ◌≢◌, false, List, Some, MatchResult, ◌≡◌, ◌+◌, ◌<◌, ◌≤◌, ◌∷◌, IsTrue};
+ghost use Rattle.std.specs.Prelude.{length, map, IfOk, OnOk, IfErr, ℕ, true};
 ghost use Rattle.tp_syntax.specs.Lexeme.{Lexeme, number, symbol, word};
 ghost use Rattle.tp_syntax.specs.Ahead.{ahead, is_name_in, token_at};
 ghost use Rattle.tp_syntax.specs.Forward.{GoesForward, PassesLines};
 ghost use Rattle.tp_syntax.specs.Lines.{noted_in_order, variable_notes};
 ghost use Rattle.tp_syntax.specs.Passing.{Passes};
 ghost use Rattle.tp_syntax.specs.Values.{int_lexemes};
-ghost use Rattle.tp_syntax.specs.Statements.{step_lexemes, turns_lexemes, verdict_lexeme, set_verdict_lexemes, variable_lexemes, variables_lexemes};
+ghost use Rattle.tp_syntax.specs.Statements.{step_lexemes, turns_lexemes, verdict_lexeme, set_verdict_lexemes};
+ghost use Rattle.tp_syntax.specs.Statements.{variable_lexemes, variables_lexemes};
 ghost use Rattle.tp_syntax.specs.Grammar.{is_64_bit, variable_part};
 ghost use Rattle.tp_syntax.specs.Reading.{AllStand, IsPlaced, first};
 ghost use Rattle.tp_syntax.specs.Standing.{GoesOver, HasPassed};

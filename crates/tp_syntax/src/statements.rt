@@ -1,17 +1,23 @@
 //! Statements: `alt`, `for`, blocks, and their contents.
-ghost use Rattle.std.specs.Prelude.{◌↔◌, ◌++◌, ◌≢◌, true, false, List, Option, Some, ◌≡◌, ◌<◌, ◌≤◌, ◌∷◌, IsTrue, length, IfOk, OnOk, IfErr, ℕ, [], None, ◌⊎◌};
+ghost use Rattle.std.specs.Prelude.{◌↔◌, ◌++◌, ◌≢◌, true, false, List, Option, Some, ◌≡◌, ◌<◌, ◌≤◌, ◌∷◌, IsTrue};
+ghost use Rattle.std.specs.Prelude.{length, IfOk, OnOk, IfErr, ℕ, [], None, ◌⊎◌};
 ghost use Rattle.std.specs.Bool.{OnFalse};
 ghost use Rattle.tp_common.specs.declared.operation.PortOperation.{PortOperation};
 ghost use Rattle.tp_common.specs.declared.operation.ReceiveKind.{ReceiveKind};
 ghost use Rattle.tp_syntax.specs.Lexeme.{Lexeme, symbol, word};
 ghost use Rattle.tp_syntax.specs.Ahead.{is_name_in, token_at};
 ghost use Rattle.tp_syntax.specs.Forward.{PassesLines};
-ghost use Rattle.tp_syntax.specs.Lines.{noted_braced, action_notes, body_notes, branch_notes, branches_notes, counted_notes, otherwise_notes, statement_notes, statements_notes};
+ghost use Rattle.tp_syntax.specs.Lines.{noted_braced, action_notes, body_notes, branch_notes, branches_notes};
+ghost use Rattle.tp_syntax.specs.Lines.{counted_notes, otherwise_notes, statement_notes, statements_notes};
 ghost use Rattle.tp_syntax.specs.Passing.{Passes};
 ghost use Rattle.tp_syntax.specs.Sequences.{braced};
-ghost use Rattle.tp_syntax.specs.Statements.{port_operation_lexeme, action_lexemes, branch_lexemes, body_lexemes, counted_lexemes, otherwise_lexemes, statement_lexemes, statements_lexemes, branches_lexemes};
-ghost use Rattle.tp_syntax.specs.Grammar.{action_part, are_parts, body_part, branch_part, branches_parts, counted_part, has_one, otherwise_parts, statement_part, statements_parts};
-ghost use Rattle.tp_syntax.specs.Reading.{AllStand, IsEndOf, IsEndedOr, IsPlaced, Stops, first, is_branch_ahead, is_end_ahead, receive_word};
+ghost use Rattle.tp_syntax.specs.Statements.{port_operation_lexeme, action_lexemes, branch_lexemes, body_lexemes};
+ghost use Rattle.tp_syntax.specs.Statements.{counted_lexemes, otherwise_lexemes, statement_lexemes, statements_lexemes};
+ghost use Rattle.tp_syntax.specs.Statements.{branches_lexemes};
+ghost use Rattle.tp_syntax.specs.Grammar.{action_part, are_parts, body_part, branch_part, branches_parts, counted_part};
+ghost use Rattle.tp_syntax.specs.Grammar.{has_one, otherwise_parts, statement_part, statements_parts};
+ghost use Rattle.tp_syntax.specs.Reading.{AllStand, IsEndOf, IsEndedOr, IsPlaced, Stops, first, is_branch_ahead};
+ghost use Rattle.tp_syntax.specs.Reading.{is_end_ahead, receive_word};
 ghost use Rattle.tp_syntax.specs.Standing.{GoesOn, GoesOver, HasPassed};
 ghost use Rattle.tp_syntax.specs.Stuck.{IsStuckAt, GoesBeyond};
 ghost use Rattle.tp_syntax.specs.HiddenTokens.{IsCutAt, Reads, ReadsOr};

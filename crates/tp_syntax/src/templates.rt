@@ -1,5 +1,6 @@
 //! Templates.
-ghost use Rattle.std.specs.Prelude.{false, ℕ, ℤ, ◌↔◌, [], List, Option, Some, ◌≡◌, ◌+◌, ◌<◌, ◌≤◌, ◌∷◌, ◌++◌, IsTrue, length, map, IfOk, OnOk, IfErr};
+ghost use Rattle.std.specs.Prelude.{false, ℕ, ℤ, ◌↔◌, [], List, Option, Some, ◌≡◌, ◌+◌, ◌<◌, ◌≤◌, ◌∷◌, ◌++◌, IsTrue};
+ghost use Rattle.std.specs.Prelude.{length, map, IfOk, OnOk, IfErr};
 ghost use Rattle.std.specs.List.{list_all};
 ghost use Rattle.tp_syntax.specs.Lexeme.{Lexeme, symbol, text, word};
 ghost use Rattle.tp_syntax.specs.Ahead.{ahead, token_at};
@@ -7,7 +8,8 @@ ghost use Rattle.tp_syntax.specs.Forward.{GoesForward};
 ghost use Rattle.tp_syntax.specs.HiddenTokens.{Reads};
 ghost use Rattle.tp_syntax.specs.Passing.{Passes};
 ghost use Rattle.tp_syntax.specs.Sequences.{by_commas, parenthesised};
-ghost use Rattle.tp_syntax.specs.Templates.{low_lexemes, high_lexemes, template_lexemes, template_field_lexemes, message_template_lexemes};
+ghost use Rattle.tp_syntax.specs.Templates.{low_lexemes, high_lexemes, template_lexemes, template_field_lexemes};
+ghost use Rattle.tp_syntax.specs.Templates.{message_template_lexemes};
 ghost use Rattle.tp_syntax.specs.Grammar.{each, is_bound, is_plain, is_template, is_template_field, one_and_each};
 ghost use Rattle.tp_syntax.specs.Reading.{Stops, IsRange, BeginsField};
 ghost use Rattle.tp_syntax.specs.Stuck.{IsStuckAt, IsStuckBehind, integer_stands, leads_on, GoesBeyond};

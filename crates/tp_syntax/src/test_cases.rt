@@ -1,15 +1,20 @@
 //! Test cases, with their setup statements and starts.
-ghost use Rattle.std.specs.Prelude.{[], ◌≢◌, ◌↔◌, false, List, Option, Some, ◌≡◌, ◌+◌, ◌<◌, ◌≤◌, ◌∷◌, IsTrue, length, map, IfOk, OnOk, IfErr, ℕ, true, MatchResult};
+ghost use Rattle.std.specs.Prelude.{[], ◌≢◌, ◌↔◌, false, List, Option, Some, ◌≡◌, ◌+◌, ◌<◌, ◌≤◌, ◌∷◌, IsTrue, length};
+ghost use Rattle.std.specs.Prelude.{map, IfOk, OnOk, IfErr, ℕ, true, MatchResult};
 ghost use Rattle.std.specs.Bool.{OnTrue};
 ghost use Rattle.tp_syntax.specs.Lexeme.{Lexeme, symbol, word};
 ghost use Rattle.tp_syntax.specs.Ahead.{ahead, is_name_in, token_at};
-ghost use Rattle.tp_syntax.specs.Definitions.{end_component_lexeme, end_point_lexemes, ends_lexemes, setup_action_lexemes, setup_lexemes, setups_lexemes, arguments_lexemes, start_lexemes, starts_lexemes, all_done_lexemes, system_lexemes, test_case_lexemes};
+ghost use Rattle.tp_syntax.specs.Definitions.{end_component_lexeme, end_point_lexemes, ends_lexemes};
+ghost use Rattle.tp_syntax.specs.Definitions.{setup_action_lexemes, setup_lexemes, setups_lexemes, arguments_lexemes};
+ghost use Rattle.tp_syntax.specs.Definitions.{start_lexemes, starts_lexemes, all_done_lexemes, system_lexemes};
+ghost use Rattle.tp_syntax.specs.Definitions.{test_case_lexemes};
 ghost use Rattle.tp_syntax.specs.Grammar.{all_done_parts, defined_part, setup_part, start_part};
 ghost use Rattle.tp_syntax.specs.Nesting.{defined_depth};
 ghost use Rattle.tp_syntax.specs.Forward.{GoesForward, PassesLines};
 ghost use Rattle.tp_syntax.specs.Lines.{noted_in_order, setup_notes, start_notes, test_case_notes};
 ghost use Rattle.tp_syntax.specs.Passing.{Passes};
-ghost use Rattle.tp_syntax.specs.Reading.{AllStand, IsPlaced, BeginsSetup, IsStart, MaybeName, first, is_setup_ahead, is_start_ahead};
+ghost use Rattle.tp_syntax.specs.Reading.{AllStand, IsPlaced, BeginsSetup, IsStart, MaybeName, first, is_setup_ahead};
+ghost use Rattle.tp_syntax.specs.Reading.{is_start_ahead};
 ghost use Rattle.tp_syntax.specs.Standing.{GoesOn, GoesOver, HasPassed};
 ghost use Rattle.tp_syntax.specs.Stuck.{IsStuckAt, IsStuckBehind, GoesBeyond, IsForMemory};
 ghost use Rattle.tp_syntax.specs.HiddenTokens.{IsCutCreation, IsCutStart, Reads, ReadsOr};

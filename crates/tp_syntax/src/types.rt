@@ -2,11 +2,16 @@
 ghost use Rattle.std.specs.Prelude.{ℕ, List, Some, [], ◌≡◌, ◌+◌, ◌<◌, ◌≤◌, ◌∷◌, IsTrue, length, map, IfOk, OnOk, IfErr};
 ghost use Rattle.tp_syntax.specs.Lexeme.{Lexeme, name, symbol, word};
 ghost use Rattle.tp_syntax.specs.Ahead.{ahead, token_at};
-ghost use Rattle.tp_syntax.specs.Definitions.{field_type_lexemes, field_types_lexemes, record_type_lexemes, list_type_lexemes, way_lexeme, types_lexemes, direction_lexemes, directions_lexemes, port_type_lexemes, declared_name_lexemes, declared_names_lexemes, port_declaration_lexemes, port_declarations_lexemes, component_type_lexemes, defined_lexemes};
+ghost use Rattle.tp_syntax.specs.Definitions.{field_type_lexemes, field_types_lexemes, record_type_lexemes};
+ghost use Rattle.tp_syntax.specs.Definitions.{list_type_lexemes, way_lexeme, types_lexemes, direction_lexemes};
+ghost use Rattle.tp_syntax.specs.Definitions.{directions_lexemes, port_type_lexemes, declared_name_lexemes};
+ghost use Rattle.tp_syntax.specs.Definitions.{declared_names_lexemes, port_declaration_lexemes};
+ghost use Rattle.tp_syntax.specs.Definitions.{port_declarations_lexemes, component_type_lexemes, defined_lexemes};
 ghost use Rattle.tp_syntax.specs.Grammar.{defined_part, direction_part, has_one, port_declaration_part};
 ghost use Rattle.tp_syntax.specs.Nesting.{defined_depth};
 ghost use Rattle.tp_syntax.specs.Forward.{GoesForward, PassesLines};
-ghost use Rattle.tp_syntax.specs.Lines.{noted_in_order, noted_by_commas, declared_name_notes, field_type_notes, record_type_notes, port_declaration_notes, component_type_notes, defined_notes};
+ghost use Rattle.tp_syntax.specs.Lines.{noted_in_order, noted_by_commas, declared_name_notes, field_type_notes};
+ghost use Rattle.tp_syntax.specs.Lines.{record_type_notes, port_declaration_notes, component_type_notes, defined_notes};
 ghost use Rattle.tp_syntax.specs.Passing.{Passes};
 ghost use Rattle.tp_syntax.specs.Reading.{AllStand, IsPlaced, Stops, first, is_type};
 ghost use Rattle.tp_syntax.specs.Standing.{GoesOver, HasPassed};

@@ -1,15 +1,18 @@
 //! Values, types and messages.
-ghost use Rattle.std.specs.Prelude.{ℤ, List, MatchResult, [], OnErr, ◌≡◌, ◌≢◌, ◌+◌, ◌<◌, ◌≤◌, ◌∷◌, ◌++◌, IsTrue, length, map, pos, IfOk, OnOk, Some, IfErr, ℕ, true};
+ghost use Rattle.std.specs.Prelude.{ℤ, List, MatchResult, [], OnErr, ◌≡◌, ◌≢◌, ◌+◌, ◌<◌, ◌≤◌, ◌∷◌, ◌++◌, IsTrue};
+ghost use Rattle.std.specs.Prelude.{length, map, pos, IfOk, OnOk, Some, IfErr, ℕ, true};
 ghost use Rattle.tp_syntax.specs.Lexeme.{Lexeme, name, symbol};
 ghost use Rattle.tp_syntax.specs.Ahead.{ahead, is_name_in, lexemes_from, token_at};
 ghost use Rattle.tp_syntax.specs.Forward.{GoesForward};
 ghost use Rattle.tp_syntax.specs.HiddenTokens.{CouldBe, CouldBeBehind, IsStuckInHidden, Reads};
 ghost use Rattle.tp_syntax.specs.Passing.{Passes};
 ghost use Rattle.tp_syntax.specs.Sequences.{by_commas};
-ghost use Rattle.tp_syntax.specs.Values.{int_lexemes, type_lexemes, value_lexemes, value_field_lexemes, message_lexemes};
+ghost use Rattle.tp_syntax.specs.Values.{int_lexemes, type_lexemes, value_lexemes, value_field_lexemes};
+ghost use Rattle.tp_syntax.specs.Values.{message_lexemes};
 ghost use Rattle.tp_syntax.specs.Grammar.{each, is_64_bit, is_value, is_value_field, one_and_each};
 ghost use Rattle.tp_syntax.specs.Reading.{Stops, BeginsField};
-ghost use Rattle.tp_syntax.specs.Stuck.{IsStuckAt, IsStuckBehind, IsWrongBehind, integer_stands, number_stands, GoesBeyond};
+ghost use Rattle.tp_syntax.specs.Stuck.{IsStuckAt, IsStuckBehind, IsWrongBehind, integer_stands, number_stands};
+ghost use Rattle.tp_syntax.specs.Stuck.{GoesBeyond};
 
 use crate::cursor::Parser;
 use crate::faults::GREATEST;

@@ -2,7 +2,8 @@
 ghost use Rattle.std.specs.Prelude.{◌≡◌, ◌↔◌, ◌<◌, ◌≤◌, IsTrue, length, drop, []};
 ghost use Rattle.tp_value.specs.Cuts.{HasCut, PieceOf};
 ghost use Rattle.tp_value.specs.Steps.{StepIs};
-ghost use Rattle.tp_value.specs.Matches.{Matches, SomeMatches, FieldsMatch, AtLeast, AtMost, integer_in, charstring_in, fields_in, elements_in, is_many as is_many_template};
+ghost use Rattle.tp_value.specs.Matches.{Matches, SomeMatches, FieldsMatch, AtLeast, AtMost, integer_in, charstring_in};
+ghost use Rattle.tp_value.specs.Matches.{fields_in, elements_in, is_many as is_many_template};
 ghost use Rattle.std.specs.Option.{option_copied};
 ghost use Rattle.tp_value.specs.declared.value.Value.TheViews.{out-Value};
 

@@ -1,5 +1,6 @@
 //! Types.
-ghost use Rattle.std.specs.Prelude.{◌≡◌, ◌<◌, ◌∷◌, ◌++◌, ◌↔◌, [], length, slice_get, string_bytes, Contains, IfOk, IsErrOf, IsSome, OnErr};
+ghost use Rattle.std.specs.Prelude.{◌≡◌, ◌<◌, ◌∷◌, ◌++◌, ◌↔◌, [], length, slice_get, string_bytes, Contains, IfOk};
+ghost use Rattle.std.specs.Prelude.{IsErrOf, IsSome, OnErr};
 ghost use Rattle.std.specs.Option.{option_copied};
 
 use crate::items::Items;
@@ -87,7 +88,8 @@ impl Model for Types {
 }
 
 impl Types {
-    ghost use Rattle.std.specs.Prelude.{◌≡◌, ◌<◌, ◌∷◌, ◌++◌, ◌↔◌, [], length, slice_get, string_bytes, Contains, IfOk, IfSome, IsErrOf, IsSome, OnErr};
+    ghost use Rattle.std.specs.Prelude.{◌≡◌, ◌<◌, ◌∷◌, ◌++◌, ◌↔◌, [], length, slice_get, string_bytes, Contains, IfOk};
+    ghost use Rattle.std.specs.Prelude.{IfSome, IsErrOf, IsSome, OnErr};
     ghost use Rattle.std.specs.Option.{option_copied};
     ghost use Rattle.tp_value.specs.Types.{named, names_of_types, type_number};
 

@@ -2,7 +2,8 @@
 ghost use Rattle.std.specs.Prelude.{◌≡◌, ◌==◌, ◌<◌, ◌++◌, IfSome, MatchOption, codes, length, position};
 ghost use Rattle.std.specs.Fmt.{signed_decimal};
 ghost use Rattle.tp_common.specs.Watching.{Writes};
-ghost use Rattle.tp_value.specs.ValueText.{bool_text, braced_text, element_texts, escaped, field_texts, quoted, value_text};
+ghost use Rattle.tp_value.specs.ValueText.{bool_text, braced_text, element_texts, escaped, field_texts, quoted};
+ghost use Rattle.tp_value.specs.ValueText.{value_text};
 ghost use Rattle.tp_value.specs.Separators.{separator};
 
 use crate::types::{Field, Ty, TypeDef, Types};

@@ -3,7 +3,8 @@ ghost use Rattle.std.specs.Prelude.{◌≡◌, IfErr, IfOk, IfSome, OnOk};
 ghost use Rattle.tp_common.specs.Watching.{HasFailed, Writes, reader_left};
 ghost use Rattle.tp_script.specs.Scripts.{IsScriptOf};
 ghost use Rattle.tpr.specs.Handed.{IsAnswered, IsJust};
-ghost use Rattle.tpr.specs.Checked.{HasCheckFault, IsCheckAnswer, IsRight, accepted_text, check_fault_status, check_fault_text};
+ghost use Rattle.tpr.specs.Checked.{HasCheckFault, IsCheckAnswer, IsRight, accepted_text, check_fault_status};
+ghost use Rattle.tpr.specs.Checked.{check_fault_text};
 
 use crate::modes::{
     ANSWERED, FAULTED, REFUSED, status_if_written, write_memory, write_refused, write_unread,

@@ -2,7 +2,8 @@
 ghost use Rattle.std.specs.Prelude.{◌≡◌, [], MatchOption, false};
 ghost use Rattle.tp_common.specs.Watching.{HasFailed, Writes};
 ghost use Rattle.tpr.specs.Handed.{IsAnswered, IsJust};
-ghost use Rattle.tpr.specs.FaultLines.{IsQueueAnswer, fault_status, fault_text, label_text, memory_text, refused_text, unread_text};
+ghost use Rattle.tpr.specs.FaultLines.{IsQueueAnswer, fault_status, fault_text, label_text, memory_text, refused_text};
+ghost use Rattle.tpr.specs.FaultLines.{unread_text};
 
 use std::alloc::Global;
 use std::io::{Read, Write};

@@ -3,7 +3,8 @@ ghost use Rattle.std.specs.Prelude.{◌∷◌, All, true};
 ghost use Rattle.std.specs.List.{flat_map};
 ghost use Rattle.tp_common.specs.Watching.{Writes};
 ghost use Rattle.tp_config.specs.Setup.{IsComponent};
-ghost use Rattle.tpr.specs.Texts.{HasNames, always_line, name_behind, order_line, orders_of, said_of, several_line, states_line, undecided_lines, verdicts_text, word_behind};
+ghost use Rattle.tpr.specs.Texts.{HasNames, always_line, name_behind, order_line, orders_of, said_of, several_line};
+ghost use Rattle.tpr.specs.Texts.{states_line, undecided_lines, verdicts_text, word_behind};
 
 use crate::verdicts::{FoundVerdict, Verdicts};
 use std::io::Write;
