@@ -3,6 +3,8 @@ that is passed; and a long report."""
 from __future__ import annotations
 
 from collections.abc import Iterator
+from itertools import product
+from string import ascii_letters, ascii_uppercase, digits
 
 from asking import Case, Group, Reported, Script, in_module, listed, on_lines
 
@@ -276,6 +278,24 @@ def long_report() -> Iterator[Case]:
     yield Reported("a report of 427,000 messages", script, report.encode())
 
 
+def most_types() -> Iterator[Case]:
+    """As many types as a text has room for, and a message of the last of them."""
+    names = ["".join(it) for it in product(ascii_uppercase, *[f"{ascii_letters}{digits}_"] * 2)][:61_600]
+    last = names[-1]
+    script = in_module(
+        "".join(f"type record {name}{{}}" for name in names),
+        f"type port Q message {{ inout {last}; }} type component D {{ port Q a, b; }}",
+        "testcase t() runs on D {",
+        "connect(self:a, self:b);",
+        f"a.send({last}:{{}}); b.receive({last}:?);",
+        "}",
+        "}",
+    )
+    told = f"sent mtc.b 0 {last}:{{}}\ntook b mtc 0 {last}:{{}}\n"
+    report = f"component mtc\n{told}end done\nverdict none\nresult none\n"
+    yield Reported("a message of the last of 61,600 types", script, report.encode())
+
+
 def groups() -> list[Group]:
     return [
         Group("many fields", 13, many_fields),
@@ -291,4 +311,5 @@ def groups() -> list[Group]:
         Group("the limit of ports, first", 8, limit_of_ports_first),
         Group("the limit of texts, first", 3, limit_of_text_first),
         Group("a long report", 1, long_report),
+        Group("as many types as fit", 1, most_types),
     ]

@@ -2,6 +2,7 @@ pub mod Faults
 pub mod History
 pub mod Desks
 pub mod Lending
+pub mod Noted
 pub mod Envelopes
 pub mod Rule
 pub mod Routed

@@ -58,7 +58,7 @@ impl Model for Desk {
 /// A history of so many entries gets room for [`MANY_ENTRIES`].
 const FEW_ENTRIES: usize = 32;
 
-/// 6 MiB of entries, which cost nothing until they are used.
+/// 5 MiB of entries, which cost nothing until they are used.
 const MANY_ENTRIES: usize = 131_072;
 
 /// Makes room for another entry. A history is moved once on its way to [`MANY_ENTRIES`], unless so
@@ -283,7 +283,8 @@ impl Desk {
     }
 
     /// Notes the sending of this message on this route, under this number and the next stamp, and
-    /// returns it with that stamp, to be put. 50 `Memory` also if no stamp is left.
+    /// returns it with that stamp, to be put. 50 `Memory` also if no stamp is left, or a number has
+    /// no room in the entry.
     pub fn note_sending(
         &mut self,
         route: RouteId,
@@ -301,6 +302,9 @@ impl Desk {
         let Some(way) = NotedRoute::of(route) else {
             return Err((Memory, message));
         };
+        let Ok(short) = u32::try_from(number) else {
+            return Err((Memory, message));
+        };
         if reserve_entry(&mut self.log).is_err() {
             return Err((Memory, message));
         }
@@ -308,7 +312,7 @@ impl Desk {
         let Ok(noted) = put.copy(self.alloc) else {
             return Err((Memory, put.message));
         };
-        self.log.push_reserved(Entry::Sent(way, number, noted));
+        self.log.push_reserved(Entry::Sent(way, short, noted));
         self.clock = stamp;
         Ok(put)
     }

@@ -31,7 +31,7 @@ pub enum Entry {
     /// `halt` was executed at this port, with or without an effect (22.5.4).
     Halted(u32),
     /// On this route the message of this number, from 0, was sent, with this stamp (22.2.1).
-    Sent(NotedRoute, u64, Stamped),
+    Sent(NotedRoute, u32, Stamped),
     Else,
     /// `setverdict` with this verdict (24.2).
     Verdict(Verdict),

@@ -14,6 +14,7 @@ pub mod entry;
 mod envelope;
 pub mod gathered;
 pub mod making;
+pub mod note_fault;
 pub mod noted;
 pub mod owner;
 pub mod posted;
@@ -22,6 +23,7 @@ pub mod send_fault;
 pub mod sender;
 pub mod settled;
 pub mod stamped;
+pub mod type_kind;
 
 pub use tp_floor::floor::Floor;
 pub use tp_floor::notifier::Woken;

@@ -1,21 +1,28 @@
 //! Envelopes and routes as an entry keeps them, in less room.
-ghost use Rattle.std.specs.Prelude.{◌≡◌, IfOk, IfSome};
+ghost use Rattle.std.specs.Prelude.{◌≡◌, IfErr, IfOk, MatchOption, SomeIff};
+ghost use Rattle.tp_inbox.specs.Noted.{IsShortRoute, IsShortType, NoteCause, type_of};
 
+use crate::note_fault::NoteFault;
+use crate::type_kind::TypeKind;
 use std::alloc::Global;
 use std::marker::Model;
 use tp_common::event::Env;
-use tp_common::memory::Memory;
-use tp_common::payload::Payload;
 use tp_config::port_type::{CompId, PortRef, RouteId};
 use tp_value::message::Message;
+use tp_value::types::Ty;
+use tp_value::value::Value;
 
 /// An envelope in a history. Contracts see it as that envelope.
 #[derive(Debug, Drop)]
 pub struct NotedEnvelope {
-    sender: u32,
-    /// Below 2^32: a route has fewer messages.
+    /// A configuration has 64 components.
+    sender: u8,
+    kind: TypeKind,
+    /// The number of a named type, else 0. A script has room for fewer than 65,536 definitions.
+    named: u16,
+    /// A route has 100,000 messages at most.
     number: u32,
-    message: Message,
+    value: Value,
 }
 
 impl Model for NotedEnvelope {
@@ -23,33 +30,64 @@ impl Model for NotedEnvelope {
     ghost use Rattle.tp_value.specs.declared.message.Message.{Message};
     ghost use Rattle.tp_value.specs.contracts.value.Value as value_contract;
     ghost use Rattle.std.specs.Coded.{codes};
+    ghost use Rattle.tp_inbox.specs.Noted.{type_of};
 
     ghost Value = { Env Message };
 
     ghost coded = { Prim.hlevel (codes, value_contract.the_row.coded) };
 
-    ghost view = { λ e. record { sender = e.sender; number = e.number; msg = e.message } };
+    ghost view = { λ e. record {
+      sender = e.sender;
+      number = e.number;
+      msg = record { ty = type_of e.kind e.named; value = e.value };
+    } };
+}
+
+/// The kind of a type, and the number of a named one. `None` if that is 65,536 or more.
+fn kind_of(ty: Ty) -> Option<(TypeKind, u16)>
+    ensures { MatchOption result (¬ IsShortType ty)
+        (λ kept. IsShortType ty × (type_of kept.0 kept.1 ≡ ty)) }
+{
+    match ty {
+        Ty::Integer => Some((TypeKind::Integer, 0)),
+        Ty::Boolean => Some((TypeKind::Boolean, 0)),
+        Ty::Charstring => Some((TypeKind::Charstring, 0)),
+        Ty::Named(number) => match u16::try_from(number) {
+            Ok(named) => Some((TypeKind::Named, named)),
+            Err(_) => None,
+        },
+    }
 }
 
 impl NotedEnvelope {
-    /// A copy of an envelope. 50 `Memory` also if its number is 2^32 or more.
-    pub fn copy_of(alloc: Global, env: &Env<Message>) -> Result<NotedEnvelope, Memory>
-        ensures { IfOk result (λ noted. noted ≡ env.now) }
+    /// A copy of an envelope. `NoRoom` if and only if its sender's number is 256 or more, its own
+    /// number 2^32 or more, or the number of its type 65,536 or more.
+    pub fn copy_of(alloc: Global, env: &Env<Message>) -> Result<NotedEnvelope, NoteFault>
+        ensures ok { IfOk result (λ noted. noted ≡ env.now) }
+        ensures err { IfErr result (NoteCause env.now) }
     {
-        let Ok(number) = u32::try_from(env.number) else {
-            return Err(Memory);
+        let (Ok(sender), Ok(number)) = (u8::try_from(env.sender), u32::try_from(env.number)) else {
+            return Err(NoteFault::NoRoom);
+        };
+        let Some((kind, named)) = kind_of(env.msg.ty) else {
+            return Err(NoteFault::NoRoom);
+        };
+        let Ok(value) = env.msg.value.copy(alloc) else {
+            return Err(NoteFault::Memory);
         };
         Ok(NotedEnvelope {
-            sender: env.sender,
+            sender,
+            kind,
+            named,
             number,
-            message: env.msg.copy(alloc)?,
+            value,
         })
     }
 
     pub fn sender(&self) -> u32
         ensures { result ≡ self.now.sender }
     {
-        self.sender
+        self.sender as u32
     }
 
     pub fn number(&self) -> u64
@@ -58,19 +96,32 @@ impl NotedEnvelope {
         self.number as u64
     }
 
-    pub fn message(&self) -> &Message
-        ensures { result.now ≡ self.now.msg }
+    /// The type of its message.
+    pub fn ty(&self) -> Ty
+        ensures { result ≡ self.now.msg.ty }
     {
-        &self.message
+        match self.kind {
+            TypeKind::Integer => Ty::Integer,
+            TypeKind::Boolean => Ty::Boolean,
+            TypeKind::Charstring => Ty::Charstring,
+            TypeKind::Named => Ty::Named(self.named as u32),
+        }
+    }
+
+    /// The value of its message.
+    pub fn value(&self) -> &Value
+        ensures { result.now ≡ self.now.msg.value }
+    {
+        &self.value
     }
 }
 
 /// A route in a history. Contracts see it as that route.
 #[derive(Debug, Drop)]
 pub struct NotedRoute {
-    source: u16,
-    comp: u16,
-    port: u16,
+    source: u8,
+    comp: u8,
+    port: u8,
 }
 
 impl Model for NotedRoute {
@@ -85,14 +136,15 @@ impl Model for NotedRoute {
 }
 
 impl NotedRoute {
-    /// `None` if a component or the port has a number of 65,536 or more: a configuration has 64.
+    /// `None` if and only if a component or the port has a number of 256 or more: a configuration
+    /// has 64 of each.
     pub fn of(route: RouteId) -> Option<NotedRoute>
-        ensures { IfSome result (λ noted. noted ≡ route) }
+        ensures { SomeIff result (IsShortRoute route) route }
     {
         let (Ok(source), Ok(comp), Ok(port)) = (
-            u16::try_from(route.source.0),
-            u16::try_from(route.to.comp.0),
-            u16::try_from(route.to.port),
+            u8::try_from(route.source.0),
+            u8::try_from(route.to.comp.0),
+            u8::try_from(route.to.port),
         ) else {
             return None;
         };

@@ -10,23 +10,27 @@ use crate::entry::Entry;
 use std::alloc::Global;
 use tp_common::event::Env;
 use tp_common::memory::Memory;
-use tp_common::payload::Payload;
 use tp_config::port_type::RouteId;
 use tp_value::message::Message;
+use tp_value::types::Ty;
+use tp_value::value::Value;
 
 fn add_message(
     alloc: Global,
     route: RouteId,
     port: u32,
     sender: u32,
-    message: &Message,
+    ty: Ty,
+    value: &Value,
     messages: &mut Vec<Message>,
 ) -> Result<(), Memory>
     ensures { OnOk result (messages.new.items
-        ≡ messages.old.items ++ arrived_message route port sender message.now) }
+        ≡ messages.old.items
+        ++ arrived_message route port sender record { ty = ty; value = value.now }) }
 {
     if route.to.port == port && route.source.0 == sender {
-        messages.push(message.copy(alloc)?)?;
+        let value = value.copy(alloc)?;
+        messages.push(Message { ty, value })?;
     }
     Ok(())
 }
@@ -42,7 +46,15 @@ fn add_entry(
 {
     match entry {
         Entry::Arrive(port, env, _) => {
-            add_message(alloc, route, *port, env.sender(), env.message(), messages)
+            add_message(
+                alloc,
+                route,
+                *port,
+                env.sender(),
+                env.ty(),
+                env.value(),
+                messages,
+            )
         }
         _ => Ok(()),
     }
@@ -73,7 +85,8 @@ pub fn put_on_route(
 {
     let mut messages = messages_of(alloc, route, desk.log())?;
     for (port, env, _) in rest {
-        add_message(alloc, route, *port, env.sender, &env.msg, &mut messages)?;
+        let (ty, value) = (env.msg.ty, &env.msg.value);
+        add_message(alloc, route, *port, env.sender, ty, value, &mut messages)?;
     }
     Ok(messages)
 }

@@ -65,7 +65,14 @@ fn write_entry<W: Write>(
     let noted = &mut kept.received;
     match entry {
         Entry::Sent(route, number, stamped) => {
-            write_sent(test_case, route.id(), *number, &stamped.message, sent, out)
+            write_sent(
+                test_case,
+                route.id(),
+                *number as u64,
+                &stamped.message,
+                sent,
+                out,
+            )
         }
         Entry::Took(port, env, _) => {
             write_noted(test_case, Fate::Took, at(comp, *port), env, noted, out)

@@ -22,6 +22,8 @@ use tp_inbox::noted::NotedEnvelope;
 use tp_inbox::send_fault::SendFault;
 use tp_play::test_case::TestCase;
 use tp_value::message::Message;
+use tp_value::types::Ty;
+use tp_value::value::Value;
 use tp_value::verdict::Verdict;
 
 pub fn write_heading<W: Write>(test_case: &TestCase, comp: CompId, out: &mut Watched<W>)
@@ -77,21 +79,23 @@ fn write_line<W: Write>(
     test_case: &TestCase,
     opening: Opening,
     number: u64,
-    message: &Message,
+    ty: Ty,
+    value: &Value,
     kept: &mut KeptOpening,
     out: &mut Watched<W>,
 )
     requires named { NamesKnown test_case.now.config opening }
     requires kept { HasItsText test_case.now.config kept.old }
     ensures written { Writes W.contents out.old out.new (opening_text test_case.now.config opening
-        ++ rest_of_line (decimal number ∷ message_text test_case.now.types message.now ∷ [])) }
+        ++ rest_of_line (decimal number
+        ∷ message_text test_case.now.types record { ty = ty; value = value.now } ∷ [])) }
     ensures kept { HasItsText test_case.now.config kept.new }
 {
     if kept.holds(test_case.config(), opening) {
-        return write_opened(kept.text(), test_case.types(), number, message, out);
+        return write_opened(kept.text(), test_case.types(), number, ty, value, out);
     }
     write_opening(test_case.config(), opening, out);
-    write_opened(b"", test_case.types(), number, message, out)
+    write_opened(b"", test_case.types(), number, ty, value, out)
 }
 
 pub fn write_envelope<W: Write>(
@@ -112,7 +116,15 @@ pub fn write_envelope<W: Write>(
     ensures kept { HasItsText test_case.now.config kept.new }
 {
     let opening = Opening::At(fate, port, CompId(env.sender));
-    write_line(test_case, opening, env.number, &env.msg, kept, out)
+    write_line(
+        test_case,
+        opening,
+        env.number,
+        env.msg.ty,
+        &env.msg.value,
+        kept,
+        out,
+    )
 }
 
 /// The same of an envelope in a history.
@@ -134,7 +146,15 @@ pub fn write_noted<W: Write>(
     ensures kept { HasItsText test_case.now.config kept.new }
 {
     let opening = Opening::At(fate, port, CompId(env.sender()));
-    write_line(test_case, opening, env.number(), env.message(), kept, out)
+    write_line(
+        test_case,
+        opening,
+        env.number(),
+        env.ty(),
+        env.value(),
+        kept,
+        out,
+    )
 }
 
 pub fn write_sent<W: Write>(
@@ -155,7 +175,8 @@ pub fn write_sent<W: Write>(
         test_case,
         Opening::Sent(route.to),
         number,
-        message,
+        message.ty,
+        &message.value,
         kept,
         out,
     )

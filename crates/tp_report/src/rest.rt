@@ -10,15 +10,14 @@ use crate::words::{write_message, write_spaced};
 use itoa::write_digits;
 use std::io::Write;
 use tp_common::watched::{Watched, write_bytes};
-use tp_value::message::Message;
 use tp_value::types::{Ty, Types};
 use tp_value::value::Value;
 
-fn message_integer(message: &Message) -> Option<i64>
-    ensures { IfSome result (IsInteger message.now) }
+fn message_integer(ty: Ty, value: &Value) -> Option<i64>
+    ensures { IfSome result (IsInteger record { ty = ty; value = value.now }) }
 {
-    match message.ty {
-        Ty::Integer => match &message.value {
+    match ty {
+        Ty::Integer => match value {
             Value::Int(number) => Some(*number),
             _ => None,
         },
@@ -47,18 +46,19 @@ pub fn write_opened<W: Write>(
     opening: &[u8],
     types: &Types,
     number: u64,
-    message: &Message,
+    ty: Ty,
+    value: &Value,
     out: &mut Watched<W>,
 )
     requires { length opening.now ≤ 128 }
-    ensures { Writes W.contents out.old out.new (opening.now
-        ++ rest_of_line (decimal number ∷ message_text types.now message.now ∷ [])) }
+    ensures { Writes W.contents out.old out.new (opening.now ++ rest_of_line (decimal number
+        ∷ message_text types.now record { ty = ty; value = value.now } ∷ [])) }
 {
-    if let Some(integer) = message_integer(message) {
+    if let Some(integer) = message_integer(ty, value) {
         return write_integer(opening, number, integer, out);
     }
     write_bytes(opening, out);
     write_spaced(number, out);
-    write_message(types, message, out);
+    write_message(types, ty, value, out);
     write_bytes(b"\n", out)
 }

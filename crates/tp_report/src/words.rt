@@ -12,9 +12,9 @@ use std::io::Write;
 use tp_common::watched::{Watched, write_bytes};
 use tp_config::config::Config;
 use tp_config::port_type::{CompId, PortRef};
-use tp_value::message::Message;
 use tp_value::types::{Ty, Types};
 use tp_value::typing::has_type;
+use tp_value::value::Value;
 use tp_value::verdict::Verdict;
 use tp_value::writing::write_value;
 
@@ -85,21 +85,22 @@ fn write_type<W: Write>(types: &Types, ty: Ty, out: &mut Watched<W>)
     }
 }
 
-fn is_typed(types: &Types, message: &Message) -> bool
-    ensures { result ≡ is_typed types.now message.now.ty message.now.value }
+fn is_typed(types: &Types, ty: Ty, value: &Value) -> bool
+    ensures { result ≡ is_typed types.now ty value.now }
 {
-    has_type(types, message.ty, &message.value)
+    has_type(types, ty, value)
 }
 
 /// Writes a message: its type and its value, or `-` if the value doesn't have the type.
-pub fn write_message<W: Write>(types: &Types, message: &Message, out: &mut Watched<W>)
-    ensures { Writes W.contents out.old out.new (message_text types.now message.now) }
+pub fn write_message<W: Write>(types: &Types, ty: Ty, value: &Value, out: &mut Watched<W>)
+    ensures { Writes W.contents out.old out.new
+        (message_text types.now record { ty = ty; value = value.now }) }
 {
-    if !is_typed(types, message) {
+    if !is_typed(types, ty, value) {
         return write_bytes(b"-", out);
     }
-    write_type(types, message.ty, out);
-    write_value(types, message.ty, &message.value, out)
+    write_type(types, ty, out);
+    write_value(types, ty, value, out)
 }
 
 pub fn verdict_word(verdict: Verdict) -> &'static [u8]

@@ -16,6 +16,7 @@ use tp_inbox::stamped::Stamped;
 use tp_value::message::{Message, MsgTemplate};
 use tp_value::template::Template;
 use tp_value::types::Ty;
+use tp_value::value::Value;
 use tp_value::verdict::Verdict;
 
 fn desk<R: AllocGlobal + Abort>(rt: &R) -> Desk {
@@ -162,22 +163,22 @@ const CALLS_OF_A_DESK: &[(DeskCall, &str)] = &[
 ];
 
 const LOG_OF_A_DESK: &[&str] = &[
-    "Arrive(0, NotedEnvelope { sender: 0, number: 0, \
-    message: Message { ty: Integer, value: Int(0) } }, 0)",
-    "Arrive(0, NotedEnvelope { sender: 0, number: 1, \
-    message: Message { ty: Integer, value: Int(1) } }, 1)",
-    "Arrive(0, NotedEnvelope { sender: 0, number: 2, \
-    message: Message { ty: Integer, value: Int(2) } }, 2)",
-    "Arrive(0, NotedEnvelope { sender: 0, number: 3, \
-    message: Message { ty: Integer, value: Int(3) } }, 3)",
-    "Found(0, NotedEnvelope { sender: 0, number: 0, \
-    message: Message { ty: Integer, value: Int(0) } }, 2)",
-    "Took(0, NotedEnvelope { sender: 0, number: 0, \
-    message: Message { ty: Integer, value: Int(0) } }, 1)",
-    "Dropped(0, NotedEnvelope { sender: 0, number: 1, \
-    message: Message { ty: Integer, value: Int(1) } }, 3)",
-    "Took(0, NotedEnvelope { sender: 0, number: 2, \
-    message: Message { ty: Integer, value: Int(2) } }, 0)",
+    "Arrive(0, NotedEnvelope { sender: 0, kind: Integer, named: 0, \
+    number: 0, value: Int(0) }, 0)",
+    "Arrive(0, NotedEnvelope { sender: 0, kind: Integer, named: 0, \
+    number: 1, value: Int(1) }, 1)",
+    "Arrive(0, NotedEnvelope { sender: 0, kind: Integer, named: 0, \
+    number: 2, value: Int(2) }, 2)",
+    "Arrive(0, NotedEnvelope { sender: 0, kind: Integer, named: 0, \
+    number: 3, value: Int(3) }, 3)",
+    "Found(0, NotedEnvelope { sender: 0, kind: Integer, named: 0, \
+    number: 0, value: Int(0) }, 2)",
+    "Took(0, NotedEnvelope { sender: 0, kind: Integer, named: 0, \
+    number: 0, value: Int(0) }, 1)",
+    "Dropped(0, NotedEnvelope { sender: 0, kind: Integer, named: 0, \
+    number: 1, value: Int(1) }, 3)",
+    "Took(0, NotedEnvelope { sender: 0, kind: Integer, named: 0, \
+    number: 2, value: Int(2) }, 0)",
     "Halted(0)",
     "Cleared(0)",
     "Stopped(0)",
@@ -197,17 +198,43 @@ fn refused_memory_leaves_a_desk_as_it_was(rt: HostRuntime) {
     drop(desk);
 }
 
+fn seven(sender: u32, number: u64, ty: Ty) -> Env<Message> {
+    let value = Value::Int(7);
+    let msg = Message { ty, value };
+    Env {
+        sender,
+        number,
+        msg,
+    }
+}
+
+fn arrives<R: AllocGlobal + Abort>(rt: &R, desk: &mut Desk, env: Env<Message>) -> bool {
+    assert!(rt; desk.port_count() > 0);
+    desk.arrive(0, env, 1).is_ok()
+}
+
 #[test]
 fn number_without_room_is_refused(rt: HostRuntime) {
+    const GREATEST: u64 = 4_294_967_295;
+    const LOG: &[&str] = &[
+        "Arrive(0, NotedEnvelope { sender: 255, kind: Named, named: 65535, \
+    number: 4294967295, value: Int(7) }, 1)",
+    ];
+    let ty = Ty::Named(65_535);
     let mut desk = desk(&rt);
-    assert!(rt; desk.port_count() > 0);
-    let env = Env {
-        sender: 0,
-        number: 1 << 32,
-        msg: integer(7),
-    };
-    assert!(rt; desk.arrive(0, env, 1).is_err());
+    assert!(rt; !arrives(&rt, &mut desk, seven(256, GREATEST, ty)));
+    assert!(rt; !arrives(&rt, &mut desk, seven(255, GREATEST + 1, ty)));
+    assert!(rt; !arrives(&rt, &mut desk, seven(255, GREATEST, Ty::Named(65_536))));
+    assert!(rt;
+        desk.note_sending(route(0, 1, 0), GREATEST + 1, integer(7))
+            .is_err()
+    );
+    assert!(rt; desk.note_sending(route(0, 256, 0), 0, integer(7)).is_err());
     assert!(rt; desk.log().len() == 0);
+    if !arrives(&rt, &mut desk, seven(255, GREATEST, ty)) {
+        assert!(rt; arrives(&rt, &mut desk, seven(255, GREATEST, ty)));
+    }
+    is_noted(&rt, desk.log(), LOG);
     drop(desk);
 }
 

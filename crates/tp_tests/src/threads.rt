@@ -17,7 +17,6 @@ use tp_config::port_type::{CompId, Role};
 use tp_inbox::entry::Entry;
 use tp_inbox::gathered::Rest;
 use tp_inbox::sender::Sender;
-use tp_value::message::Message;
 use tp_value::types::Ty;
 use tp_value::value::Value;
 
@@ -124,8 +123,8 @@ where
 }
 
 /// The count with this message, if its number is the next of its sender.
-fn counted(number: u64, message: &Message, count: u64) -> Option<u64> {
-    match message.value {
+fn counted(number: u64, value: &Value, count: u64) -> Option<u64> {
+    match value {
         Value::Int(n) if n.unsigned_abs() == count && number == count => {
             Some(count.wrapping_add(1))
         }
@@ -140,13 +139,13 @@ fn all_from(log: &[Entry], rest: &Rest, sender: u32) -> Option<u64> {
     for entry in log {
         if let Entry::Arrive(0, env, _) = entry {
             if env.sender() == sender {
-                count = counted(env.number(), env.message(), count)?;
+                count = counted(env.number(), env.value(), count)?;
             }
         }
     }
     for (_, env, _) in rest {
         if env.sender == sender {
-            count = counted(env.number, &env.msg, count)?;
+            count = counted(env.number, &env.msg.value, count)?;
         }
     }
     Some(count)

@@ -11,7 +11,7 @@ pub returns-in-Some : goal.returns-in-Some
 returns-in-Some g c =
     subst
     (λ (text : List ℕ). Writes g.W.Write.contents c.args.out.now c.write_integer.new.out (c.args.opening.now ++ rest_of_line (decimal c.args.number ∷ text ∷ [])))
-    (integer_text c.args.types.now c.args.message.now c.in-Some.integer c.in-Some.ensures)
+    (integer_text c.args.types.now record { ty = c.args.ty; value = c.args.value.now } c.in-Some.integer c.in-Some.ensures)
     (rw (to_z-of_z c.in-Some.ensures.2) at c.write_integer.ensures)
 
 pub returns : goal.returns

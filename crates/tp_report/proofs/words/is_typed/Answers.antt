@@ -4,4 +4,4 @@ use Rattle.tp_report.proofs.TypeTestIsExact.{typed}
 use Rattle.tp_report.proofs.words.is_typed.Goals as goal
 
 pub returns : goal.returns
-returns c = one_answer _ _ (c.has_type.ensures.0, c.has_type.ensures.1) (typed c.args.types.now c.args.message.now.value c.args.message.now.ty)
+returns c = one_answer _ _ (c.has_type.ensures.0, c.has_type.ensures.1) (typed c.args.types.now c.args.value.now c.args.ty)

@@ -8,10 +8,10 @@ use Rattle.tp_report.proofs.words.write_message.Goals as goal
 pub returns-then-not-is_typed : goal.returns-then-not-is_typed
 returns-then-not-is_typed g c =
     let e = sym c.is_typed.ensures ∙ c.if-not-is_typed.true in
-    subst (Writes g.W.Write.contents _ _) (untyped_text c.args.types.now c.args.message.now e) c.write_bytes.ensures
+    subst (Writes g.W.Write.contents _ _) (untyped_text c.args.types.now record { ty = c.args.ty; value = c.args.value.now } e) c.write_bytes.ensures
 
 pub returns : goal.returns
 returns g c =
     let e = sym c.is_typed.ensures ∙ c.if-not-is_typed.false in
-    subst (Writes g.W.Write.contents _ _) (typed_text c.args.types.now c.args.message.now e)
+    subst (Writes g.W.Write.contents _ _) (typed_text c.args.types.now record { ty = c.args.ty; value = c.args.value.now } e)
     (writes_both _ _ _ _ _ _ c.write_type.ensures c.write_value.ensures)

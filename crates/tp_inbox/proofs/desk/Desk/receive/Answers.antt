@@ -17,7 +17,7 @@ log_is : (g : _) (c : goal.After-push_reserved g)
     → c.push_reserved.new.self.items ≡ c.self.inside.log.items ++ entry.Took c.args.port c.in-Some.env.now c.args.branch ∷ []
 log_is g c =
     grown_by _ _ _ _ _ c.push_reserved.ensures.items c.reserve_entry.ensures.items
-    (ap (λ e. entry.Took c.args.port e c.args.branch) c.in_ok-noted-in-Some.ensures)
+    (ap (λ e. entry.Took c.args.port e c.args.branch) c.in_ok-noted-in-Some.ensures.ok)
 
 pub invariant_of-self-2 : goal.invariant_of-self-2
 invariant_of-self-2 g c =

@@ -20,7 +20,7 @@ invariant_of-self-in-Took g c =
     kept_at _ _ _ _ c.args.port (entry.Took c.args.port c.in-Took.env c.args.branch) (event.Took c.in-Took.env) _ _ c.self.invariant
     low c.index_mut-queue.ensures.value (λ h s. (c.in-Took.ensures h s).1) (λ p. refl) tt refl
     (grown_by _ _ _ _ _ c.push_reserved.ensures.items c.reserve_entry.ensures.items
-    (ap (λ e. entry.Took c.args.port e c.args.branch) (c.in_ok-noted-in-Some.ensures ∙ same)))
+    (ap (λ e. entry.Took c.args.port e c.args.branch) (c.in_ok-noted-in-Some.ensures.ok ∙ same)))
 
 pub returns-in-Took-clause-ok : goal.returns-in-Took-clause-ok
 returns-in-Took-clause-ok g c =
@@ -33,7 +33,7 @@ returns-in-Took-clause-ok g c =
     adding_is _ _ _ _ (entry.Took c.args.port c.in-Took.env c.args.branch) c.self.view_is
     (length-set c.self.inside.ports.items c.args.port c.trigger.new.self)
     (grown_by _ _ _ _ _ c.push_reserved.ensures.items c.reserve_entry.ensures.items
-    (ap (λ e. entry.Took c.args.port e c.args.branch) (c.in_ok-noted-in-Some.ensures ∙ same))) in
+    (ap (λ e. entry.Took c.args.port e c.args.branch) (c.in_ok-noted-in-Some.ensures.ok ∙ same))) in
     ((c.in-Took.ensures h s).0, grown)
 
 pub invariant_of-self-in-Dropped : goal.invariant_of-self-in-Dropped
@@ -45,7 +45,7 @@ invariant_of-self-in-Dropped g c =
     kept_at _ _ _ _ c.args.port (entry.Dropped c.args.port c.in-Dropped.env c.args.branch) (event.Dropped c.in-Dropped.env) _ _ c.self.invariant
     low c.index_mut-queue.ensures.value (λ h s. (c.in-Dropped.ensures h s).2) (λ p. refl) tt refl
     (grown_by _ _ _ _ _ c.push_reserved-in-Dropped.ensures.items c.reserve_entry.ensures.items
-    (ap (λ e. entry.Dropped c.args.port e c.args.branch) (c.in_ok-noted-in-Some.ensures ∙ same)))
+    (ap (λ e. entry.Dropped c.args.port e c.args.branch) (c.in_ok-noted-in-Some.ensures.ok ∙ same)))
 
 pub returns-in-Dropped-clause-ok : goal.returns-in-Dropped-clause-ok
 returns-in-Dropped-clause-ok g c =
@@ -58,5 +58,5 @@ returns-in-Dropped-clause-ok g c =
     adding_is _ _ _ _ (entry.Dropped c.args.port c.in-Dropped.env c.args.branch) c.self.view_is
     (length-set c.self.inside.ports.items c.args.port c.trigger.new.self)
     (grown_by _ _ _ _ _ c.push_reserved-in-Dropped.ensures.items c.reserve_entry.ensures.items
-    (ap (λ e. entry.Dropped c.args.port e c.args.branch) (c.in_ok-noted-in-Some.ensures ∙ same))) in
+    (ap (λ e. entry.Dropped c.args.port e c.args.branch) (c.in_ok-noted-in-Some.ensures.ok ∙ same))) in
     ((c.in-Dropped.ensures h s).0, (c.in-Dropped.ensures h s).1, grown)
