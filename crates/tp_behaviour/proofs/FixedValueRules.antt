@@ -128,11 +128,3 @@ fixed_elements ts h = (
   omega (arith, needed_by_list ts, none_needed needed_by_template filled_template ts h),
   λ turns others. template_list turns ts ∙ ap t.List (all_same needed_by_template filled_template turns others ts h) ∙ sym (template_list others ts),
 )
-
--- what is wanted by such a template
-pub fixed_needs : (y : RecvMsg) (u : Ty) (z : RecvTemplate) → y ≡ wanted.Of u z → IsFixed z → needed_by_wanted y ≤ 0
-fixed_needs y u z e h = subst (λ a. needed_by_wanted a ≤ 0) (sym e) h.0
-
-pub fixed_lasts : (y : RecvMsg) (u : Ty) (z : RecvTemplate) (made : MsgTemplate) (turns : List ℤ) → y ≡ wanted.Of u z → IsFixed z → made ≡ filled_wanted turns y
-    → IsWantedAlways y (Some made)
-fixed_lasts y u z made turns e h is others = is ∙ ap (filled_wanted turns) e ∙ ap (λ a. m.Of u a) (h.1 turns others) ∙ ap (filled_wanted others) (sym e)

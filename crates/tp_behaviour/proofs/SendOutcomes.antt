@@ -107,9 +107,6 @@ pub record IsSentOnEach (port : ℕ) (m : Message) (routes : List RouteId) (befo
   pub started : IsStarted after port
   pub grew : TraceGrew (AllZip (IsSentOn port m) routes) before after
 
-pub sent_on_none : (port : ℕ) (m : Message) (k : List Entry) → IsStarted k port → IsSentOnEach port m [] k k
-sent_on_none port m k started = record { started = started; grew = ([], sym (append-nil (moments k)), tt) }
-
 -- and on one more
 pub sent_on_more : (port : ℕ) (m : Message) (routes : List RouteId) (i : ℕ) (d q : RouteId) (k l n : List Entry) → IsSentOnEach port m (take i routes) k l
     → i < length routes → q ≡ get_or routes i d

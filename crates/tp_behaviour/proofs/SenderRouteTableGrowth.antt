@@ -38,7 +38,3 @@ pub others_next : {S : Type 0} (routes : List RouteId) (place way : ℕ) (first 
     → Updates route_eq places after (route_at routes way) (Some record { sender = place; route_index = way }) → KeepsOtherRoutes routes first after
 others_next routes place way first places after low keeps updates r none =
     updates.2 r (other_route (route_at routes way) r (λ e. none way absent_route low (sym e))) ∙ keeps r none
-
-pub others_unchanged : {S : Type 0} (routes : List RouteId) (first places after : IndexMap RouteId RoutePlace S) → KeepsOtherRoutes routes first places
-    → IsUnchanged places after → KeepsOtherRoutes routes first after
-others_unchanged routes first places after keeps same r none = ap (λ es. lookup (route_eq r) es) same ∙ keeps r none

@@ -148,9 +148,3 @@ pub saw_from : (r : Actor) (gs : List Guard) (x : LookResult) (k l n : List Entr
 saw_from r gs (look.Taken i e) k l n same (ts, grown, h) = (ts, grown ∙ ap (λ xs. xs ++ ts) same, h)
 saw_from r gs look.Discarded k l n same (ts, grown, h) = (ts, grown ∙ ap (λ xs. xs ++ ts) same, h)
 saw_from r gs look.Nothing k l n same (grown, none, own) = (grown ∙ same, none, own)
-
--- the ports stay the same
-pub looked_ports : (s : Journal) (gs : List Guard) (x : LookResult) (d : Journal) → Looked gs s x d → d.ports ≡ s.ports
-looked_ports s gs (look.Taken i e) d (t, choice, grown) = ap (λ (j : Journal). j.ports) grown
-looked_ports s gs look.Discarded d (t, drop, grown) = ap (λ (j : Journal). j.ports) grown
-looked_ports s gs look.Nothing d (none, same) = ap (λ (j : Journal). j.ports) same

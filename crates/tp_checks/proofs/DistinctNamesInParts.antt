@@ -31,9 +31,6 @@ distinct_first xs ys each i j d less below same =
 pub numbered_first : (xs ys : List (List ℕ)) → IsNumbered (xs ++ ys) → IsNumbered xs
 numbered_first xs ys h = record { few = omega (arith, length-append xs ys, h.few); distinct = distinct_first xs ys h.distinct }
 
-pub numbered_none : IsNumbered []
-numbered_none = record { few = omega arith; distinct = λ i j d less below. absurd (omega (arith, below)) }
-
 distinct_tail : (x : List ℕ) (xs : List (List ℕ)) → AreDistinct (x ∷ xs) → AreDistinct xs
 distinct_tail x xs each i j d less below = each (suc i) (suc j) d (omega (arith, less)) (omega (arith, below))
 

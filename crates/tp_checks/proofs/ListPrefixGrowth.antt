@@ -39,9 +39,6 @@ pub zip_more : {A B : Type 0} (R : A → B → Type 0) (xs : List A) (ys : List 
     → AllZip R (take i xs) ys → R x y → AllZip R (take (i + 1) xs) (ys ++ y ∷ [])
 zip_more R xs ys i x y lt is each here = subst (λ l. AllZip R l (ys ++ y ∷ [])) (pushed xs i x lt is) (zip_push R (take i xs) ys x y each here)
 
-pub zip_whole : {A B : Type 0} (R : A → B → Type 0) (xs : List A) (ys : List B) (i : ℕ) → length xs ≤ i → AllZip R (take i xs) ys → AllZip R xs ys
-zip_whole R xs ys i le each = subst (λ l. AllZip R l ys) (take_all i xs le) each
-
 kept_one : {A B : Type 0} (h : A → Option B) (x : A) → filter_map h (x ∷ []) ≡ option_to_list (h x)
 kept_one {A} {B} h x = by (h x) where
   by : (o : Option B) → cons_option o [] ≡ option_to_list o

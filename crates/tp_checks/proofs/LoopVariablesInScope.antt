@@ -229,8 +229,3 @@ module _ (scope : Scope) (variables : Variables) where
         → greatest (map needed_around_branch ys) ≤ length turns
     branches_closed (b.no_branch turns) = omega arith
     branches_closed (b.one_branch_more turns xs ys x y h one) = greatest_push needed_around_branch ys y (length turns) (branches_closed h) (branch_closed one)
-
--- a body speaks of no loop variables but those around
-pub body_closed : (scope : Scope) (xs : List Variable) (statements : List StatementText) (body : Body) → IsBody scope xs statements body
-    → needed_around_all body.statements ≡ 0
-body_closed scope xs statements body h = omega (arith, block_closed scope h.variables h.block)

@@ -35,9 +35,6 @@ at_map at P Q (module_fault.Memory m) pass h = tt
 pub tells_memory : (P : ModuleRule → ℕ → Type 0) (f : ModuleFault) → f ≡ module_fault.Memory (record {}) → Tells P f
 tells_memory P f e = rw e tt
 
-pub at_memory : (at : ℕ) (P : ModuleRule → Type 0) (f : ModuleFault) → f ≡ module_fault.Memory (record {}) → TellsAt at P f
-at_memory at P f e = rw e tt
-
 -- where the rule is obeyed, only memory can have been wanted
 pub memory_left : (R : Type 0) (f : ModuleFault) → IsRefusedBy R f → R → f ≡ module_fault.Memory (record {})
 memory_left R f (inl e) r = e

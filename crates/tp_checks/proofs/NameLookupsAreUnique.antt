@@ -86,20 +86,6 @@ held_as (b.component n k none p) = ap (λ o. holds (option_map ty.Named o)) (sym
 pub held_fixed : (scope : Scope) (x : TypeName) (h g : VariableType) → IsVariableType scope x h → IsVariableType scope x g → h ≡ g
 held_fixed scope x h g a c = held_as a ∙ sym (held_as c)
 
--- a name in two lists
-pub absent_append : (xs ys : List (List ℕ)) (name : List ℕ) → IsAbsent xs name → IsAbsent ys name → IsAbsent (xs ++ ys) name
-absent_append xs ys name before after j there = by (cases_lt j (length xs)) where
-  read : get_or (xs ++ ys) j name ≡ name
-  read = get_or_from_slice_get (xs ++ ys) j name name there
-
-  by : (j < length xs) ⊎ (length xs ≤ j) → ⊥
-  by (inl lt) = before j (slice_get-get_or xs j name lt ∙ ap Some (sym (get_or_append_left xs ys name j lt) ∙ read))
-  by (inr le) =
-      let within : j < length (xs ++ ys) = slice_get_within (xs ++ ys) j name there in
-      let below : j - length xs < length ys = omega (arith, length-append xs ys) in
-      after (j - length xs)
-      (slice_get-get_or ys (j - length xs) name below ∙ ap Some (sym (get_or-append_right xs ys (length xs) j name refl le) ∙ read))
-
 -- what is looked up stands nowhere else
 pub absent_place : (names : List (List ℕ)) (name : List ℕ) (k : ℕ) → IsAbsent names name → IsPlace names name k → ⊥
 absent_place names name k absent p = absent k p.there

@@ -41,14 +41,6 @@ module _ (s : Setup) (names : List (List ℕ)) (system : Option ℕ) (x y : Pair
   map_told f (module_fault.Refused rule at) refused told here = (here, map_refused p q f rule first second refused told)
   map_told f (module_fault.Memory m) refused told here = tt
 
--- a `var` whose variable is new is refused for memory alone
-pub var_memory : (known : List (List ℕ)) (x : SetupStatement) (c : Creation) (fault : NameFault) (made : ModuleFault) → x.action ≡ setup_action.Create c
-    → (fault ≡ name_fault.Memory → made ≡ module_fault.Memory (record {})) → (fault ≡ name_fault.Memory) ⊎ (IsNumbered (known ++ variable_name c ∷ []) → ⊥)
-    → IsNumbered (known ++ option_to_list (option_map variable_name (creation_of x))) → made ≡ module_fault.Memory (record {})
-var_memory known x c fault made e memory (inl want) own = memory want
-var_memory known x c fault made e memory (inr broken) own =
-    absurd (broken (subst (λ (a : SetupAction). IsNumbered (known ++ option_to_list (option_map variable_name (creation_in a)))) e own))
-
 module _ (xs : List SetupStatement) (i : ℕ) (x : SetupStatement) (lt : i < length xs) (is : x ≡ get_or xs i x) (names : List (List ℕ))
     (named : names ≡ variables (take i xs)) where
   -- the variable of the next statement is new, where all are

@@ -47,11 +47,3 @@ taken_more taken places p before k there = by (cases_lt k p) (cases_lt p k) wher
   by (inr le) (inr ge) =
       let same : p ≡ k = omega arith in
       subst (λ n. Contains (places ++ p ∷ []) n) same (Contains-push places p)
-
--- none is taken at first
-pub none_taken : (n k : ℕ) (P : Type 0) → slice_get (replicate n false) k ≡ Some true → P
-none_taken n k P there =
-    let within : k < length (replicate n false) = slice_get_within (replicate n false) k true there in
-    let inside : k < n = omega (arith, within, length-replicate n false) in
-    let read : get_or (replicate n false) k true ≡ true = get_or_from_slice_get (replicate n false) k true true there in
-    absurd (false≢true (sym (get_or-replicate n k false true inside) ∙ read))

@@ -205,23 +205,3 @@ delivery_is_causal made report r q i j n o b m w h (order, is) to happens out ne
     let k = order_keeps made report order h is r.source.0 i q.source.0 j happens
     (own_sending made report order h is r i n m out) (own_sending made report order h is q j o w next) in
     comes_before made report order h is r q i j k.0 k.1 n o b m w to k.2 out next k.3 k.4 into
-
--- the example by which it is meant: r.source sends to r.to.comp, then on s to a third, which has got that and sends on q
-pub none_overtakes_by_a_third : (made : Made) (report : Report) (r s q : RouteId) (i j k l n p o b stamp : ℕ) (m v w : Stamped) (env : Env Message)
-    → IsReportOf made report → IsInOneOrder report → r.to.comp ≡ q.to.comp → s.source ≡ r.source → s.to.comp ≡ q.source
-    → StandsAt report (spot r.source.0 i) (entry.Sent r n m) → i < j → StandsAt report (spot s.source.0 j) (entry.Sent s p v)
-    → StandsAt report (spot s.to.comp.0 k) (entry.Arrive s.to.port env stamp) → env.sender ≡ s.source.0 → env.number ≡ p
-    → k < l → StandsAt report (spot q.source.0 l) (entry.Sent q o w)
-    → CameAt report b q o → (a : ℕ) × (a < b) × CameAt report a r n
-none_overtakes_by_a_third made report r s q i j k l n p o b stamp m v w env h one to first third out low told into from same behind next came =
-    let sends : StandsAt report (spot s.to.comp.0 l) (entry.Sent q o w) =
-    subst (λ (c : CompId). StandsAt report (spot c.0 l) (entry.Sent q o w)) (sym third) next in
-    let chain : HappensBefore report (spot s.source.0 i) (spot s.to.comp.0 l) =
-    HappensBefore.between (spot s.source.0 i) (spot s.source.0 j) (spot s.to.comp.0 l)
-    (HappensBefore.earlier s.source.0 i j (entry.Sent s p v) low told)
-    (HappensBefore.between (spot s.source.0 j) (spot s.to.comp.0 k) (spot s.to.comp.0 l) (HappensBefore.sent s j k p stamp v env told into from same)
-    (HappensBefore.earlier s.to.comp.0 k l (entry.Sent q o w) behind sends)) in
-    let happens : HappensBefore report (spot r.source.0 i) (spot q.source.0 l) =
-    subst (λ (c : CompId). HappensBefore report (spot r.source.0 i) (spot c.0 l)) third
-    (subst (λ (c : CompId). HappensBefore report (spot c.0 i) (spot s.to.comp.0 l)) first chain) in
-    delivery_is_causal made report r q i l n o b m w h one to happens out next came

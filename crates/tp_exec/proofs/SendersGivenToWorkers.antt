@@ -58,20 +58,7 @@ nothing (x ∷ xs) e = absurd (omega (arith, e))
 pub no_rest : {X : Type 0} (it : IntoIter X Global) → into_iter_len it ≡ 0 → into_iter_items it ≡ []
 no_rest it none = nothing (into_iter_items it) (sym it.rest.ok.0 ∙ none)
 
--- where none has been handed out, and where all have
-pub dealt_first : (before : List Worker) (all : List SenderLedger) → All IsBare before
-    → All (IsFromOneOf before) all → AreDealt before all all before
-dealt_first before all bare within = record {
-  same = refl;
-  dealt = λ k x stands. ap (λ l. l ++ filter (is_of k) all) (empty before k x stands bare);
-  within = within;
-}
-  where
-    empty : (xs : List Worker) (k : ℕ) (x : Worker) → slice_get xs k ≡ Some x → All IsBare xs → x.outbox ≡ []
-    empty [] k x stands h = absurd (cc)
-    empty (z ∷ zs) zero x stands h = subst IsBare (same_Some z x stands) (All-head IsBare z zs h)
-    empty (z ∷ zs) (suc k) x stands h = empty zs k x stands (All-tail IsBare z zs h)
-
+-- where all have been handed out
 pub dealt_last : (before : List Worker) (all : List SenderLedger) (now : List Worker) → AreDealt before all [] now → AreHandedOut before all now
 dealt_last before all now h = record { same = h.same; senders = λ k x stands. sym (append-nil x.outbox) ∙ h.dealt k x stands }
 

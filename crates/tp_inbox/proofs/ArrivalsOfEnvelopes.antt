@@ -116,11 +116,6 @@ on_none comp ports routes r q to apart (e ∷ es) of_these =
         absurd (apart e.place of_these.0 (sym (meeting comp q p to (r.here e.place absent_route of_these.0) same.0 same.1)))
     none (inr not_met) = not_met
 
-pub arrivals_are : (routes : List RouteId) (es : List InboxEnvelope) → arrivals (arrivals_of routes es) ≡ arrivals_of routes es
-unfolding arrivals
-arrivals_are routes [] = refl
-arrivals_are routes (e ∷ es) = ap (λ l. arrival_of routes e ∷ l) (arrivals_are routes es)
-
 pub arrivals_one : (port : ℕ) (env : Env Message) (stamp : ℕ) → arrivals (entry.Arrive port env stamp ∷ []) ≡ entry.Arrive port env stamp ∷ []
 unfolding arrivals
 arrivals_one port env stamp = refl

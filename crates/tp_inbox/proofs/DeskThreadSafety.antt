@@ -16,21 +16,9 @@ message_send = search (sendable, crosses, knot) depth 20
 pub message_field_send : IsSend (message.the_field).row
 message_field_send = search (sendable, crosses, knot) depth 20
 
-pub message_field_sync : IsSync (message.the_field).row
-message_field_sync = search (sendable, crosses, knot) depth 20
-
-pub stamped_send : IsSend stamped.the_row
-stamped_send = search (sendable, crosses, message_field_send) depth 20
-
-pub stamped_sync : IsSync stamped.the_row
-stamped_sync = search (sendable, crosses, message_field_sync) depth 20
-
 -- a stamped message as it stands in another type's field
 pub stamped_field_send : IsSend (stamped.the_field).row
 stamped_field_send = search (sendable, crosses, message_field_send) depth 20
-
-pub stamped_field_sync : IsSync (stamped.the_field).row
-stamped_field_sync = search (sendable, crosses, message_field_sync) depth 20
 
 pub entry_send : IsSend entry.the_row
 entry_send = search (sendable, crosses, knot, stamped_field_send) depth 40 fits 20000

@@ -48,15 +48,3 @@ unfolding sent_on
 rest_sends_nothing r k rest =
     filter_map-append (sending_on r) k (rest_arrivals rest) ∙ ap (λ l. filter_map (sending_on r) k ++ l) (none_sent r rest)
     ∙ append-nil (filter_map (sending_on r) k)
-
--- nothing of it is what a behaviour did
-none_traced : (rest : List Rest) → filter (λ e. not (is_arrival e)) (rest_arrivals rest) ≡ []
-none_traced [] = refl
-none_traced (x ∷ rest) = none_traced rest
-
--- and its behaviour has done no more
-pub rest_traces_nothing : (k : List Entry) (rest : List Rest) → trace (k ++ rest_arrivals rest) ≡ trace k
-unfolding trace
-rest_traces_nothing k rest =
-    filter-append (λ e. not (is_arrival e)) k (rest_arrivals rest) ∙ ap (λ l. filter (λ e. not (is_arrival e)) k ++ l) (none_traced rest)
-    ∙ append-nil (filter (λ e. not (is_arrival e)) k)

@@ -15,13 +15,10 @@ use Rattle.tp_inbox.specs.contracts.owner.Owner.TheInside as owner_inside
 use Rattle.tp_inbox.specs.contracts.owner.Closer as closer
 use Rattle.tp_inbox.specs.contracts.sender.Sender as sender
 use Rattle.tp_inbox.specs.contracts.sender.Sender.TheInside as sender_inside
-use Rattle.tp_inbox.proofs.DeskThreadSafety.{message_send, stamped_field_send, stamped_field_sync}
+use Rattle.tp_inbox.proofs.DeskThreadSafety.{message_send, stamped_field_send}
 
 pub envelope_send : IsSend envelope.the_row
 envelope_send = search (sendable, crosses, stamped_field_send) depth 20
-
-pub envelope_sync : IsSync envelope.the_row
-envelope_sync = search (sendable, crosses, stamped_field_sync) depth 20
 
 pub channel_send : IsSend channel.the_row
 channel_send = search (sendable, crosses, envelope_send, notifier_send, chained_send, ends_send) depth 30
@@ -40,9 +37,6 @@ sender_inside_send = search (sendable, crosses, envelope_send, channel_send, cha
 
 pub sender_send : IsSend sender.the_row
 sender_send = search (sendable, crosses, sender_inside_send) depth 40
-
-pub closer_send : IsSend closer.the_row
-closer_send = search (sendable, crosses, channel_send, channel_sync) depth 40
 
 pub closer_sync : IsSync closer.the_row
 closer_sync = search (sendable, crosses, channel_send, channel_sync) depth 40

@@ -33,9 +33,6 @@ sound_taken v e w s t =
       fronts = t.3;
     }
 
-pub whole_at_nothing : (v : View) → Knows v [] → AreWhole v.taken v.known
-whole_at_nothing v k = subst (λ l. AreWhole l v.known) (append_nil v.taken) k
-
 pub fronts_of_known : (v : View) (items : List InboxEnvelope) → Knows v items → AreFronts v.taken v.known
 fronts_of_known v items h k d low = let ps = (slice_index_or v.known k d).0 in (on_routes ps items, sym (among-append ps v.taken items) ∙ h k d low)
 
@@ -74,10 +71,6 @@ gathered v u w known routes hand rest split_off ends none e same = (
       (λ i. (ap (λ (x : View). x.taken) (sym (same ∙ e)) i, (sym (append_nil (one_of hand)) ∙ ap (λ l. one_of hand ++ l) (sym none)) i)) ends,
   at_some (rest ≡ []) hand none,
 )
-
-pub fronts_split : (w : View) (known : List Ledger) (kept : List InboxEnvelope) → Sound w → w.known ≡ known → EndsWith w.taken kept
-    → AreFronts (envelopes_before w.taken kept ++ kept) known
-fronts_split w known kept s k e = subst (λ (x : List InboxEnvelope × List Ledger). AreFronts x.0 x.1) (λ i. (e i, k i)) s.fronts
 
 pub routed_rest : (n m : ℕ) (all xs ys : List InboxEnvelope) → n ≡ m → all ≡ xs ++ ys → AreRouted n all → AreRouted m ys
 routed_rest n m all xs ys e is h = routed-back m xs ys (subst (λ (x : ℕ × List InboxEnvelope). AreRouted x.0 x.1) (λ i. (e i, is i)) h)

@@ -35,10 +35,6 @@ pairs_more xs ys i d e old now new low high was grown =
     ∙ ap (λ l. old ++ l) (sym (more xs ys i d e low high))
     ∙ ap (λ n. old ++ pairs (lines_at (take n xs)) (lines_at (take n ys))) (sym (add-one i))
 
-none_after : (as' : List IndexedLine) → pairs as' [] ≡ []
-none_after [] = refl
-none_after (a ∷ as') = refl
-
 -- all pairs
 pub pairs_all : (xs ys : List (Bor IndexedLine)) (n : ℕ) → n ≡ min (length xs) (length ys)
     → pairs (lines_at (take n xs)) (lines_at (take n ys)) ≡ pairs (lines_at xs) (lines_at ys)

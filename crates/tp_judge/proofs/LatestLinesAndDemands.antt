@@ -121,11 +121,6 @@ latest_arrival trace n component s latest m c sends was =
       unseen = inl refl;
     }
 
--- all components, as what they did last is told by a list
-pub AreLatest : IndexedTrace → ℕ → List Latest → Type 0
-AreLatest trace n all =
-    (component : ℕ) (latest : Latest) → component < trace.components → IsLatestOf trace n component (get_or all component latest)
-
 pub latest_all : (trace : IndexedTrace) (n component : ℕ) (all : List Latest) (now : Latest) (P : Act → Type 0) → IsLineOf trace P component n
     → component < length all
     → ((other : ℕ) (latest : Latest) → other < trace.components → IsLatestOf trace n other (get_or all other latest))

@@ -4,11 +4,6 @@ use Rattle.std.proofs.lemmas.List.{drop-drop}
 use Rattle.tp_common.specs.Cutting.{IsFrontOf, IsLeftOf}
 use Rattle.tp_judge.specs.Spans.{IsSpanOf}
 
-pub left_all : (text : List ℕ) → IsLeftOf text text
-left_all text =
-    let none : 0 ≡ length text - length text = omega arith in
-    record { shorter = omega arith; is = ap (λ k. drop k text) none }
-
 pub left_on : (text rest next : List ℕ) → IsLeftOf text rest → IsLeftOf rest next → IsLeftOf text next
 left_on text rest next one other =
     let first = one.shorter in

@@ -40,16 +40,6 @@ receiver_below fate.Found here other n h o = h
 receiver_below fate.Dropped here other n h o = h
 receiver_below fate.Left here other n h o = h
 
-pub Grows-none : (t : Tables) → KeepsNumbers 0 t t
-Grows-none t = record {
-  components = λ k x e. e;
-  names = λ k x e. e;
-  ports = λ k x e. e;
-  routes = λ k x e. e;
-  messages = λ k x e. e;
-  few = omega arith;
-}
-
 pub Grows-then : (j k n : ℕ) (a b c : Tables) → j + k ≤ n → KeepsNumbers j a b → KeepsNumbers k b c → KeepsNumbers n a c
 Grows-then j k n a b c within g h = record {
   components = λ i x e. h.components i x (g.components i x e);
@@ -59,9 +49,6 @@ Grows-then j k n a b c within g h = record {
   messages = λ i x e. h.messages i x (g.messages i x e);
   few = omega (arith, g.few, h.few, within);
 }
-
-pub Grows-weaker : (j n : ℕ) (a b : Tables) → j ≤ n → KeepsNumbers j a b → KeepsNumbers n a b
-Grows-weaker j n a b within g = Grows-then j 0 n a b b (omega (arith, within)) g (Grows-none b)
 
 module _ (n : ℕ) (old new : Tables) (g : KeepsNumbers n old new) where
   pub port_grows : (port component : ℕ) (name : List ℕ) → IsPortNumber old port component name → IsPortNumber new port component name

@@ -186,14 +186,6 @@ sent_once trace s t m delivered joined first second =
     first.at second.at (sent_gives m first.line.act first.is) (sent_gives m second.line.act second.is)
     (sym (sent_number trace s m delivered joined first) ∙ sent_number trace t m delivered joined second)
 
--- and comes once
-pub comes_once : (trace : IndexedTrace) (component other j k : ℕ) (m : Mention) → Delivered trace → ComesAt trace component j m
-    → ComesAt trace other k m → j ≡ k
-comes_once trace component other j k m delivered first second =
-    same_rank (λ (line : IndexedLine). came_parcel m.route line.act) trace.lines.items j k first.line second.line m.parcel m.parcel
-    first.at second.at (came_gives m first.line.act first.is.0) (came_gives m second.line.act second.is.0)
-    (sym (came_number trace component j m delivered first) ∙ came_number trace other k m delivered second)
-
 -- what an act that sends a parcel on a route is
 sent_inverse : (route : ℕ) (a : Act) (p : Parcel) → sent_parcel route a ≡ Some p
     → (m : Mention) × (a ≡ act.Sent m) × (m.route ≡ route) × (m.parcel ≡ p)

@@ -86,15 +86,6 @@ other_route route other (act.Sent m) is apart =
     cond-false (m.route == route) (Some m.parcel) None (ne_eqb m.route route (λ e. apart (sym e ∙ same_Some m.route other is)))
 other_route route other _ is apart = refl
 
-pub sendings_none : (trace : IndexedTrace) (rows : List (Vec ℕ Global)) → length rows ≡ length trace.joined.items
-    → All (λ row. row.items ≡ []) rows → AreSendingRows trace 0 rows
-sendings_none trace rows size empty = record {
-  size = size;
-  each = λ route row below.
-      let none : (get_or rows route row).items ≡ [] = empty route row (omega arith) in
-      subst (IsSendingsRow trace 0 route) (sym none) (record { size = refl; each = λ before place there. absurd (none-some place there) });
-}
-
 pub sendings_same : (trace : IndexedTrace) (n : ℕ) (line : IndexedLine) (rows : List (Vec ℕ Global)) → LineAt trace n line → sent_route line.act ≡ None
     → AreSendingRows trace n rows → AreSendingRows trace (n + 1) rows
 sendings_same trace n line rows at none was = record {

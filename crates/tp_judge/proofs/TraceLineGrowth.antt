@@ -62,16 +62,6 @@ pub record Taken (text rest : List ℕ) (lines names : List (List ℕ)) (place :
   pub named : names ≡ names_of tolds
   pub placed : place ≡ place_behind tolds
 
-pub Taken-first : (text : List ℕ) (lines names : List (List ℕ)) → lines ≡ [] → names ≡ [] → Taken text text lines names stand.Front
-Taken-first text lines names e f = record {
-  cut = ap (λ l. l ++ lines_of text) (sym e);
-  tolds = [];
-  says = let P : List (List ℕ) → Type 0 = λ l. AllZip Spells l [] in subst P (sym e) tt;
-  trace = λ k told g. absurd (cc);
-  named = f;
-  placed = refl;
-}
-
 stands_here : (before : List Told) (told : Told) (place : TracePosition) (names : List (List ℕ)) → place ≡ place_behind before → names ≡ names_of before
     → MayStandAt place names told → MayStand before told
 stands_here before told place names e f s =

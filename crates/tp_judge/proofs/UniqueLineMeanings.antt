@@ -178,7 +178,3 @@ told_read line told is =
     ∙ ap (λ r. told_by (first_spelled (verb_text v) verbs) r) (after_word (verb_text v) (operands told) lack)
     ∙ ap (λ w. told_by w (rest_of (operands told))) (found v)
     ∙ by_verb told is.1
-
--- a line tells one thing at most
-pub one_told : (line : List ℕ) (a b : Told) → Spells line a → Spells line b → a ≡ b
-one_told line a b p q = sym (told_read line a p) ∙ told_read line b q

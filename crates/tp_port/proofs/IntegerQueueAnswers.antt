@@ -85,15 +85,3 @@ pub received_is : (value : IntegerPattern) (from : Option ℕ) (h : List (Event 
     → ReceivesFor (Admits value) from h r after → StandsFor after (h ++ map event.Took (option_to_list r))
 received_is value from h after None c = subst (λ (l : List (Event ℤ)). StandsFor after l) (sym (append-nil h)) c.1
 received_is value from h after (Some e) c = c.1
-
--- what a `trigger` makes of the top
-pub triggered_took : (value : IntegerPattern) (from : Option ℕ) (h : List (Event ℤ)) (after : QueueState ℤ) (e : Env ℤ)
-    → TriggersFor (Admits value) from h (answer.Took e) after
-    → (top h ≡ Some e) × (meets value from e ≡ true) × StandsFor after (h ++ event.Took e ∷ [])
-triggered_took value from h after e t = (t.0.0, meets_true value from e t.0.1, t.1)
-
-pub triggered_dropped : (value : IntegerPattern) (from : Option ℕ) (h : List (Event ℤ)) (after : QueueState ℤ) (e : Env ℤ)
-    → TriggersFor (Admits value) from h (answer.Dropped e) after
-    → (top h ≡ Some e) × (meets value from e ≡ false) × StandsFor after (h ++ event.Dropped e ∷ [])
-triggered_dropped value from h after e t =
-    (t.0, not_true (meets value from e) (λ m. t.1 (meets_only value from e m)), t.2)

@@ -336,18 +336,3 @@ pub count_later : {M : Type 0} (h v : List (Event M)) (entries : List (Env M)) (
     → None ≡ halted_count (status_of v) v
 count_later h v entries now ahead (inl e) same k = ap (λ s. halted_count s v) (sym e ∙ k.status_is ∙ ap status_of same)
 count_later h v entries now ahead (inr e) same k = ap (λ s. halted_count s v) (sym e ∙ k.status_is ∙ ap status_of same)
-
-limit_found : {M : Type 0} (h : List (Event M)) (e : Env M) (now : Status) → status_of h ≡ now → limit_at now (h ++ event.Found e ∷ []) ≡ limit_at now h
-limit_found h e status.Started s = ap length (accepted_same h (event.Found e) refl)
-limit_found h e status.Halted s = mark_same h (event.Found e) s refl refl
-limit_found h e status.Stopped s = gone_same h (event.Found e) refl refl
-
-pub top_found : {M : Type 0} (h : List (Event M)) (e : Env M) → top (h ++ event.Found e ∷ []) ≡ top h
-unfolding top limit
-top_found h e =
-    rw (
-      status_of_same h (event.Found e) refl refl refl,
-      limit_found h e (status_of h) refl,
-      gone_same h (event.Found e) refl refl,
-      accepted_same h (event.Found e) refl,
-    ) refl

@@ -15,28 +15,14 @@ use Rattle.tp_queue.proofs.QueueStateTransitions.{found_stands}
 abbrev pub OffersAt : {M : Type 0} → (M → Type 0) → Option ℕ → Option (Env M) → Bool → Type 0
 OffersAt admits from o fits = MatchOption o (fits ≡ false) (λ e. IsTrue fits ↔ Satisfies admits from e)
 
-pub offers_at : {M : Type 0} (admits : M → Type 0) (from : Option ℕ) (before : QueueState M) (o : Option (Env M)) (fits : Bool)
-    → AtHistory before (λ h. o ≡ top h) → OffersAt admits from o fits → AtHistory before (λ h. Offers admits from h fits)
-offers_at admits from before o fits is f h s = subst (λ (t : Option (Env _)). OffersAt admits from t fits) (is h s) f
-
 satisfied : {M : Type 0} (admits : M → Type 0) (from : Option ℕ) (o : Option (Env M)) (e : Env M) (fits : Bool)
     → OffersAt admits from o fits → o ≡ Some e → IsTrue fits ↔ Satisfies admits from e
 satisfied admits from o e fits f there = rw there at f
-
-none_fits : {M : Type 0} (admits : M → Type 0) (from : Option ℕ) (h : List (Event M)) (fits : Bool)
-    → Offers admits from h fits → fits ≡ false → FindsNone admits from h
-none_fits admits from h fits f n e there good =
-    let both : IsTrue fits ↔ Satisfies admits from e = satisfied admits from (top h) e fits f there in
-    let yes : fits ≡ true = both.1 good in absurd (cc)
 
 no_top_fits : {M : Type 0} (admits : M → Type 0) (from : Option ℕ) (h : List (Event M)) (fits : Bool)
     → Offers admits from h fits → top h ≡ None → fits ≡ true → ⊥
 no_top_fits admits from h fits f there n =
     let no : fits ≡ false = rw there at f in absurd (cc)
-
-pub receives_none : {M : Type 0} (admits : M → Type 0) (from : Option ℕ) (before : QueueState M) (fits : Bool)
-    → AtHistory before (λ h. Offers admits from h fits) → fits ≡ false → AtHistory before (λ h. ReceivesFor admits from h None before)
-receives_none admits from before fits f n h s = (none_fits admits from h fits (f h s) n, s)
 
 receives_at : {M : Type 0} (admits : M → Type 0) (from : Option ℕ) (h : List (Event M)) (after : QueueState M) (fits : Bool) (r : Option (Env M))
     → Offers admits from h fits → fits ≡ true → TakesOut h r after → ReceivesFor admits from h r after
@@ -49,10 +35,6 @@ pub receives_taken : {M : Type 0} (admits : M → Type 0) (from : Option ℕ) (b
     → AtHistory before (λ h. Offers admits from h fits) → fits ≡ true → AtHistory before (λ h. TakesOut h r after)
     → AtHistory before (λ h. ReceivesFor admits from h r after)
 receives_taken admits from before after fits r f n out h s = receives_at admits from h after fits r (f h s) n (out h s)
-
-pub checks_none : {M : Type 0} (admits : M → Type 0) (from : Option ℕ) (before : QueueState M) (fits : Bool)
-    → AtHistory before (λ h. Offers admits from h fits) → fits ≡ false → AtHistory before (λ h. Checks admits from h None)
-checks_none admits from before fits f n h s = none_fits admits from h fits (f h s) n
 
 checks_at : {M : Type 0} (admits : M → Type 0) (from : Option ℕ) (h : List (Event M)) (fits : Bool) (r : Option (Env M))
     → Offers admits from h fits → fits ≡ true → r ≡ top h → Checks admits from h r

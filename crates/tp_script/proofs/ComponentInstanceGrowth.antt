@@ -9,9 +9,6 @@ use Rattle.tp_play.specs.declared.instance.Instance.{Instance}
 use Rattle.tp_script.specs.Behaviours.{Numbers}
 use Rattle.tp_script.specs.Instances.{AreInstances, IsInstance}
 
-pub numbers_none : (before : List ℕ) → Numbers 0 before before
-numbers_none before = record { variables = []; as_many = refl; numbered = λ k lt. absurd (omega (arith, lt)); all = sym (append-nil before) }
-
 pub numbers_more : (count : ℕ) (before after next : List ℕ) → Numbers count before after → next ≡ after ++ (count + 1) ∷ [] → Numbers (count + 1) before next
 numbers_more count before after next h e =
     record {

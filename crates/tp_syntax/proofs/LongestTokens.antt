@@ -96,18 +96,6 @@ number_longest b bs rest k st l (c ∷ cs) more sp e =
     let kind : first_kind l ≡ Digit = sym (spelled_kind l c cs sp) ∙ ap byte_kind (sym same) ∙ k in
     run_longest is_digit (b ∷ bs) (c ∷ cs) rest more (number_run (c ∷ cs) (digit_run l (c ∷ cs) kind sp)) st e
 
-zero_kind : byte_kind 48 ≡ Digit
-unfolding byte_kind
-zero_kind = refl
-
-pub zero_longest : (rest : List ℕ) → IsLongest (48 ∷ []) rest
-zero_longest rest l [] more sp e = zero-le
-zero_longest rest l (c ∷ cs) more sp e =
-    let same : c ≡ 48 = cc in
-    let kind : first_kind l ≡ Digit = sym (spelled_kind l c cs sp) ∙ ap byte_kind same ∙ zero_kind in
-    let alone : cs ≡ [] = (digit_run l (c ∷ cs) kind sp).2 same in
-    rw alone (omega arith)
-
 -- ---- texts
 
 abbrev pub closed : List ℕ → List ℕ
@@ -187,13 +175,6 @@ text_longest t rest st l (c ∷ cs) more sp e =
 
 -- ---- symbols
 
-symbol_form : (l : Lexeme) (bs : List ℕ) → first_kind l ≡ Other → IsSpelled l bs → (x : Symbol) × (bs ≡ symbol_spelling x)
-symbol_form (name n) bs k h = absurd cc
-symbol_form (word w) bs k h = absurd cc
-symbol_form (number n) bs k h = absurd cc
-symbol_form (text t) bs k h = absurd cc
-symbol_form (symbol x) bs k h = (x, h)
-
 -- a symbol of two characters
 two : (x : Symbol) (c : ℕ) (cs : List ℕ) → c ∷ cs ≡ symbol_spelling x → (cs ≡ [])
     ⊎ (((c ≡ 46) × (cs ≡ 46 ∷ [])) ⊎ (((c ≡ 58) × (cs ≡ 61 ∷ [])) ⊎ ((c ≡ 45) × (cs ≡ 62 ∷ []))))
@@ -210,33 +191,6 @@ NoSecond b (c ∷ cs) = (b ≡ 46 → c ≢ 46) × (b ≡ 58 → c ≢ 61) × (b
 second : (b d : ℕ) (rest more : List ℕ) → NoSecond b rest → rest ≡ d ∷ more → (b ≡ 46 → d ≢ 46) × (b ≡ 58 → d ≢ 61) × (b ≡ 45 → d ≢ 62)
 second b d [] more nsec e = absurd cc
 second b d (c ∷ cs) more nsec e = let same : c ≡ d = cc in subst (λ x. (b ≡ 46 → x ≢ 46) × (b ≡ 58 → x ≢ 61) × (b ≡ 45 → x ≢ 62)) same nsec
-
-pub symbol_longest : (b : ℕ) (rest : List ℕ) → byte_kind b ≡ Other → NoSecond b rest → IsLongest (b ∷ []) rest
-symbol_longest b rest k nsec l [] more sp e = zero-le
-symbol_longest b rest k nsec l (c ∷ cs) more sp e =
-    let same : b ≡ c = cc in
-    let tails : rest ≡ cs ++ more = cc in
-    let kind : first_kind l ≡ Other = sym (spelled_kind l c cs sp) ∙ ap byte_kind (sym same) ∙ k in
-    let found = symbol_form l (c ∷ cs) kind sp in
-    elim (two found.0 c cs found.1) [
-      | inl alone ↦ rw alone (omega arith)
-      | inr (inl (first, rest')) ↦ absurd ((second b 46 rest more nsec (tails ∙ ap (λ (x : List ℕ). x ++ more) rest')).0 (same ∙ first) refl)
-      | inr (inr (inl (first, rest'))) ↦ absurd ((second b 61 rest more nsec (tails ∙ ap (λ (x : List ℕ). x ++ more) rest')).1 (same ∙ first) refl)
-      | inr (inr (inr (first, rest'))) ↦ absurd ((second b 62 rest more nsec (tails ∙ ap (λ (x : List ℕ). x ++ more) rest')).2 (same ∙ first) refl)
-    ]
-
-pub pair_longest : (b c : ℕ) (rest : List ℕ) → byte_kind b ≡ Other → IsLongest (b ∷ c ∷ []) rest
-pair_longest b c rest k l [] more sp e = zero-le
-pair_longest b c rest k l (d ∷ ds) more sp e =
-    let same : b ≡ d = cc in
-    let kind : first_kind l ≡ Other = sym (spelled_kind l d ds sp) ∙ ap byte_kind (sym same) ∙ k in
-    let found = symbol_form l (d ∷ ds) kind sp in
-    elim (two found.0 d ds found.1) [
-      | inl alone ↦ rw alone (omega arith)
-      | inr (inl (first, rest')) ↦ rw rest' (omega arith)
-      | inr (inr (inl (first, rest'))) ↦ rw rest' (omega arith)
-      | inr (inr (inr (first, rest'))) ↦ rw rest' (omega arith)
-    ]
 
 -- a word at the front
 word_front : (b : ℕ) (bs : List ℕ) → byte_kind b ≡ Letter → prefix_len is_word_byte (b ∷ bs) ≡ suc (prefix_len is_word_byte bs)

@@ -113,7 +113,3 @@ each_of_one (b ∷ bs) h = h
 pub has_one_some : {A : Type 0} (xs : List A) → (xs ≡ [] → ⊥) → has_one xs ≡ true
 has_one_some [] h = absurd (h refl)
 has_one_some (x ∷ xs) h = refl
-
-pub has_one_of : {A : Type 0} (xs : List A) → 0 < length xs → has_one xs ≡ true
-has_one_of [] h = absurd (omega arith)
-has_one_of (x ∷ xs) h = refl

@@ -79,23 +79,6 @@ module _ {W : Type 0} (contents : W → Option (List ℕ)) (may : List ℕ → �
     );
   }
 
--- what a buffer holds begins with what its writer has got
-pub begins_with_got : (got : Option (List ℕ)) (bytes : List ℕ) → BeginsWith (append_known got bytes) got
-begins_with_got None bytes = tt
-begins_with_got (Some got) bytes = (bytes, refl)
-
--- and with what it gets of the buffer's own bytes: all of them, or a front
-pub keeps_appended : (old new : Option (List ℕ)) (bytes : List ℕ) → Appends old new bytes → Keeps (append_known old bytes) new
-keeps_appended None new bytes is = tt
-keeps_appended (Some a) None bytes is = absurd is
-keeps_appended (Some a) (Some b) bytes is = is
-
-pub begins_appended : (old new : Option (List ℕ)) (bytes : List ℕ) → AppendsFront old new bytes → BeginsWith (append_known old bytes) new
-begins_appended None new bytes is = tt
-begins_appended (Some a) None bytes is = absurd is.added
-begins_appended (Some a) (Some b) bytes is =
-    (is.rest, ap (λ x. a ++ x) is.is ∙ sym (append_assoc a is.front is.rest) ∙ ap (λ x. x ++ is.rest) (sym is.added))
-
 failed_again : (given : Option ℕ) (code other : ℕ) (failed : Bool) → IsTrue failed → MatchOption given (IsTrue failed) (λ s. (s ≡ code) × (failed ≡ false))
     → MatchOption given (IsTrue failed) (λ s. (s ≡ other) × (failed ≡ false))
 failed_again None code other failed has told = told
