@@ -1,6 +1,7 @@
 //! Tests of public calls of the other crates. They are here, and not in the crates that they test,
-//! so that those are proved once. `queue_user` and `inbox_user` are two users of the surface.
-//! They and `writers` are also proved without the tests, because wrong bodies are tried without them.
+//! so that those are proved once. `queue_user` and `inbox_user` are the examples of
+//! docs/EMBEDDING.md. They and `writers` are also proved without the tests, because wrong bodies
+//! are tried without them.
 #![tactic(auto)]
 
 #[cfg(test)]

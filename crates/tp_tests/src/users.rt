@@ -1,4 +1,4 @@
-//! What the two users of the surface write.
+//! What the two examples of docs/EMBEDDING.md write.
 use crate::{inbox_user, queue_user};
 use std::process::Abort;
 
