@@ -11,7 +11,7 @@ pub enum NoteFault {
     Memory,
 }
 
-/// No script reaches a number without room.
+/// No script within the limits reaches a number without room, which is tested and not proved.
 impl From<NoteFault> for Memory {
     fn from(_fault: NoteFault) -> Memory {
         Memory
