@@ -10,8 +10,8 @@ The verdicts must be exactly those of every order, where the model comes through
 that it came to may be missing. The status, the number of states and the order of the lines must be as the manual
 says, and by each order that is printed the model must come to its verdict, and to an end. `random` does so with scripts
 made by chance that have few components, and `alike` with such in which some are alike. `limit` has scripts whose states
-are counted by hand, up to the limit and beyond, and scripts with too many templates times messages. `answers` looks
-whether answers that can't be are refused.
+are counted by hand, up to the limit and beyond, scripts with too many templates times messages, and designs with the
+most states that they may have. `answers` looks whether answers that can't be are refused.
 
 Of each script it prints `passed 1 STATES SCRIPT`, `passed 0 STATES SCRIPT` where the model didn't come through all
 orders, or lines that begin with `FAILED: `, with the script. STATES is how many the program looked at. The last line
@@ -251,6 +251,69 @@ def numbered(program: str, path: Path, number: int) -> str:
     return f"passed of {number} clients"
 
 
+# Designs whose states would be many more if each kept what nobody looks at again, each with the most that it may have:
+# eight clients, two questions each, of a server whose variable holds who asked last; four senders to a port that is
+# halted, and drained, by a receiver that once told their messages apart.
+SERVED = """p.send(integer:1);
+        alt { [] p.receive(integer:2) { setverdict(pass); } [] p.receive { setverdict(fail); } }"""
+SERVING = "for (var integer i := 0; i < 16; i := i + 1) { p.receive(integer:1) -> sender w; p.send(integer:2) to w; }"
+SENDING = "p.send(integer:1); p.send(integer:2); q.receive(integer:5); p.send(integer:3); setverdict(pass);"
+DRAINING = """p.receive(integer:1); p.halt;
+        for (var integer i := 0; i < 8; i := i + 1) { alt { [] p.receive { } [else] { } } }
+        p.start; q.send(integer:5) to all component;
+        for (var integer i := 0; i < 4; i := i + 1) { p.trigger(integer:3); } setverdict(pass);"""
+DESIGN = """module Design {{
+    type port P message {{ inout integer; }}
+    type component C {{ port P p, q; }}
+    function each() runs on C {{ {each} }}
+    function server() runs on C {{ {server} }}
+    testcase t() runs on C {{
+        {created}
+        {connected}
+        {started}
+        {body} all component.done;
+    }}
+}}
+"""
+
+
+def served(number: int) -> str:
+    names = [f"c{at}" for at in range(number)]
+    return DESIGN.format(
+        each=f"for (var integer i := 0; i < 2; i := i + 1) {{ {SERVED} }}",
+        server=f"var C w; {SERVING}",
+        created=" ".join(f"var C {it} := C.create;" for it in ("s", *names)),
+        connected=" ".join(f"connect(s:p, {it}:p);" for it in names),
+        started=" ".join(("s.start(server());", *(f"{it}.start(each());" for it in names))),
+        body="",
+    )
+
+
+def drained(number: int) -> str:
+    names = [f"c{at}" for at in range(number)]
+    return DESIGN.format(
+        each=SENDING,
+        server="setverdict(pass);",
+        created=" ".join(f"var C {it} := C.create;" for it in names),
+        connected=" ".join(f"connect(self:{port}, {it}:{port});" for port in "pq" for it in names),
+        started=" ".join(f"{it}.start(each());" for it in names),
+        body=DRAINING,
+    )
+
+
+FORGETTING = (("8 clients", served(8), 50), ("4 senders to a halted port", drained(4), 150))
+
+
+def forgotten(program: str, path: Path, name: str, script: str, most: int) -> str:
+    """The line for a design of at most so many states."""
+    path.write_text(script, encoding="latin-1")
+    status, printed = printed_of(program, path)
+    answer = read_answer(printed)
+    if answer is None or (answer.verdicts, answer.decided, status) != (("pass",), True, 0) or answer.states > most:
+        return f"FAILED: of {name} the status is {status}, and it says {printed[:200]}"
+    return f"passed of {name}"
+
+
 # Answers that can't be
 
 REFUSED = (
@@ -324,6 +387,8 @@ def tell_made(asked: argparse.Namespace, folder: str) -> None:
             print(paired(asked.program, Path(folder, "turning.ttcn"), value, turns, pairs), flush=True)
         for number in CLIENTS:
             print(numbered(asked.program, Path(folder, "asked.ttcn"), number), flush=True)
+        for design in FORGETTING:
+            print(forgotten(asked.program, Path(folder, "design.ttcn"), *design), flush=True)
         return
     tell_each(asked.program, made_by_chance(asked.what, asked.seed, asked.number, folder))
 
