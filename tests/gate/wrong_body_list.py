@@ -30,6 +30,7 @@ from wrong_body_edits import (
 from wrong_body_seen import REFUSED, SEEN, lines_of, of_this_gate, take_over
 
 LEAST_OF_EACH_RUN = 80  # so that none is lost from those that each run tries unseen
+MOST_LINES_OF_RT = 500  # for two stars `rt ci` checks the whole crate once more, and for one the edited function
 # Each of these breaks a rule of ports, of values or of connections, or the promise of a report: each run tries them.
 NAMED_OF_EACH_RUN = frozenset(
     "tp_queue/delivers_behind_the_mark tp_queue/clear_removes_the_mark tp_queue/start_keeps_messages"
@@ -86,6 +87,9 @@ def faults_of_all(edits: list[Edit]) -> Iterator[str]:
     yield from (f"{it} is the name of {number} blocks" for it, number in titles.items() if number > 1)
     yield from (f"tests/wrong_bodies/{it} belongs to no crate" for it in sorted(others))
     starred = [it for it in edits if it.stars in (OF_RT, OF_EACH_RUN)]
+    for crate in sorted({it.crate for it in edits if it.stars == OF_RT}):
+        if sum(it.count("\n") for it in sources_of(crate)) > MOST_LINES_OF_RT:
+            yield f"{crate} has more than {MOST_LINES_OF_RT} lines: a wrong body of it has one star at most"
     for crate in sorted({it.crate for it in edits} - {it.crate for it in starred}):
         yield f"no run of the gate would try a wrong body of {crate}: none has a star"
     for title in sorted(NAMED_OF_EACH_RUN - {it.title() for it in starred}):
