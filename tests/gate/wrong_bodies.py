@@ -39,7 +39,9 @@ from typing import NamedTuple
 
 sys.dont_write_bytecode = True
 
-from wrong_body_edits import OF_EACH_RUN, ROOT, UNCOMPILED, Edit, Unfit, all_edits, below, crates, read, write
+from wrong_body_edits import (
+    OF_EACH_RUN, ROOT, UNCOMPILED, Edit, Unfit, all_edits, below, crates, read, sources_of, write,
+)
 from wrong_body_seen import note, of_this_gate, oldest, take_over
 
 PARTS = ("src", "specs", "proofs")
@@ -254,11 +256,13 @@ def of_a_run() -> list[Edit]:
 
 
 def try_all(jobs: int, edits: Sequence[Edit], is_proved: bool) -> list[Tried]:
-    """Tries the edits, in so many crates at once: first those with most edits, and then those on most other crates, since
-    a check there has most to read."""
+    """Tries the edits, in so many crates at once: first those that take longest, by the number of checks and what each has
+    to read, the sources of the crate and of those below."""
     uses = crates()
     of_each = {it: [edit for edit in edits if edit.crate == it] for it in {edit.crate for edit in edits}}
-    work = sorted(of_each, key=lambda it: (-len(of_each[it]), -len(below(it, uses)), it))
+    sizes = {it: sum(map(len, sources_of(it))) for it in uses}
+    costs = {it: len(batches(of_each[it])) * sum(sizes[one] for one in (it, *below(it, uses))) for it in of_each}
+    work = sorted(of_each, key=lambda it: (-costs[it], it))
     with ThreadPoolExecutor(max(1, jobs)) as pool:
         try:
             begun = [pool.submit(try_crate, it, of_each[it], is_proved) for it in work]
