@@ -2,10 +2,14 @@
 # header is that of the library, and the programs of `programs/` and of the page run, by gcc and clang, with sanitizers.
 # Eclipse Titan runs the examples with its own queue and with ours.
 
-# The library, in `port`: the folder that TP_PORT names, or what `embedding/build` makes of this tree.
+# The library in `port`: the folder that TP_PORT names, or what `embedding/build` makes of this tree. It proves the crates
+# below again, since rt takes no library of `rt ci`.
+port_library() {
+    set_up "the library for C and C++ can be built" build_port && count 0
+}
+
 build_port() {
-    port=${TP_PORT-$root/out/port}
-    if [[ -z ${TP_PORT-} ]] && ! in_a_group env --default-signal=INT embedding/build >"$room/port" 2>&1; then
+    if [[ -z ${TP_PORT-} ]] && ! env --default-signal=INT embedding/build >"$room/port" 2>&1; then
         tail -n 20 -- "$room/port"
         return 1
     fi

@@ -32,7 +32,7 @@ LIST = f"{ROOT}/tests/gate/parts"
 # What this tries must be built: TPR names no other program to it.
 OF_THE_BUILT, BUILT = "refused_in_tests", f"{ROOT}/crates/tp_tests/out/tp_tests_tests"
 OF_ORDERED = ("orders", "forced_orders", "exploring", "language_server", "soak")
-OF_THE_LIBRARY = ("embedding", "titan_ports")
+OF_THE_LIBRARY = ("port_library", "embedding", "titan_ports")
 ITSELF = "planted_faults"
 MOST_SECONDS_OF_SOME = 30
 

@@ -125,6 +125,11 @@ await_a_part() {
     done
 }
 
+# Until this part isn't at work.
+await_part() { # NAME
+    while [[ " ${at_work[*]##*/} " == *" $1."* ]]; do await_a_part; done
+}
+
 await_all_parts() {
     while ((${#at_work[@]} > 0)); do await_a_part; done
 }
