@@ -61,6 +61,7 @@ class Place(NamedTuple):
 # The lists that are short with a reason.
 SHORT = {
     ("bench/running/plain.rs", "clear halt stop"): "what the comparison lacks",
+    ("crates/tp_syntax/src/operations.rt", "clear halt stop"): "what starts no component either",
     ("tools/tpr_tools/titan/trace.py", "clear start stop"): "what empties a port of Titan",
     ("tests/program/from_outside.py", "check run trace"): "the modes that are given one script",
 }

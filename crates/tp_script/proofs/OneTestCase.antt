@@ -2,11 +2,10 @@
 use Rattle.std.proofs.Common.{◌≡◌, inl, inr, ℕ, List, Option, length, map, get_or, refl, sym, ap, ◌∙◌, subst, arith}
 use Rattle.std.proofs.lemmas.List.{same_lists}
 use Rattle.std.proofs.lemmas.Option.{same_Some, slice_get-get_or}
-use Rattle.tp_syntax.specs.declared.script_fault.ScriptFault.TheVariants as script_fault
-use Rattle.tp_syntax.proofs.AcceptedTokenTexts.{good_texts_are_accepted}
+use Rattle.tp_syntax.proofs.AcceptedTexts.{read_texts_are_accepted}
 use Rattle.tp_tree.specs.declared.tree.Module.{Module}
 use Rattle.tp_tree.specs.declared.tree.TestCase.{TestCase}
-use Rattle.tp_syntax.proofs.UniqueModules.{readings_are_unique}
+use Rattle.tp_syntax.proofs.SameModules.{readings_are_unique}
 use Rattle.tp_value.specs.declared.types.Types.{Types}
 use Rattle.tp_config.specs.Setup.{Member, PortDecl, Setup}
 use Rattle.tp_config.specs.declared.port_type.Role.{Role}
@@ -25,17 +24,12 @@ use Rattle.tp_play.specs.Behaviours.{Behaviour}
 use Rattle.tp_play.specs.TestCases.{Made}
 use Rattle.tp_script.specs.Accepted.{ScriptsAreAccepted, ScriptsHaveOneTestCase}
 use Rattle.tp_script.specs.Behaviours.{Does}
-use Rattle.tp_script.specs.Scripts.{IsModuleOf}
 use Rattle.tp_script.specs.TestCases.{IsTestCaseOf, WellFormed, known_of}
 use Rattle.tp_script.specs.declared.fault.ScriptRule.TheVariants as script_rule
 use Rattle.tp_script.specs.declared.fault.TestCaseFault.TheVariants as test_case_fault
 use Rattle.tp_script.proofs.BehavioursFixedByModule.{does_fixed}
 use Rattle.tp_script.proofs.SoundBodyScopes.{own_names}
 use Rattle.tp_script.proofs.TypesFixedByModule.{kinds_fixed, one_case, types_fixed, zip_fixed}
-
--- a text is read as one module
-one_reading : (text : List ℕ) (m n : Module) → IsModuleOf text m → IsModuleOf text n → m ≡ n
-one_reading text m n h k = readings_are_unique text m n h.read h.grammatical h.lines k.read k.grammatical k.lines
 
 abbrev member : List ℕ → ℕ → Role → Member
 member name kind role = record { name = name; kind = kind; role = role }
@@ -114,15 +108,12 @@ module _ (m : Module) (unique : HasUniqueNames m) where
 
 pub scripts_have_one_test_case : ScriptsHaveOneTestCase
 scripts_have_one_test_case text x y h k =
-    test_case_fixed k.parsed k.well_formed.declared.names x y (subst (λ m. IsTestCaseOf m x) (one_reading text h.parsed k.parsed h.read k.read) h.test_case) k.test_case
+    test_case_fixed k.parsed k.well_formed.declared.names x y (subst (λ m. IsTestCaseOf m x) (readings_are_unique text h.parsed k.parsed h.read k.read) h.test_case) k.test_case
 
 -- ---- a right text is accepted
 
 pub scripts_are_accepted : ScriptsAreAccepted
-scripts_are_accepted text parsed (test_case_fault.Refused (script_rule.Text rule) line) is right (inl refused) =
-    let tokens = is.within in
-    good_texts_are_accepted text tokens.0 (script_fault.Refused rule line) tokens.1 tokens.2 tokens.3 refused
-scripts_are_accepted text parsed (test_case_fault.Refused (script_rule.Text rule) line) is right (inr unread) = unread.2 parsed is.read is.grammatical is.nested
+scripts_are_accepted text parsed (test_case_fault.Refused (script_rule.Text rule) line) is right unread = read_texts_are_accepted text parsed rule line is unread
 scripts_are_accepted text parsed (test_case_fault.Refused (script_rule.Module rule) line) is right told =
-    told.2 (subst WellFormed (one_reading text parsed told.0 is told.1) right)
+    told.2 (subst WellFormed (readings_are_unique text parsed told.0 is told.1) right)
 scripts_are_accepted text parsed (test_case_fault.Memory m) is right h = tt

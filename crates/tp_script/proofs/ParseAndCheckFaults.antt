@@ -8,10 +8,10 @@ use Rattle.tp_tree.specs.declared.tree.Module.{Module}
 use Rattle.tp_checks.specs.declared.fault.ModuleFault.{ModuleFault}
 use Rattle.tp_checks.specs.declared.fault.ModuleFault.TheVariants as module_fault
 use Rattle.tp_checks.specs.Refused.{IsRefusedBy, Tells}
-use Rattle.tp_syntax.specs.Refusals.{IsUnread}
+use Rattle.tp_syntax.specs.ReadTexts.{IsReadAs, IsUnread}
 use Rattle.tp_script.specs.declared.fault.TestCaseFault.{TestCaseFault}
 use Rattle.tp_script.specs.BrokenModules.{ModuleBreaks}
-use Rattle.tp_script.specs.Scripts.{IsModuleOf, IsScriptFaultOf}
+use Rattle.tp_script.specs.Scripts.{IsScriptFaultOf}
 use Rattle.tp_script.specs.TestCases.{WellFormed}
 use Rattle.tp_script.specs.Told.{of_module, of_text}
 
@@ -26,7 +26,7 @@ unread_fault r f text is h =
     let p = err_from_is_err_and r is in
     rw (p.1, p.2) (of_reading f text h)
 
-of_checking : (f : ModuleFault) (text : List ℕ) (parsed : Module) → IsModuleOf text parsed → IsRefusedBy (WellFormed parsed) f
+of_checking : (f : ModuleFault) (text : List ℕ) (parsed : Module) → IsReadAs text parsed → IsRefusedBy (WellFormed parsed) f
     → Tells (ModuleBreaks parsed) f → IsScriptFaultOf text (of_module f)
 of_checking (module_fault.Refused rule line) text parsed read (inl e) told = absurd (cc)
 of_checking (module_fault.Refused rule line) text parsed read (inr broken) told = (parsed, read, broken, told)
@@ -34,7 +34,7 @@ of_checking (module_fault.Memory m) text parsed read broken told = tt
 
 -- what the checks refuse was read as a module, which doesn't obey the rules, or memory was wanting
 pub checked_fault : {A : Type 0} (r : Result A TestCaseFault) (f : ModuleFault) (text : List ℕ) (parsed : Module) → IsErrAnd r (λ y. y ≡ of_module f)
-    → IsModuleOf text parsed → IsRefusedBy (WellFormed parsed) f → Tells (ModuleBreaks parsed) f → IfErr r (IsScriptFaultOf text)
+    → IsReadAs text parsed → IsRefusedBy (WellFormed parsed) f → Tells (ModuleBreaks parsed) f → IfErr r (IsScriptFaultOf text)
 checked_fault r f text parsed is read broken told =
     let p = err_from_is_err_and r is in
     rw (p.1, p.2) (of_checking f text parsed read broken told)

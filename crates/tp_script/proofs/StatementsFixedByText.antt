@@ -19,10 +19,9 @@ use Rattle.tp_tree.specs.declared.tree.Action.TheViews.{out-Action, out-BranchBo
 use Rattle.tp_tree.specs.declared.tree.BranchBody.{BranchBody}
 use Rattle.tp_tree.specs.declared.tree.BranchBody.TheVariants as b
 use Rattle.tp_tree.specs.declared.tree.Branch.{Branch as BranchText}
-use Rattle.tp_tree.specs.declared.tree.ElseBranch.{out-ElseBranch}
-use Rattle.tp_tree.specs.declared.tree.Counted.{out-Counted}
+use Rattle.tp_tree.specs.declared.tree.ElseBranch.{ElseBranch, out-ElseBranch}
+use Rattle.tp_tree.specs.declared.tree.Counted.{Counted, out-Counted}
 use Rattle.tp_tree.specs.declared.tree.Statement.{Statement as StatementText}
-use Rattle.tp_syntax.proofs.StatementLayers.{Layer, BodyLayer}
 use Rattle.tp_value.specs.declared.types.Ty.{Ty}
 use Rattle.tp_value.specs.declared.types.Ty.TheVariants as ty
 use Rattle.tp_value.specs.declared.verdict.Verdict.{Verdict}
@@ -53,6 +52,13 @@ use Rattle.tp_checks.specs.Bodies.{IsSent, IsReceiver, IsSend, IsWanted, IsFrom,
 use Rattle.tp_script.proofs.NamesFixedByPlace.{OwnNames, no_more, place_fixed}
 use Rattle.tp_script.proofs.ValuesFixedByText.{value_fixed}
 use Rattle.tp_script.proofs.TemplatesFixedByText.{template_fixed}
+
+-- a layer of what a statement does, and of what follows the operation of a branch
+abbrev Layer : Type 0
+Layer = o.Action-F Action BranchBody BranchText Counted ElseBranch StatementText
+
+abbrev BodyLayer : Type 0
+BodyLayer = o.BranchBody-F Action BranchBody BranchText Counted ElseBranch StatementText
 
 abbrev message : Ty → SendValue → SendMsg
 message u w = record { ty = u; value = w }

@@ -1,11 +1,12 @@
 -- That a valid text is accepted, and has one test case.
 use Rattle.std.specs.Prelude.{◌≡◌, ℕ, List}
 use Rattle.tp_tree.specs.declared.tree.Module.{Module}
+use Rattle.tp_syntax.specs.ReadTexts.{IsReadAs}
 use Rattle.tp_play.specs.TestCases.{Made}
 use Rattle.tp_script.specs.declared.fault.TestCaseFault.{TestCaseFault}
 use Rattle.tp_script.specs.declared.fault.TestCaseFault.TheVariants.{Refused, Memory}
 use Rattle.tp_script.specs.TestCases.{WellFormed}
-use Rattle.tp_script.specs.Scripts.{IsModuleOf, IsScriptFaultOf, IsScriptOf}
+use Rattle.tp_script.specs.Scripts.{IsScriptFaultOf, IsScriptOf}
 
 -- memory was refused
 abbrev pub IsWantOfMemory : TestCaseFault → Type 0
@@ -15,7 +16,7 @@ IsWantOfMemory (Memory m) = Unit {0}
 -- a text that is read as a module that obeys the rules is refused only because memory ran out
 abbrev pub ScriptsAreAccepted : Type 0
 ScriptsAreAccepted =
-    (text : List ℕ) (parsed : Module) (fault : TestCaseFault) → IsModuleOf text parsed → WellFormed parsed
+    (text : List ℕ) (parsed : Module) (fault : TestCaseFault) → IsReadAs text parsed → WellFormed parsed
     → IsScriptFaultOf text fault → IsWantOfMemory fault
 
 -- a text is a script of one test case: its components, their connections, its types and each statement that a component

@@ -1,12 +1,8 @@
 -- What a text says, read as a script.
-use Rattle.std.specs.Prelude.{◌≤◌, ℕ, List}
+use Rattle.std.specs.Prelude.{ℕ, List}
 use Rattle.tp_tree.specs.declared.tree.Module.{Module}
 use Rattle.tp_syntax.specs.declared.script_fault.ScriptFault.TheVariants as script_fault
-use Rattle.tp_syntax.specs.Definitions.{IsReadAs}
-use Rattle.tp_syntax.specs.Grammar.{IsGrammatical}
-use Rattle.tp_syntax.specs.Lines.{HasLines}
-use Rattle.tp_syntax.specs.Nesting.{module_depth}
-use Rattle.tp_syntax.specs.Refusals.{HasTokens, IsUnread}
+use Rattle.tp_syntax.specs.ReadTexts.{IsReadAs, IsUnread}
 use Rattle.tp_play.specs.TestCases.{Made}
 use Rattle.tp_script.specs.declared.fault.ScriptRule.TheVariants as script_rule
 use Rattle.tp_script.specs.declared.fault.TestCaseFault.{TestCaseFault}
@@ -14,20 +10,11 @@ use Rattle.tp_script.specs.declared.fault.TestCaseFault.TheVariants as test_case
 use Rattle.tp_script.specs.BrokenModules.{ModuleBreaks}
 use Rattle.tp_script.specs.TestCases.{IsTestCaseOf, WellFormed}
 
--- the text is read as this module of the grammar, within the limits: of the text, of names and numbers, and of open
--- brackets
-pub record IsModuleOf (text : List ℕ) (parsed : Module) : Type 0 where
-  pub read : IsReadAs text parsed
-  pub within : HasTokens text
-  pub nested : module_depth parsed ≤ 32
-  pub grammatical : IsGrammatical parsed
-  -- the lines that it notes are those of the text
-  pub lines : HasLines text parsed
-
--- the text is a script of this test case: it is read as a module that obeys the rules and has that test case
+-- the text is a script of this test case: it is read as a module of the grammar, within the limits of the text, of names
+-- and numbers, and of open brackets; and the module obeys the rules and has that test case
 pub record IsScriptOf (text : List ℕ) (made : Made) : Type 0 where
   pub parsed : Module
-  pub read : IsModuleOf text parsed
+  pub read : IsReadAs text parsed
   pub well_formed : WellFormed parsed
   pub test_case : IsTestCaseOf parsed made
 
@@ -37,5 +24,5 @@ abbrev pub IsScriptFaultOf : List ℕ → TestCaseFault → Type 0
 IsScriptFaultOf text (test_case_fault.Refused (script_rule.Text rule) line) =
     IsUnread text (script_fault.Refused rule line)
 IsScriptFaultOf text (test_case_fault.Refused (script_rule.Module rule) line) =
-    (parsed : Module) × IsModuleOf text parsed × (¬ WellFormed parsed) × ModuleBreaks parsed rule line
+    (parsed : Module) × IsReadAs text parsed × (¬ WellFormed parsed) × ModuleBreaks parsed rule line
 IsScriptFaultOf text (test_case_fault.Memory m) = Unit {0}

@@ -21,7 +21,7 @@ piece_bytes (line_comment bs) = codes "//" ++ bs
 piece_bytes (block_comment bs) = codes "/*" ++ (bs ++ codes "*/")
 piece_bytes (token l bs) = bs
 
--- whether `*/` stands at a byte and those behind it
+-- whether `*/` stands at a byte and those after it
 abbrev pub ends_here : ℕ → List ℕ → Bool
 ends_here b [] = false
 ends_here b (c ∷ bs) = if b == 42 then c == 47 else false
@@ -36,9 +36,11 @@ abbrev pub StopsAt : (ℕ → Bool) → List ℕ → Type 0
 StopsAt p [] = Unit {0}
 StopsAt p (b ∷ bs) = p b ≡ false
 
--- no token that begins where these bytes do, with this rest behind them, is longer than they are
+-- no token that begins where these bytes do, with this rest after them, is longer than they are
 abbrev pub IsLongest : List ℕ → List ℕ → Type 0
-IsLongest bs rest = (l : Lexeme) (cs more : List ℕ) → IsSpelled l cs → bs ++ rest ≡ cs ++ more → length cs ≤ length bs
+IsLongest bs rest =
+    (l : Lexeme) (cs more : List ℕ) → IsSpelled l cs → bs ++ rest ≡ cs ++ more
+    → length cs ≤ length bs
 
 -- the piece can stand before this rest: a line comment goes to the end of its line or of the text, a block comment to
 -- the first `*/`, and a token is the longest one
@@ -51,13 +53,14 @@ IsPiece (token l bs) rest = IsSpelled l bs × IsLongest bs rest
 -- the text is these pieces, one after the other, and then this rest
 abbrev pub Cuts : List Piece → List ℕ → List ℕ → Type 0
 Cuts [] bytes rest = bytes ≡ rest
-Cuts (p ∷ ps) bytes rest = (more : List ℕ) × (bytes ≡ piece_bytes p ++ more) × IsPiece p more × Cuts ps more rest
+Cuts (p ∷ ps) bytes rest =
+    (more : List ℕ) × (bytes ≡ piece_bytes p ++ more) × IsPiece p more × Cuts ps more rest
 
 -- how many lines end in the bytes: the number of bytes 10
 abbrev pub newlines : List ℕ → ℕ
 newlines bs = count_by (λ b. b == 10) bs
 
--- the line behind the pieces, the first of which stands on line n
+-- the line after the pieces, the first of which stands on line n
 abbrev pub line_after : ℕ → List Piece → ℕ
 line_after n [] = n
 line_after n (p ∷ ps) = line_after (n + newlines (piece_bytes p)) ps
@@ -78,7 +81,8 @@ AreTokens bytes ts = (ps : List Piece) × Cuts ps bytes [] × (ts ≡ tokens_in 
 
 -- a text has one list of tokens: two lists that are its tokens are the same
 abbrev pub TokensAreUnique : Type 0
-TokensAreUnique = (text : List ℕ) (a b : List PlacedLexeme) → AreTokens text a → AreTokens text b → a ≡ b
+TokensAreUnique =
+    (text : List ℕ) (a b : List PlacedLexeme) → AreTokens text a → AreTokens text b → a ≡ b
 
 -- the first byte is of this kind
 abbrev pub BeginsAs : Kind → List ℕ → Type 0

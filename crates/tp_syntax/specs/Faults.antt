@@ -1,4 +1,4 @@
--- Where the grammar refuses a text that has tokens: which tokens are beyond the limits, and which lines may be named.
+-- Which tokens are beyond the limits, and which lines may be named.
 use Rattle.std.specs.Prelude.{◌≡◌, ℕ, zero, ◌+◌, ◌-◌, ◌<◌, ◌≤◌, min, ◌⊎◌, Bool, true, false, List, [], ◌∷◌, ◌++◌, map}
 use Rattle.std.specs.Prelude.{length, take, drop, Option, None, Some}
 use Rattle.tp_syntax.specs.declared.script_fault.TextRule.TheVariants.{Syntax, Limit}
@@ -10,10 +10,6 @@ use Rattle.tp_syntax.specs.declared.token.Symbol.TheVariants.{RightBracket, Comm
 use Rattle.tp_syntax.specs.declared.token.Symbol.TheVariants.{Star, Minus, Less, Plus, DotDot, Assign, Arrow}
 use Rattle.tp_syntax.specs.declared.token.Placed.{Placed}
 use Rattle.tp_syntax.specs.Lexeme.{Lexeme, name, word, number, text, symbol, PlacedLexeme, placed_lexeme}
-use Rattle.tp_tree.specs.declared.tree.Module.{Module}
-use Rattle.tp_syntax.specs.Ahead.{plain}
-use Rattle.tp_syntax.specs.Definitions.{module_lexemes}
-use Rattle.tp_syntax.specs.Grammar.{IsGrammatical}
 use Rattle.tp_syntax.specs.declared.faults.Bracket.{Bracket}
 use Rattle.tp_syntax.specs.declared.faults.Bracket.TheVariants.{Opens, Closes, Neither}
 
@@ -43,7 +39,7 @@ abbrev pub is_minus : Lexeme → Bool
 is_minus (symbol Minus) = true
 is_minus _ = false
 
--- the greatest number that may stand there: directly behind a `-` one more
+-- the greatest number that may stand there: directly after a `-` one more
 abbrev pub greatest_number : Bool → ℕ
 greatest_number true = 9223372036854775808
 greatest_number false = 9223372036854775807
@@ -54,13 +50,13 @@ MayStandOpen opened Opens = opened < 32
 MayStandOpen opened Closes = Unit {0}
 MayStandOpen opened Neither = Unit {0}
 
--- how many brackets are open behind it
+-- how many brackets are open after it
 abbrev pub bracket_behind : ℕ → Bracket → ℕ
 bracket_behind opened Opens = opened + 1
 bracket_behind opened Closes = opened - 1
 bracket_behind opened Neither = opened
 
--- how many brackets are open behind the token, of so many before it
+-- how many brackets are open after the token, of so many before it
 abbrev pub opened_behind : ℕ → Lexeme → ℕ
 opened_behind opened (name n) = opened
 opened_behind opened (word w) = opened
@@ -68,7 +64,7 @@ opened_behind opened (number n) = opened
 opened_behind opened (text t) = opened
 opened_behind opened (symbol s) = bracket_behind opened (symbol_bracket s)
 
--- where so many brackets are open, directly behind a `-` or elsewhere, the token is within the limits
+-- where so many brackets are open, directly after a `-` or elsewhere, the token is within the limits
 abbrev pub IsAllowed : ℕ → Bool → Lexeme → Type 0
 IsAllowed opened signed (name n) = Unit {0}
 IsAllowed opened signed (word w) = Unit {0}
@@ -76,12 +72,13 @@ IsAllowed opened signed (number n) = n ≤ greatest_number signed
 IsAllowed opened signed (text t) = Unit {0}
 IsAllowed opened signed (symbol s) = MayStandOpen opened (symbol_bracket s)
 
--- each of the tokens is within the limits, from where so many brackets are open, directly behind a `-` or elsewhere, to
+-- each of the tokens is within the limits, from where so many brackets are open, directly after a `-` or elsewhere, to
 -- where so many are
 abbrev pub AreAllowed : ℕ → Bool → List PlacedLexeme → ℕ → Bool → Type 0
 AreAllowed opened signed [] end end_signed = (opened ≡ end) × (signed ≡ end_signed)
 AreAllowed opened signed (t ∷ ts) end end_signed =
-    IsAllowed opened signed t.token × AreAllowed (opened_behind opened t.token) (is_minus t.token) ts end end_signed
+    IsAllowed opened signed t.token
+    × AreAllowed (opened_behind opened t.token) (is_minus t.token) ts end end_signed
 
 -- what the grammar reads: the tokens of a text, and the line of the text's end
 pub record Input : Type 0 where
@@ -93,8 +90,9 @@ abbrev pub input_of : List Placed → ℕ → Input
 input_of ps last = record { tokens = map placed_lexeme ps; last_line = last }
 
 -- the text goes on with these tokens: all before them are within the limits, and so many brackets are open there,
--- directly behind a `-` or elsewhere
-pub record GoesOnWith (i : Input) (opened : ℕ) (signed : Bool) (rest : List PlacedLexeme) : Type 0 where
+-- directly after a `-` or elsewhere
+pub record GoesOnWith (i : Input) (opened : ℕ) (signed : Bool)
+    (rest : List PlacedLexeme) : Type 0 where
   pub passed : List PlacedLexeme
   pub is : i.tokens ≡ passed ++ rest
   pub allowed : AreAllowed 0 false passed opened signed
@@ -109,51 +107,13 @@ abbrev pub brought_within : Bool → Lexeme → Lexeme
 brought_within signed (number n) = number (min n (greatest_number signed))
 brought_within signed t = t
 
--- the next token, brought within the limits, where one comes next
-abbrev pub next_within : Bool → List PlacedLexeme → List Lexeme
-next_within signed [] = []
-next_within signed (t ∷ ts) = brought_within signed t.token ∷ []
-
--- no text of the grammar, however deep it nests, begins with the tokens that stand and the next one; where none comes next,
--- none consists of those that stand
-abbrev pub NoneGoesOn : List PlacedLexeme → List Lexeme → Type 0
-NoneGoesOn stand next =
-    (m : Module) (others : List Lexeme) → plain others ≡ module_lexemes m → IsGrammatical m
-    → take (length stand + 1) others ≡ map (λ t. t.token) stand ++ next → ⊥
-
--- 10 on this line: the tokens before the first of these are within the limits, and no text of the grammar goes on with it,
--- or ends there
-pub record IsSyntaxAt (i : Input) (n : ℕ) : Type 0 where
-  pub opened : ℕ
-  pub signed : Bool
-  pub rest : List PlacedLexeme
-  pub at : GoesOnWith i opened signed rest
-  pub none : NoneGoesOn at.passed (next_within signed rest)
-  pub line : n ≡ fault_line rest i.last_line
-
--- 15 on this line: this is the first token that is beyond the limits
-pub record IsLimitAt (i : Input) (n : ℕ) : Type 0 where
-  pub opened : ℕ
-  pub signed : Bool
-  pub token : PlacedLexeme
-  pub rest : List PlacedLexeme
-  pub at : GoesOnWith i opened signed (token ∷ rest)
-  pub beyond : IsAllowed opened signed token.token → ⊥
-  pub line : n ≡ token.line
-
--- the grammar refuses the text so: 15 at the first token that is beyond the limits, or 10 at one before it, or at that very
--- one, with which no text of the grammar goes on; or memory was refused
-abbrev pub IsFaultIn : Input → ScriptFault → Type 0
-IsFaultIn i (Refused Syntax n) = IsSyntaxAt i n
-IsFaultIn i (Refused Limit n) = IsLimitAt i n
-IsFaultIn i (Memory m) = Unit {0}
-
--- these tokens are those passed and the one behind them, brought within the limits, whose line is noted
+-- these tokens are those passed and the one after them, brought within the limits, whose line is noted
 abbrev pub IsCutOf : List PlacedLexeme → PlacedLexeme → Bool → List PlacedLexeme → Option ℕ → Type 0
 IsCutOf passed t signed front beyond =
-    (front ≡ passed ++ record { token = brought_within signed t.token; line = t.line } ∷ []) × (beyond ≡ Some t.line)
+    (front ≡ passed ++ record { token = brought_within signed t.token; line = t.line } ∷ [])
+    × (beyond ≡ Some t.line)
 
--- these tokens are cut behind the first that is beyond the limits
+-- these tokens are cut after the first that is beyond the limits
 pub record IsCut (tokens front : List PlacedLexeme) (beyond : Option ℕ) : Type 0 where
   pub opened : ℕ
   pub signed : Bool
@@ -169,13 +129,14 @@ pub record IsCut (tokens front : List PlacedLexeme) (beyond : Option ℕ) : Type
 abbrev pub AreWithin : List PlacedLexeme → Type 0
 AreWithin ts = (opened : ℕ) × (signed : Bool) × AreAllowed 0 false ts opened signed
 
--- these are all the tokens, each within the limits; or they are cut behind the first that isn't, whose line is noted
+-- these are all the tokens, each within the limits; or they are cut after the first that isn't, whose line is noted
 abbrev pub AreTokensSeen : List PlacedLexeme → List PlacedLexeme → Option ℕ → Type 0
 AreTokensSeen tokens front beyond =
     ((front ≡ tokens) × (beyond ≡ None) × AreWithin tokens) ⊎ IsCut tokens front beyond
 
--- the fault where so many of these tokens, or none, can't stand: 15 where all stand and the last is beyond the limits, else
--- 10 at the first that can't, or at the end of the text
+-- the fault where so many of these tokens, or none, can't stand: 15 where all stand and the last is beyond the limits,
+-- else 10 at the first that can't, or at the end of the text
 abbrev pub fault_in : List PlacedLexeme → Option ℕ → ℕ → ℕ → ScriptFault
 fault_in front (Some line) zero last = Refused Limit line
-fault_in front beyond left last = Refused Syntax (fault_line (drop (length front - left) front) last)
+fault_in front beyond left last =
+    Refused Syntax (fault_line (drop (length front - left) front) last)

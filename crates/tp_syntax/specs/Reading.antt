@@ -1,132 +1,110 @@
--- Where a part may stand, and which tokens it begins with.
-use Rattle.std.specs.Prelude.{ℕ, ◌≡◌, Bool, true, false, ◌&&◌, ◌⊎◌, IsTrue, List, [], ◌∷◌, Option, Some, None}
-use Rattle.tp_syntax.specs.declared.word.Word.{Word}
-use Rattle.tp_syntax.specs.declared.word.Word.TheVariants as w
-use Rattle.tp_syntax.specs.declared.token.Placed.{Placed}
-use Rattle.tp_syntax.specs.declared.token.Symbol.TheVariants.{Assign, Dot, DotDot, Minus, LeftBrace, LeftBracket}
-use Rattle.tp_syntax.specs.declared.token.Symbol.TheVariants.{LeftParen, RightBrace, RightParen, Semicolon}
-use Rattle.tp_syntax.specs.Lexeme.{Lexeme, name, word, symbol}
-use Rattle.tp_common.specs.declared.operation.ReceiveKind.{ReceiveKind}
-use Rattle.tp_common.specs.declared.operation.ReceiveKind.TheVariants as receive_kind
-use Rattle.tp_tree.specs.declared.tree.Defined.{Defined}
-use Rattle.tp_tree.specs.declared.tree.Defined.TheVariants as defined
-use Rattle.tp_syntax.specs.Ahead.{is_name_in, is_number_in, token_at}
-use Rattle.tp_syntax.specs.Grammar.{Part}
+-- What is read by the grammar from tokens, and where it fails.
+use Rattle.std.specs.Prelude.{ℕ, ◌≡◌, true, false, cond, List, [], ◌∷◌, ◌++◌, Option, Some, None, length}
+use Rattle.tp_syntax.specs.Lexeme.{Lexeme, name, PlacedLexeme}
+use Rattle.tp_syntax.specs.declared.stuck.Stuck.{Stuck}
+use Rattle.tp_syntax.specs.declared.stuck.Stuck.TheVariants.{At, Memory}
+use Rattle.tp_syntax.specs.Item.{Terminal, binds, same, this_name, Item, token, rule, Guarded, accepts, one_of, next}
+use Rattle.tp_syntax.specs.Rule.{Rule}
+use Rattle.tp_syntax.specs.Grammar.{production, notes_line}
 
--- the first of the tokens
-abbrev pub first : List Lexeme → Option Lexeme
-first [] = None
-first (t ∷ ts) = Some t
+-- a tree: a token, or what a rule spells, with the line that it notes
+mutual
+  pub data Tree : Type 0 where
+    leaf : Lexeme → Tree
+    node : Rule → Option ℕ → Trees → Tree
 
--- whether an operation, or one of several with a comma between two, may stand before this token: `;`, `{`, `}` or `)`
-abbrev pub ends_operation : Option Lexeme → Bool
-ends_operation (Some (symbol Semicolon)) = true
-ends_operation (Some (symbol LeftBrace)) = true
-ends_operation (Some (symbol RightBrace)) = true
-ends_operation (Some (symbol RightParen)) = true
-ends_operation _ = false
+  pub data Trees : Type 0 where
+    none : Trees
+    more : Tree → Trees → Trees
 
--- an operation, or several with a comma between two, may stand before these tokens
-abbrev pub Stops : List Lexeme → Type 0
-Stops ts = IsTrue (ends_operation (first ts))
+-- the line that a rule notes
+abbrev pub line_ahead : List PlacedLexeme → ℕ
+line_ahead [] = 0
+line_ahead (p ∷ ps) = p.line
 
--- whether a part may stand before this token: one that isn't ended before a `}` alone, and none before a `;`
-abbrev pub may_end_before : Bool → Option Lexeme → Bool
-may_end_before is_ended (Some (symbol Semicolon)) = false
-may_end_before is_ended (Some (symbol RightBrace)) = true
-may_end_before is_ended _ = is_ended
+abbrev pub noted : Rule → List PlacedLexeme → Option ℕ
+noted r ts = cond (notes_line r) (Some (line_ahead ts)) None
 
--- the part may stand before these tokens
-abbrev pub MayStandBefore : Bool → List Lexeme → Type 0
-MayStandBefore is_ended ts = IsTrue (may_end_before is_ended (first ts))
+-- the name that is bound after this item
+abbrev pub bound_by : List ℕ → Item → Tree → List ℕ
+bound_by bound (token binds) (leaf (name n)) = n
+bound_by bound _ _ = bound
 
--- whether the parts may stand before this token: each is right, and each but the last is ended
-abbrev pub may_all_stand : List Part → Option Lexeme → Bool
-may_all_stand [] t = true
-may_all_stand (p ∷ []) t = p.is_right && may_end_before p.is_ended t
-may_all_stand (p ∷ q ∷ qs) t = p.is_right && (p.is_ended && may_all_stand (q ∷ qs) t)
+-- the item, where this name is bound
+abbrev pub known : List ℕ → Item → Item
+known bound (token same) = token (this_name bound)
+known bound i = i
 
--- the parts may stand before these tokens
-abbrev pub AllStand : List Part → List Lexeme → Type 0
-AllStand parts ts = IsTrue (may_all_stand parts (first ts))
+-- the item is read from the front of the tokens as this tree, and these are left; or all items; or, of the
+-- alternatives, the first that fits
+mutual
+  pub data Reads : Item → List PlacedLexeme → Tree → List PlacedLexeme → Type 0 where
+    reads_token : {t : Terminal} {p : PlacedLexeme} {ps : List PlacedLexeme}
+        → accepts t (Some p.token) ≡ true
+        → Reads (token t) (p ∷ ps) (leaf p.token) ps
+    reads_rule : {r : Rule} {ts : List PlacedLexeme} {trees : Trees} {rest : List PlacedLexeme}
+        {line : Option ℕ}
+        → line ≡ noted r ts
+        → ReadsChoice (production r).guarded (production r).otherwise ts trees rest
+        → Reads (rule r) ts (node r line trees) rest
 
--- the part is right, and may stand before these tokens
-abbrev pub IsPlaced : Part → List Lexeme → Type 0
-IsPlaced p ts = IsTrue p.is_right × MayStandBefore p.is_ended ts
+  pub data ReadsChoice : List Guarded → List Item → List PlacedLexeme → Trees → List PlacedLexeme
+      → Type 0 where
+    reads_this : {g : Guarded} {gs : List Guarded} {otherwise : List Item} {ts : List PlacedLexeme}
+        {trees : Trees} {rest : List PlacedLexeme}
+        → one_of g.guards (next ts) ≡ true → ReadsAll [] g.items ts trees rest
+        → ReadsChoice (g ∷ gs) otherwise ts trees rest
+    reads_other : {g : Guarded} {gs : List Guarded} {otherwise : List Item} {ts : List PlacedLexeme}
+        {trees : Trees} {rest : List PlacedLexeme}
+        → one_of g.guards (next ts) ≡ false → ReadsChoice gs otherwise ts trees rest
+        → ReadsChoice (g ∷ gs) otherwise ts trees rest
+    reads_else : {otherwise : List Item} {ts : List PlacedLexeme} {trees : Trees}
+        {rest : List PlacedLexeme}
+        → ReadsAll [] otherwise ts trees rest → ReadsChoice [] otherwise ts trees rest
 
--- what a statement does is ended, or may stand before what comes next
-abbrev pub IsEndedOr : Bool → Type 0 → Type 0
-IsEndedOr is_ended before = IsTrue is_ended ⊎ before
+  pub data ReadsAll : List ℕ → List Item → List PlacedLexeme → Trees → List PlacedLexeme
+      → Type 0 where
+    reads_none : {bound : List ℕ} {ts : List PlacedLexeme} → ReadsAll bound [] ts none ts
+    reads_more : {bound : List ℕ} {i : Item} {is : List Item} {ts mid rest : List PlacedLexeme}
+        {t : Tree} {trees : Trees}
+        → Reads (known bound i) ts t mid → ReadsAll (bound_by bound i t) is mid trees rest
+        → ReadsAll bound (i ∷ is) ts (more t trees) rest
 
--- a name that may be missing
-abbrev pub MaybeName : Type 0
-MaybeName = Option (List ℕ)
+-- the item can't be read: so many tokens are left where the first can't stand; or memory was refused
+mutual
+  pub data Fails : Item → List PlacedLexeme → Stuck → Type 0 where
+    fails_memory : {i : Item} {ts : List PlacedLexeme} → Fails i ts Memory
+    fails_token : {t : Terminal} {ts : List PlacedLexeme} {left : ℕ}
+        → accepts t (next ts) ≡ false → left ≡ length ts → Fails (token t) ts (At left)
+    fails_rule : {r : Rule} {ts : List PlacedLexeme} {e : Stuck}
+        → FailsChoice (production r).guarded (production r).otherwise ts e → Fails (rule r) ts e
 
--- whether it is a type that is defined
-abbrev pub is_type : Defined → Bool
-is_type (defined.Record t) = true
-is_type (defined.List t) = true
-is_type (defined.Port t) = true
-is_type (defined.Component t) = true
-is_type (defined.Function t) = false
-is_type (defined.TestCase t) = false
+  pub data FailsChoice : List Guarded → List Item → List PlacedLexeme → Stuck → Type 0 where
+    fails_this : {g : Guarded} {gs : List Guarded} {otherwise : List Item} {ts : List PlacedLexeme}
+        {e : Stuck}
+        → one_of g.guards (next ts) ≡ true → FailsAll [] g.items ts e
+        → FailsChoice (g ∷ gs) otherwise ts e
+    fails_other : {g : Guarded} {gs : List Guarded} {otherwise : List Item} {ts : List PlacedLexeme}
+        {e : Stuck}
+        → one_of g.guards (next ts) ≡ false → FailsChoice gs otherwise ts e
+        → FailsChoice (g ∷ gs) otherwise ts e
+    fails_else : {otherwise : List Item} {ts : List PlacedLexeme} {e : Stuck}
+        → FailsAll [] otherwise ts e → FailsChoice [] otherwise ts e
 
--- whether a setup statement comes next
-abbrev pub is_setup_ahead : List Lexeme → Bool
-is_setup_ahead (word w.Connect ∷ ts) = true
-is_setup_ahead (word w.Map ∷ ts) = true
-is_setup_ahead (word w.Var ∷ name t ∷ name n ∷ symbol Assign ∷ ts) = true
-is_setup_ahead _ = false
+  pub data FailsAll : List ℕ → List Item → List PlacedLexeme → Stuck → Type 0 where
+    fails_here : {bound : List ℕ} {i : Item} {is : List Item} {ts : List PlacedLexeme} {e : Stuck}
+        → Fails (known bound i) ts e → FailsAll bound (i ∷ is) ts e
+    fails_later : {bound : List ℕ} {i : Item} {is : List Item} {ts mid : List PlacedLexeme}
+        {t : Tree} {e : Stuck}
+        → Reads (known bound i) ts t mid → FailsAll (bound_by bound i t) is mid e
+        → FailsAll bound (i ∷ is) ts e
 
--- whether the start of a component comes next
-abbrev pub is_start_ahead : List Lexeme → Bool
-is_start_ahead (name n ∷ symbol Dot ∷ word w.Start ∷ symbol LeftParen ∷ ts) = true
-is_start_ahead _ = false
+-- the tokens of a tree
+mutual
+  pub leaves : Tree → List Lexeme
+  leaves (leaf l) = l ∷ []
+  leaves (node r line trees) = all_leaves trees
 
--- whether the end of a block comes next, or, in the body of a test case, `all component`
-abbrev pub is_end_ahead : Bool → List Lexeme → Bool
-is_end_ahead is_case (symbol RightBrace ∷ ts) = true
-is_end_ahead is_case (word w.All ∷ word w.Component ∷ ts) = is_case
-is_end_ahead is_case _ = false
-
--- whether a branch that isn't `[else]` comes next
-abbrev pub is_branch_ahead : List Lexeme → Bool
-is_branch_ahead (symbol LeftBracket ∷ word w.Else ∷ ts) = false
-is_branch_ahead (symbol LeftBracket ∷ ts) = true
-is_branch_ahead _ = false
-
--- the word of a receiving operation
-abbrev pub receive_word : ReceiveKind → Word
-receive_word receive_kind.Receive = w.Receive
-receive_word receive_kind.Trigger = w.Trigger
-receive_word receive_kind.Check = w.Check
-
--- a setup statement begins with these tokens
-abbrev pub BeginsSetup : List Placed → Type 0
-BeginsSetup ps =
-    (token_at ps 0 ≡ Some (word w.Connect)) ⊎ ((token_at ps 0 ≡ Some (word w.Map))
-    ⊎ ((token_at ps 0 ≡ Some (word w.Var)) × (is_name_in (token_at ps 1) ≡ true) × (is_name_in (token_at ps 2) ≡ true)
-    × (token_at ps 3 ≡ Some (symbol Assign))))
-
--- the start of a component begins with these tokens
-abbrev pub IsStart : List Placed → Type 0
-IsStart ps =
-    (is_name_in (token_at ps 0) ≡ true) × (token_at ps 1 ≡ Some (symbol Dot)) × (token_at ps 2 ≡ Some (word w.Start))
-    × (token_at ps 3 ≡ Some (symbol LeftParen))
-
--- these tokens are the end of a block, or, in the body of a test case, `all component`
-abbrev pub IsEndOf : Bool → List Placed → Type 0
-IsEndOf is_case ps =
-    (token_at ps 0 ≡ Some (symbol RightBrace))
-    ⊎ ((is_case ≡ true) × (token_at ps 0 ≡ Some (word w.All)) × (token_at ps 1 ≡ Some (word w.Component)))
-
--- a range begins with these tokens
-abbrev pub IsRange : List Placed → Type 0
-IsRange ps =
-    ((token_at ps 0 ≡ Some (symbol Minus)) × (token_at ps 1 ≡ Some (word w.Infinity)))
-    ⊎ (((token_at ps 0 ≡ Some (symbol Minus)) × (is_number_in (token_at ps 1) ≡ true) × (token_at ps 2 ≡ Some (symbol DotDot)))
-    ⊎ ((is_number_in (token_at ps 0) ≡ true) × (token_at ps 1 ≡ Some (symbol DotDot))))
-
--- a field begins with these tokens: a name and `:=`
-abbrev pub BeginsField : List Placed → Type 0
-BeginsField ps = (is_name_in (token_at ps 0) ≡ true) × (token_at ps 1 ≡ Some (symbol Assign))
+  pub all_leaves : Trees → List Lexeme
+  all_leaves none = []
+  all_leaves (more t trees) = leaves t ++ all_leaves trees

@@ -23,7 +23,7 @@ abbrev pub IsNumber : List ℕ → Type 0
 IsNumber [] = ⊥
 IsNumber (b ∷ bs) = (is_digit b ≡ true) × Run is_digit bs × (b ≡ 48 → bs ≡ [])
 
--- the number that digits spell behind those that spell n, in decimal
+-- the number that digits spell after those that spell n, in decimal
 abbrev pub value_on : ℕ → List ℕ → ℕ
 value_on n [] = n
 value_on n (b ∷ bs) = value_on (n * 10 + (b - 48)) bs

@@ -37,10 +37,12 @@ abbrev pub HasNoTextByte : List ℕ → Type 0
 HasNoTextByte [] = Unit {0}
 HasNoTextByte (b ∷ bs) = is_printable b ≡ false
 
--- behind an opening quote: characters of a text, but no closing quote before the end or a byte that can't stand in a
+-- after an opening quote: characters of a text, but no closing quote before the end or a byte that can't stand in a
 -- text
 abbrev pub IsOpenText : List ℕ → Type 0
-IsOpenText bytes = (t : List ℕ) × (rest : List ℕ) × (bytes ≡ doubled t ++ rest) × Run is_printable t × HasNoTextByte rest
+IsOpenText bytes =
+    (t : List ℕ) × (rest : List ℕ) × (bytes ≡ doubled t ++ rest) × Run is_printable t
+    × HasNoTextByte rest
 
 -- a text that isn't closed stands at the front of the bytes
 abbrev pub HasOpenText : List ℕ → Type 0
@@ -71,7 +73,8 @@ IsFirstFault bytes r n =
 -- the text is refused so: because it is too long, before all else, or at its first fault; or memory was refused
 abbrev pub IsRefused : List ℕ → ScriptFault → Type 0
 IsRefused bytes (Refused r n) =
-    ((1048576 < length bytes) × (r ≡ Limit) × (n ≡ 0)) ⊎ ((length bytes ≤ 1048576) × IsFirstFault bytes r n)
+    ((1048576 < length bytes) × (r ≡ Limit) × (n ≡ 0))
+    ⊎ ((length bytes ≤ 1048576) × IsFirstFault bytes r n)
 IsRefused bytes (Memory m) = Unit {0}
 
 -- memory was refused
@@ -83,10 +86,11 @@ IsMemory (Memory m) = Unit {0}
 -- ran out
 abbrev pub GoodTextsAreAccepted : Type 0
 GoodTextsAreAccepted =
-    (text : List ℕ) (ts : List PlacedLexeme) (fault : ScriptFault) → AreTokens text ts → AreWithinLimits ts
+    (text : List ℕ) (ts : List PlacedLexeme) (fault : ScriptFault) → AreTokens text ts
+    → AreWithinLimits ts
     → length text ≤ 1048576 → IsRefused text fault → IsMemory fault
 
--- behind an opening quote no text is closed, which is 10 on this line, or memory was refused
+-- after an opening quote no text is closed, which is 10 on this line, or memory was refused
 abbrev pub IsUnclosed : List ℕ → ℕ → ScriptFault → Type 0
 IsUnclosed bytes line (Refused r n) = (n ≡ line) × (r ≡ Syntax) × IsOpenText bytes
 IsUnclosed bytes line (Memory m) = Unit {0}

@@ -65,7 +65,8 @@ abbrev pub words : List Word
 words =
     w.Of ∷ w.In ∷ w.On ∷ w.To ∷
     w.Out ∷ w.Var ∷ w.Map ∷ w.Mtc ∷ w.Alt ∷ w.For ∷ w.All ∷
-    w.Type ∷ w.Port ∷ w.Runs ∷ w.SelfWord ∷ w.Stop ∷ w.Halt ∷ w.Send ∷ w.From ∷ w.Else ∷ w.NoneWord ∷ w.Pass ∷
+    w.Type ∷ w.Port ∷ w.Runs ∷ w.SelfWord ∷ w.Stop ∷ w.Halt ∷ w.Send ∷ w.From ∷ w.Else ∷ w.NoneWord
+    ∷ w.Pass ∷
     w.Fail ∷ w.Done ∷ w.True ∷
     w.Inout ∷ w.Start ∷ w.Clear ∷ w.Check ∷ w.Error ∷ w.False ∷ w.Value ∷
     w.Module ∷ w.Record ∷ w.System ∷ w.Create ∷ w.Inconc ∷ w.Sender ∷
@@ -77,7 +78,8 @@ words =
 -- the word of the first entry of a table that is spelled so
 abbrev pub first_spelled : List ℕ → List (List ℕ × Word) → Option Word
 first_spelled bs [] = None
-first_spelled bs (entry ∷ more) = if bytes_eq bs entry.0 then Some entry.1 else first_spelled bs more
+first_spelled bs (entry ∷ more) =
+    if bytes_eq bs entry.0 then Some entry.1 else first_spelled bs more
 
 -- the reserved words as they are spelled
 unfoldable pub reserved : List (List ℕ × Word)

@@ -1,267 +1,302 @@
-//! The tokens that are left to read, and a look at the first of them.
-ghost use Rattle.std.specs.Prelude.{[], ℕ, ◌<◌, ◌≢◌, Bool, true, List, ◌≡◌, ◌+◌, ◌≤◌, ◌∷◌, ◌||◌, ◌↔◌, IsTrue, length};
-ghost use Rattle.std.specs.Prelude.{IfErr, IfOk, OnErr, OnOk, Some};
-ghost use Rattle.std.specs.Bool.{OnTrue, OnFalse};
-ghost use Rattle.tp_syntax.specs.Lexeme.{Lexeme, name, symbol, word, lexeme_of};
-ghost use Rattle.tp_syntax.specs.Ahead.{ahead, lexemes, lexemes_from, is_name_in, is_number_in, symbol_in, token_at};
-ghost use Rattle.tp_syntax.specs.Ahead.{word_in};
-ghost use Rattle.tp_syntax.specs.Forward.{GoesForward, next_line};
-ghost use Rattle.tp_syntax.specs.HiddenTokens.{Reads};
-ghost use Rattle.tp_syntax.specs.Passing.{Passes};
-ghost use Rattle.tp_syntax.specs.Reading.{MayStandBefore, first};
-ghost use Rattle.tp_syntax.specs.Sequences.{end_lexemes};
-ghost use Rattle.tp_syntax.specs.Standing.{IsPartEnded};
-ghost use Rattle.tp_syntax.specs.Stuck.{IsStuckAt, IsStuckBehind, IsWrongBehind, GoesBeyond};
+//! The tokens that are left to read, and how one of them is passed.
+ghost use Rattle.std.specs.Prelude.{◌≡◌, ◌<◌, IfOk, OnOk, length, ◌≢◌, ◌↔◌, ◌∷◌, [], true, false, IsTrue, IfSome};
+ghost use Rattle.std.specs.Prelude.{OnSome, IfNone, Some, None, ℕ, List};
+ghost use Rattle.tp_syntax.specs.Lexeme.{Lexeme, name, number, text, word, symbol};
+ghost use Rattle.std.specs.List.{list_all};
+ghost use Rattle.tp_syntax.specs.Code.{is_plain};
+ghost use Rattle.tp_syntax.specs.Item.{a_name, a_number, a_pattern, a_text, accepts, negated, next, of_symbol};
+ghost use Rattle.tp_syntax.specs.Item.{of_word, one_of, positive, token};
+ghost use Rattle.tp_syntax.specs.Parsing.{Parses, left};
+ghost use Rattle.tp_syntax.specs.Reading.{Reads, leaf, line_ahead};
+ghost use Rattle.tp_syntax.specs.TemplateTrees.{magnitude, IsNegative, IsPositive};
 
 use crate::stuck::Stuck;
 use crate::token::{Placed, Symbol, Token};
 use crate::word::Word;
 use std::alloc::Global;
 use tp_tree::name::Name;
+use tp_value::items::Items;
 
+/// The tokens that are left to read.
 #[derive(Drop)]
 pub(crate) struct Parser<'a, 't> {
     pub rest: &'a [Placed<'t>],
-    pub last_line: u32,
 }
 
 impl<'a, 't> Parser<'a, 't> {
-    pub fn take(&mut self) -> Result<&'a Placed<'t>, Stuck>
-        ensures tokens { IfOk result (λ p.
-            ahead self.old.rest.now ≡ lexemes_from (lexeme_of p.now.token) self.new.rest.now) }
-        ensures next { IfOk result (λ p. self.old.rest.now ≡ p.now ∷ self.new.rest.now) }
-        ensures shorter { OnOk result (length self.new.rest.now + 1 ≡ length self.old.rest.now) }
-        ensures forward { OnOk result (GoesForward self.old self.new) }
-        ensures last { OnErr result (self.old.rest.now ≡ []) }
-        ensures place { IfErr result (IsWrongBehind 0 self.old) }
-        ensures stuck { IfErr result (IsStuckAt self.new) }
-    {
-        // A copy of the slice: the token that is returned outlives this borrow of the parser.
-        let tokens = self.rest;
-        if tokens.is_empty() {
-            return Err(Stuck::Next(0));
-        }
-        self.rest = &tokens[1..];
-        Ok(&tokens[0])
-    }
-
-    pub fn symbol(&mut self, want: Symbol) -> Result<(), Stuck>
-        ensures tokens { OnOk result
-            (ahead self.old.rest.now ≡ lexemes_from (symbol want) self.new.rest.now) }
-        ensures shorter { OnOk result (length self.new.rest.now + 1 ≡ length self.old.rest.now) }
-        ensures forward { OnOk result (GoesForward self.old self.new) }
-        ensures reads { (hidden : ℕ) (more : List Lexeme) →
-            Reads hidden self.old (symbol want ∷ []) more result self.new }
-        ensures place { IfErr result (IsWrongBehind 0 self.old) }
-        ensures stuck { IfErr result (IsStuckAt self.new) }
-    {
-        let placed = self.take()?;
-        match placed.token {
-            Token::Symbol(found) if found.is(want) => Ok(()),
-            _ => Err(Stuck::Passed(self.rest.len())),
-        }
-    }
-
-    pub fn word(&mut self, want: Word) -> Result<(), Stuck>
-        ensures tokens { OnOk result
-            (ahead self.old.rest.now ≡ word want ∷ ahead self.new.rest.now) }
-        ensures shorter { OnOk result (length self.new.rest.now + 1 ≡ length self.old.rest.now) }
-        ensures forward { OnOk result (GoesForward self.old self.new) }
-        ensures reads { (hidden : ℕ) (more : List Lexeme) →
-            Reads hidden self.old (word want ∷ []) more result self.new }
-        ensures place { IfErr result (IsWrongBehind 0 self.old) }
-        ensures stuck { IfErr result (IsStuckAt self.new) }
-    {
-        let placed = self.take()?;
-        match placed.token {
-            Token::Word(found) if found.is(want) => Ok(()),
-            _ => Err(Stuck::Passed(self.rest.len())),
-        }
-    }
-
-    pub fn name(&mut self, alloc: Global) -> Result<Name, Stuck>
-        ensures tokens { IfOk result (λ n.
-            ahead self.old.rest.now ≡ name n ∷ ahead self.new.rest.now) }
-        ensures shorter { OnOk result (length self.new.rest.now + 1 ≡ length self.old.rest.now) }
-        ensures forward { OnOk result (GoesForward self.old self.new) }
-        ensures reads { (hidden : ℕ) (spelling : List ℕ) (more : List Lexeme) →
-            Reads hidden self.old (name spelling ∷ []) more result self.new }
-        ensures place { IfErr result (IsStuckBehind 0 self.old) }
-        ensures stuck { IfErr result (IsStuckAt self.new) }
-    {
-        let placed = self.take()?;
-        match placed.token {
-            Token::Name(spelling) => Ok(Name::from_str(alloc, spelling)?),
-            _ => Err(Stuck::Passed(self.rest.len())),
-        }
-    }
-
-    pub fn same_name(&mut self, want: &Name) -> Result<(), Stuck>
-        ensures tokens { OnOk result
-            (ahead self.old.rest.now ≡ name want.now ∷ ahead self.new.rest.now) }
-        ensures shorter { OnOk result (length self.new.rest.now + 1 ≡ length self.old.rest.now) }
-        ensures forward { OnOk result (GoesForward self.old self.new) }
-        ensures reads { (hidden : ℕ) (more : List Lexeme) →
-            Reads hidden self.old (name want.now ∷ []) more result self.new }
-        ensures place { IfErr result (IsWrongBehind 0 self.old) }
-        ensures stuck { IfErr result (IsStuckAt self.new) }
-    {
-        let placed = self.take()?;
-        match placed.token {
-            Token::Name(spelling) if spelling == want.as_str() => Ok(()),
-            _ => Err(Stuck::Passed(self.rest.len())),
-        }
-    }
-
-    /// Passes this symbol and returns true, if it comes next.
-    pub fn has_symbol(&mut self, want: Symbol) -> bool
-        ensures yes { OnTrue result
-            (ahead self.old.rest.now ≡ lexemes_from (symbol want) self.new.rest.now) }
-        ensures shorter { OnTrue result (length self.new.rest.now + 1 ≡ length self.old.rest.now) }
-        ensures forward { GoesForward self.old self.new }
-        ensures no { OnFalse result (self.new ≡ self.old) }
-        ensures other { OnFalse result (first (ahead self.old.rest.now) ≢ Some (symbol want)) }
-        ensures passed { OnTrue result
-            (lexemes self.old.rest.now ≡ symbol want ∷ lexemes self.new.rest.now) }
-        ensures absent { OnFalse result (token_at self.old.rest.now 0 ≢ Some (symbol want)) }
-    {
-        let tokens = self.rest;
-        if tokens.is_empty() {
-            return false;
-        }
-        if let Token::Symbol(found) = tokens[0].token {
-            if found.is(want) {
-                self.rest = &tokens[1..];
-                return true;
-            }
-        }
-        false
-    }
-
-    /// Passes this word and returns true, if it comes next.
-    pub fn has_word(&mut self, want: Word) -> bool
-        ensures yes { OnTrue result
-            (ahead self.old.rest.now ≡ word want ∷ ahead self.new.rest.now) }
-        ensures shorter { OnTrue result (length self.new.rest.now + 1 ≡ length self.old.rest.now) }
-        ensures forward { GoesForward self.old self.new }
-        ensures no { OnFalse result (self.new ≡ self.old) }
-        ensures other { OnFalse result (first (ahead self.old.rest.now) ≢ Some (word want)) }
-        ensures passed { OnTrue result
-            (lexemes self.old.rest.now ≡ word want ∷ lexemes self.new.rest.now) }
-        ensures absent { OnFalse result (token_at self.old.rest.now 0 ≢ Some (word want)) }
-    {
-        let tokens = self.rest;
-        if tokens.is_empty() {
-            return false;
-        }
-        if let Token::Word(found) = tokens[0].token {
-            if found.is(want) {
-                self.rest = &tokens[1..];
-                return true;
-            }
-        }
-        false
-    }
-
-    /// The line of the next token, or of the end of the text.
+    /// The line of the next token, or 0 at the end.
     pub fn line(&self) -> u32
-        ensures { result ≡ next_line self.now.rest.now self.now.last_line }
+        ensures { result ≡ line_ahead (left self.now) }
+    {
+        match self.rest.first() {
+            Some(placed) => placed.line,
+            None => 0,
+        }
+    }
+
+    /// Passes the next token.
+    pub fn skip(&mut self) -> &'a Placed<'t>
+        requires { next (left self.old) ≢ None }
+        ensures { self.old.rest.now ≡ result.now ∷ self.new.rest.now }
     {
         let tokens = self.rest;
-        if tokens.is_empty() {
-            self.last_line
-        } else {
-            tokens[0].line
-        }
+        self.rest = &tokens[1..];
+        &tokens[0]
     }
 
-    /// The symbol at this place, if there is one. Place 0 is the next token.
-    pub fn symbol_at(&self, place: usize) -> Option<Symbol>
-        ensures { result ≡ symbol_in (token_at self.now.rest.now place) }
+    /// Whether this symbol comes next.
+    pub fn is_symbol(&self, want: Symbol) -> bool
+        ensures { accepts (of_symbol want) (next (left self.now)) ≡ result }
     {
-        match self.rest.get(place) {
+        match self.rest.first() {
             Some(placed) => match placed.token {
-                Token::Symbol(found) => Some(found),
-                _ => None,
+                Token::Symbol(found) => found.is(want),
+                _ => false,
             },
-            None => None,
+            None => false,
         }
     }
 
-    pub fn word_at(&self, place: usize) -> Option<Word>
-        ensures { result ≡ word_in (token_at self.now.rest.now place) }
+    /// Whether this word comes next.
+    pub fn is_word(&self, want: Word) -> bool
+        ensures { accepts (of_word want) (next (left self.now)) ≡ result }
     {
-        match self.rest.get(place) {
+        match self.rest.first() {
             Some(placed) => match placed.token {
-                Token::Word(found) => Some(found),
-                _ => None,
+                Token::Word(found) => found.is(want),
+                _ => false,
             },
-            None => None,
+            None => false,
         }
     }
 
-    pub fn is_name_at(&self, place: usize) -> bool
-        ensures { result ≡ is_name_in (token_at self.now.rest.now place) }
+    /// Passes this symbol, which comes next.
+    pub fn pass_symbol(&mut self, want: Symbol)
+        requires { accepts (of_symbol want) (next (left self.old)) ≡ true }
+        ensures read { Reads (token (of_symbol want)) (left self.old)
+            (leaf (symbol want)) (left self.new) }
+        ensures shorter { length self.new.rest.now < length self.old.rest.now }
     {
-        match self.rest.get(place) {
+        self.skip();
+    }
+
+    /// Passes this word, which comes next.
+    pub fn pass_word(&mut self, want: Word)
+        requires { accepts (of_word want) (next (left self.old)) ≡ true }
+        ensures read { Reads (token (of_word want)) (left self.old)
+            (leaf (word want)) (left self.new) }
+        ensures shorter { length self.new.rest.now < length self.old.rest.now }
+    {
+        self.skip();
+    }
+
+    /// Whether a name comes next.
+    pub fn is_name(&self) -> bool
+        ensures { accepts a_name (next (left self.now)) ≡ result }
+    {
+        match self.rest.first() {
             Some(placed) => matches!(&placed.token, Token::Name(_)),
             None => false,
         }
     }
 
-    pub fn is_number_at(&self, place: usize) -> bool
-        ensures { result ≡ is_number_in (token_at self.now.rest.now place) }
+    /// Whether a number comes next.
+    pub fn is_number(&self) -> bool
+        ensures { accepts a_number (next (left self.now)) ≡ result }
     {
-        match self.rest.get(place) {
+        match self.rest.first() {
             Some(placed) => matches!(&placed.token, Token::Number(_)),
             None => false,
         }
     }
 
-    pub fn is_symbol_at(&self, place: usize, want: Symbol) -> bool
-        ensures { IsTrue result ↔ (token_at self.now.rest.now place ≡ Some (symbol want)) }
+    /// Whether a text comes next.
+    pub fn is_text(&self) -> bool
+        ensures { accepts a_text (next (left self.now)) ≡ result }
     {
-        match self.symbol_at(place) {
-            Some(found) => found.is(want),
+        match self.rest.first() {
+            Some(placed) => matches!(&placed.token, Token::Text(_)),
             None => false,
         }
     }
 
-    pub fn is_word_at(&self, place: usize, want: Word) -> bool
-        ensures { IsTrue result ↔ (token_at self.now.rest.now place ≡ Some (word want)) }
+    /// The name that comes next, if one does.
+    pub fn next_name(&self) -> Option<&'a str>
+        ensures yes { IfSome result (λ n. next (left self.now) ≡ Some (name n.now)) }
+        ensures no { IfNone result (accepts a_name (next (left self.now)) ≡ false) }
     {
-        match self.word_at(place) {
-            Some(found) => found.is(want),
-            None => false,
+        match self.rest.first() {
+            Some(placed) => match &placed.token {
+                Token::Name(found) => Some(*found),
+                _ => None,
+            },
+            None => None,
         }
     }
 
-    pub fn is_field(&self) -> bool
-        ensures { IsTrue result ↔ ((is_name_in (token_at self.now.rest.now 0) ≡ true)
-            × (token_at self.now.rest.now 1 ≡ Some (symbol Symbol.Assign))) }
+    /// The number that comes next, if one does.
+    pub fn next_number(&self) -> Option<u64>
+        ensures yes { IfSome result (λ n. next (left self.now) ≡ Some (number n)) }
+        ensures no { IfNone result (accepts a_number (next (left self.now)) ≡ false) }
     {
-        self.is_name_at(0) && self.is_symbol_at(1, Symbol::Assign)
+        match self.rest.first() {
+            Some(placed) => match &placed.token {
+                Token::Number(found) => Some(*found),
+                _ => None,
+            },
+            None => None,
+        }
     }
 
-    /// Passes a `;` and returns true, if it comes next. It may be missing before a `}`, and after a
-    /// part that itself ends in a `}` (`is_closed`). Elsewhere the parser is stuck without it.
-    pub fn end(&mut self, is_closed: bool) -> Result<bool, Stuck>
-        ensures tokens { IfOk result (λ e. Passes self.old (end_lexemes e) self.new) }
-        ensures grammatical { IfOk result (λ e. IsPartEnded (is_closed || e) self.new) }
-        ensures shorter { OnOk result (length self.new.rest.now ≤ length self.old.rest.now) }
-        ensures forward { OnOk result (GoesForward self.old self.new) }
-        ensures reads { (hidden : ℕ) (e : Bool) (more : List Lexeme) →
-            MayStandBefore (is_closed || e) more →
-            Reads hidden self.old (end_lexemes e) more result self.new }
-        ensures place { IfErr result (IsWrongBehind 0 self.old) }
-        ensures stuck { IfErr result (IsStuckAt self.new) }
+    /// The text that comes next, if one does.
+    pub fn next_text(&self) -> Option<&'a [u8]>
+        ensures yes { IfSome result (λ n. next (left self.now) ≡ Some (text n.now)) }
+        ensures no { IfNone result (accepts a_text (next (left self.now)) ≡ false) }
     {
-        if self.has_symbol(Symbol::Semicolon) {
-            return Ok(true);
+        match self.rest.first() {
+            Some(placed) => match &placed.token {
+                Token::Text(found) => Some(found.as_slice()),
+                _ => None,
+            },
+            None => None,
         }
-        if is_closed || self.is_symbol_at(0, Symbol::RightBrace) {
-            return Ok(false);
-        }
-        Err(Stuck::Next(self.rest.len()))
     }
+
+    /// Passes this symbol.
+    pub fn symbol(&mut self, want: Symbol) -> Result<(), Stuck>
+        ensures parses { Parses (token (of_symbol want)) (λ _. leaf (symbol want))
+            self.old result self.new }
+        ensures shorter { OnOk result (length self.new.rest.now < length self.old.rest.now) }
+    {
+        if self.is_symbol(want) {
+            self.skip();
+            return Ok(());
+        }
+        Err(Stuck::At(self.rest.len()))
+    }
+
+    /// Passes this word.
+    pub fn word(&mut self, want: Word) -> Result<(), Stuck>
+        ensures parses { Parses (token (of_word want)) (λ _. leaf (word want))
+            self.old result self.new }
+        ensures shorter { OnOk result (length self.new.rest.now < length self.old.rest.now) }
+    {
+        if self.is_word(want) {
+            self.skip();
+            return Ok(());
+        }
+        Err(Stuck::At(self.rest.len()))
+    }
+
+    /// Passes a name.
+    pub fn name(&mut self, alloc: Global) -> Result<Name, Stuck>
+        ensures parses { Parses (token a_name) (λ n. leaf (name n)) self.old result self.new }
+        ensures shorter { OnOk result (length self.new.rest.now < length self.old.rest.now) }
+    {
+        match self.next_name() {
+            Some(spelling) => {
+                self.skip();
+                let name = Name::from_str(alloc, spelling)?;
+                Ok(name)
+            }
+            None => Err(Stuck::At(self.rest.len())),
+        }
+    }
+
+    /// Passes a text.
+    pub fn text(&mut self, alloc: Global) -> Result<Items<u8>, Stuck>
+        ensures parses { Parses (token a_text) (λ bytes. leaf (text bytes))
+            self.old result self.new }
+        ensures shorter { OnOk result (length self.new.rest.now < length self.old.rest.now) }
+    {
+        match self.next_text() {
+            Some(characters) => {
+                self.skip();
+                let copied = Items::from_slice(alloc, characters)?;
+                Ok(copied)
+            }
+            None => Err(Stuck::At(self.rest.len())),
+        }
+    }
+
+    /// Whether an integer comes next.
+    pub fn is_integer(&self) -> bool
+        ensures { one_of (of_symbol Symbol.Minus ∷ a_number ∷ []) (next (left self.now)) ≡ result }
+    {
+        self.is_symbol(Symbol::Minus) || self.is_number()
+    }
+
+    /// Passes a number without a `-` before it.
+    pub fn positive(&mut self) -> Result<i64, Stuck>
+        ensures parses { Parses (token positive) magnitude self.old result self.new }
+        ensures sign { IfOk result IsPositive }
+        ensures shorter { OnOk result (length self.new.rest.now < length self.old.rest.now) }
+    {
+        match self.next_number() {
+            Some(found) => {
+                if found <= GREATEST {
+                    self.skip();
+                    return Ok(found as i64);
+                }
+                Err(Stuck::At(self.rest.len()))
+            }
+            None => Err(Stuck::At(self.rest.len())),
+        }
+    }
+
+    /// Passes the number after a `-`.
+    pub fn negated(&mut self) -> Result<i64, Stuck>
+        ensures parses { Parses (token negated) magnitude self.old result self.new }
+        ensures sign { IfOk result IsNegative }
+        ensures shorter { OnOk result (length self.new.rest.now < length self.old.rest.now) }
+    {
+        match self.next_number() {
+            Some(found) => {
+                if 1 <= found && found <= GREATEST + 1 {
+                    self.skip();
+                    return Ok(-1 - (found - 1) as i64);
+                }
+                Err(Stuck::At(self.rest.len()))
+            }
+            None => Err(Stuck::At(self.rest.len())),
+        }
+    }
+
+    /// Passes a text that may follow `pattern`.
+    pub fn pattern(&mut self, alloc: Global) -> Result<Items<u8>, Stuck>
+        ensures parses { Parses (token a_pattern) (λ bytes. leaf (text bytes))
+            self.old result self.new }
+        ensures shorter { OnOk result (length self.new.rest.now < length self.old.rest.now) }
+    {
+        match self.next_text() {
+            Some(characters) => {
+                if is_pattern(characters) {
+                    self.skip();
+                    let copied = Items::from_slice(alloc, characters)?;
+                    return Ok(copied);
+                }
+                Err(Stuck::At(self.rest.len()))
+            }
+            None => Err(Stuck::At(self.rest.len())),
+        }
+    }
+}
+
+/// The greatest number that may stand without a `-`.
+pub const GREATEST: u64 = 9_223_372_036_854_775_807;
+
+fn is_plain(character: u8) -> bool
+    ensures { result ≡ is_plain character }
+{
+    !matches!(
+        character,
+        b'\\' | b'[' | b']' | b'{' | b'}' | b'(' | b')' | b'|' | b'#' | b'+' | b'"'
+    )
+}
+
+#[tactic(auto)]
+fn is_pattern(characters: &[u8]) -> bool
+    ensures { result ≡ list_all is_plain characters.now }
+{
+    characters.iter().all(|character| is_plain(*character))
 }

@@ -1,202 +1,144 @@
-//! Functions, definitions and the module.
-ghost use Rattle.std.specs.Prelude.{◌≢◌, List, Some, ◌≡◌, ◌+◌, ◌<◌, ◌≤◌, IsTrue, length, map, IfOk, OnOk, IfErr, ℕ};
-ghost use Rattle.tp_syntax.specs.Lexeme.{Lexeme, symbol};
-ghost use Rattle.tp_syntax.specs.Definitions.{parameter_lexemes, parameters_lexemes, function_lexemes, defined_lexemes};
-ghost use Rattle.tp_syntax.specs.Definitions.{definition_lexemes, definitions_lexemes, module_lexemes};
-ghost use Rattle.tp_syntax.specs.Grammar.{defined_part, definition_part, IsGrammatical};
-ghost use Rattle.tp_syntax.specs.Nesting.{defined_depth, definitions_depth, module_depth};
-ghost use Rattle.tp_syntax.specs.Forward.{PassesLines};
-ghost use Rattle.tp_syntax.specs.Lines.{noted_in_order, noted_by_commas, parameter_notes, function_notes};
-ghost use Rattle.tp_syntax.specs.Lines.{defined_notes, definition_notes, module_notes};
-ghost use Rattle.tp_syntax.specs.Passing.{Passes};
-ghost use Rattle.tp_syntax.specs.Reading.{AllStand, IsPlaced, first};
-ghost use Rattle.tp_syntax.specs.Standing.{GoesOver, HasPassed};
-ghost use Rattle.tp_syntax.specs.Stuck.{IsStuckAt, GoesBeyond};
-ghost use Rattle.tp_syntax.specs.HiddenTokens.{Reads};
+//! Definitions of types.
+ghost use Rattle.std.specs.Prelude.{◌≡◌, ◌<◌, ◌≤◌, ◌∷◌, IfOk, OnOk, drop, false, length, true};
+ghost use Rattle.tp_syntax.specs.Item.{rule};
+ghost use Rattle.tp_syntax.specs.Rule.{a_definition, after_record, after_type, end_of_way, more_ways, ways};
+ghost use Rattle.tp_tree.specs.declared.tree.Direction.{Direction};
+ghost use Rattle.tp_syntax.specs.DefinitionTrees.{after_record_frames, after_type_frames, is_behaviour, is_record};
+ghost use Rattle.tp_syntax.specs.DefinitionTrees.{ways_tree};
+ghost use Rattle.tp_syntax.specs.PartialReading.{Goes, part_or_end};
+ghost use Rattle.tp_syntax.specs.Parsing.{Parses};
+ghost use Rattle.tp_syntax.specs.TemplateTrees.{steps};
+ghost use Rattle.tp_syntax.specs.TypeTrees.{direction_tree};
 
 use crate::cursor::Parser;
 use crate::stuck::Stuck;
 use crate::token::Symbol;
 use crate::word::Word;
 use std::alloc::Global;
-use tp_tree::tree::{Defined, Definition, Function, Module, Parameter};
+use tp_tree::tree::{ComponentType, Defined, Direction, ListType, PortType, RecordType};
 use tp_value::items::Items;
 
-fn ends_in_brace(defined: &Defined) -> bool
-    ensures { result ≡ (defined_part defined.now).is_ended }
-{
-    !matches!(defined, Defined::List(_))
+/// What is defined, whether it ends with a `;`, and whether a further definition follows.
+#[derive(Drop)]
+pub struct Ended {
+    pub defined: Defined,
+    pub has_semicolon: bool,
+    pub is_open: bool,
 }
 
 impl<'a, 't> Parser<'a, 't> {
-    // The clause appends the tokens of the parts in another grouping than the body reads them.
-    #[tactic(auto, using(std::proofs::lemmas::List::append_assoc))]
-    fn parameter(&mut self, alloc: Global) -> Result<Parameter, Stuck>
-        ensures tokens { IfOk result (λ x. Passes self.old (parameter_lexemes x) self.new) }
+    /// Passes further directions of a port, and its `}`.
+    #[tactic(auto, using(crate::proofs::TypeTrees::stepping))]
+    fn more_ways(&mut self, alloc: Global, first: Direction) -> Result<Items<Direction>, Stuck>
+        ensures parses { Parses (rule more_ways)
+            (λ ds. steps more_ways end_of_way direction_tree
+            (λ (d : Direction). d.has_semicolon) (drop 1 ds))
+            self.old result self.new }
+        ensures begins { IfOk result (λ ds. ds ≡ first ∷ drop 1 ds) }
         ensures shorter { OnOk result (length self.new.rest.now < length self.old.rest.now) }
-        ensures lines { IfOk result (λ x. PassesLines self.old (parameter_notes x) self.new) }
-        ensures reads { (hidden : ℕ) (x : Parameter) (more : List Lexeme) →
-            Reads hidden self.old (parameter_lexemes x) more result self.new }
-        ensures beyond { GoesBeyond 0 self.old result self.new }
-        ensures stuck { IfErr result (IsStuckAt self.new) }
     {
-        let type_name = self.name(alloc)?;
-        let name = self.declared_name(alloc)?;
-        Ok(Parameter { type_name, name })
+        let mut directions = Items::new(alloc);
+        directions.push(first)?;
+        'more: while !self.is_symbol(Symbol::RightBrace) {
+            let direction = self.direction(alloc)?;
+            let goes_on = direction.has_semicolon;
+            directions.push(direction)?;
+            if !goes_on {
+                self.symbol(Symbol::RightBrace)?;
+                return Ok(directions);
+            }
+            self.pass_symbol(Symbol::Semicolon);
+        }
+        self.pass_symbol(Symbol::RightBrace);
+        Ok(directions)
     }
 
-    fn parameters(&mut self, alloc: Global) -> Result<Items<Parameter>, Stuck>
-        ensures tokens { IfOk result (λ x. Passes self.old (parameters_lexemes x) self.new) }
-        ensures shorter { OnOk result (length self.new.rest.now ≤ length self.old.rest.now) }
-        ensures lines { IfOk result (λ x.
-            PassesLines self.old (noted_by_commas (map parameter_notes x)) self.new) }
-        ensures reads { (hidden : ℕ) (xs : List Parameter) (more : List Lexeme) →
-            first more ≡ Some (symbol Symbol.RightParen) →
-            Reads hidden self.old (parameters_lexemes xs) more result self.new }
-        ensures beyond { GoesBeyond 0 self.old result self.new }
-        ensures stuck { IfErr result (IsStuckAt self.new) }
+    /// Passes the directions of a port, and its `}`.
+    fn ways(&mut self, alloc: Global) -> Result<Items<Direction>, Stuck>
+        ensures parses { Parses (rule ways) ways_tree self.old result self.new }
+        ensures shorter { OnOk result (length self.new.rest.now < length self.old.rest.now) }
     {
-        let mut parameters = Items::new(alloc);
-        if self.is_symbol_at(0, Symbol::RightParen) {
-            return Ok(parameters);
+        let first = self.direction(alloc)?;
+        if first.has_semicolon {
+            self.pass_symbol(Symbol::Semicolon);
+            let directions = self.more_ways(alloc, first)?;
+            return Ok(directions);
         }
-        let first = self.parameter(alloc)?;
-        parameters.push(first)?;
-        // The label is the loop's name in its proof, here and in the other files.
-        'more: while self.has_symbol(Symbol::Comma) {
-            let next = self.parameter(alloc)?;
-            parameters.push(next)?;
-        }
-        Ok(parameters)
-    }
-
-    #[tactic(auto, using(std::proofs::lemmas::List::append_assoc), unfolding(crate::specs::Definitions::function_lexemes))]
-    fn function(&mut self, alloc: Global) -> Result<Function, Stuck>
-        ensures tokens { IfOk result (λ x. Passes self.old (function_lexemes x) self.new) }
-        ensures shorter { OnOk result (length self.new.rest.now + 2 ≤ length self.old.rest.now) }
-        ensures lines { IfOk result (λ x. PassesLines self.old (function_notes x) self.new) }
-        ensures grammatical { IfOk result (λ x.
-            IsTrue (defined_part (Defined.Function x)).is_right) }
-        ensures reads { (hidden : ℕ) (x : Function) (more : List Lexeme) →
-            IsTrue (defined_part (Defined.Function x)).is_right →
-            Reads hidden self.old (function_lexemes x) more result self.new }
-        ensures beyond { GoesBeyond 0 self.old result self.new }
-        ensures stuck { IfErr result (IsStuckAt self.new) }
-    {
-        self.word(Word::Function)?;
-        let name = self.name(alloc)?;
-        self.symbol(Symbol::LeftParen)?;
-        let parameters = self.parameters(alloc)?;
-        self.symbol(Symbol::RightParen)?;
-        self.word(Word::Runs)?;
-        self.word(Word::On)?;
-        let runs_on = self.name(alloc)?;
-        self.symbol(Symbol::LeftBrace)?;
-        let variables = self.variables(alloc)?;
-        let statements = self.statements(alloc, false)?;
+        let mut directions = Items::new(alloc);
+        directions.push(first)?;
         self.symbol(Symbol::RightBrace)?;
-        Ok(Function {
-            name,
-            parameters,
-            runs_on,
-            variables,
-            statements,
+        Ok(directions)
+    }
+
+    /// Passes a record or a list after its `record`.
+    #[tactic(auto, using(crate::proofs::DefinitionViews::definition_parsing))]
+    fn after_record(&mut self, alloc: Global) -> Result<Ended, Stuck>
+        ensures goes { Goes after_record (λ e. after_record_frames e.defined e.has_semicolon)
+            (λ e. part_or_end a_definition e.is_open) self.old result self.new }
+        ensures record_or_list { IfOk result (λ e. is_record e.defined ≡ true) }
+        ensures typed { IfOk result (λ e. is_behaviour e.defined ≡ false) }
+        ensures shorter { OnOk result (length self.new.rest.now < length self.old.rest.now) }
+    {
+        if self.is_word(Word::Of) {
+            self.pass_word(Word::Of);
+            let element = self.type_name(alloc)?;
+            let name = self.name(alloc)?;
+            let (has_semicolon, is_open) = self.end();
+            return Ok(Ended {
+                defined: Defined::List(ListType { element, name }),
+                has_semicolon,
+                is_open,
+            });
+        }
+        let name = self.name(alloc)?;
+        self.symbol(Symbol::LeftBrace)?;
+        let fields = self.field_types(alloc)?;
+        let has_semicolon = self.may_end();
+        let is_open = self.is_open();
+        Ok(Ended {
+            defined: Defined::Record(RecordType { name, fields }),
+            has_semicolon,
+            is_open,
         })
     }
 
-    #[tactic(auto, unfolding(crate::specs::Definitions::defined_lexemes))]
-    fn defined(&mut self, alloc: Global) -> Result<Defined, Stuck>
-        ensures tokens { IfOk result (λ x. Passes self.old (defined_lexemes x) self.new) }
-        ensures shorter { OnOk result (length self.new.rest.now + 2 ≤ length self.old.rest.now) }
-        ensures lines { IfOk result (λ x. PassesLines self.old (defined_notes x) self.new) }
-        ensures grammatical { IfOk result (λ x. IsTrue (defined_part x).is_right) }
-        ensures reads { (hidden : ℕ) (x : Defined) (more : List Lexeme) →
-            IsTrue (defined_part x).is_right →
-            Reads hidden self.old (defined_lexemes x) more result self.new }
-        ensures beyond { GoesBeyond 0 self.old result self.new }
-        ensures stuck { IfErr result (IsStuckAt self.new) }
-    {
-        if self.is_word_at(0, Word::Function) {
-            let function = self.function(alloc)?;
-            return Ok(Defined::Function(function));
-        }
-        if self.is_word_at(0, Word::Testcase) {
-            let test_case = self.test_case(alloc)?;
-            return Ok(Defined::TestCase(test_case));
-        }
-        self.defined_type(alloc)
-    }
-
-    #[tactic(auto, using(std::proofs::lemmas::List::append_assoc))]
-    fn definition(&mut self, alloc: Global) -> Result<Definition, Stuck>
-        ensures tokens { IfOk result (λ x. Passes self.old (definition_lexemes x) self.new) }
+    /// Passes the definition of a type after its `type`.
+    #[tactic(auto, using(crate::proofs::DefinitionViews::definition_parsing))]
+    pub fn after_type(&mut self, alloc: Global) -> Result<Ended, Stuck>
+        ensures goes { Goes after_type (λ e. after_type_frames e.defined e.has_semicolon)
+            (λ e. part_or_end a_definition e.is_open) self.old result self.new }
+        ensures typed { IfOk result (λ e. is_behaviour e.defined ≡ false) }
         ensures shorter { OnOk result (length self.new.rest.now < length self.old.rest.now) }
-        ensures lines { IfOk result (λ x. PassesLines self.old (definition_notes x) self.new) }
-        ensures grammatical { IfOk result (λ x. HasPassed (definition_part x) self.new) }
-        ensures reads { (hidden : ℕ) (x : Definition) (more : List Lexeme) →
-            IsPlaced (definition_part x) more →
-            Reads hidden self.old (definition_lexemes x) more result self.new }
-        ensures beyond { GoesBeyond 0 self.old result self.new }
-        ensures stuck { IfErr result (IsStuckAt self.new) }
     {
-        let line = self.line();
-        let defined = self.defined(alloc)?;
-        let is_closed = ends_in_brace(&defined);
-        let has_semicolon = self.end(is_closed)?;
-        Ok(Definition {
-            line,
-            defined,
-            has_semicolon,
-        })
-    }
-
-    fn definitions(&mut self, alloc: Global) -> Result<Items<Definition>, Stuck>
-        ensures tokens { IfOk result (λ x. Passes self.old (definitions_lexemes x) self.new) }
-        ensures shorter { OnOk result (length self.new.rest.now ≤ length self.old.rest.now) }
-        ensures lines { IfOk result (λ x.
-            PassesLines self.old (noted_in_order (map definition_notes x)) self.new) }
-        ensures grammatical { IfOk result (λ x.
-            GoesOver self.old (map definition_part x) self.new) }
-        ensures reads { (hidden : ℕ) (xs : List Definition) (more : List Lexeme) →
-            AllStand (map definition_part xs) more →
-            first more ≡ Some (symbol Symbol.RightBrace) →
-            Reads hidden self.old (definitions_lexemes xs) more result self.new }
-        ensures beyond { GoesBeyond 0 self.old result self.new }
-        ensures stuck { IfErr result (IsStuckAt self.new) }
-    {
-        let mut definitions = Items::new(alloc);
-        'more: while !self.is_symbol_at(0, Symbol::RightBrace) {
-            let definition = self.definition(alloc)?;
-            definitions.push(definition)?;
+        if self.is_word(Word::Record) {
+            self.pass_word(Word::Record);
+            let ended = self.after_record(alloc)?;
+            return Ok(ended);
         }
-        Ok(definitions)
-    }
-
-    #[tactic(auto, using(std::proofs::lemmas::List::append_assoc))]
-    pub fn module(&mut self, alloc: Global) -> Result<Module, Stuck>
-        ensures tokens { IfOk result (λ x. Passes self.old (module_lexemes x) self.new) }
-        ensures shorter { OnOk result (length self.new.rest.now < length self.old.rest.now) }
-        ensures lines { IfOk result (λ x. PassesLines self.old (module_notes x) self.new) }
-        ensures grammatical { IfOk result IsGrammatical }
-        ensures reads { (hidden : ℕ) (x : Module) (more : List Lexeme) →
-            IsGrammatical x →
-            first more ≢ Some (symbol Symbol.Semicolon) →
-            Reads hidden self.old (module_lexemes x) more result self.new }
-        ensures beyond { GoesBeyond 0 self.old result self.new }
-        ensures stuck { IfErr result (IsStuckAt self.new) }
-    {
-        let line = self.line();
-        self.word(Word::Module)?;
+        if self.is_word(Word::Port) {
+            self.pass_word(Word::Port);
+            let name = self.name(alloc)?;
+            self.word(Word::Message)?;
+            self.symbol(Symbol::LeftBrace)?;
+            let directions = self.ways(alloc)?;
+            let has_semicolon = self.may_end();
+            let is_open = self.is_open();
+            return Ok(Ended {
+                defined: Defined::Port(PortType { name, directions }),
+                has_semicolon,
+                is_open,
+            });
+        }
+        self.word(Word::Component)?;
         let name = self.name(alloc)?;
         self.symbol(Symbol::LeftBrace)?;
-        let definitions = self.definitions(alloc)?;
-        self.symbol(Symbol::RightBrace)?;
-        let has_semicolon = self.end(true)?;
-        Ok(Module {
-            line,
-            name,
-            definitions,
+        let ports = self.ports(alloc)?;
+        let has_semicolon = self.may_end();
+        let is_open = self.is_open();
+        Ok(Ended {
+            defined: Defined::Component(ComponentType { name, ports }),
             has_semicolon,
+            is_open,
         })
     }
 }

@@ -1,7 +1,7 @@
 //! The first fault of a text, by its tokens.
 ghost use Rattle.std.specs.Prelude.{◌≡◌, ◌<◌, ◌≤◌, ◌↔◌, ◌∷◌, ◌++◌, ◌-◌, IsTrue, List, drop, length, map};
 ghost use Rattle.tp_syntax.specs.Lexeme.{PlacedLexeme, lexeme_of, placed_lexeme};
-ghost use Rattle.tp_syntax.specs.Faults.{IsAllowed, IsCutOf, AreTokensSeen, brought_within, fault_in, greatest_number};
+ghost use Rattle.tp_syntax.specs.Faults.{IsAllowed, IsCutOf, AreTokensSeen, brought_within, greatest_number};
 ghost use Rattle.tp_syntax.specs.Faults.{is_minus, fault_line, opened_behind, symbol_bracket};
 
 use crate::script_fault::ScriptFault;
@@ -78,7 +78,7 @@ fn opened_behind(token: &Token, opened: u32) -> u32
     }
 }
 
-fn is_minus(token: &Token) -> bool
+pub(crate) fn is_minus(token: &Token) -> bool
     ensures { result ≡ is_minus (lexeme_of token.now) }
 {
     matches!(token, Token::Symbol(Symbol::Minus))
@@ -92,31 +92,6 @@ pub(crate) struct Front<'t> {
     pub tokens: Vec<Placed<'t>>,
     /// The line of the last token, if that is beyond the limits.
     pub beyond: Option<u32>,
-}
-
-impl<'t> Front<'t> {
-    /// The fault of a text whose last `left` tokens can't be read: 10 `Syntax` at the first of
-    /// them. If `left` is 0: 15 `Limit` if the last token is beyond the limits, else 10 at the end
-    /// of the text.
-    pub fn fault(&self, left: usize, last_line: u32) -> ScriptFault
-        ensures { result ≡ fault_in (map placed_lexeme self.now.tokens.items) self.now.beyond left
-            last_line }
-    {
-        match self.beyond {
-            Some(line) if left == 0 => ScriptFault::limit(line),
-            _ => ScriptFault::syntax(self.line_at(left, last_line)),
-        }
-    }
-
-    fn line_at(&self, left: usize, last_line: u32) -> u32
-        ensures { result ≡ fault_line (drop (length self.now.tokens.items - left)
-            (map placed_lexeme self.now.tokens.items)) last_line }
-    {
-        match self.tokens.get(self.tokens.len().saturating_sub(left)) {
-            Some(placed) => placed.line,
-            None => last_line,
-        }
-    }
 }
 
 /// The tokens of a text up to the first that is beyond the limits, or all. At most 33 brackets are

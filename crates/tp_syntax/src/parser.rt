@@ -1,74 +1,107 @@
 //! From a text to its module.
-ghost use Rattle.std.specs.Prelude.{◌≡◌, ◌+◌, ◌≤◌, ◌⊎◌, IfErr, IfOk, OnOk, length, map};
+ghost use Rattle.std.specs.Prelude.{◌≡◌, ◌+◌, ◌-◌, ◌≤◌, ◌++◌, IfErr, IfOk, Option, None, drop, length, map};
 ghost use Rattle.tp_syntax.specs.Cut.{newlines};
-ghost use Rattle.tp_syntax.specs.TextFaults.{IsMemory};
-ghost use Rattle.tp_syntax.specs.Lexeme.{placed_lexeme};
-ghost use Rattle.tp_syntax.specs.Definitions.{IsReadAs};
-ghost use Rattle.tp_syntax.specs.Faults.{fault_in};
-ghost use Rattle.tp_syntax.specs.Grammar.{IsGrammatical};
-ghost use Rattle.tp_syntax.specs.Lines.{HasLines};
-ghost use Rattle.tp_syntax.specs.Nesting.{module_depth};
-ghost use Rattle.tp_syntax.specs.Refusals.{HasTokens, IsUnread};
-ghost use Rattle.tp_syntax.specs.Stuck.{IsForMemory, left_where_stuck};
+ghost use Rattle.tp_syntax.specs.Lexeme.{placed_lexeme, lexeme_of};
+ghost use Rattle.tp_syntax.specs.ReadTexts.{IsReadAs, IsUnread};
+ghost use Rattle.tp_syntax.specs.Faults.{fault_in, fault_line, is_minus};
+ghost use Rattle.tp_syntax.specs.SettledTokens.{is_zero, kept_at_end, kept_of, minus_on, settled, waiting};
 
 use crate::cursor::Parser;
-use crate::faults::{Front, front_of};
+use crate::faults::{front_of, is_minus};
 use crate::lexer::lex;
 use crate::script_fault::ScriptFault;
 use crate::stuck::Stuck;
+use crate::token::{Placed, Symbol, Token};
 use std::alloc::Global;
 use tp_common::memory::Memory;
 use tp_tree::tree::Module;
 
-/// Returns the module that the text spells (clause `read`). Each line in it is that of the first
-/// token of its part. A `-` directly before the number 0 is left out.
-///
-/// The whole text is first split into tokens by [`lex`], whose refusals come before those of the
-/// grammar. Of the grammar's refusals the first in the text is returned:
-/// - 10 `Syntax` at the line of the first token that can't stand at its place, or of the end of the
-///   text if more is needed. This includes an `[else]` branch that isn't the last one (at the `[`
-///   after it), a `for` whose four names differ (at the first that differs), and a `pattern` whose
-///   text contains one of `\ [ ] { } ( ) | # +` or a quote;
-/// - 15 `Limit` at the line of the number 9223372036854775808 without a `-` before it, or of a
-///   bracket that would be the 33rd open one.
-///
-/// It refuses no valid text, and reports 10 at no token with which a text of the grammar can go on
-/// (clause `refused`).
-pub fn parse(alloc: Global, text: &[u8]) -> Result<Module, ScriptFault>
-    ensures read { IfOk result (IsReadAs text.now) }
-    ensures lines { IfOk result (HasLines text.now) }
-    ensures within { OnOk result (HasTokens text.now) }
-    ensures nested { IfOk result (λ m. module_depth m ≤ 32) }
-    ensures grammatical { IfOk result IsGrammatical }
-    ensures refused { IfErr result (IsUnread text.now) }
+fn is_zero(token: &Token) -> bool
+    ensures { result ≡ is_zero (lexeme_of token.now) }
 {
-    let tokens = lex(alloc, text)?;
-    let last_line = last_line(text);
-    let front = front_of(tokens);
-    let mut parser = Parser {
-        rest: &front.tokens,
-        last_line,
-    };
-    match parser.module(alloc) {
-        Ok(module) => {
-            if parser.rest.is_empty() && front.beyond.is_none() {
-                return Ok(module);
-            }
-            Err(front.fault(parser.rest.len(), last_line))
-        }
-        Err(stuck) => Err(fault_of(stuck, &front, last_line)),
+    match token {
+        Token::Number(number) => *number == 0,
+        Token::Name(_) => false,
+        Token::Word(_) => false,
+        Token::Text(_) => false,
+        Token::Symbol(_) => false,
     }
 }
 
-fn fault_of(stuck: Stuck, front: &Front, last_line: u32) -> ScriptFault
-    ensures place { IsForMemory stuck ⊎ (result ≡ fault_in
-        (map placed_lexeme front.now.tokens.items) front.now.beyond (left_where_stuck stuck) last_line) }
-    ensures memory { IsForMemory stuck → IsMemory result }
+fn minus_on<'t>(line: u32) -> Placed<'t>
+    ensures { placed_lexeme result ≡ minus_on line }
 {
-    match stuck {
-        Stuck::Next(left) => front.fault(left, last_line),
-        Stuck::Passed(left) => front.fault(left.saturating_add(1), last_line),
-        Stuck::Memory => ScriptFault::Memory(Memory),
+    Placed {
+        token: Token::Symbol(Symbol::Minus),
+        line,
+    }
+}
+
+/// Keeps a token, and before it the `-` that has waited for it. The number 0 takes the line of that
+/// `-` instead. If the token is a `-` itself, it waits in turn: its line is returned.
+fn keep<'t>(
+    kept: &mut Vec<Placed<'t>>,
+    minus: Option<u32>,
+    placed: Placed<'t>,
+) -> Result<Option<u32>, Memory>
+    ensures { IfOk result (λ after. (map placed_lexeme kept.new.items
+        ≡ map placed_lexeme kept.old.items ++ kept_of minus (placed_lexeme placed.entry))
+        × (after ≡ waiting (placed_lexeme placed.entry))) }
+{
+    let Placed { token, line } = placed;
+    if let Some(before) = minus {
+        if is_zero(&token) {
+            kept.push(Placed {
+                token,
+                line: before,
+            })?;
+            return Ok(None);
+        }
+        kept.push(minus_on(before))?;
+    }
+    if is_minus(&token) {
+        return Ok(Some(line));
+    }
+    kept.push(Placed { token, line })?;
+    Ok(None)
+}
+
+/// The tokens without each `-` directly before the number 0, which takes its line.
+fn settle<'t>(alloc: Global, tokens: Vec<Placed<'t>>) -> Result<Vec<Placed<'t>>, Memory>
+    ensures { IfOk result (λ v. map placed_lexeme v.items
+        ≡ settled (map placed_lexeme tokens.entry.items)) }
+{
+    let mut kept = Vec::new(alloc);
+    let mut minus = None;
+    let mut rest = tokens.into_iter();
+    'more: while let Some(placed) = rest.next() {
+        minus = keep(&mut kept, minus, placed)?;
+    }
+    if let Some(line) = minus {
+        kept.push(minus_on(line))?;
+    }
+    Ok(kept)
+}
+
+/// The line of the first of the last `left` tokens, or of the end of the text.
+fn line_at(tokens: &[Placed], left: usize, last_line: u32) -> u32
+    ensures { result
+        ≡ fault_line (drop (length tokens.now - left) (map placed_lexeme tokens.now)) last_line }
+{
+    match tokens.get(tokens.len().saturating_sub(left)) {
+        Some(placed) => placed.line,
+        None => last_line,
+    }
+}
+
+/// The fault of a text whose last `left` tokens can't be read: 10 `Syntax` at the first of them. If
+/// `left` is 0: 15 `Limit` if the last token is beyond the limits, else 10 at the end of the text.
+fn fault(tokens: &[Placed], beyond: Option<u32>, left: usize, last_line: u32) -> ScriptFault
+    ensures { result ≡ fault_in (map placed_lexeme tokens.now) beyond left last_line }
+{
+    match beyond {
+        Some(line) if left == 0 => ScriptFault::limit(line),
+        _ => ScriptFault::syntax(line_at(tokens, left, last_line)),
     }
 }
 
@@ -77,4 +110,32 @@ fn last_line(text: &[u8]) -> u32
     ensures { result ≡ newlines text.now + 1 }
 {
     1 + text.iter().filter(|byte| **byte == b'\n').count() as u32
+}
+
+/// Returns the module that the text spells. A `-` directly before the number 0 is left out.
+///
+/// The whole text is first split into tokens by [`lex`], whose refusals come before those of the
+/// grammar: 10 `Syntax` at the line of the first token that can't stand at its place, or of the end
+/// of the text if more is needed; 15 `Limit` at the line of a number that is too great or of a
+/// bracket that would be the 33rd open one.
+pub fn parse(alloc: Global, text: &[u8]) -> Result<Module, ScriptFault>
+    ensures read { IfOk result (IsReadAs text.now) }
+    ensures refused { IfErr result (IsUnread text.now) }
+{
+    let tokens = lex(alloc, text)?;
+    let last_line = last_line(text);
+    let front = front_of(tokens);
+    let beyond = front.beyond;
+    let settled = settle(alloc, front.tokens)?;
+    let mut parser = Parser { rest: &settled };
+    match parser.module(alloc) {
+        Ok(module) => {
+            if parser.rest.is_empty() && beyond.is_none() {
+                return Ok(module);
+            }
+            Err(fault(&settled, beyond, parser.rest.len(), last_line))
+        }
+        Err(Stuck::At(left)) => Err(fault(&settled, beyond, left, last_line)),
+        Err(Stuck::Memory) => Err(ScriptFault::Memory(Memory)),
+    }
 }

@@ -1,233 +1,256 @@
-//! Parts of statements: variables, verdicts, the head of a `for`, and `[else]`.
-ghost use Rattle.std.specs.Prelude.{ℤ, [], ◌≢◌, false, List, Some, MatchResult, ◌≡◌, ◌+◌, ◌<◌, ◌≤◌, ◌∷◌, IsTrue};
-ghost use Rattle.std.specs.Prelude.{length, map, IfOk, OnOk, IfErr, ℕ, true};
-ghost use Rattle.tp_syntax.specs.Lexeme.{Lexeme, number, symbol, word};
-ghost use Rattle.tp_syntax.specs.Ahead.{ahead, is_name_in, token_at};
-ghost use Rattle.tp_syntax.specs.Forward.{GoesForward, PassesLines};
-ghost use Rattle.tp_syntax.specs.Lines.{noted_in_order, variable_notes};
-ghost use Rattle.tp_syntax.specs.Passing.{Passes};
-ghost use Rattle.tp_syntax.specs.Values.{int_lexemes};
-ghost use Rattle.tp_syntax.specs.Statements.{step_lexemes, turns_lexemes, verdict_lexeme, set_verdict_lexemes};
-ghost use Rattle.tp_syntax.specs.Statements.{variable_lexemes, variables_lexemes};
-ghost use Rattle.tp_syntax.specs.Grammar.{is_64_bit, variable_part};
-ghost use Rattle.tp_syntax.specs.Reading.{AllStand, IsPlaced, first};
-ghost use Rattle.tp_syntax.specs.Standing.{GoesOver, HasPassed};
-ghost use Rattle.tp_syntax.specs.Stuck.{IsForMemory, IsStuckAt, IsWrongBehind, GoesBeyond};
-ghost use Rattle.tp_syntax.specs.HiddenTokens.{CouldBe, IsStuckInHidden, Reads};
+//! Parts of statements: names in a `for`, ends, port operations, verdicts, the head of a `for`.
+ghost use Rattle.std.specs.Prelude.{◌≡◌, ◌<◌, ◌≤◌, ℕ, List, [], ◌∷◌, OnOk, length};
+ghost use Rattle.tp_syntax.specs.Lexeme.{name, number};
+ghost use Rattle.tp_syntax.specs.Item.{binds, exactly, of_word, one_of, next, rule, this_name, token};
+ghost use Rattle.tp_syntax.specs.Reading.{Reads, leaf};
+ghost use Rattle.tp_syntax.specs.Rule.{closing, control_word, may_end, set_verdict, turns, verdict_word};
+ghost use Rattle.tp_syntax.specs.PartialReading.{Ends, Enters, HasEnd, ParsesAll, closing_tree, may_end_tree};
+ghost use Rattle.tp_syntax.specs.OperationTrees.{bound_items, bound_trees, control_tree, rest_items, rest_trees};
+ghost use Rattle.tp_syntax.specs.OperationTrees.{set_verdict_tree, step_items, step_trees, turns_tree, verdict_tree};
+ghost use Rattle.tp_syntax.specs.Parsing.{Parses, left};
+ghost use Rattle.tp_syntax.specs.TemplateTrees.{integer_tree};
 
 use crate::cursor::Parser;
 use crate::stuck::Stuck;
-use crate::token::{Symbol, Token};
+use crate::token::Symbol;
 use crate::word::Word;
 use std::alloc::Global;
+use tp_common::operation::PortOperation;
 use tp_tree::name::Name;
-use tp_tree::tree::{Turns, Variable, VerdictName};
-use tp_value::items::Items;
+use tp_tree::tree::{Turns, VerdictName};
 
 impl<'a, 't> Parser<'a, 't> {
-    fn verdict(&mut self) -> Result<VerdictName, Stuck>
-        ensures tokens { IfOk result (λ v.
-            ahead self.old.rest.now ≡ verdict_lexeme v ∷ ahead self.new.rest.now) }
+    /// Passes the name that a `for` binds.
+    fn bound_name(&mut self, alloc: Global) -> Result<Name, Stuck>
+        ensures parses { Parses (token binds) (λ n. leaf (name n)) self.old result self.new }
         ensures shorter { OnOk result (length self.new.rest.now < length self.old.rest.now) }
-        ensures forward { OnOk result (GoesForward self.old self.new) }
-        ensures reads { (hidden : ℕ) (x : VerdictName) (more : List Lexeme) →
-            Reads hidden self.old (verdict_lexeme x ∷ []) more result self.new }
-        ensures place { IfErr result (IsWrongBehind 0 self.old) }
-        ensures stuck { IfErr result (IsStuckAt self.new) }
     {
-        let placed = self.take()?;
-        match &placed.token {
-            Token::Word(Word::NoneWord) => Ok(VerdictName::NoVerdict),
-            Token::Word(Word::Pass) => Ok(VerdictName::Pass),
-            Token::Word(Word::Inconc) => Ok(VerdictName::Inconc),
-            Token::Word(Word::Fail) => Ok(VerdictName::Fail),
-            Token::Word(Word::Error) => Ok(VerdictName::Error),
-            _ => Err(Stuck::Passed(self.rest.len())),
+        match self.next_name() {
+            Some(spelling) => {
+                self.skip();
+                let name = Name::from_str(alloc, spelling)?;
+                Ok(name)
+            }
+            None => Err(Stuck::At(self.rest.len())),
         }
     }
 
-    #[tactic(auto, unfolding(crate::specs::Statements::set_verdict_lexemes))]
-    pub fn set_verdict(&mut self) -> Result<VerdictName, Stuck>
-        ensures tokens { IfOk result (λ v. Passes self.old (set_verdict_lexemes v) self.new) }
+    /// Passes this name.
+    fn same_name(&mut self, want: &Name) -> Result<(), Stuck>
+        ensures parses { Parses (token (this_name want.now)) (λ _. leaf (name want.now))
+            self.old result self.new }
         ensures shorter { OnOk result (length self.new.rest.now < length self.old.rest.now) }
-        ensures forward { OnOk result (GoesForward self.old self.new) }
-        ensures reads { (hidden : ℕ) (x : VerdictName) (more : List Lexeme) →
-            Reads hidden self.old (set_verdict_lexemes x) more result self.new }
-        ensures beyond { GoesBeyond 0 self.old result self.new }
-        ensures stuck { IfErr result (IsStuckAt self.new) }
+    {
+        match self.next_name() {
+            Some(spelling) => {
+                if want.as_str() == spelling {
+                    self.skip();
+                    return Ok(());
+                }
+                Err(Stuck::At(self.rest.len()))
+            }
+            None => Err(Stuck::At(self.rest.len())),
+        }
+    }
+
+    /// Passes the number 1.
+    fn number_one(&mut self) -> Result<(), Stuck>
+        ensures parses { Parses (token (exactly 1)) (λ _. leaf (number 1))
+            self.old result self.new }
+        ensures shorter { OnOk result (length self.new.rest.now < length self.old.rest.now) }
+    {
+        match self.next_number() {
+            Some(found) => {
+                if found == 1 {
+                    self.skip();
+                    return Ok(());
+                }
+                Err(Stuck::At(self.rest.len()))
+            }
+            None => Err(Stuck::At(self.rest.len())),
+        }
+    }
+
+    /// Passes a `;`, if it comes next.
+    pub fn may_end(&mut self) -> bool
+        ensures read { Reads (rule may_end) (left self.old) (may_end_tree result) (left self.new) }
+        ensures shorter { length self.new.rest.now ≤ length self.old.rest.now }
+    {
+        if self.is_symbol(Symbol::Semicolon) {
+            self.pass_symbol(Symbol::Semicolon);
+            return true;
+        }
+        false
+    }
+
+    /// Whether a list has a further part: no `}` comes next.
+    #[tactic(auto, using(crate::proofs::ReadingGoesOn::leading))]
+    pub fn is_open(&self) -> bool
+        ensures { Enters self.now result }
+    {
+        if self.is_symbol(Symbol::RightBrace) {
+            return false;
+        }
+        true
+    }
+
+    /// Passes the `;` of a part, if it comes next. Returns whether it did, and whether a further
+    /// part follows it. Without a `;` only a `}` may follow.
+    #[tactic(auto, using(crate::proofs::ReadingGoesOn::leading))]
+    pub fn end(&mut self) -> (bool, bool)
+        ensures ends { Ends self.old result self.new }
+        ensures shorter { length self.new.rest.now ≤ length self.old.rest.now }
+    {
+        if self.is_symbol(Symbol::Semicolon) {
+            self.pass_symbol(Symbol::Semicolon);
+            let is_open = self.is_open();
+            return (true, is_open);
+        }
+        (false, false)
+    }
+
+    /// Passes the `}` of a list.
+    pub fn closing(&mut self) -> Result<(), Stuck>
+        ensures parses { Parses (rule closing) (λ _. closing_tree) self.old result self.new }
+        ensures shorter { OnOk result (length self.new.rest.now < length self.old.rest.now) }
+    {
+        self.symbol(Symbol::RightBrace)?;
+        Ok(())
+    }
+
+    /// Passes a `;`, if it comes next.
+    #[tactic(auto, using(crate::proofs::ReadingGoesOn::leading))]
+    pub fn has_end(&mut self) -> bool
+        ensures end { HasEnd self.old result self.new }
+        ensures shorter { length self.new.rest.now ≤ length self.old.rest.now }
+    {
+        if self.is_symbol(Symbol::Semicolon) {
+            self.pass_symbol(Symbol::Semicolon);
+            return true;
+        }
+        false
+    }
+
+    /// Whether an `alt` or a `for` comes next.
+    pub fn is_compound(&self) -> bool
+        ensures { one_of (of_word Word.Alt ∷ of_word Word.For ∷ [])
+            (next (left self.now)) ≡ result }
+    {
+        self.is_word(Word::Alt) || self.is_word(Word::For)
+    }
+
+    /// Passes an operation on a port.
+    pub fn control_word(&mut self) -> Result<PortOperation, Stuck>
+        ensures parses { Parses (rule control_word) control_tree self.old result self.new }
+        ensures shorter { OnOk result (length self.new.rest.now < length self.old.rest.now) }
+    {
+        if self.is_word(Word::Start) {
+            self.pass_word(Word::Start);
+            return Ok(PortOperation::Start);
+        }
+        if self.is_word(Word::Stop) {
+            self.pass_word(Word::Stop);
+            return Ok(PortOperation::Stop);
+        }
+        if self.is_word(Word::Halt) {
+            self.pass_word(Word::Halt);
+            return Ok(PortOperation::Halt);
+        }
+        self.word(Word::Clear)?;
+        Ok(PortOperation::Clear)
+    }
+
+    fn verdict_word(&mut self) -> Result<VerdictName, Stuck>
+        ensures parses { Parses (rule verdict_word) verdict_tree self.old result self.new }
+        ensures shorter { OnOk result (length self.new.rest.now < length self.old.rest.now) }
+    {
+        if self.is_word(Word::NoneWord) {
+            self.pass_word(Word::NoneWord);
+            return Ok(VerdictName::NoVerdict);
+        }
+        if self.is_word(Word::Pass) {
+            self.pass_word(Word::Pass);
+            return Ok(VerdictName::Pass);
+        }
+        if self.is_word(Word::Inconc) {
+            self.pass_word(Word::Inconc);
+            return Ok(VerdictName::Inconc);
+        }
+        if self.is_word(Word::Fail) {
+            self.pass_word(Word::Fail);
+            return Ok(VerdictName::Fail);
+        }
+        self.word(Word::Error)?;
+        Ok(VerdictName::Error)
+    }
+
+    pub fn set_verdict(&mut self) -> Result<VerdictName, Stuck>
+        ensures parses { Parses (rule set_verdict) set_verdict_tree self.old result self.new }
+        ensures shorter { OnOk result (length self.new.rest.now < length self.old.rest.now) }
     {
         self.word(Word::Setverdict)?;
         self.symbol(Symbol::LeftParen)?;
-        let verdict = self.verdict()?;
+        let verdict = self.verdict_word()?;
         self.symbol(Symbol::RightParen)?;
         Ok(verdict)
     }
 
-    #[tactic(auto, using(std::proofs::lemmas::List::append_assoc))]
-    fn variable(&mut self, alloc: Global) -> Result<Variable, Stuck>
-        ensures tokens { IfOk result (λ v. Passes self.old (variable_lexemes v) self.new) }
-        ensures shorter { OnOk result (length self.new.rest.now < length self.old.rest.now) }
-        ensures three { OnOk result (length self.new.rest.now + 3 ≤ length self.old.rest.now) }
-        ensures lines { IfOk result (λ v. PassesLines self.old (variable_notes v) self.new) }
-        ensures grammatical { IfOk result (λ v. HasPassed (variable_part v) self.new) }
-        ensures reads { (hidden : ℕ) (x : Variable) (more : List Lexeme) →
-            IsPlaced (variable_part x) more →
-            Reads hidden self.old (variable_lexemes x) more result self.new }
-        ensures beyond { GoesBeyond 0 self.old result self.new }
-        ensures beyond_var { token_at self.old.rest.now 0 ≡ Some (word Word.Var) →
-            GoesBeyond 1 self.old result self.new }
-        ensures beyond_type { token_at self.old.rest.now 0 ≡ Some (word Word.Var) →
-            is_name_in (token_at self.old.rest.now 1) ≡ true →
-            GoesBeyond 2 self.old result self.new }
-        ensures beyond_variable { token_at self.old.rest.now 0 ≡ Some (word Word.Var) →
-            is_name_in (token_at self.old.rest.now 1) ≡ true →
-            is_name_in (token_at self.old.rest.now 2) ≡ true →
-            GoesBeyond 3 self.old result self.new }
-        ensures stuck { IfErr result (IsStuckAt self.new) }
-    {
-        let line = self.line();
-        self.word(Word::Var)?;
-        let type_name = self.type_name(alloc)?;
-        let name = self.name(alloc)?;
-        let has_semicolon = self.end(false)?;
-        Ok(Variable {
-            line,
-            type_name,
-            name,
-            has_semicolon,
-        })
-    }
-
-    pub fn variables(&mut self, alloc: Global) -> Result<Items<Variable>, Stuck>
-        ensures tokens { IfOk result (λ v. Passes self.old (variables_lexemes v) self.new) }
-        ensures shorter { OnOk result (length self.new.rest.now ≤ length self.old.rest.now) }
-        ensures lines { IfOk result (λ v.
-            PassesLines self.old (noted_in_order (map variable_notes v)) self.new) }
-        ensures grammatical { IfOk result (λ v.
-            GoesOver self.old (map variable_part v) self.new) }
-        ensures reads { (hidden : ℕ) (xs : List Variable) (more : List Lexeme) →
-            AllStand (map variable_part xs) more →
-            first more ≢ Some (word Word.Var) →
-            Reads hidden self.old (variables_lexemes xs) more result self.new }
-        ensures beyond { GoesBeyond 0 self.old result self.new }
-        ensures beyond_var { token_at self.old.rest.now 0 ≡ Some (word Word.Var) →
-            GoesBeyond 1 self.old result self.new }
-        ensures beyond_type { token_at self.old.rest.now 0 ≡ Some (word Word.Var) →
-            is_name_in (token_at self.old.rest.now 1) ≡ true →
-            GoesBeyond 2 self.old result self.new }
-        ensures beyond_variable { token_at self.old.rest.now 0 ≡ Some (word Word.Var) →
-            is_name_in (token_at self.old.rest.now 1) ≡ true →
-            is_name_in (token_at self.old.rest.now 2) ≡ true →
-            GoesBeyond 3 self.old result self.new }
-        ensures none { token_at self.old.rest.now 0 ≢ Some (word Word.Var) →
-            MatchResult result (λ _. self.new ≡ self.old) IsForMemory }
-        ensures stuck { IfErr result (IsStuckAt self.new) }
-    {
-        let mut variables = Items::new(alloc);
-        'more: while self.is_word_at(0, Word::Var) {
-            let variable = self.variable(alloc)?;
-            variables.push(variable)?;
-        }
-        Ok(variables)
-    }
-
-    /// Reads the head of a counted `for`. It is stuck at the first of its four names that differs.
-    #[tactic(auto, using(std::proofs::lemmas::List::append_assoc), unfolding(crate::specs::Statements::for_lexemes))]
+    /// Passes the head of a `for`, after that word.
+    #[tactic(auto, using(crate::proofs::ReadingGoesOn::all_parsing))]
     pub fn turns(&mut self, alloc: Global) -> Result<Turns, Stuck>
-        ensures tokens { IfOk result (λ x.
-            ahead self.old.rest.now ≡ turns_lexemes x (ahead self.new.rest.now)) }
+        ensures parses { Parses (rule turns) turns_tree self.old result self.new }
         ensures shorter { OnOk result (length self.new.rest.now < length self.old.rest.now) }
-        ensures forward { OnOk result (GoesForward self.old self.new) }
-        ensures reads { (hidden : ℕ) (x : Turns) (more : List Lexeme) →
-            IsTrue (is_64_bit x.first) → IsTrue (is_64_bit x.bound) →
-            CouldBe hidden self.old.rest.now (turns_lexemes x more) →
-            MatchResult result (λ _. CouldBe hidden self.new.rest.now more)
-            (IsStuckInHidden hidden) }
-        ensures beyond { GoesBeyond 0 self.old result self.new }
-        ensures within { IfOk result (λ x.
-            IsTrue (is_64_bit x.first) × IsTrue (is_64_bit x.bound)) }
-        ensures stuck { IfErr result (IsStuckAt self.new) }
     {
-        self.word(Word::For)?;
         self.symbol(Symbol::LeftParen)?;
         self.word(Word::Var)?;
         self.word(Word::Integer)?;
-        let name = self.name(alloc)?;
+        let name = self.bound_name(alloc)?;
         self.symbol(Symbol::Assign)?;
         let first = self.integer()?;
-        let bound = self.step(&name)?;
+        let bound = self.bound(&name)?;
         Ok(Turns { name, first, bound })
     }
 
-    /// Reads what follows the first value of a `for`, up to its `)`: the bound of its variable, and
-    /// the step.
-    #[tactic(auto, using(std::proofs::lemmas::List::append_assoc))]
-    fn step(&mut self, variable: &Name) -> Result<i64, Stuck>
-        ensures tokens { IfOk result (λ z.
-            ahead self.old.rest.now
-            ≡ step_lexemes variable.now (int_lexemes z) (ahead self.new.rest.now)) }
+    /// Passes the bound of the variable, and what follows it in the head.
+    #[tactic(auto, using(crate::proofs::ReadingGoesOn::all_parsing))]
+    fn bound(&mut self, name: &Name) -> Result<i64, Stuck>
+        ensures parses { ParsesAll (bound_items name.now)
+            (λ z. bound_trees name.now (integer_tree z))
+            self.old result self.new }
         ensures shorter { OnOk result (length self.new.rest.now < length self.old.rest.now) }
-        ensures forward { OnOk result (GoesForward self.old self.new) }
-        ensures reads { (hidden : ℕ) (z : ℤ) (more : List Lexeme) →
-            IsTrue (is_64_bit z) →
-            CouldBe hidden self.old.rest.now
-            (step_lexemes variable.now (int_lexemes z) more) →
-            MatchResult result (λ _. CouldBe hidden self.new.rest.now more)
-            (IsStuckInHidden hidden) }
-        ensures beyond { GoesBeyond 0 self.old result self.new }
-        ensures within { IfOk result (λ z. IsTrue (is_64_bit z)) }
-        ensures stuck { IfErr result (IsStuckAt self.new) }
     {
         self.symbol(Symbol::Semicolon)?;
-        self.same_name(variable)?;
+        self.same_name(name)?;
         self.symbol(Symbol::Less)?;
         let bound = self.integer()?;
-        self.symbol(Symbol::Semicolon)?;
-        self.same_name(variable)?;
-        self.symbol(Symbol::Assign)?;
-        self.same_name(variable)?;
-        self.symbol(Symbol::Plus)?;
-        self.one()?;
-        self.symbol(Symbol::RightParen)?;
+        self.step(name)?;
         Ok(bound)
     }
 
-    fn one(&mut self) -> Result<(), Stuck>
-        ensures tokens { OnOk result
-            (ahead self.old.rest.now ≡ number 1 ∷ ahead self.new.rest.now) }
+    /// Passes the step of the variable.
+    #[tactic(auto, using(crate::proofs::ReadingGoesOn::all_parsing))]
+    fn step(&mut self, name: &Name) -> Result<(), Stuck>
+        ensures parses { ParsesAll (rest_items name.now) (λ _. rest_trees name.now)
+            self.old result self.new }
         ensures shorter { OnOk result (length self.new.rest.now < length self.old.rest.now) }
-        ensures forward { OnOk result (GoesForward self.old self.new) }
-        ensures reads { (hidden : ℕ) (more : List Lexeme) →
-            Reads hidden self.old (number 1 ∷ []) more result self.new }
-        ensures place { IfErr result (IsWrongBehind 0 self.old) }
-        ensures stuck { IfErr result (IsStuckAt self.new) }
     {
-        let placed = self.take()?;
-        match placed.token {
-            Token::Number(1) => Ok(()),
-            _ => Err(Stuck::Passed(self.rest.len())),
-        }
+        self.symbol(Symbol::Semicolon)?;
+        self.same_name(name)?;
+        self.symbol(Symbol::Assign)?;
+        self.plus_one(name)?;
+        Ok(())
     }
 
-    pub fn else_mark(&mut self) -> Result<(), Stuck>
-        ensures tokens { OnOk result
-            (ahead self.old.rest.now
-            ≡ symbol Symbol.LeftBracket ∷ word Word.Else ∷ symbol Symbol.RightBracket
-            ∷ ahead self.new.rest.now) }
+    #[tactic(auto, using(crate::proofs::ReadingGoesOn::all_parsing))]
+    fn plus_one(&mut self, name: &Name) -> Result<(), Stuck>
+        ensures parses { ParsesAll (step_items name.now) (λ _. step_trees name.now)
+            self.old result self.new }
         ensures shorter { OnOk result (length self.new.rest.now < length self.old.rest.now) }
-        ensures forward { OnOk result (GoesForward self.old self.new) }
-        ensures reads { (hidden : ℕ) (more : List Lexeme) →
-            Reads hidden self.old
-            (symbol Symbol.LeftBracket ∷ word Word.Else ∷ symbol Symbol.RightBracket ∷ [])
-            more result self.new }
-        ensures beyond { GoesBeyond 0 self.old result self.new }
-        ensures beyond_bracket { token_at self.old.rest.now 0 ≡ Some (symbol Symbol.LeftBracket) →
-            GoesBeyond 1 self.old result self.new }
-        ensures stuck { IfErr result (IsStuckAt self.new) }
     {
-        self.symbol(Symbol::LeftBracket)?;
-        self.word(Word::Else)?;
-        self.symbol(Symbol::RightBracket)?;
+        self.same_name(name)?;
+        self.symbol(Symbol::Plus)?;
+        self.number_one()?;
+        self.symbol(Symbol::RightParen)?;
         Ok(())
     }
 }

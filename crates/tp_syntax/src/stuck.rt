@@ -1,17 +1,14 @@
-//! Where the parser is stuck.
+//! Where reading by the table stops.
 ghost use Rattle.std.specs.Prelude.{◌≡◌};
 ghost use Rattle.tp_syntax.specs.declared.stuck.Stuck.TheVariants as stuck;
 
 use tp_common::memory::Memory;
 
-/// Why the parser stops. It says where; the tokens decide which fault that is.
+/// Why reading stops.
 #[derive(Clone, Copy)]
-pub(crate) enum Stuck {
-    /// So many tokens are left. The first of them, or the end of the text, can't stand there, or
-    /// the token before them is a number that is too great.
-    Next(usize),
-    /// The token just passed can't stand there, and so many are left after it.
-    Passed(usize),
+pub enum Stuck {
+    /// So many tokens are left. The first of them, or the end of the text, can't stand there.
+    At(usize),
     /// An allocation was refused, which says nothing about the text.
     Memory,
 }

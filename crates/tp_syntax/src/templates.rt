@@ -1,299 +1,249 @@
 //! Templates.
-ghost use Rattle.std.specs.Prelude.{false, ℕ, ℤ, ◌↔◌, [], List, Option, Some, ◌≡◌, ◌+◌, ◌<◌, ◌≤◌, ◌∷◌, ◌++◌, IsTrue};
-ghost use Rattle.std.specs.Prelude.{length, map, IfOk, OnOk, IfErr};
-ghost use Rattle.std.specs.List.{list_all};
-ghost use Rattle.tp_syntax.specs.Lexeme.{Lexeme, symbol, text, word};
-ghost use Rattle.tp_syntax.specs.Ahead.{ahead, token_at};
-ghost use Rattle.tp_syntax.specs.Forward.{GoesForward};
-ghost use Rattle.tp_syntax.specs.HiddenTokens.{Reads};
-ghost use Rattle.tp_syntax.specs.Passing.{Passes};
-ghost use Rattle.tp_syntax.specs.Sequences.{by_commas, parenthesised};
-ghost use Rattle.tp_syntax.specs.Templates.{low_lexemes, high_lexemes, template_lexemes, template_field_lexemes};
-ghost use Rattle.tp_syntax.specs.Templates.{message_template_lexemes};
-ghost use Rattle.tp_syntax.specs.Grammar.{each, is_bound, is_plain, is_template, is_template_field, one_and_each};
-ghost use Rattle.tp_syntax.specs.Reading.{Stops, IsRange, BeginsField};
-ghost use Rattle.tp_syntax.specs.Stuck.{IsStuckAt, IsStuckBehind, integer_stands, leads_on, GoesBeyond};
+ghost use Rattle.std.specs.Prelude.{◌≡◌, ◌<◌, ◌≤◌, ◌∷◌, [], IfOk, OnOk, drop, length, map};
+ghost use Rattle.tp_syntax.specs.Item.{rule};
+ghost use Rattle.tp_syntax.specs.Rule.{a_template, a_template_field, after_minus, after_number, an_integer};
+ghost use Rattle.tp_syntax.specs.Rule.{counted_template, in_parentheses, more_template_fields, more_templates};
+ghost use Rattle.tp_syntax.specs.Rule.{other_template, template_entries, uncounted_template, upper};
+ghost use Rattle.tp_syntax.specs.Reading.{more};
+ghost use Rattle.tp_syntax.specs.Parsing.{Parses};
+ghost use Rattle.tp_syntax.specs.TemplateTrees.{IsCounted, IsInside, IsOther, IsUncounted, after_minus_tree, after_number_tree};
+ghost use Rattle.tp_syntax.specs.TemplateTrees.{chain, counted_tree, field_tree, inside_tree, integer_tree, number_inside, of};
+ghost use Rattle.tp_syntax.specs.TemplateTrees.{one, other_tree, sym, template_tree, uncounted_tree, upper_tree};
 
 use crate::cursor::Parser;
 use crate::stuck::Stuck;
-use crate::token::{Symbol, Token};
+use crate::token::Symbol;
 use crate::word::Word;
 use std::alloc::Global;
-use tp_tree::message::{MessageTemplate, Template, TemplateField};
-use tp_tree::name::Name;
+use tp_tree::message::{Template, TemplateField};
 use tp_value::items::Items;
 
-/// The other characters have a meaning in a TTCN-3 pattern that this profile leaves out.
-fn is_plain(character: u8) -> bool
-    ensures { result ≡ is_plain character }
-{
-    !matches!(
-        character,
-        b'\\' | b'[' | b']' | b'{' | b'}' | b'(' | b')' | b'|' | b'#' | b'+' | b'"'
-    )
-}
-
-fn is_pattern(characters: &[u8]) -> bool
-    ensures { result ≡ list_all is_plain characters.now }
-{
-    characters.iter().all(|character| is_plain(*character))
-}
-
 impl<'a, 't> Parser<'a, 't> {
-    #[tactic(auto, using(std::proofs::lemmas::List::append_assoc))]
-    pub fn message_template(&mut self, alloc: Global) -> Result<MessageTemplate, Stuck>
-        ensures tokens { IfOk result (λ m. Passes self.old (message_template_lexemes m) self.new) }
+    #[tactic(auto, using(crate::proofs::TemplateTrees::template_parsing))]
+    pub fn integer(&mut self) -> Result<i64, Stuck>
+        ensures parses { Parses (rule an_integer) integer_tree self.old result self.new }
         ensures shorter { OnOk result (length self.new.rest.now < length self.old.rest.now) }
-        ensures forward { OnOk result (GoesForward self.old self.new) }
-        ensures grammatical { IfOk result (λ m. IsTrue (is_template m.template)) }
-        ensures reads { (hidden : ℕ) (x : MessageTemplate) (more : List Lexeme) →
-            IsTrue (is_template x.template) →
-            Reads hidden self.old (message_template_lexemes x) more result self.new }
-        ensures stuck { IfErr result (IsStuckAt self.new) }
     {
-        let type_name = self.type_name(alloc)?;
-        self.symbol(Symbol::Colon)?;
-        let template = self.template(alloc)?;
-        Ok(MessageTemplate {
-            type_name,
-            template,
-        })
+        if self.is_symbol(Symbol::Minus) {
+            self.pass_symbol(Symbol::Minus);
+            let value = self.negated()?;
+            return Ok(value);
+        }
+        let value = self.positive()?;
+        Ok(value)
     }
 
-    fn is_minus_infinity(&self) -> bool
-        ensures { IsTrue result ↔ ((token_at self.now.rest.now 0 ≡ Some (symbol Symbol.Minus))
-            × (token_at self.now.rest.now 1 ≡ Some (word Word.Infinity))) }
-    {
-        self.is_symbol_at(0, Symbol::Minus) && self.is_word_at(1, Word::Infinity)
-    }
-
-    fn low(&mut self) -> Result<Option<i64>, Stuck>
-        ensures tokens { IfOk result (λ b. Passes self.old (low_lexemes b) self.new) }
+    fn upper(&mut self) -> Result<Option<i64>, Stuck>
+        ensures parses { Parses (rule upper) upper_tree self.old result self.new }
         ensures shorter { OnOk result (length self.new.rest.now < length self.old.rest.now) }
-        ensures forward { OnOk result (GoesForward self.old self.new) }
-        ensures reads { (hidden : ℕ) (x : Option ℤ) (more : List Lexeme) →
-            IsTrue (is_bound x) →
-            Reads hidden self.old (low_lexemes x) more result self.new }
-        ensures two { token_at self.old.rest.now 0 ≡ Some (symbol Symbol.Minus) →
-            OnOk result (length self.new.rest.now + 2 ≤ length self.old.rest.now) }
-        ensures within { IfOk result (λ b. IsTrue (is_bound b)) }
-        ensures stuck { IfErr result (IsStuckAt self.new) }
     {
-        if self.is_minus_infinity() {
-            self.symbol(Symbol::Minus)?;
-            self.word(Word::Infinity)?;
+        if self.is_word(Word::Infinity) {
+            self.pass_word(Word::Infinity);
             return Ok(None);
         }
         let bound = self.integer()?;
         Ok(Some(bound))
-    }
-
-    fn high(&mut self) -> Result<Option<i64>, Stuck>
-        ensures tokens { IfOk result (λ b. Passes self.old (high_lexemes b) self.new) }
-        ensures shorter { OnOk result (length self.new.rest.now < length self.old.rest.now) }
-        ensures forward { OnOk result (GoesForward self.old self.new) }
-        ensures reads { (hidden : ℕ) (x : Option ℤ) (more : List Lexeme) →
-            IsTrue (is_bound x) →
-            Reads hidden self.old (high_lexemes x) more result self.new }
-        ensures within { IfOk result (λ b. IsTrue (is_bound b)) }
-        ensures stuck { IfErr result (IsStuckAt self.new) }
-    {
-        if self.has_word(Word::Infinity) {
-            return Ok(None);
-        }
-        let bound = self.integer()?;
-        Ok(Some(bound))
-    }
-
-    fn is_range(&self) -> bool
-        ensures { IsTrue result ↔ IsRange self.now.rest.now }
-    {
-        if self.is_symbol_at(0, Symbol::Minus) {
-            // A negative number alone begins with a `-` too.
-            return self.is_word_at(1, Word::Infinity)
-                || self.is_number_at(1) && self.is_symbol_at(2, Symbol::DotDot);
-        }
-        self.is_number_at(0) && self.is_symbol_at(1, Symbol::DotDot)
-    }
-
-    #[tactic(auto, using(crate::proofs::TemplateTokens::template_rules))]
-    fn pattern(&mut self, alloc: Global) -> Result<Template, Stuck>
-        ensures tokens { IfOk result (λ t.
-            word Word.Pattern ∷ ahead self.old.rest.now
-            ≡ template_lexemes t ++ ahead self.new.rest.now) }
-        ensures shorter { OnOk result (length self.new.rest.now < length self.old.rest.now) }
-        ensures forward { OnOk result (GoesForward self.old self.new) }
-        ensures grammatical { IfOk result (λ t. IsTrue (is_template t)) }
-        ensures reads { (hidden : ℕ) (cs : List ℕ) (more : List Lexeme) →
-            IsTrue (list_all is_plain cs) →
-            Reads hidden self.old (text cs ∷ []) more result self.new }
-        ensures place { IfErr result (IsStuckBehind 0 self.old) }
-        ensures stuck { IfErr result (IsStuckAt self.new) }
-    {
-        let placed = self.take()?;
-        match &placed.token {
-            Token::Text(characters) if is_pattern(characters) => {
-                let characters = Items::from_slice(alloc, characters)?;
-                Ok(Template::Pattern(characters))
-            }
-            _ => Err(Stuck::Passed(self.rest.len())),
-        }
     }
 
     #[cycle(template)]
-    #[tactic(auto, using(crate::proofs::TemplateTokens::template_rules))]
+    #[tactic(auto, using(crate::proofs::TemplateTrees::template_parsing))]
     pub fn template(&mut self, alloc: Global) -> Result<Template, Stuck>
-        ensures tokens { IfOk result (λ t. Passes self.old (template_lexemes t) self.new) }
+        ensures parses { Parses (rule a_template) template_tree self.old result self.new }
         ensures shorter { OnOk result (length self.new.rest.now < length self.old.rest.now) }
-        ensures forward { OnOk result (GoesForward self.old self.new) }
-        ensures grammatical { IfOk result (λ t. IsTrue (is_template t)) }
-        ensures reads { (hidden : ℕ) (x : Template) (more : List Lexeme) →
-            IsTrue (is_template x) →
-            Reads hidden self.old (template_lexemes x) more result self.new }
-        ensures place { leads_on (token_at self.old.rest.now 0) ≡ false →
-            IfErr result (IsStuckBehind
-            (integer_stands (token_at self.old.rest.now 0) (token_at self.old.rest.now 1))
-            self.old) }
-        ensures stuck { IfErr result (IsStuckAt self.new) }
     {
-        let placed = self.take()?;
-        match &placed.token {
-            Token::Symbol(Symbol::Minus) => {
-                let value = self.negative()?;
-                Ok(Template::Int(value))
-            }
-            Token::Number(n) => {
-                let value = self.positive(*n)?;
-                Ok(Template::Int(value))
-            }
-            Token::Word(Word::True) => Ok(Template::Bool(true)),
-            Token::Word(Word::False) => Ok(Template::Bool(false)),
-            Token::Text(characters) => {
-                let characters = Items::from_slice(alloc, characters)?;
-                Ok(Template::Text(characters))
-            }
-            Token::Name(spelling) => {
-                let name = Name::from_str(alloc, spelling)?;
-                Ok(Template::Name(name))
-            }
-            Token::Symbol(Symbol::Question) => Ok(Template::Any),
-            Token::Symbol(Symbol::Star) => Ok(Template::AnyOrNone),
-            Token::Symbol(Symbol::LeftParen) => self.alternatives(alloc),
-            Token::Word(Word::Complement) => self.complement(alloc),
-            Token::Word(Word::Pattern) => self.pattern(alloc),
-            Token::Symbol(Symbol::LeftBrace) => self.template_entries(alloc),
-            _ => Err(Stuck::Passed(self.rest.len())),
+        if self.is_integer() {
+            let value = self.integer()?;
+            return Ok(Template::Int(value));
         }
+        let template = self.uncounted(alloc)?;
+        Ok(template)
     }
 
     #[cycle(template)]
-    #[tactic(auto, using(crate::proofs::TemplateTokens::template_rules))]
-    fn alternatives(&mut self, alloc: Global) -> Result<Template, Stuck>
-        ensures tokens { IfOk result (λ t.
-            symbol Symbol.LeftParen ∷ ahead self.old.rest.now
-            ≡ template_lexemes t ++ ahead self.new.rest.now) }
+    #[tactic(auto, using(crate::proofs::TemplateTrees::template_parsing))]
+    fn uncounted(&mut self, alloc: Global) -> Result<Template, Stuck>
+        ensures parses { Parses (rule uncounted_template) uncounted_tree self.old result self.new }
+        ensures whole { IfOk result IsUncounted }
         ensures shorter { OnOk result (length self.new.rest.now < length self.old.rest.now) }
-        ensures forward { OnOk result (GoesForward self.old self.new) }
-        ensures grammatical { IfOk result (λ t. IsTrue (is_template t)) }
-        ensures reads_range { (hidden : ℕ) (low : Option ℤ) (high : Option ℤ)
-            (more : List Lexeme) →
-            IsTrue (is_bound low) →
-            IsTrue (is_bound high) →
-            Reads hidden self.old
-            ((low_lexemes low ++ symbol Symbol.DotDot ∷ high_lexemes high)
-            ++ symbol Symbol.RightParen ∷ []) more result self.new }
-        ensures reads_list { (hidden : ℕ) (xs : List Template) (more : List Lexeme) →
-            IsTrue (one_and_each (map is_template xs)) →
-            Reads hidden self.old
-            (by_commas (map template_lexemes xs) ++ symbol Symbol.RightParen ∷ []) more result
-            self.new }
-        ensures stuck { IfErr result (IsStuckAt self.new) }
     {
-        if self.is_range() {
-            let low = self.low()?;
-            self.symbol(Symbol::DotDot)?;
-            let high = self.high()?;
-            self.symbol(Symbol::RightParen)?;
-            return Ok(Template::Range(low, high));
+        if self.is_name() {
+            let name = self.name(alloc)?;
+            return Ok(Template::Name(name));
         }
-        let templates = self.templates(alloc)?;
+        let template = self.other(alloc)?;
+        Ok(template)
+    }
+
+    #[cycle(template)]
+    #[tactic(auto, using(crate::proofs::TemplateTrees::template_parsing))]
+    fn counted(&mut self, alloc: Global) -> Result<Template, Stuck>
+        ensures parses { Parses (rule counted_template) counted_tree self.old result self.new }
+        ensures whole { IfOk result IsCounted }
+        ensures shorter { OnOk result (length self.new.rest.now < length self.old.rest.now) }
+    {
+        if self.is_integer() {
+            let value = self.integer()?;
+            return Ok(Template::Int(value));
+        }
+        let template = self.other(alloc)?;
+        Ok(template)
+    }
+
+    #[cycle(template)]
+    #[tactic(auto, using(crate::proofs::TemplateTrees::template_parsing))]
+    fn other(&mut self, alloc: Global) -> Result<Template, Stuck>
+        ensures parses { Parses (rule other_template) other_tree self.old result self.new }
+        ensures whole { IfOk result IsOther }
+        ensures shorter { OnOk result (length self.new.rest.now < length self.old.rest.now) }
+    {
+        if self.is_word(Word::True) {
+            self.pass_word(Word::True);
+            return Ok(Template::Bool(true));
+        }
+        if self.is_word(Word::False) {
+            self.pass_word(Word::False);
+            return Ok(Template::Bool(false));
+        }
+        if self.is_text() {
+            let characters = self.text(alloc)?;
+            return Ok(Template::Text(characters));
+        }
+        if self.is_symbol(Symbol::Question) {
+            self.pass_symbol(Symbol::Question);
+            return Ok(Template::Any);
+        }
+        if self.is_symbol(Symbol::Star) {
+            self.pass_symbol(Symbol::Star);
+            return Ok(Template::AnyOrNone);
+        }
+        if self.is_symbol(Symbol::LeftParen) {
+            self.pass_symbol(Symbol::LeftParen);
+            let template = self.parenthesised(alloc)?;
+            return Ok(template);
+        }
+        if self.is_word(Word::Complement) {
+            self.pass_word(Word::Complement);
+            self.symbol(Symbol::LeftParen)?;
+            let first = self.template(alloc)?;
+            let templates = self.more_templates(alloc, first)?;
+            self.symbol(Symbol::RightParen)?;
+            return Ok(Template::Complement(templates));
+        }
+        if self.is_word(Word::Pattern) {
+            self.pass_word(Word::Pattern);
+            let characters = self.pattern(alloc)?;
+            return Ok(Template::Pattern(characters));
+        }
+        self.symbol(Symbol::LeftBrace)?;
+        let template = self.entries(alloc)?;
+        Ok(template)
+    }
+
+    #[cycle(template)]
+    #[tactic(auto, using(crate::proofs::TemplateTrees::template_parsing))]
+    fn parenthesised(&mut self, alloc: Global) -> Result<Template, Stuck>
+        ensures parses { Parses (rule in_parentheses) inside_tree self.old result self.new }
+        ensures whole { IfOk result (λ t. IsInside Symbol.LeftParen (inside_tree t) t) }
+        ensures shorter { OnOk result (length self.new.rest.now < length self.old.rest.now) }
+    {
+        if self.is_symbol(Symbol::Minus) {
+            self.pass_symbol(Symbol::Minus);
+            let template = self.after_minus(alloc)?;
+            return Ok(template);
+        }
+        if self.is_number() {
+            let first = self.positive()?;
+            let template = self.after_number(alloc, first)?;
+            return Ok(template);
+        }
+        let first = self.uncounted(alloc)?;
+        let templates = self.more_templates(alloc, first)?;
         self.symbol(Symbol::RightParen)?;
         Ok(Template::OneOf(templates))
     }
 
     #[cycle(template)]
-    #[tactic(auto, using(crate::proofs::TemplateTokens::template_rules))]
-    fn complement(&mut self, alloc: Global) -> Result<Template, Stuck>
-        ensures tokens { IfOk result (λ t.
-            word Word.Complement ∷ ahead self.old.rest.now
-            ≡ template_lexemes t ++ ahead self.new.rest.now) }
+    #[tactic(auto, using(crate::proofs::TemplateTrees::template_parsing))]
+    fn after_minus(&mut self, alloc: Global) -> Result<Template, Stuck>
+        ensures parses { Parses (rule after_minus) after_minus_tree self.old result self.new }
+        ensures whole { IfOk result (λ t. IsInside Symbol.LeftParen
+            (of in_parentheses (more (sym Symbol.Minus) (one (after_minus_tree t)))) t) }
         ensures shorter { OnOk result (length self.new.rest.now < length self.old.rest.now) }
-        ensures forward { OnOk result (GoesForward self.old self.new) }
-        ensures grammatical { IfOk result (λ t. IsTrue (is_template t)) }
-        ensures reads { (hidden : ℕ) (xs : List Template) (more : List Lexeme) →
-            IsTrue (one_and_each (map is_template xs)) →
-            Reads hidden self.old (parenthesised (by_commas (map template_lexemes xs))) more
-            result self.new }
-        ensures beyond { GoesBeyond 0 self.old result self.new }
-        ensures stuck { IfErr result (IsStuckAt self.new) }
     {
-        self.symbol(Symbol::LeftParen)?;
-        let templates = self.templates(alloc)?;
-        self.symbol(Symbol::RightParen)?;
-        Ok(Template::Complement(templates))
+        if self.is_word(Word::Infinity) {
+            self.pass_word(Word::Infinity);
+            self.symbol(Symbol::DotDot)?;
+            let high = self.upper()?;
+            self.symbol(Symbol::RightParen)?;
+            return Ok(Template::Range(None, high));
+        }
+        let first = self.negated()?;
+        let template = self.after_number(alloc, first)?;
+        Ok(template)
     }
 
     #[cycle(template)]
-    #[tactic(auto, using(crate::proofs::TemplateTokens::template_rules))]
-    fn template_entries(&mut self, alloc: Global) -> Result<Template, Stuck>
-        ensures tokens { IfOk result (λ t.
-            symbol Symbol.LeftBrace ∷ ahead self.old.rest.now
-            ≡ template_lexemes t ++ ahead self.new.rest.now) }
+    #[tactic(auto, using(crate::proofs::TemplateTrees::template_parsing))]
+    fn after_number(&mut self, alloc: Global, first: i64) -> Result<Template, Stuck>
+        ensures parses { Parses (rule after_number) (after_number_tree first)
+            self.old result self.new }
+        ensures whole { IfOk result (λ t. IsInside Symbol.LeftParen
+            (number_inside first (after_number_tree first t)) t) }
         ensures shorter { OnOk result (length self.new.rest.now < length self.old.rest.now) }
-        ensures forward { OnOk result (GoesForward self.old self.new) }
-        ensures grammatical { IfOk result (λ t. IsTrue (is_template t)) }
-        ensures reads_list { (hidden : ℕ) (xs : List Template) (more : List Lexeme) →
-            IsTrue (each (map is_template xs)) →
-            Reads hidden self.old
-            (by_commas (map template_lexemes xs) ++ symbol Symbol.RightBrace ∷ []) more result
-            self.new }
-        ensures reads_record { (hidden : ℕ) (xs : List TemplateField) (more : List Lexeme) →
-            IsTrue (one_and_each (map is_template_field xs)) →
-            Reads hidden self.old
-            (by_commas (map template_field_lexemes xs) ++ symbol Symbol.RightBrace ∷ []) more result
-            self.new }
-        ensures stuck { IfErr result (IsStuckAt self.new) }
     {
-        if self.has_symbol(Symbol::RightBrace) {
+        if self.is_symbol(Symbol::DotDot) {
+            self.pass_symbol(Symbol::DotDot);
+            let high = self.upper()?;
+            self.symbol(Symbol::RightParen)?;
+            return Ok(Template::Range(Some(first), high));
+        }
+        let templates = self.more_templates(alloc, Template::Int(first))?;
+        self.symbol(Symbol::RightParen)?;
+        Ok(Template::OneOf(templates))
+    }
+
+    #[cycle(template)]
+    #[tactic(auto, using(crate::proofs::TemplateTrees::template_parsing))]
+    fn entries(&mut self, alloc: Global) -> Result<Template, Stuck>
+        ensures parses { Parses (rule template_entries) inside_tree self.old result self.new }
+        ensures whole { IfOk result (λ t. IsInside Symbol.LeftBrace (inside_tree t) t) }
+        ensures shorter { OnOk result (length self.new.rest.now < length self.old.rest.now) }
+    {
+        if self.is_symbol(Symbol::RightBrace) {
+            self.pass_symbol(Symbol::RightBrace);
             return Ok(Template::List(Items::new(alloc)));
         }
-        if self.is_field() {
-            let fields = self.template_fields(alloc)?;
+        if self.is_name() {
+            let name = self.name(alloc)?;
+            if self.is_symbol(Symbol::Assign) {
+                self.pass_symbol(Symbol::Assign);
+                let template = self.template(alloc)?;
+                let fields = self.more_fields(alloc, TemplateField { name, template })?;
+                self.symbol(Symbol::RightBrace)?;
+                return Ok(Template::Record(fields));
+            }
+            let templates = self.more_templates(alloc, Template::Name(name))?;
             self.symbol(Symbol::RightBrace)?;
-            return Ok(Template::Record(fields));
+            return Ok(Template::List(templates));
         }
-        let templates = self.templates(alloc)?;
+        let first = self.counted(alloc)?;
+        let templates = self.more_templates(alloc, first)?;
         self.symbol(Symbol::RightBrace)?;
         Ok(Template::List(templates))
     }
 
     #[cycle(template)]
-    fn templates(&mut self, alloc: Global) -> Result<Items<Template>, Stuck>
-        ensures tokens { IfOk result (λ v.
-            Passes self.old (by_commas (map template_lexemes v)) self.new) }
-        ensures shorter { OnOk result (length self.new.rest.now < length self.old.rest.now) }
-        ensures forward { OnOk result (GoesForward self.old self.new) }
-        ensures grammatical { IfOk result (λ v. IsTrue (one_and_each (map is_template v))) }
-        ensures reads { (hidden : ℕ) (xs : List Template) (more : List Lexeme) →
-            IsTrue (one_and_each (map is_template xs)) →
-            Stops more →
-            Reads hidden self.old (by_commas (map template_lexemes xs)) more result self.new }
-        ensures stuck { IfErr result (IsStuckAt self.new) }
+    #[tactic(auto, using(crate::proofs::TemplateTrees::template_parsing))]
+    fn more_templates(&mut self, alloc: Global, first: Template) -> Result<Items<Template>, Stuck>
+        ensures parses { Parses (rule more_templates)
+            (λ ts. chain more_templates (map template_tree (drop 1 ts))) self.old result self.new }
+        ensures begins { IfOk result (λ ts. ts ≡ first ∷ drop 1 ts) }
+        ensures shorter { OnOk result (length self.new.rest.now ≤ length self.old.rest.now) }
     {
         let mut templates = Items::new(alloc);
-        let first = self.template(alloc)?;
         templates.push(first)?;
-        'more: while self.has_symbol(Symbol::Comma) {
+        'more: while self.is_symbol(Symbol::Comma) {
+            self.pass_symbol(Symbol::Comma);
             let next = self.template(alloc)?;
             templates.push(next)?;
         }
@@ -301,43 +251,33 @@ impl<'a, 't> Parser<'a, 't> {
     }
 
     #[cycle(template)]
-    fn template_fields(&mut self, alloc: Global) -> Result<Items<TemplateField>, Stuck>
-        ensures tokens { IfOk result (λ v.
-            Passes self.old (by_commas (map template_field_lexemes v)) self.new) }
-        ensures shorter { OnOk result (length self.new.rest.now < length self.old.rest.now) }
-        ensures forward { OnOk result (GoesForward self.old self.new) }
-        ensures grammatical { IfOk result (λ v.
-            IsTrue (one_and_each (map is_template_field v))) }
-        ensures reads { (hidden : ℕ) (xs : List TemplateField) (more : List Lexeme) →
-            IsTrue (one_and_each (map is_template_field xs)) →
-            Stops more →
-            Reads hidden self.old (by_commas (map template_field_lexemes xs)) more result
-            self.new }
-        ensures beyond { BeginsField self.old.rest.now → GoesBeyond 2 self.old result self.new }
-        ensures stuck { IfErr result (IsStuckAt self.new) }
+    #[tactic(auto, using(crate::proofs::TemplateTrees::template_parsing))]
+    fn more_fields(
+        &mut self,
+        alloc: Global,
+        first: TemplateField,
+    ) -> Result<Items<TemplateField>, Stuck>
+        ensures parses { Parses (rule more_template_fields)
+            (λ fs. chain more_template_fields (map field_tree (drop 1 fs)))
+            self.old result self.new }
+        ensures begins { IfOk result (λ fs. fs ≡ first ∷ drop 1 fs) }
+        ensures shorter { OnOk result (length self.new.rest.now ≤ length self.old.rest.now) }
     {
         let mut fields = Items::new(alloc);
-        let first = self.template_field(alloc)?;
         fields.push(first)?;
-        'more: while self.has_symbol(Symbol::Comma) {
-            let next = self.template_field(alloc)?;
+        'more: while self.is_symbol(Symbol::Comma) {
+            self.pass_symbol(Symbol::Comma);
+            let next = self.field(alloc)?;
             fields.push(next)?;
         }
         Ok(fields)
     }
 
     #[cycle(template)]
-    #[tactic(auto, using(crate::proofs::TemplateTokens::template_rules))]
-    fn template_field(&mut self, alloc: Global) -> Result<TemplateField, Stuck>
-        ensures tokens { IfOk result (λ f. Passes self.old (template_field_lexemes f) self.new) }
+    #[tactic(auto, using(crate::proofs::TemplateTrees::template_parsing))]
+    fn field(&mut self, alloc: Global) -> Result<TemplateField, Stuck>
+        ensures parses { Parses (rule a_template_field) field_tree self.old result self.new }
         ensures shorter { OnOk result (length self.new.rest.now < length self.old.rest.now) }
-        ensures forward { OnOk result (GoesForward self.old self.new) }
-        ensures grammatical { IfOk result (λ f. IsTrue (is_template_field f)) }
-        ensures reads { (hidden : ℕ) (x : TemplateField) (more : List Lexeme) →
-            IsTrue (is_template_field x) →
-            Reads hidden self.old (template_field_lexemes x) more result self.new }
-        ensures beyond { BeginsField self.old.rest.now → GoesBeyond 2 self.old result self.new }
-        ensures stuck { IfErr result (IsStuckAt self.new) }
     {
         let name = self.name(alloc)?;
         self.symbol(Symbol::Assign)?;

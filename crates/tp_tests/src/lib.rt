@@ -20,6 +20,8 @@ mod lists;
 #[cfg(test)]
 mod making;
 #[cfg(test)]
+mod modules;
+#[cfg(test)]
 mod orders;
 #[cfg(test)]
 mod partners;

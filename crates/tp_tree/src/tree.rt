@@ -279,6 +279,7 @@ pub struct ComponentStart {
 /// `all component.done` at the end of a test case (ES 201 873-1, 21.3.7).
 #[derive(Clone, Copy)]
 pub struct AllDone {
+    pub line: u32,
     pub has_semicolon: bool,
 }
 

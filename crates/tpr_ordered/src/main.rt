@@ -82,6 +82,7 @@ fn tell_script<R: Print>(rt: &R, fault: FileFault) -> u8 {
 }
 
 fn tell_orders<R: Eprint>(rt: &R, fault: FileFault) -> u8 {
+    // If it can't be written, the status alone says it.
     let _ = eprintln!(rt; "orders: {fault}");
     file_fault_status(fault)
 }

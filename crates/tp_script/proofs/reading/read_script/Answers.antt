@@ -8,7 +8,6 @@ returns-in_err-parsed-clause-fault c =
 
 pub returns-in_err-test_case-clause-fault : goal.returns-in_err-test_case-clause-fault
 returns-in_err-test_case-clause-fault c =
-    let read = c.in_ok-parsed.ensures in
     checked_fault c.from_residual-in_err-test_case.result c.in_err-test_case.field-0.0 c.args.text.now c.in_ok-parsed.parsed
-    c.from_residual-in_err-test_case.ensures.1 (record { read = read.read; within = read.within; nested = read.nested; grammatical = read.grammatical; lines = read.lines })
+    c.from_residual-in_err-test_case.ensures.1 c.in_ok-parsed.ensures.read
     c.in_err-test_case.ensures.refused c.in_err-test_case.ensures.told

@@ -1,5 +1,4 @@
--- So it is.
-use Rattle.tp_syntax.proofs.UniqueModules.{readings_are_unique}
+use Rattle.tp_syntax.proofs.SameModules.{readings_are_unique}
 use Rattle.tp_syntax.proofs.laws.readings_are_unique.Goals as goal
 
 pub returns : goal.returns

@@ -1,65 +1,36 @@
--- The tokens passed are those read so far; fewer are left behind each statement and branch.
-use Rattle.std.proofs.Common.{◌≡◌, ℕ, Some, [], ◌+◌, ◌*◌, ◌≤◌, ◌++◌, length, List, true, false, map}
-use Rattle.tp_syntax.specs.Ahead.{ahead, is_name_in, token_at}
-use Rattle.tp_syntax.specs.HiddenTokens.{CouldBe}
-use Rattle.tp_syntax.proofs.StandingTokens.{IsSameOrBeyond}
-use Rattle.tp_syntax.proofs.PartsInOrderSeen.{RemainAllSeen}
-use Rattle.tp_syntax.specs.declared.token.Symbol.TheVariants.{Dot}
-use Rattle.tp_syntax.specs.declared.word.Word.TheVariants.{Start}
-use Rattle.tp_syntax.specs.Statements.{statements_lexemes, branches_lexemes, statement_lexemes, branch_lexemes}
-use Rattle.tp_syntax.specs.Grammar.{branches_parts, statements_parts, statement_part, branch_part}
-use Rattle.tp_syntax.specs.Standing.{GoesOver}
-use Rattle.tp_syntax.specs.Lexeme.{Lexeme, symbol, word}
-use Rattle.tp_syntax.specs.Reading.{AllStand, is_end_ahead, is_branch_ahead}
-use Rattle.tp_tree.specs.declared.tree.Statement.{Statement}
-use Rattle.tp_tree.specs.declared.tree.Branch.{Branch}
-use Rattle.tp_syntax.specs.Lines.{branch_notes, noted_in_order, statement_notes}
-use Rattle.tp_syntax.specs.Forward.{PassesNoted}
+-- What is left is read as what remains of the statements, or of the branches.
+use Rattle.std.proofs.Common.{◌+◌, ◌*◌, ◌≤◌, ◌++◌, [], length, map}
+use Rattle.tp_syntax.specs.Rule.{a_branch, a_statement, statements}
+use Rattle.tp_syntax.specs.PartialReading.{Leads, all_frames, enter, part_or_end}
+use Rattle.tp_syntax.specs.Parsing.{left}
+use Rattle.tp_syntax.specs.StatementTrees.{branch_frames, branch_of, step_frames, step_of}
 use Rattle.tp_syntax.proofs.cursor.Parser.+statement.Given as goal
 
-abbrev pub decreases-statements : goal.decreases-statements
-decreases-statements l = 8 * length l.self.now.rest.now + 6
-
 abbrev pub decreases-statement : goal.decreases-statement
-decreases-statement l = 8 * length l.self.now.rest.now + 5
+decreases-statement l = 3 * length l.self.now.rest.now + 1
 
-abbrev pub decreases-action : goal.decreases-action
-decreases-action l = 8 * length l.self.now.rest.now + 4
+abbrev pub decreases-compound : goal.decreases-compound
+decreases-compound l = 3 * length l.self.now.rest.now
 
-abbrev pub decreases-alt : goal.decreases-alt
-decreases-alt l = 8 * length l.self.now.rest.now + 3
-
-abbrev pub decreases-counted : goal.decreases-counted
-decreases-counted l = 8 * length l.self.now.rest.now + 3
+abbrev pub decreases-statements : goal.decreases-statements
+decreases-statements l = 3 * length l.self.now.rest.now + 2
 
 abbrev pub decreases-branches : goal.decreases-branches
-decreases-branches l = 8 * length l.self.now.rest.now + 5
+decreases-branches l = 3 * length l.self.now.rest.now + 2
 
-abbrev pub decreases-branch : goal.decreases-branch
-decreases-branch l = 8 * length l.self.now.rest.now + 4
+abbrev pub decreases-reception : goal.decreases-reception
+decreases-reception l = 3 * length l.self.now.rest.now + 1
+
+abbrev pub decreases-branch_end : goal.decreases-branch_end
+decreases-branch_end l = 3 * length l.self.now.rest.now
 
 abbrev pub decreases-otherwise : goal.decreases-otherwise
-decreases-otherwise l = 8 * length l.self.now.rest.now + 3
-
-abbrev pub decreases-body : goal.decreases-body
-decreases-body l = 8 * length l.self.now.rest.now + 3
-
-abbrev pub decreases-block : goal.decreases-block
-decreases-block l = 8 * length l.self.now.rest.now + 2
+decreases-otherwise l = 3 * length l.self.now.rest.now + 1
 
 abbrev pub invariant-statements-more : goal.invariant-statements-more
 invariant-statements-more l = record {
-  tokens : ahead l.fn.self.rest.now ≡ statements_lexemes l.statements ++ ahead l.self.rest.now;
-  grammatical : GoesOver l.fn.self (statements_parts l.statements) l.self;
-  seen : (hidden : ℕ) (xs : List Statement) (more : List Lexeme) → AllStand (statements_parts xs) more → is_end_ahead l.is_case more ≡ true →
-      CouldBe hidden l.fn.self.rest.now (statements_lexemes xs ++ more)
-      → RemainAllSeen statement_lexemes statement_part (λ _. Unit {0}) hidden more l.self.rest.now;
-  beyond_name : is_name_in (token_at l.fn.self.rest.now 0) ≡ true → IsSameOrBeyond 1 l.fn.self l.self;
-  beyond_dot : is_name_in (token_at l.fn.self.rest.now 0) ≡ true → token_at l.fn.self.rest.now 1 ≡ Some (symbol Dot) → IsSameOrBeyond 2 l.fn.self l.self;
-  beyond_start : is_name_in (token_at l.fn.self.rest.now 0) ≡ true → token_at l.fn.self.rest.now 1 ≡ Some (symbol Dot) →
-      token_at l.fn.self.rest.now 2 ≡ Some (word Start) → IsSameOrBeyond 3 l.fn.self l.self;
+  so_far : Leads statements (left l.fn.self) (enter statements ++ all_frames step_frames (map step_of l.statements)) (part_or_end a_statement l.is_open) (left l.self);
   shorter : length l.self.rest.now ≤ length l.fn.self.rest.now;
-  lines : PassesNoted l.fn.self.rest.now (noted_in_order (map statement_notes l.statements)) l.self.rest.now;
 }
 
 abbrev pub decreases-statements-more : goal.decreases-statements-more
@@ -67,14 +38,8 @@ decreases-statements-more l = length l.self.rest.now
 
 abbrev pub invariant-branches-more : goal.invariant-branches-more
 invariant-branches-more l = record {
-  tokens : ahead l.fn.self.rest.now ≡ branches_lexemes l.branches ++ ahead l.self.rest.now;
-  grammatical : GoesOver l.fn.self (branches_parts l.branches) l.self;
-  seen : (hidden : ℕ) (xs : List Branch) (more : List Lexeme) → AllStand (branches_parts xs) more → is_branch_ahead more ≡ false →
-      CouldBe hidden l.fn.self.rest.now (branches_lexemes xs ++ more)
-      → RemainAllSeen branch_lexemes branch_part (λ _. Unit {0}) hidden more l.self.rest.now;
-  none : l.branches ≡ [] → l.self ≡ l.fn.self;
+  so_far : Leads a_branch (left l.fn.self) (all_frames branch_frames (map branch_of l.branches)) (part_or_end a_branch l.is_open) (left l.self);
   shorter : length l.self.rest.now ≤ length l.fn.self.rest.now;
-  lines : PassesNoted l.fn.self.rest.now (noted_in_order (map branch_notes l.branches)) l.self.rest.now;
 }
 
 abbrev pub decreases-branches-more : goal.decreases-branches-more

@@ -1,40 +1,16 @@
--- A name alone in parentheses is a variable, and all else a message.
-use Rattle.std.proofs.lemmas.Bool.{iff_false}
-use Rattle.std.proofs.Common.{[], length, ◌+◌, arith}
-use Rattle.tp_syntax.specs.Stuck.{StandAtLeast}
-use Rattle.tp_syntax.proofs.FirstTokensSeen.{handed_as, handed_seen, hidden_could}
-use Rattle.tp_syntax.proofs.FirstTokensStand.{unseen_stands}
-use Rattle.tp_syntax.proofs.OperationsSeen.{message_seen, variable_seen, zero_message}
-use Rattle.tp_syntax.proofs.ValuesSeen.{zero_right}
+-- What is sent, item by item.
+use Rattle.std.proofs.Common.{refl, ◌∙◌}
+use Rattle.tp_syntax.specs.Reading.{reads_rule, reads_this, reads_other, reads_else, reads_more, reads_none}
+use Rattle.tp_syntax.proofs.StepsOfReading.{parsed_ok}
 use Rattle.tp_syntax.proofs.cursor.Parser.sent.Goals as goal
 
-pub returns-in_err-name-clause-reads : goal.returns-in_err-name-clause-reads
-returns-in_err-name-clause-reads c =
-    λ hidden x more right paren could.
-    let n = variable_seen hidden x more c.args.self.now.rest.now (c.is_variable.ensures.0 c.if-is_variable.true) could in
-    handed_seen hidden c.from_residual.result _ _ c.from_residual.ensures.1 (c.in_err-name.ensures.reads hidden n.0 more n.1)
+pub returns-then-is_symbol-clause-parses : goal.returns-then-is_symbol-clause-parses
+returns-then-is_symbol-clause-parses c =
+    parsed_ok (reads_rule refl (reads_this (c.is_name.ensures ∙ c.if-is_name.true) (reads_more c.in_ok-name.ensures.parses.parsed (reads_more
+    (reads_rule refl (reads_this (c.is_symbol.ensures ∙ c.if-is_symbol.true) (reads_more c.pass_symbol.ensures.read (reads_more
+    c.in_ok-value.ensures.parses.parsed reads_none)))) reads_none))))
 
-pub returns-then-is_variable-clause-reads : goal.returns-then-is_variable-clause-reads
-returns-then-is_variable-clause-reads c =
-    λ hidden x more right paren could.
-    let n = variable_seen hidden x more c.args.self.now.rest.now (c.is_variable.ensures.0 c.if-is_variable.true) could in
-    c.in_ok-name.ensures.reads hidden n.0 more n.1
-
-pub returns-in_err-message-clause-reads : goal.returns-in_err-message-clause-reads
-returns-in_err-message-clause-reads c =
-    λ hidden x more right paren could.
-    let m = message_seen hidden x more c.args.self.now.rest.now right paren (iff_false c.is_variable.ensures c.if-is_variable.false) could in
-    handed_seen hidden c.from_residual-in_err-message.result _ _ c.from_residual-in_err-message.ensures.1
-    (c.in_err-message.ensures.reads hidden m.0 more m.1 m.2)
-
-pub returns-clause-reads : goal.returns-clause-reads
-returns-clause-reads c =
-    λ hidden x more right paren could.
-    let m = message_seen hidden x more c.args.self.now.rest.now right paren (iff_false c.is_variable.ensures c.if-is_variable.false) could in
-    c.in_ok-message.ensures.reads hidden m.0 more m.1 m.2
-
-pub returns-in_err-message-clause-beyond : goal.returns-in_err-message-clause-beyond
-returns-in_err-message-clause-beyond c =
-    handed_as (StandAtLeast 0 c.args.self.now) c.from_residual-in_err-message.result _ _ c.from_residual-in_err-message.ensures.1
-    (unseen_stands 0 (length c.args.self.now.rest.now + 1) c.args.self.now _ (omega arith)
-    (c.in_err-message.ensures.reads (length c.args.self.now.rest.now + 1) zero_message [] zero_right (hidden_could (omega arith))))
+pub returns-then-is_name-clause-parses : goal.returns-then-is_name-clause-parses
+returns-then-is_name-clause-parses c =
+    parsed_ok (reads_rule refl (reads_this (c.is_name.ensures ∙ c.if-is_name.true) (reads_more c.in_ok-name.ensures.parses.parsed (reads_more
+    (reads_rule refl (reads_other (c.is_symbol.ensures ∙ c.if-is_symbol.false) (reads_else reads_none))) reads_none))))

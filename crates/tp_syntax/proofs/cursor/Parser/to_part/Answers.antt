@@ -1,24 +1,17 @@
--- What stands behind `to`: `all component`, or a component.
-use Rattle.tp_syntax.proofs.FirstTokensSeen.{handed_seen, same_could}
-use Rattle.tp_syntax.proofs.OperationsSeen.{no_receivers, receiver_seen, receivers_seen}
+-- Receivers, item by item.
+use Rattle.std.proofs.Common.{refl, ◌∙◌}
+use Rattle.tp_syntax.specs.Reading.{reads_rule, reads_this, reads_other, reads_else, reads_more, reads_none}
+use Rattle.tp_syntax.proofs.StepsOfReading.{parsed_ok}
 use Rattle.tp_syntax.proofs.cursor.Parser.to_part.Goals as goal
 
-pub returns-then-not-has_word-clause-reads : goal.returns-then-not-has_word-clause-reads
-returns-then-not-has_word-clause-reads c =
-    λ hidden x more stops could.
-    same_could c.if-not-has_word.ensures.no (no_receivers hidden x more _ c.if-not-has_word.ensures.absent could)
+pub returns-then-is_word-clause-parses : goal.returns-then-is_word-clause-parses
+returns-then-is_word-clause-parses c =
+    parsed_ok (reads_rule refl (reads_this (c.is_word.ensures ∙ c.if-not-is_word.false) (reads_more c.pass_word.ensures.read (reads_more (reads_rule
+    refl (reads_this (c.is_word-2.ensures ∙ c.if-is_word.true) (reads_more c.pass_word-then-is_word.ensures.read (reads_more
+    c.in_ok-word.ensures.parses.parsed reads_none)))) reads_none))))
 
-pub returns-in_err-component-clause-reads : goal.returns-in_err-component-clause-reads
-returns-in_err-component-clause-reads c =
-    λ hidden x more stops could.
-    let d = receivers_seen hidden x more _ _ c.if-not-has_word.ensures.passed stops could in
-    let r = receiver_seen hidden d.0 more _ c.if-has_word.ensures.absent d.1 in
-    handed_seen hidden c.from_residual-in_err-component.result _ _ c.from_residual-in_err-component.ensures.1
-    (c.in_err-component.ensures.reads hidden r.0 more (same_could c.if-has_word.ensures.no r.1))
-
-pub returns-clause-reads : goal.returns-clause-reads
-returns-clause-reads c =
-    λ hidden x more stops could.
-    let d = receivers_seen hidden x more _ _ c.if-not-has_word.ensures.passed stops could in
-    let r = receiver_seen hidden d.0 more _ c.if-has_word.ensures.absent d.1 in
-    c.in_ok-component.ensures.reads hidden r.0 more (same_could c.if-has_word.ensures.no r.1)
+pub returns-clause-parses : goal.returns-clause-parses
+returns-clause-parses c =
+    parsed_ok (reads_rule refl (reads_this (c.is_word.ensures ∙ c.if-not-is_word.false) (reads_more c.pass_word.ensures.read (reads_more (reads_rule
+    refl (reads_other (c.is_word-2.ensures ∙ c.if-is_word.false) (reads_else (reads_more c.in_ok-component.ensures.parses.parsed reads_none))))
+    reads_none))))

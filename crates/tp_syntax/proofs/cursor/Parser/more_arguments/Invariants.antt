@@ -1,0 +1,16 @@
+-- What is left is read as what remains of the arguments.
+use Rattle.std.proofs.Common.{◌≤◌, length}
+use Rattle.tp_syntax.specs.Rule.{more_arguments}
+use Rattle.tp_syntax.specs.OperationTrees.{component_tree}
+use Rattle.tp_syntax.specs.Parsing.{left}
+use Rattle.tp_syntax.proofs.PartsAfterCommas.{Gathered}
+use Rattle.tp_syntax.proofs.cursor.Parser.more_arguments.Given as goal
+
+abbrev pub invariant-more : goal.invariant-more
+invariant-more l = record {
+  gathered : Gathered more_arguments component_tree l.fn.first (left l.fn.self) (left l.self) l.arguments;
+  shorter : length l.self.rest.now ≤ length l.fn.self.rest.now;
+}
+
+abbrev pub decreases-more : goal.decreases-more
+decreases-more l = length l.self.rest.now

@@ -1,0 +1,44 @@
+-- What `parse` returns: a module, or the first fault of a text.
+use Rattle.std.specs.Prelude.{◌≡◌, ℕ, ◌+◌, ◌<◌, ◌≤◌, ◌⊎◌, List, [], Option, None, length}
+use Rattle.tp_syntax.specs.declared.script_fault.ScriptFault.{ScriptFault}
+use Rattle.tp_syntax.specs.Lexeme.{PlacedLexeme}
+use Rattle.tp_syntax.specs.Cut.{AreTokens, newlines}
+use Rattle.tp_syntax.specs.TextFaults.{AreWithinLimits, IsRefused}
+use Rattle.tp_syntax.specs.declared.stuck.Stuck.TheVariants.{At}
+use Rattle.tp_syntax.specs.Refusal.{BeginsText, IsText, NoneGoesOn}
+use Rattle.tp_tree.specs.declared.tree.Module.{Module}
+use Rattle.tp_syntax.specs.DefinitionTrees.{module_tree}
+use Rattle.tp_syntax.specs.Faults.{AreTokensSeen, AreWithin, fault_in}
+use Rattle.tp_syntax.specs.SettledTokens.{settled}
+
+-- the text has these tokens within the limits of tokens, and isn't too long
+pub record HasTokens (bytes : List ℕ) (tokens : List PlacedLexeme) : Type 0 where
+  pub are : AreTokens bytes tokens
+  pub limits : AreWithinLimits tokens
+  pub short : length bytes ≤ 1048576
+
+-- the text's tokens are within the limits of the grammar, and spell the module, with its lines
+pub record IsReadAs (bytes : List ℕ) (m : Module) : Type 0 where
+  pub tokens : List PlacedLexeme
+  pub has : HasTokens bytes tokens
+  pub within : AreWithin tokens
+  pub spelled : IsText (settled tokens) (module_tree m)
+
+-- the grammar refuses the tokens so: of those up to the first that is beyond the limits, brought within them, so many
+-- can't stand. Some text begins with those before them. No text begins with these and the first of them, or is all of
+-- them, if none of them stands beyond the limits.
+pub record IsFaultOf (tokens : List PlacedLexeme) (last : ℕ) (fault : ScriptFault) : Type 0 where
+  pub front : List PlacedLexeme
+  pub beyond : Option ℕ
+  pub left : ℕ
+  pub seen : AreTokensSeen tokens front beyond
+  pub begins : BeginsText (settled front) (At left)
+  pub none : (beyond ≡ None) ⊎ (0 < left) → NoneGoesOn (settled front) (At left)
+  pub told : fault ≡ fault_in (settled front) beyond left last
+
+-- the text has no such tokens, and this is its first fault; or the grammar refuses them so; or memory was refused
+abbrev pub IsUnread : List ℕ → ScriptFault → Type 0
+IsUnread bytes fault =
+    IsRefused bytes fault
+    ⊎ ((tokens : List PlacedLexeme) × HasTokens bytes tokens
+    × IsFaultOf tokens (newlines bytes + 1) fault)

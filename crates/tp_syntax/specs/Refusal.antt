@@ -1,0 +1,44 @@
+-- Which tokens are refused, and what a refusal says.
+use Rattle.std.specs.Prelude.{ℕ, ◌≡◌, ◌≢◌, None, List, [], ◌∷◌, length}
+use Rattle.tp_syntax.specs.Lexeme.{PlacedLexeme}
+use Rattle.tp_syntax.specs.declared.stuck.Stuck.{Stuck}
+use Rattle.tp_syntax.specs.declared.stuck.Stuck.TheVariants.{At, Memory}
+use Rattle.tp_syntax.specs.Item.{rule, next}
+use Rattle.tp_syntax.specs.Rule.{a_module}
+use Rattle.tp_syntax.specs.Reading.{Tree, Reads, Fails}
+use Rattle.tp_syntax.specs.SpelledTrees.{Spells}
+
+-- the tokens are the same up to the one where so many are left, and this one too, or the text's end
+pub data Agree : ℕ → List PlacedLexeme → List PlacedLexeme → Type 0 where
+  agree_last : {n : ℕ} {ts us : List PlacedLexeme} → n ≡ length ts → next ts ≡ next us
+      → Agree n ts us
+  agree_more : {n : ℕ} {p q : PlacedLexeme} {ts us : List PlacedLexeme} → p.token ≡ q.token
+      → Agree n ts us → Agree n (p ∷ ts) (q ∷ us)
+
+-- the whole text spells this tree
+abbrev pub IsText : List PlacedLexeme → Tree → Type 0
+IsText ts t = Spells (rule a_module) ts t []
+
+-- no text of the grammar begins with the tokens up to the one that can't stand, and with this one
+abbrev pub NoneGoesOn : List PlacedLexeme → Stuck → Type 0
+NoneGoesOn ts (At n) = (us : List PlacedLexeme) (t : Tree) → Agree n ts us → IsText us t → ⊥
+NoneGoesOn ts Memory = Unit {0}
+
+-- the others begin with the tokens before the one where so many are left
+pub data Begins : ℕ → List PlacedLexeme → List PlacedLexeme → Type 0 where
+  begins_end : {n : ℕ} {ts us : List PlacedLexeme} → n ≡ length ts → Begins n ts us
+  begins_more : {n : ℕ} {p q : PlacedLexeme} {ts us : List PlacedLexeme} → p.token ≡ q.token
+      → Begins n ts us → Begins n (p ∷ ts) (q ∷ us)
+
+-- some text of the grammar begins with the tokens before the one that can't stand
+abbrev pub BeginsText : List PlacedLexeme → Stuck → Type 0
+BeginsText ts (At n) = (us : List PlacedLexeme) × (t : Tree) × Begins n ts us × IsText us t
+BeginsText ts Memory = Unit {0}
+
+-- the tokens are refused so: reading fails there, or more stands after a whole text; or memory was refused
+pub data IsRefusedAt : List PlacedLexeme → Stuck → Type 0 where
+  refused_within : {ts : List PlacedLexeme} {e : Stuck} → Fails (rule a_module) ts e
+      → IsRefusedAt ts e
+  refused_behind : {ts rest : List PlacedLexeme} {t : Tree} {n : ℕ}
+      → Reads (rule a_module) ts t rest → n ≡ length rest
+      → next rest ≢ None → IsRefusedAt ts (At n)

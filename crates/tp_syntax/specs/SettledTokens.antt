@@ -1,0 +1,39 @@
+-- Tokens without a `-` directly before the number 0, whose line this 0 takes.
+use Rattle.std.specs.Prelude.{ℕ, Bool, true, false, cond, List, [], ◌∷◌, ◌++◌, Option, Some, None, ◌==◌}
+use Rattle.tp_syntax.specs.declared.token.Symbol.TheVariants.{Minus}
+use Rattle.tp_syntax.specs.Lexeme.{Lexeme, number, symbol, PlacedLexeme}
+use Rattle.tp_syntax.specs.Faults.{is_minus}
+
+abbrev pub is_zero : Lexeme → Bool
+is_zero (number n) = n == 0
+is_zero _ = false
+
+abbrev pub minus_on : ℕ → PlacedLexeme
+minus_on line = record { token = symbol Minus; line = line }
+
+-- what is kept of a token, and of a `-` directly before it, if its line is given; a `-` waits for the token after it
+abbrev pub unsigned : PlacedLexeme → List PlacedLexeme
+unsigned t = cond (is_minus t.token) [] (t ∷ [])
+
+abbrev pub kept_of : Option ℕ → PlacedLexeme → List PlacedLexeme
+kept_of None t = unsigned t
+kept_of (Some line) t =
+    cond (is_zero t.token) (record {
+      token = t.token;
+      line = line;
+    } ∷ []) (minus_on line ∷ unsigned t)
+
+abbrev pub waiting : PlacedLexeme → Option ℕ
+waiting t = cond (is_minus t.token) (Some t.line) None
+
+abbrev pub kept_at_end : Option ℕ → List PlacedLexeme
+kept_at_end None = []
+kept_at_end (Some line) = minus_on line ∷ []
+
+-- the tokens that are kept of these, after a `-` that waits
+abbrev pub settled_behind : Option ℕ → List PlacedLexeme → List PlacedLexeme
+settled_behind minus [] = kept_at_end minus
+settled_behind minus (t ∷ ts) = kept_of minus t ++ settled_behind (waiting t) ts
+
+abbrev pub settled : List PlacedLexeme → List PlacedLexeme
+settled ts = settled_behind None ts

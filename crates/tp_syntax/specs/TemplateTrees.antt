@@ -1,0 +1,256 @@
+-- The trees of templates.
+use Rattle.std.specs.Prelude.{ℕ, suc, ◌≡◌, ℤ, pos, negsuc, Bool, true, false, List, [], ◌∷◌, map, Option, Some, None}
+use Rattle.tp_syntax.specs.declared.word.Word.TheVariants as w
+use Rattle.tp_syntax.specs.declared.token.Symbol.{Symbol}
+use Rattle.tp_syntax.specs.declared.token.Symbol.TheVariants.{Assign, Comma, DotDot, LeftBrace, LeftParen, Minus}
+use Rattle.tp_syntax.specs.declared.token.Symbol.TheVariants.{Question, RightBrace, RightParen, Semicolon, Star}
+use Rattle.tp_syntax.specs.Lexeme.{name, number, text, word, symbol}
+use Rattle.tp_syntax.specs.Rule.{Rule, an_integer, a_template, uncounted_template, counted_template, other_template}
+use Rattle.tp_syntax.specs.Rule.{in_parentheses, after_minus, after_number, upper, template_entries}
+use Rattle.tp_syntax.specs.Rule.{after_template_name, more_templates, a_template_field, more_template_fields}
+use Rattle.tp_syntax.specs.Reading.{Tree, leaf, node, Trees, none, more}
+use Rattle.tp_tree.specs.declared.message.Template.{Template}
+use Rattle.tp_tree.specs.declared.message.Template.TheOpen as t
+use Rattle.tp_tree.specs.declared.message.Template.TheFolds.{fold-Template, fold-TemplateField}
+use Rattle.tp_tree.specs.declared.message.TemplateField.{TemplateField}
+
+-- a rule's node without a line
+abbrev pub of : Rule → Trees → Tree
+of r trees = node r None trees
+
+abbrev pub one : Tree → Trees
+one t = more t none
+
+abbrev pub sym : Symbol → Tree
+sym s = leaf (symbol s)
+
+-- a `,` and a tree, as often as there are trees
+abbrev pub chain : Rule → List Tree → Tree
+chain r [] = of r none
+chain r (t ∷ ts) = of r (more (sym Comma) (more t (one (chain r ts))))
+
+abbrev pub magnitude : ℤ → Tree
+magnitude (pos n) = leaf (number n)
+magnitude (negsuc n) = leaf (number (suc n))
+
+abbrev pub IsPositive : ℤ → Type 0
+IsPositive z = (n : ℕ) × (z ≡ pos n)
+
+abbrev pub IsNegative : ℤ → Type 0
+IsNegative z = (n : ℕ) × (z ≡ negsuc n)
+
+abbrev pub integer_tree : ℤ → Tree
+integer_tree (pos n) = of an_integer (one (leaf (number n)))
+integer_tree (negsuc n) = of an_integer (more (sym Minus) (one (leaf (number (suc n)))))
+
+abbrev pub upper_tree : Option ℤ → Tree
+upper_tree None = of upper (one (leaf (word w.Infinity)))
+upper_tree (Some z) = of upper (one (integer_tree z))
+
+-- the trees of a template at the places where it may stand: anywhere; where it is no integer, no name, or neither; what
+-- stands after its bracket; and the whole of what stands in brackets after it, where a chain of others follows
+pub record Views : Type 0 where
+  pub whole : Tree
+  pub uncounted : Tree
+  pub counted : Tree
+  pub other : Tree
+  pub inside : Tree
+  pub in_braces : Tree → Tree
+  pub in_parens : Tree → Tree
+
+pub record FieldViews : Type 0 where
+  pub field_name : List ℕ
+  pub whole : Tree
+
+abbrev pub nothing : Tree
+nothing = leaf (name [])
+
+-- an integer after a `(`, and what follows it
+abbrev pub number_inside : ℤ → Tree → Tree
+number_inside (pos n) t = of in_parentheses (more (leaf (number n)) (one t))
+number_inside (negsuc n) t =
+    of in_parentheses
+    (more (sym Minus) (one (of after_minus (more (leaf (number (suc n))) (one t)))))
+
+abbrev pub listed : Tree → Tree
+listed rest = of after_number (more rest (one (sym RightParen)))
+
+abbrev pub ranged : Option ℤ → Tree
+ranged high = of after_number (more (sym DotDot) (more (upper_tree high) (one (sym RightParen))))
+
+abbrev pub of_integer : ℤ → Views
+of_integer z = record {
+  whole = of a_template (one (integer_tree z));
+  uncounted = nothing;
+  counted = of counted_template (one (integer_tree z));
+  other = nothing;
+  inside = nothing;
+  in_braces =
+      λ rest. of template_entries
+      (more (of counted_template (one (integer_tree z))) (more rest (one (sym RightBrace))));
+  in_parens = λ rest. number_inside z (listed rest);
+}
+
+abbrev pub name_tree : List ℕ → Tree
+name_tree n = of uncounted_template (one (leaf (name n)))
+
+abbrev pub of_name : List ℕ → Views
+of_name n = record {
+  whole = of a_template (one (name_tree n));
+  uncounted = name_tree n;
+  counted = nothing;
+  other = nothing;
+  inside = nothing;
+  in_braces =
+      λ rest. of template_entries
+      (more (leaf (name n)) (one (of after_template_name (more rest (one (sym RightBrace))))));
+  in_parens = λ rest. of in_parentheses (more (name_tree n) (more rest (one (sym RightParen))));
+}
+
+abbrev pub around : Tree → Tree → Views
+around o i = record {
+  whole = of a_template (one (of uncounted_template (one o)));
+  uncounted = of uncounted_template (one o);
+  counted = of counted_template (one o);
+  other = o;
+  inside = i;
+  in_braces =
+      λ rest. of template_entries
+      (more (of counted_template (one o)) (more rest (one (sym RightBrace))));
+  in_parens =
+      λ rest. of in_parentheses
+      (more (of uncounted_template (one o)) (more rest (one (sym RightParen))));
+}
+
+abbrev pub of_other : Trees → Views
+of_other trees = around (of other_template trees) nothing
+
+abbrev pub of_bracket : Symbol → Tree → Views
+of_bracket s i = around (of other_template (more (sym s) (one i))) i
+
+abbrev pub wholes : List Views → List Tree
+wholes vs = map (λ (v : Views). v.whole) vs
+
+abbrev pub in_parens_of : List Views → Tree
+in_parens_of [] = nothing
+in_parens_of (v ∷ vs) = v.in_parens (chain more_templates (wholes vs))
+
+abbrev pub entries_of : List Views → Tree
+entries_of [] = of template_entries (one (sym RightBrace))
+entries_of (v ∷ vs) = v.in_braces (chain more_templates (wholes vs))
+
+abbrev pub complement_of : List Views → Trees
+complement_of [] = none
+complement_of (v ∷ vs) = more (leaf (word w.Complement)) (more (sym LeftParen) (more v.whole
+    (more (chain more_templates (wholes vs)) (one (sym RightParen)))))
+
+abbrev pub field_whole : FieldViews → Tree
+field_whole f =
+    of a_template_field (more (leaf (name f.field_name)) (more (sym Assign) (one f.whole)))
+
+abbrev pub fields_of : List FieldViews → Tree
+fields_of [] = nothing
+fields_of (f ∷ fs) =
+    of template_entries (more (leaf (name f.field_name)) (one (of after_template_name
+    (more (sym Assign)
+    (more f.whole
+    (more (chain more_template_fields (map field_whole fs)) (one (sym RightBrace))))))))
+
+abbrev pub range_of : Option ℤ → Option ℤ → Tree
+range_of None high = of in_parentheses (more (sym Minus) (one (of after_minus
+    (more (leaf (word w.Infinity))
+    (more (sym DotDot) (more (upper_tree high) (one (sym RightParen))))))))
+range_of (Some z) high = number_inside z (ranged high)
+
+abbrev pub bool_leaf : Bool → Tree
+bool_leaf true = leaf (word w.True)
+bool_leaf false = leaf (word w.False)
+
+abbrev pub template_step : t.Template-F Views FieldViews → Views
+template_step (t.Int z) = of_integer z
+template_step (t.Bool b) = of_other (one (bool_leaf b))
+template_step (t.Text bs) = of_other (one (leaf (text bs)))
+template_step (t.Name n) = of_name n
+template_step t.Any = of_other (one (sym Question))
+template_step t.AnyOrNone = of_other (one (sym Star))
+template_step (t.OneOf vs) = of_bracket LeftParen (in_parens_of vs)
+template_step (t.Complement vs) = of_other (complement_of vs)
+template_step (t.Range low high) = of_bracket LeftParen (range_of low high)
+template_step (t.Pattern bs) = of_other (more (leaf (word w.Pattern)) (one (leaf (text bs))))
+template_step (t.List vs) = of_bracket LeftBrace (entries_of vs)
+template_step (t.Record fs) = of_bracket LeftBrace (fields_of fs)
+
+abbrev pub field_step : t.TemplateField-F Views FieldViews → FieldViews
+field_step f = record { field_name = f.name; whole = f.template.whole }
+
+unfoldable pub template_views : Template → Views
+template_views = fold-Template Views FieldViews template_step field_step
+
+unfoldable pub field_views : TemplateField → FieldViews
+field_views = fold-TemplateField Views FieldViews template_step field_step
+
+abbrev pub template_tree : Template → Tree
+template_tree t = (template_views t).whole
+
+abbrev pub uncounted_tree : Template → Tree
+uncounted_tree t = (template_views t).uncounted
+
+abbrev pub counted_tree : Template → Tree
+counted_tree t = (template_views t).counted
+
+abbrev pub other_tree : Template → Tree
+other_tree t = (template_views t).other
+
+abbrev pub inside_tree : Template → Tree
+inside_tree t = (template_views t).inside
+
+abbrev pub field_tree : TemplateField → Tree
+field_tree f = field_whole (field_views f)
+
+-- what stands after the first of the trees below a node
+abbrev pub second_below : Tree → Tree
+second_below (node r line (more t (more u us))) = u
+second_below _ = nothing
+
+abbrev pub after_minus_tree : Template → Tree
+after_minus_tree t = second_below (inside_tree t)
+
+-- what follows the integer after the `(`
+abbrev pub number_part : ℤ → Tree → Tree
+number_part (pos n) t = second_below t
+number_part (negsuc n) t = second_below (second_below t)
+
+abbrev pub after_number_tree : ℤ → Template → Tree
+after_number_tree z t = number_part z (inside_tree t)
+
+-- the template is no integer, or no name: so its tree can stand for it
+abbrev pub IsUncounted : Template → Type 0
+IsUncounted t = (template_tree t ≡ of a_template (one (uncounted_tree t)))
+    × ((rest : Tree)
+    → (template_views t).in_parens rest
+    ≡ of in_parentheses (more (uncounted_tree t) (more rest (one (sym RightParen)))))
+
+abbrev pub IsCounted : Template → Type 0
+IsCounted t =
+    (rest : Tree)
+    → (template_views t).in_braces rest
+    ≡ of template_entries (more (counted_tree t) (more rest (one (sym RightBrace))))
+
+abbrev pub IsOther : Template → Type 0
+IsOther t = template_views t ≡ around (other_tree t) (inside_tree t)
+
+-- the template stands in brackets, with this inside
+abbrev pub IsInside : Symbol → Tree → Template → Type 0
+IsInside s i t = template_views t ≡ of_bracket s i
+
+-- what ends a part in braces: a `;`, after which others may follow, or the `}` if this is the last
+abbrev pub closing : {A : Type 0} → Rule → Bool → List A → Tree → Tree
+closing e true xs rest = of e (more (sym Semicolon) (one rest))
+closing e false [] rest = of e (one (sym RightBrace))
+closing e false (x ∷ xs) rest = of e (more nothing (one rest))
+
+-- parts, each with what ends it, and their `}`
+abbrev pub steps : {A : Type 0} → Rule → Rule → (A → Tree) → (A → Bool) → List A → Tree
+steps m e view ends [] = of m (one (sym RightBrace))
+steps m e view ends (x ∷ xs) =
+    of m (more (view x) (one (closing e (ends x) xs (steps m e view ends xs))))

@@ -1,0 +1,102 @@
+-- The trees of values.
+use Rattle.std.specs.Prelude.{◌≡◌, List, [], ◌∷◌, map, ℕ}
+use Rattle.tp_syntax.specs.declared.token.Symbol.TheVariants.{Assign, LeftBrace, RightBrace}
+use Rattle.tp_syntax.specs.Lexeme.{name, text}
+use Rattle.tp_syntax.specs.Rule.{a_value, unnamed_value, value_entries, after_value_name, more_values, a_value_field}
+use Rattle.tp_syntax.specs.Rule.{more_value_fields}
+use Rattle.tp_syntax.specs.Reading.{Tree, leaf, more}
+use Rattle.tp_tree.specs.declared.message.Value.{Value}
+use Rattle.tp_tree.specs.declared.message.Value.TheOpen as layer
+use Rattle.tp_tree.specs.declared.message.Value.TheFolds.{fold-Value, fold-ValueField}
+use Rattle.tp_tree.specs.declared.message.ValueField.{ValueField}
+use Rattle.tp_syntax.specs.TemplateTrees.{of, one, sym, chain, nothing, integer_tree, bool_leaf}
+
+-- the trees of a value at the places where it may stand: anywhere; where it is no name; what stands after its bracket;
+-- and the whole of what stands in braces after it, where a chain of others follows
+pub record Views : Type 0 where
+  pub whole : Tree
+  pub unnamed : Tree
+  pub inside : Tree
+  pub in_braces : Tree → Tree
+
+pub record FieldViews : Type 0 where
+  pub field_name : List ℕ
+  pub whole : Tree
+
+abbrev pub of_name : List ℕ → Views
+of_name n = record {
+  whole = of a_value (one (leaf (name n)));
+  unnamed = nothing;
+  inside = nothing;
+  in_braces =
+      λ rest. of value_entries
+      (more (leaf (name n)) (one (of after_value_name (more rest (one (sym RightBrace))))));
+}
+
+abbrev pub around : Tree → Tree → Views
+around u i = record {
+  whole = of a_value (one u);
+  unnamed = u;
+  inside = i;
+  in_braces = λ rest. of value_entries (more u (more rest (one (sym RightBrace))));
+}
+
+abbrev pub of_unnamed : Tree → Views
+of_unnamed t = around (of unnamed_value (one t)) nothing
+
+abbrev pub of_bracket : Tree → Views
+of_bracket i = around (of unnamed_value (more (sym LeftBrace) (one i))) i
+
+abbrev pub wholes : List Views → List Tree
+wholes vs = map (λ (v : Views). v.whole) vs
+
+abbrev pub entries_of : List Views → Tree
+entries_of [] = of value_entries (one (sym RightBrace))
+entries_of (v ∷ vs) = v.in_braces (chain more_values (wholes vs))
+
+abbrev pub field_whole : FieldViews → Tree
+field_whole f = of a_value_field (more (leaf (name f.field_name)) (more (sym Assign) (one f.whole)))
+
+abbrev pub fields_of : List FieldViews → Tree
+fields_of [] = nothing
+fields_of (f ∷ fs) = of value_entries (more (leaf (name f.field_name)) (one (of after_value_name
+    (more (sym Assign)
+    (more f.whole
+    (more (chain more_value_fields (map field_whole fs)) (one (sym RightBrace))))))))
+
+abbrev pub value_step : layer.Value-F Views FieldViews → Views
+value_step (layer.Int z) = of_unnamed (integer_tree z)
+value_step (layer.Bool b) = of_unnamed (bool_leaf b)
+value_step (layer.Text bs) = of_unnamed (leaf (text bs))
+value_step (layer.Name n) = of_name n
+value_step (layer.List vs) = of_bracket (entries_of vs)
+value_step (layer.Record fs) = of_bracket (fields_of fs)
+
+abbrev pub field_step : layer.ValueField-F Views FieldViews → FieldViews
+field_step f = record { field_name = f.name; whole = f.value.whole }
+
+unfoldable pub value_views : Value → Views
+value_views = fold-Value Views FieldViews value_step field_step
+
+unfoldable pub field_views : ValueField → FieldViews
+field_views = fold-ValueField Views FieldViews value_step field_step
+
+abbrev pub value_tree : Value → Tree
+value_tree v = (value_views v).whole
+
+abbrev pub unnamed_tree : Value → Tree
+unnamed_tree v = (value_views v).unnamed
+
+abbrev pub inside_tree : Value → Tree
+inside_tree v = (value_views v).inside
+
+abbrev pub field_tree : ValueField → Tree
+field_tree f = field_whole (field_views f)
+
+-- the value is no name, so its tree can stand for it
+abbrev pub IsUnnamed : Value → Type 0
+IsUnnamed v = value_views v ≡ around (unnamed_tree v) (inside_tree v)
+
+-- the value stands in braces
+abbrev pub IsBraced : Value → Type 0
+IsBraced v = value_views v ≡ of_bracket (inside_tree v)
