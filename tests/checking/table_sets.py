@@ -6,6 +6,7 @@ that may follow it, and a short text of it. Nobody has to believe these tables: 
 """
 from __future__ import annotations
 
+import re
 import sys
 from pathlib import Path
 
@@ -17,6 +18,7 @@ KINDS = {"binds": "name", "same": "name", '"1"': "number", "a_pattern": "text"}
 END = "finish"
 FIRST = "a_module"
 WIDTH = 118
+IMPORTED = ("Terminal", "of_word", "of_symbol", "a_name", "a_number", "a_text", "finish")
 FILES = ("FirstTokens", "FollowingTokens", "ShallowTexts", "WrittenSetsAreRight")
 WRITTEN = f"-- Written by tests/checking/table_sets.py from the table. {FILES[-1]}.antt checks that it is right."
 Sets = dict[str, set[str]]
@@ -147,16 +149,17 @@ class Writing:
 
     def first_tokens(self) -> str:
         they = self.computed
+        table = self.table("-- with what a rule begins, if it spells something", "firsts", they.firsts)
         return text_of(
             [
                 "-- The tokens with which each rule begins, and the rules that may spell nothing.",
-                *head_of_tokens("ℕ, Bool, true, false, List, [], ◌∷◌"),
+                *head_of_tokens("ℕ, Bool, true, false, List, [], ◌∷◌", table),
                 "-- rules that may spell nothing",
                 "abbrev pub nullable : Rule → Bool",
                 *(f"nullable r.{name} = true" for name in they.rules if name in they.nothing),
                 "nullable _ = false",
                 "",
-                *self.table("-- with what a rule begins, if it spells something", "firsts", they.firsts),
+                *table,
                 "",
                 "-- one more than that of each rule with which the rule may begin",
                 *numbers("rank", they.rank, 1),
@@ -164,13 +167,9 @@ class Writing:
         )
 
     def following_tokens(self) -> str:
-        return text_of(
-            [
-                "-- The tokens that may follow each rule.",
-                *head_of_tokens("List, [], ◌∷◌"),
-                *self.table("-- what may follow a rule", "follows", self.computed.follows),
-            ]
-        )
+        table = self.table("-- what may follow a rule", "follows", self.computed.follows)
+        head = head_of_tokens("List, [], ◌∷◌", table)
+        return text_of(["-- The tokens that may follow each rule.", *head, *table])
 
     def shallow_texts(self) -> str:
         they = self.computed
@@ -214,14 +213,16 @@ def text_of(lines: list[str]) -> str:
     return "\n".join(lines) + "\n"
 
 
-def head_of_tokens(common: str) -> list[str]:
-    """The imports of a file of tokens."""
+def head_of_tokens(common: str, lines: list[str]) -> list[str]:
+    """The imports of a file of tokens with these lines, which names no kind of token that they lack."""
+    words = set(re.findall(r"\w+", "\n".join(lines)))
+    kinds = ", ".join(it for it in IMPORTED if it in words)
     return [
         WRITTEN,
         f"use Rattle.std.proofs.Common.{{{common}}}",
         "use Rattle.tp_syntax.specs.declared.word.Word.TheVariants as w",
         "use Rattle.tp_syntax.specs.declared.token.Symbol.TheVariants as s",
-        "use Rattle.tp_syntax.specs.Item.{Terminal, of_word, of_symbol, a_name, a_number, a_text, finish}",
+        f"use Rattle.tp_syntax.specs.Item.{{{kinds}}}",
         *head_of_rules(),
         "",
     ]

@@ -1,6 +1,5 @@
 -- A text that is read as a module isn't refused: its tokens are within the limits, and it goes on with any of them.
-use Rattle.std.proofs.Common.{inl, inr, ◌⊎◌, ◌≡◌, ℕ, Bool, false, List, [], ◌∷◌, ◌++◌, Option, None, refl, sym, subst, ◌∙◌}
-use Rattle.tp_syntax.specs.declared.script_fault.ScriptFault.{ScriptFault}
+use Rattle.std.proofs.Common.{inl, inr, ◌≡◌, ℕ, Bool, false, List, [], ◌∷◌, ◌++◌, Option, None, refl, sym, subst}
 use Rattle.tp_syntax.specs.declared.script_fault.ScriptFault.TheVariants.{Refused}
 use Rattle.tp_syntax.specs.declared.stuck.Stuck.TheVariants.{At}
 use Rattle.tp_syntax.specs.Lexeme.{PlacedLexeme}
@@ -8,7 +7,6 @@ use Rattle.tp_syntax.specs.Reading.{Tree}
 use Rattle.tp_syntax.specs.Refusal.{Agree, agree_last, agree_more, Begins, begins_end, begins_more, BeginsText, IsText, NoneGoesOn}
 use Rattle.tp_syntax.specs.Faults.{AreAllowed, AreTokensSeen, AreWithin, IsAllowed, IsCut, is_minus, opened_behind}
 use Rattle.tp_syntax.specs.SettledTokens.{settled}
-use Rattle.tp_syntax.specs.ReadTexts.{IsFaultOf}
 use Rattle.tp_syntax.specs.ReadingLaws.{ReadTextsAreAccepted}
 use Rattle.tp_syntax.proofs.AcceptedTokenTexts.{good_texts_are_accepted}
 use Rattle.tp_syntax.proofs.UniqueTokens.{tokens_are_unique}

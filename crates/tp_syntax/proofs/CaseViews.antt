@@ -1,12 +1,8 @@
 -- The frames of the parts of a test case's body.
-use Rattle.std.proofs.Common.{◌≡◌, ◌≤◌, ℕ, Bool, true, false, ◌&&◌, List, [], ◌∷◌, ◌++◌, Option, Some, None, map, refl, ap, sym, subst, ◌∙◌, append_assoc, append-nil, arith}
+use Rattle.std.proofs.Common.{◌≡◌, ◌≤◌, ℕ, Bool, true, false, ◌&&◌, List, [], ◌∷◌, ◌++◌, refl, ap, sym, subst, ◌∙◌, append_assoc, append-nil, arith}
 use Rattle.std.proofs.lemmas.Bool.{false≢true}
-use Rattle.std.proofs.lemmas.List.{map-append}
-use Rattle.tp_syntax.specs.Lexeme.{PlacedLexeme, name, word}
-use Rattle.tp_syntax.specs.declared.word.Word.TheVariants as w
-use Rattle.tp_syntax.specs.declared.token.Symbol.TheVariants.{Dot}
-use Rattle.tp_syntax.specs.Reading.{leaf}
-use Rattle.tp_syntax.specs.Rule.{Rule, a_setup, a_start, closing, after_statements, after_variables, case_action, case_setups, case_starts, case_statement, case_statements, case_unnamed, case_variables, end_of_case, end_of_case_statement, end_of_case_variable, end_of_setup, end_of_start}
+use Rattle.tp_syntax.specs.Lexeme.{PlacedLexeme}
+use Rattle.tp_syntax.specs.Rule.{a_setup, a_start, closing, after_statements, after_variables, case_setups, case_starts, case_statements, case_variables, end_of_case, end_of_case_statement, end_of_case_variable, end_of_setup, end_of_start}
 use Rattle.tp_tree.specs.declared.tree.Action.{Action}
 use Rattle.tp_tree.specs.declared.tree.Action.TheViews.{roll-Statement}
 use Rattle.tp_syntax.specs.declared.cursor.Parser.{Parser}
@@ -14,8 +10,8 @@ use Rattle.tp_syntax.specs.declared.case_bodies.CaseBody.{CaseBody}
 use Rattle.tp_syntax.specs.declared.cases.Stage.{Stage}
 use Rattle.tp_syntax.specs.declared.cases.Stage.TheVariants as stage
 use Rattle.tp_syntax.specs.CaseParts.{IsUpTo, part, rank_of, stage_rank, statement_part}
-use Rattle.tp_syntax.specs.CaseTrees.{Kind, Part, pairs, creates, starts, declares, does, done, action_frames, after_name_frames, after_var_frames, end_of_statement, is_action, is_over, is_statement, is_unnamed, is_var, name_of, part_frames, part_rule, parts_frames, stage_behind, stage_of, statement_frames, unnamed_frames, variable_frames, with_var}
-use Rattle.tp_syntax.specs.PartialReading.{Ends, Enters, HasEnd, semicolon_frames, Frame, Leads, enter, end_frames, frame, part_or_end}
+use Rattle.tp_syntax.specs.CaseTrees.{Kind, Part, pairs, creates, starts, declares, does, done, is_action, is_over, is_statement, is_unnamed, part_frames, part_rule, parts_frames, stage_behind, stage_of}
+use Rattle.tp_syntax.specs.PartialReading.{Ends, Enters, HasEnd, semicolon_frames, Frame, Leads, enter, end_frames, part_or_end}
 use Rattle.tp_syntax.specs.Parsing.{left}
 use Rattle.tp_syntax.specs.StatementTrees.{Step, shape_of}
 use Rattle.tp_syntax.proofs.ReadingGoesOn.{leading, leads_on}

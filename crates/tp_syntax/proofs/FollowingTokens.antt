@@ -3,7 +3,7 @@
 use Rattle.std.proofs.Common.{List, [], ◌∷◌}
 use Rattle.tp_syntax.specs.declared.word.Word.TheVariants as w
 use Rattle.tp_syntax.specs.declared.token.Symbol.TheVariants as s
-use Rattle.tp_syntax.specs.Item.{Terminal, of_word, of_symbol, a_name, a_number, a_text, finish}
+use Rattle.tp_syntax.specs.Item.{Terminal, of_word, of_symbol, a_name, finish}
 use Rattle.tp_syntax.specs.Rule.{Rule}
 use Rattle.tp_syntax.specs.Rule as r
 

@@ -1,5 +1,5 @@
 -- Texts that are read, and how others are refused.
-use Rattle.std.proofs.Common.{inl, inr, ◌⊎◌, ◌≡◌, ◌<◌, ℕ, List, [], ◌∷◌, Option, None, length, map, ap, sym, subst, ◌∙◌, arith}
+use Rattle.std.proofs.Common.{inl, inr, ◌≡◌, ◌<◌, ℕ, List, [], ◌∷◌, Option, None, length, map, sym, arith}
 use Rattle.tp_syntax.specs.declared.script_fault.ScriptFault.{ScriptFault}
 use Rattle.tp_syntax.specs.declared.token.Placed.{Placed}
 use Rattle.tp_syntax.specs.Lexeme.{PlacedLexeme, placed_lexeme}

@@ -4,7 +4,6 @@ use Rattle.std.proofs.lemmas.Bool.{false≢true}
 use Rattle.tp_syntax.specs.declared.token.Symbol.TheVariants.{Colon}
 use Rattle.tp_tree.specs.declared.message.TypeName.{TypeName}
 use Rattle.tp_tree.specs.declared.message.TypeName.TheVariants as type_name
-use Rattle.tp_syntax.specs.Item.{Item}
 use Rattle.tp_syntax.specs.Reading.{Tree, more}
 use Rattle.tp_syntax.specs.Rule.{a_type, sent}
 use Rattle.tp_syntax.specs.OperationTrees.{is_predefined, message_sent, predefined_tree, type_tree}

@@ -1,5 +1,5 @@
 -- What was read up to a rule goes on with what is read of it.
-use Rattle.std.proofs.Common.{◌≡◌, ℕ, Bool, true, false, List, [], ◌∷◌, ◌++◌, Option, Some, None, Result, Ok, Err, map, refl, ap, sym, subst, ◌∙◌, append_assoc, append-nil}
+use Rattle.std.proofs.Common.{◌≡◌, ℕ, Bool, true, false, List, [], ◌∷◌, ◌++◌, Some, Result, Ok, map, refl, ap, sym, subst, ◌∙◌, append_assoc, append-nil}
 use Rattle.std.proofs.lemmas.Bool.{false≢true}
 use Rattle.std.proofs.lemmas.List.{map-append}
 use Rattle.std.specs.Result.{IsErrAnd}
@@ -9,10 +9,10 @@ use Rattle.tp_syntax.specs.declared.token.Symbol.TheVariants.{Semicolon, RightBr
 use Rattle.tp_syntax.specs.declared.cursor.Parser.{Parser}
 use Rattle.tp_syntax.specs.declared.stuck.Stuck.{Stuck}
 use Rattle.tp_syntax.specs.declared.stuck.Stuck.TheVariants.{Memory}
-use Rattle.tp_syntax.specs.Item.{Item, token, rule, of_symbol, Guarded, Choice, accepts, one_of, next}
+use Rattle.tp_syntax.specs.Item.{Item, token, rule, of_symbol, Guarded, Choice, accepts, next}
 use Rattle.tp_syntax.specs.Rule.{Rule, closing}
 use Rattle.tp_syntax.specs.Grammar.{production, notes_line}
-use Rattle.tp_syntax.specs.Reading.{Tree, Trees, Reads, ReadsChoice, ReadsAll, Fails, FailsChoice, FailsAll, reads_rule, reads_this, reads_other, reads_else, reads_none, reads_more, fails_memory, fails_rule, fails_this, fails_other, fails_else, fails_here, fails_later, noted, line_ahead}
+use Rattle.tp_syntax.specs.Reading.{Tree, Trees, Reads, ReadsChoice, ReadsAll, Fails, FailsChoice, FailsAll, reads_rule, reads_this, reads_other, reads_else, reads_none, reads_more, fails_memory, fails_rule, fails_this, fails_other, fails_else, fails_here, fails_later, line_ahead}
 use Rattle.tp_syntax.specs.Parsing.{left}
 use Rattle.tp_syntax.specs.TemplateTrees.{sym as symbol_leaf}
 use Rattle.tp_syntax.specs.PartialReading.{Frame, HasEnd, frame, with_last, under, Leads, LeadsChoice, LeadsAll, leads_here, leads_rule, leads_this, leads_other, leads_else, leads_last, leads_more, Goes, ParsesAll, Ends, Enters, all_frames, listed, ended, enter, end_frames, part_or_end, closing_tree}

@@ -22,8 +22,8 @@ use Rattle.tp_syntax.specs.declared.cases.Stage.TheVariants as stage
 use Rattle.tp_syntax.specs.Rule.{Rule, a_statement, after_start, all_ports, end_of_case, end_of_plain, more_arguments, plain, statements}
 use Rattle.tp_syntax.specs.Reading.{Tree, leaf, node, Trees, none, more}
 use Rattle.tp_syntax.specs.BehaviourTrees.{behind_variables, function_tree, local_frames, open_behind}
-use Rattle.tp_syntax.specs.CaseParts.{body_tree, done_parts, part, parts_of, setup_kind, setup_part, start_part, statement_part, variable_part}
-use Rattle.tp_syntax.specs.CaseTrees.{Part, creates, declares, does, done, pairs, starts, action_frames, after_var_frames, arguments_tree, owner_tree, part_frames, parts_frames, place_tree, pair_tree, statement_frames, variable_frames}
+use Rattle.tp_syntax.specs.CaseParts.{body_tree, done_parts, part, setup_kind, setup_part, start_part, statement_part, variable_part}
+use Rattle.tp_syntax.specs.CaseTrees.{Part, creates, declares, does, done, pairs, starts, action_frames, arguments_tree, owner_tree, part_frames, parts_frames, place_tree, pair_tree, statement_frames, variable_frames}
 use Rattle.tp_syntax.specs.PartialReading.{Frame, frame, under, with_last, all_frames, closing_tree, end_frames, semicolon_frames}
 use Rattle.tp_syntax.specs.OperationTrees.{component_tree, type_tree}
 use Rattle.tp_syntax.specs.StatementTrees.{Shape, compounded, verdict_set, on_all_ports, port_started, on_port, named_tree, shape_frames, step_frames, step_of, statements_tree}

@@ -1,5 +1,5 @@
 -- A module is told by its tree, and so a text is read as one module.
-use Rattle.std.proofs.Common.{◌≡◌, ℕ, zero, suc, Bool, true, false, List, [], ◌∷◌, ◌++◌, Option, Some, None, map, refl, ap, sym, subst, ◌∙◌}
+use Rattle.std.proofs.Common.{◌≡◌, ℕ, zero, suc, Bool, true, false, List, [], ◌∷◌, Option, Some, None, refl, ap, sym, subst, ◌∙◌}
 use Rattle.tp_syntax.specs.Lexeme.{name, PlacedLexeme}
 use Rattle.tp_tree.specs.declared.tree.Defined.{Defined}
 use Rattle.tp_tree.specs.declared.tree.Defined.TheVariants as d
@@ -10,9 +10,8 @@ use Rattle.tp_tree.specs.declared.tree.TestCase.{TestCase}
 use Rattle.tp_syntax.specs.Rule.{Rule, definitions, end_of_list}
 use Rattle.tp_syntax.specs.Reading.{Tree, leaf, node, Trees, none, more}
 use Rattle.tp_syntax.specs.ReadTexts.{IsReadAs}
-use Rattle.tp_syntax.specs.BehaviourTrees.{body_of, function_tree, system_tree, test_case_trees}
-use Rattle.tp_syntax.specs.CaseParts.{body_tree}
-use Rattle.tp_syntax.specs.DefinitionTrees.{defined_frames, definition_frames, definitions_tree, frames_of_all, function_trees, module_tree}
+use Rattle.tp_syntax.specs.BehaviourTrees.{body_of, system_tree, test_case_trees}
+use Rattle.tp_syntax.specs.DefinitionTrees.{defined_frames, definition_frames, frames_of_all, function_trees, module_tree}
 use Rattle.tp_syntax.specs.PartialReading.{under, closing_tree, end_frames, may_end_tree}
 use Rattle.tp_syntax.specs.OperationTrees.{type_tree}
 use Rattle.tp_syntax.specs.Refusal.{IsText}

@@ -1,5 +1,5 @@
 -- The parts of operations are told by their trees: what reads a tree back gives the part.
-use Rattle.std.proofs.Common.{◌≡◌, ℕ, ℤ, pos, negsuc, List, [], Option, Some, None, refl, ap, ap₂, sym, ◌∙◌}
+use Rattle.std.proofs.Common.{◌≡◌, ℕ, ℤ, pos, negsuc, List, [], Option, Some, None, refl, ap, ap₂}
 use Rattle.tp_syntax.specs.declared.word.Word.{Word}
 use Rattle.tp_syntax.specs.declared.word.Word.TheVariants as w
 use Rattle.tp_syntax.specs.Lexeme.{name, word}
@@ -26,7 +26,7 @@ use Rattle.tp_tree.specs.declared.tree.VerdictName.TheVariants as v
 use Rattle.tp_syntax.specs.Reading.{Tree, leaf, node, Trees, none, more}
 use Rattle.tp_syntax.specs.TemplateTrees.{integer_tree}
 use Rattle.tp_syntax.specs.ValueTrees.{value_tree}
-use Rattle.tp_syntax.specs.OperationTrees.{type_tree, component_tree, message_sent, sent_tree, receivers_tree, template_part, from_tree, redirect_parts}
+use Rattle.tp_syntax.specs.OperationTrees.{component_tree, message_sent, sent_tree, receivers_tree, template_part, from_tree, redirect_parts}
 use Rattle.tp_syntax.specs.OperationTrees.{kind_tree, received_tree, control_tree, verdict_tree, turns_tree}
 use Rattle.tp_syntax.specs.StatementTrees.{operation_of}
 use Rattle.tp_syntax.proofs.SameValues.{integer_in, value_back, value_returns}

@@ -1,5 +1,5 @@
 -- The trees of statements, an equation for each variant.
-use Rattle.std.proofs.Common.{◌≡◌, ℕ, Bool, true, false, List, [], ◌∷◌, ◌++◌, Option, Some, None, map, refl, ap, sym, ◌∙◌}
+use Rattle.std.proofs.Common.{◌≡◌, ℕ, Bool, true, List, [], ◌∷◌, Option, Some, None, map, refl, ap, sym, ◌∙◌}
 use Rattle.std.proofs.lemmas.Bool.{false≢true}
 use Rattle.tp_syntax.specs.declared.word.Word.TheVariants as w
 use Rattle.tp_syntax.specs.declared.token.Symbol.TheVariants.{LeftBrace}
@@ -14,23 +14,22 @@ use Rattle.tp_tree.specs.declared.tree.Branch.{Branch}
 use Rattle.tp_tree.specs.declared.tree.BranchBody.{BranchBody}
 use Rattle.tp_tree.specs.declared.tree.BranchBody.TheVariants as b
 use Rattle.tp_tree.specs.declared.tree.Control.{Control}
-use Rattle.tp_tree.specs.declared.tree.Counted.{Counted}
 use Rattle.tp_tree.specs.declared.tree.ElseBranch.{ElseBranch}
 use Rattle.tp_tree.specs.declared.tree.Receive.{Receive}
 use Rattle.tp_tree.specs.declared.tree.Send.{Send}
 use Rattle.tp_tree.specs.declared.tree.Statement.{Statement}
 use Rattle.tp_tree.specs.declared.tree.Turns.{Turns}
 use Rattle.tp_tree.specs.declared.tree.VerdictName.{VerdictName}
-use Rattle.tp_syntax.specs.Rule.{a_branch, a_statement, closing, compound, end_of_plain, end_of_reception, more_branches, named, other_operation, plain, statements}
+use Rattle.tp_syntax.specs.Rule.{a_branch, a_statement, compound, end_of_plain, end_of_reception, more_branches, other_operation, plain, statements}
 use Rattle.tp_syntax.specs.Reading.{Tree, leaf, more}
 use Rattle.tp_syntax.specs.declared.cursor.Parser.{Parser}
 use Rattle.tp_syntax.specs.declared.plain.Plain.{Plain}
 use Rattle.tp_syntax.specs.declared.plain.Plain.TheVariants as p
-use Rattle.tp_syntax.specs.PartialReading.{Ends, Enters, Frame, Leads, enter, end_frames, frame, part_or_end}
+use Rattle.tp_syntax.specs.PartialReading.{Ends, Enters, Leads, enter, end_frames, frame, part_or_end}
 use Rattle.tp_syntax.specs.OperationTrees.{send_tree, turns_tree}
 use Rattle.tp_syntax.specs.Parsing.{left}
 use Rattle.tp_syntax.specs.PlainStatements.{is_named, named_part, plain_shape}
-use Rattle.tp_syntax.specs.StatementTrees.{BranchView, ElseView, Shape, Step, action_step, body_of, body_step, branch_of, branch_step, branches_tree, compounded, control_shape, counted_step, counted_tree, else_of, else_step, operation_of, otherwise_of, on_all_ports, on_port, plain_tree, port_started, shape_frames, shape_of, statement_step, statements_tree, step_of, verdict_set}
+use Rattle.tp_syntax.specs.StatementTrees.{BranchView, ElseView, Shape, Step, action_step, body_of, body_step, branch_of, branch_step, branches_tree, compounded, control_shape, counted_step, else_of, else_step, operation_of, otherwise_of, on_all_ports, on_port, plain_tree, port_started, shape_frames, shape_of, statement_step, statements_tree, step_of, verdict_set}
 use Rattle.tp_syntax.specs.TemplateTrees.{of, one, sym as symbol_leaf}
 use Rattle.tp_syntax.proofs.ReadingGoesOn.{leading}
 use Rattle.tp_syntax.proofs.StepsOfReading.{parsing}

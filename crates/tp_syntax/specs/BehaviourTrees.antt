@@ -1,16 +1,15 @@
 -- The trees of a function's body, and of a test case.
-use Rattle.std.specs.Prelude.{ℕ, Bool, true, false, List, [], ◌∷◌, map, Option, Some, None}
+use Rattle.std.specs.Prelude.{ℕ, Bool, true, false, List, [], ◌∷◌, Option, Some, None}
 use Rattle.tp_syntax.specs.declared.word.Word.TheVariants as w
 use Rattle.tp_syntax.specs.declared.token.Symbol.TheVariants.{LeftBrace, LeftParen, RightParen}
 use Rattle.tp_syntax.specs.Lexeme.{name, word}
 use Rattle.tp_tree.specs.declared.tree.Statement.{Statement}
 use Rattle.tp_tree.specs.declared.tree.TestCase.{TestCase}
-use Rattle.tp_tree.specs.declared.tree.Variable.{Variable}
 use Rattle.tp_syntax.specs.Item.{Item, token, rule, a_name, sy, wo}
 use Rattle.tp_syntax.specs.Rule.{a_variable, case_setups, end_of_variable, may_have_system, variables}
 use Rattle.tp_syntax.specs.Reading.{Tree, leaf, node, Trees, none, more}
 use Rattle.tp_syntax.specs.declared.case_bodies.CaseBody.{CaseBody}
-use Rattle.tp_syntax.specs.CaseParts.{body_tree, variable_part}
+use Rattle.tp_syntax.specs.CaseParts.{body_tree}
 use Rattle.tp_syntax.specs.CaseTrees.{Kind, Part, declares}
 use Rattle.tp_syntax.specs.PartialReading.{Frame, frame, under, all_frames, closing_tree, semicolon_frames}
 use Rattle.tp_syntax.specs.OperationTrees.{type_tree}

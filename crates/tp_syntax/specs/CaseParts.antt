@@ -1,5 +1,5 @@
 -- The parts of a test case's body, as the parser returns them, and as it keeps them.
-use Rattle.std.specs.Prelude.{ℕ, suc, ◌≡◌, ◌<◌, Bool, List, [], ◌∷◌, ◌++◌, map, Option, Some, None}
+use Rattle.std.specs.Prelude.{ℕ, ◌≡◌, ◌<◌, Bool, List, [], ◌∷◌, ◌++◌, map, Option, Some, None}
 use Rattle.tp_syntax.specs.declared.word.Word.TheVariants as w
 use Rattle.tp_tree.specs.declared.tree.ComponentStart.{ComponentStart}
 use Rattle.tp_tree.specs.declared.tree.SetupAction.{SetupAction}

@@ -1,5 +1,5 @@
 -- The trees of a test case's body.
-use Rattle.std.specs.Prelude.{ℕ, Bool, true, false, cond, List, [], ◌∷◌, ◌++◌, map, drop, Option, Some, None}
+use Rattle.std.specs.Prelude.{ℕ, Bool, true, false, cond, List, [], ◌∷◌, ◌++◌, map, Some, None}
 use Rattle.tp_syntax.specs.declared.word.Word.{Word}
 use Rattle.tp_syntax.specs.declared.word.Word.TheVariants as w
 use Rattle.tp_syntax.specs.declared.token.Symbol.TheVariants.{Assign, Colon, Comma, Dot, LeftParen, RightParen}
@@ -17,7 +17,7 @@ use Rattle.tp_syntax.specs.Rule.{after_variables, arguments, case_action, case_a
 use Rattle.tp_syntax.specs.Rule.{case_statement, case_statements, case_unnamed, case_variables, end_of_case}
 use Rattle.tp_syntax.specs.Rule.{end_of_case_statement, end_of_case_variable, end_of_setup, end_of_start}
 use Rattle.tp_syntax.specs.Rule.{more_arguments, variable_parts}
-use Rattle.tp_syntax.specs.Reading.{Tree, Trees, leaf, none, more}
+use Rattle.tp_syntax.specs.Reading.{Tree, leaf, more}
 use Rattle.tp_syntax.specs.declared.cases.Stage.{Stage}
 use Rattle.tp_syntax.specs.declared.cases.Stage.TheVariants as stage
 use Rattle.tp_syntax.specs.PartialReading.{Frame, frame, under, enter, end_frames, semicolon_frames, closing_tree}

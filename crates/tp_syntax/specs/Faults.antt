@@ -1,9 +1,9 @@
 -- Which tokens are beyond the limits, and which lines may be named.
 use Rattle.std.specs.Prelude.{◌≡◌, ℕ, zero, ◌+◌, ◌-◌, ◌<◌, ◌≤◌, min, ◌⊎◌, Bool, true, false, List, [], ◌∷◌, ◌++◌, map}
-use Rattle.std.specs.Prelude.{length, take, drop, Option, None, Some}
+use Rattle.std.specs.Prelude.{length, drop, Option, None, Some}
 use Rattle.tp_syntax.specs.declared.script_fault.TextRule.TheVariants.{Syntax, Limit}
 use Rattle.tp_syntax.specs.declared.script_fault.ScriptFault.{ScriptFault}
-use Rattle.tp_syntax.specs.declared.script_fault.ScriptFault.TheVariants.{Refused, Memory}
+use Rattle.tp_syntax.specs.declared.script_fault.ScriptFault.TheVariants.{Refused}
 use Rattle.tp_syntax.specs.declared.token.Symbol.{Symbol}
 use Rattle.tp_syntax.specs.declared.token.Symbol.TheVariants.{LeftBrace, RightBrace, LeftParen, RightParen, LeftBracket}
 use Rattle.tp_syntax.specs.declared.token.Symbol.TheVariants.{RightBracket, Comma, Semicolon, Colon, Dot, Question}

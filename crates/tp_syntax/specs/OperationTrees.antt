@@ -1,7 +1,7 @@
 -- The trees of operations and their parts.
 use Rattle.std.specs.Prelude.{ℕ, Bool, true, false, List, [], ◌∷◌, Option, Some, None}
 use Rattle.tp_syntax.specs.declared.word.Word.TheVariants as w
-use Rattle.tp_syntax.specs.declared.token.Symbol.TheVariants.{Arrow, Assign, Colon, Dot, LeftParen, Less, Plus}
+use Rattle.tp_syntax.specs.declared.token.Symbol.TheVariants.{Arrow, Assign, Colon, LeftParen, Less, Plus}
 use Rattle.tp_syntax.specs.declared.token.Symbol.TheVariants.{RightParen, Semicolon}
 use Rattle.tp_syntax.specs.Lexeme.{name, number, word}
 use Rattle.tp_common.specs.declared.operation.PortOperation.{PortOperation}
@@ -22,7 +22,7 @@ use Rattle.tp_tree.specs.declared.tree.Turns.{Turns}
 use Rattle.tp_tree.specs.declared.tree.VerdictName.{VerdictName}
 use Rattle.tp_tree.specs.declared.tree.VerdictName.TheVariants as verdict
 use Rattle.tp_syntax.specs.Item.{Item, token, rule, sy, exactly, this_name}
-use Rattle.tp_syntax.specs.Rule.{a_predefined, a_type, addressees, all_ports, an_integer, control_word, may_have_from}
+use Rattle.tp_syntax.specs.Rule.{a_predefined, a_type, addressees, an_integer, control_word, may_have_from}
 use Rattle.tp_syntax.specs.Rule.{may_have_sender, may_have_template, may_have_value, other_operation, received}
 use Rattle.tp_syntax.specs.Rule.{receivers, receiving, redirect, redirected, sent, set_verdict, turns, verdict_word}
 use Rattle.tp_syntax.specs.Rule.{who}

@@ -1,8 +1,7 @@
 -- What a function of the parser does.
 use Rattle.std.specs.Prelude.{List, map, Result, MatchResult}
 use Rattle.tp_syntax.specs.Lexeme.{PlacedLexeme, placed_lexeme}
-use Rattle.tp_syntax.specs.Item.{Item, rule}
-use Rattle.tp_syntax.specs.Rule.{Rule}
+use Rattle.tp_syntax.specs.Item.{Item}
 use Rattle.tp_syntax.specs.Reading.{Tree, Reads, Fails}
 use Rattle.tp_syntax.specs.declared.stuck.Stuck.{Stuck}
 use Rattle.tp_syntax.specs.declared.cursor.Parser.{Parser}

@@ -1,5 +1,5 @@
 -- Reading that goes on: what is read of a rule up to the rule at its end, which is still to be read.
-use Rattle.std.specs.Prelude.{ℕ, ◌≡◌, Bool, true, false, cond, List, [], ◌∷◌, ◌++◌, Option, Some, None, Result}
+use Rattle.std.specs.Prelude.{ℕ, ◌≡◌, Bool, true, false, List, [], ◌∷◌, ◌++◌, Option, None, Result}
 use Rattle.std.specs.Prelude.{MatchResult}
 use Rattle.tp_syntax.specs.Lexeme.{PlacedLexeme}
 use Rattle.tp_syntax.specs.declared.token.Symbol.TheVariants.{Semicolon, RightBrace}

@@ -11,7 +11,7 @@ use Rattle.tp_syntax.specs.declared.plain.Plain.TheVariants as p
 use Rattle.tp_syntax.specs.PartialReading.{closing_tree}
 use Rattle.tp_syntax.specs.OperationTrees.{control_tree}
 use Rattle.tp_syntax.specs.OtherOperations.{operation_tree}
-use Rattle.tp_syntax.specs.StatementTrees.{Shape, compounded, verdict_set, on_all_ports, port_started, on_port}
+use Rattle.tp_syntax.specs.StatementTrees.{Shape, verdict_set, on_all_ports, port_started, on_port}
 use Rattle.tp_syntax.specs.StatementTrees.{named_tree}
 use Rattle.tp_syntax.specs.TemplateTrees.{of, one, sym}
 

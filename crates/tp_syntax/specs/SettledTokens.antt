@@ -1,5 +1,5 @@
 -- Tokens without a `-` directly before the number 0, whose line this 0 takes.
-use Rattle.std.specs.Prelude.{ℕ, Bool, true, false, cond, List, [], ◌∷◌, ◌++◌, Option, Some, None, ◌==◌}
+use Rattle.std.specs.Prelude.{ℕ, Bool, false, cond, List, [], ◌∷◌, ◌++◌, Option, Some, None, ◌==◌}
 use Rattle.tp_syntax.specs.declared.token.Symbol.TheVariants.{Minus}
 use Rattle.tp_syntax.specs.Lexeme.{Lexeme, number, symbol, PlacedLexeme}
 use Rattle.tp_syntax.specs.Faults.{is_minus}

@@ -1,7 +1,7 @@
 -- The trees of statements.
 use Rattle.std.specs.Prelude.{ℕ, Bool, true, false, List, [], ◌∷◌, ◌++◌, map, Option, Some, None}
 use Rattle.tp_syntax.specs.declared.word.Word.TheVariants as w
-use Rattle.tp_syntax.specs.declared.token.Symbol.TheVariants.{Dot, LeftBrace, LeftBracket, RightBracket, Semicolon}
+use Rattle.tp_syntax.specs.declared.token.Symbol.TheVariants.{Dot, LeftBrace, LeftBracket, RightBracket}
 use Rattle.tp_syntax.specs.Lexeme.{name, word}
 use Rattle.tp_common.specs.declared.operation.PortOperation.{PortOperation}
 use Rattle.tp_common.specs.declared.operation.PortOperation.TheVariants as port_operation
@@ -19,7 +19,7 @@ use Rattle.tp_tree.specs.declared.tree.VerdictName.{VerdictName}
 use Rattle.tp_syntax.specs.Rule.{a_branch, a_reception, a_statement, after_bracket, all_ports, an_otherwise, compound}
 use Rattle.tp_syntax.specs.Rule.{end_of_branch, end_of_plain, end_of_reception, more_branches, named, named_operation}
 use Rattle.tp_syntax.specs.Rule.{other_operation, plain, statements}
-use Rattle.tp_syntax.specs.Reading.{Tree, leaf, none, more}
+use Rattle.tp_syntax.specs.Reading.{Tree, leaf, more}
 use Rattle.tp_syntax.specs.PartialReading.{Frame, frame, under, all_frames, enter, end_frames, closing_tree, may_end_tree}
 use Rattle.tp_syntax.specs.OperationTrees.{control_tree, operation_word, receiving_tree, send_tree, set_verdict_tree}
 use Rattle.tp_syntax.specs.OperationTrees.{turns_tree}

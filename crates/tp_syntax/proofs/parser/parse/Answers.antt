@@ -10,7 +10,6 @@ use Rattle.tp_syntax.specs.Item.{rule}
 use Rattle.tp_syntax.specs.Rule.{a_module}
 use Rattle.tp_syntax.specs.Reading.{Fails, Reads}
 use Rattle.tp_syntax.specs.Refusal.{IsText}
-use Rattle.tp_syntax.specs.ReadTexts.{HasTokens}
 use Rattle.tp_syntax.specs.DefinitionTrees.{module_tree}
 use Rattle.tp_syntax.specs.Faults.{fault_in}
 use Rattle.tp_syntax.specs.SettledTokens.{settled}

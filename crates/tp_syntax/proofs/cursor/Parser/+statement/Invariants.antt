@@ -1,5 +1,5 @@
 -- What is left is read as what remains of the statements, or of the branches.
-use Rattle.std.proofs.Common.{◌+◌, ◌*◌, ◌≤◌, ◌++◌, [], length, map}
+use Rattle.std.proofs.Common.{◌+◌, ◌*◌, ◌≤◌, ◌++◌, length, map}
 use Rattle.tp_syntax.specs.Rule.{a_branch, a_statement, statements}
 use Rattle.tp_syntax.specs.PartialReading.{Leads, all_frames, enter, part_or_end}
 use Rattle.tp_syntax.specs.Parsing.{left}
