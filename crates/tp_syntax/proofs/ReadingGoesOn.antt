@@ -74,10 +74,6 @@ pub goes_ok : {A : Type 0} {r : Rule} {frames : A → List Frame} {onto : A → 
     → Leads r (left p) (frames x) (onto x) (left q) → Goes r frames onto p (Ok x) q
 goes_ok h = record { gone = h }
 
-pub goes_as : {A : Type 0} {r : Rule} {frames : A → List Frame} {onto : A → Rule} {p q : Parser} {x : A} {fs : List Frame}
-    → frames x ≡ fs → Leads r (left p) fs (onto x) (left q) → Goes r frames onto p (Ok x) q
-goes_as {r = r} {onto = onto} {p = p} {q = q} {x = x} e h = record { gone = subst (λ (gs : List Frame). Leads r (left p) gs (onto x) (left q)) (sym e) h }
-
 -- what is handed on by `?`
 pub goes_handed : {A : Type 0} {r : Rule} {frames : A → List Frame} {onto : A → Rule} {p q : Parser} {result : Result A Stuck} {e : Stuck}
     → IsErrAnd result (λ made. made ≡ e) → Fails (rule r) (left p) e → Goes r frames onto p result q

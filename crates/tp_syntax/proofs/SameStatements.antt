@@ -24,8 +24,6 @@ use Rattle.tp_syntax.specs.TemplateTrees.{of, one}
 use Rattle.tp_syntax.specs.StatementTrees.{after_branches, BranchView, ElseView, Shape, Step, action_step, body_of, body_step, branch_frames, branch_of}
 use Rattle.tp_syntax.specs.StatementTrees.{branch_step, branches_tree, block_tree, compounded, control_shape, counted_step, counted_tree, else_of, else_step}
 use Rattle.tp_syntax.specs.StatementTrees.{plain_tree, shape_frames, shape_of, statement_step, statements_tree, step_frames, step_of}
-use Rattle.tp_syntax.specs.CaseParts.{statement_part}
-use Rattle.tp_syntax.specs.CaseTrees.{Kind, Part, does}
 use Rattle.tp_syntax.proofs.StatementViews.{branch_made, else_made, step_made}
 use Rattle.tp_syntax.proofs.SameTemplates.{firsts}
 use Rattle.tp_syntax.proofs.SameOperations.{sent_back, sent_returns, receivers_back, receivers_return, receive_back, receive_returns, operation_of_word}
@@ -309,22 +307,6 @@ steps_return (x ∷ xs) = ap₂ ◌∷◌ (statement_returns x) (steps_return xs
 
 pub statements_return : (xs : List Statement) → statements_back (statements_tree xs) ≡ xs
 statements_return xs = block_back (map step_of xs) ∙ steps_return xs
-
--- a statement as a part of a test case's body
-abbrev action_of_kind : Kind → Action
-action_of_kind (does x) = shape_back x
-action_of_kind _ = control_of [] p.Start
-
-pub statement_of_part : Part → Statement
-statement_of_part x = statement_of x.line (action_of_kind x.kind) x.semicolon
-
-pub part_returns : (x : Statement) → statement_of_part (statement_part x) ≡ x
-unfolding statement_of_part
-part_returns x = statement_returns x
-
--- two statements that are one part are the same
-pub part_told : (x y : Statement) → statement_part x ≡ statement_part y → x ≡ y
-part_told x y e = sym (part_returns x) ∙ (ap statement_of_part e ∙ part_returns y)
 
 -- two lists of statements of one tree are the same
 pub statements_told : (xs ys : List Statement) → statements_tree xs ≡ statements_tree ys → xs ≡ ys

@@ -1,5 +1,5 @@
 -- A template is told by its tree: what reads the tree back gives the template.
-use Rattle.std.proofs.Common.{◌≡◌, ℕ, ℤ, pos, negsuc, suc, true, false, List, [], ◌∷◌, map, Option, Some, None, refl, ap, ap₂, sym, ◌∙◌}
+use Rattle.std.proofs.Common.{◌≡◌, ℕ, ℤ, pos, negsuc, suc, true, false, List, [], ◌∷◌, map, Option, Some, None, refl, ap₂}
 use Rattle.tp_syntax.specs.declared.token.Symbol.{Symbol}
 use Rattle.tp_syntax.specs.declared.token.Symbol.TheVariants.{LeftBrace, LeftParen, Star}
 use Rattle.tp_syntax.specs.Lexeme.{name, number, text, word, symbol}
@@ -196,7 +196,3 @@ returns_all = ind-Template Returns FieldReturns (λ x y is. rw (← is, views_at
 
 pub template_returns : (x : Template) → template_back (template_tree x) ≡ x
 template_returns x = (returns_all x).whole
-
--- two templates of one tree are the same
-pub templates_told : (x y : Template) → template_tree x ≡ template_tree y → x ≡ y
-templates_told x y e = sym (template_returns x) ∙ (ap template_back e ∙ template_returns y)

@@ -217,7 +217,3 @@ returns_all = ind-Value Returns FieldReturns
 
 pub value_returns : (x : Value) → value_back (value_tree x) ≡ x
 value_returns x = (returns_all x).whole
-
--- two values of one tree are the same
-pub same_value : (x y : Value) → value_tree x ≡ value_tree y → x ≡ y
-same_value x y e = sym (value_returns x) ∙ (ap value_back e ∙ value_returns y)

@@ -106,11 +106,6 @@ pub fails_word : (x : Word) {gs : List Guarded} {otherwise : List Item} {ts : Li
     → FailsChoice gs otherwise ts f
 fails_word x {gs} a e h = fails_next gs (rw (word_accepted x _ (a ∙ e)) h)
 
-pub fails_symbol : (x : Symbol) {gs : List Guarded} {otherwise : List Item} {ts : List PlacedLexeme} {f : Stuck} {r : Bool}
-    → accepts (of_symbol x) (next ts) ≡ r → r ≡ true → FailsAll [] (chosen gs otherwise (Some (symbol x))) ts f
-    → FailsChoice gs otherwise ts f
-fails_symbol x {gs} a e h = fails_next gs (rw (symbol_accepted x _ (a ∙ e)) h)
-
 -- what a function of the parser answers
 pub parsed_ok : {A : Type 0} {i : Item} {view : A → Tree} {p q : Parser} {x : A}
     → Reads i (left p) (view x) (left q) → Parses i view p (Ok x) q

@@ -18,7 +18,8 @@ use Rattle.tp_tree.specs.declared.tree.Module.{Module}
 use Rattle.tp_syntax.specs.BehaviourTrees.{test_case_trees, function_tree}
 use Rattle.tp_syntax.specs.CaseParts.{variable_part}
 use Rattle.tp_syntax.specs.CaseTrees.{Part}
-use Rattle.tp_syntax.specs.PartialReading.{Frame, all_frames, closing_tree, end_frames, enter, frame, may_end_tree, under}
+use Rattle.tp_syntax.specs.PartialReading.{Frame, all_frames, closing_tree, end_frames, enter, frame}
+use Rattle.tp_syntax.specs.PartialReading.{may_end_tree, under}
 use Rattle.tp_syntax.specs.OperationTrees.{type_tree}
 use Rattle.tp_syntax.specs.TemplateTrees.{of, one, sym, nothing, chain, steps, closing}
 use Rattle.tp_syntax.specs.TypeTrees.{declared_tree, fields_tree, ports_tree, direction_tree}

@@ -20,7 +20,8 @@ use Rattle.tp_syntax.specs.Rule.{a_branch, a_reception, a_statement, after_brack
 use Rattle.tp_syntax.specs.Rule.{end_of_branch, end_of_plain, end_of_reception, more_branches, named, named_operation}
 use Rattle.tp_syntax.specs.Rule.{other_operation, plain, statements}
 use Rattle.tp_syntax.specs.Reading.{Tree, leaf, more}
-use Rattle.tp_syntax.specs.PartialReading.{Frame, frame, under, all_frames, enter, end_frames, closing_tree, may_end_tree}
+use Rattle.tp_syntax.specs.PartialReading.{Frame, frame, under, all_frames, enter, end_frames}
+use Rattle.tp_syntax.specs.PartialReading.{closing_tree, may_end_tree}
 use Rattle.tp_syntax.specs.OperationTrees.{control_tree, operation_word, receiving_tree, send_tree, set_verdict_tree}
 use Rattle.tp_syntax.specs.OperationTrees.{turns_tree}
 use Rattle.tp_syntax.specs.TemplateTrees.{of, one, sym}

@@ -115,9 +115,13 @@ fn last_line(text: &[u8]) -> u32
 /// Returns the module that the text spells. A `-` directly before the number 0 is left out.
 ///
 /// The whole text is first split into tokens by [`lex`], whose refusals come before those of the
-/// grammar: 10 `Syntax` at the line of the first token that can't stand at its place, or of the end
-/// of the text if more is needed; 15 `Limit` at the line of a number that is too great or of a
-/// bracket that would be the 33rd open one.
+/// grammar. Of the grammar's refusals the first in the text is returned:
+/// - 10 `Syntax` at the line of the first token that can't stand at its place, or of the end of the
+///   text if more is needed. This includes an `[else]` branch that isn't the last one (at the `[`
+///   after it), a `for` whose four names differ (at the first that differs), and a `pattern` whose
+///   text contains one of `\ [ ] { } ( ) | # +` or a quote;
+/// - 15 `Limit` at the line of the number 9223372036854775808 without a `-` before it, or of a
+///   bracket that would be the 33rd open one.
 pub fn parse(alloc: Global, text: &[u8]) -> Result<Module, ScriptFault>
     ensures read { IfOk result (IsReadAs text.now) }
     ensures refused { IfErr result (IsUnread text.now) }

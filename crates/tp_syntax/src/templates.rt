@@ -6,8 +6,9 @@ ghost use Rattle.tp_syntax.specs.Rule.{counted_template, in_parentheses, more_te
 ghost use Rattle.tp_syntax.specs.Rule.{other_template, template_entries, uncounted_template, upper};
 ghost use Rattle.tp_syntax.specs.Reading.{more};
 ghost use Rattle.tp_syntax.specs.Parsing.{Parses};
-ghost use Rattle.tp_syntax.specs.TemplateTrees.{IsCounted, IsInside, IsOther, IsUncounted, after_minus_tree, after_number_tree};
-ghost use Rattle.tp_syntax.specs.TemplateTrees.{chain, counted_tree, field_tree, inside_tree, integer_tree, number_inside, of};
+ghost use Rattle.tp_syntax.specs.TemplateTrees.{IsCounted, IsInside, IsOther, IsUncounted, after_minus_tree};
+ghost use Rattle.tp_syntax.specs.TemplateTrees.{after_number_tree, chain, counted_tree, field_tree, inside_tree};
+ghost use Rattle.tp_syntax.specs.TemplateTrees.{integer_tree, number_inside, of};
 ghost use Rattle.tp_syntax.specs.TemplateTrees.{one, other_tree, sym, template_tree, uncounted_tree, upper_tree};
 
 use crate::cursor::Parser;
