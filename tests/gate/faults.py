@@ -6,14 +6,10 @@
 
 The first form tries the faults of all parts, or of those named; the second of so many by chance, beside each other, of
 those that took 30 seconds at most in this run, by the file TIMES. Each is planted in a copy of the tree, in which the
-part is tried with `./test part NAME`. There are two kinds of faults:
+part is tried with `./test part NAME`. tests/gate/parts says of which two kinds they are.
 
-    says SED         what the program prints goes through `sed -e SED`
-    text FILE SED    a file of the copy is changed so
-
-It prints a line `passed NAME` for each fault that is told, `left out the fault of NAME: WHY`, or a line that begins
-with `FAILED: `. The same seed chooses others where other parts took 30 seconds at most: by their names each is planted
-again.
+It prints a line `passed NAME` for each fault that is told, `left out the fault of NAME: WHY`, or `FAILED: ..`. The same
+seed chooses others where other parts took 30 seconds at most.
 """
 from __future__ import annotations
 

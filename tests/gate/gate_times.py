@@ -1,20 +1,23 @@
 #!/usr/bin/env python3
 """Runs the first half of ./test, and writes what each crate took: its proof, its tests, its wrong bodies.
 
-    tests/gate/gate_times.py FILE COMMAND..
+    tests/gate/gate_times.py FILE OUTPUT COMMAND..
 
 The command's output and status are its own. rt says when a crate is proved, and neither when that began nor when its
 wrong bodies were done. So the processes below the command are looked at twice a second: which crate each is for
 (`--crate-name`), and for what (`--test`, or a folder rt-edit-.. or wrong-bodies-.. for a wrong body). FILE gets a line
-for each crate with seconds of wall time, from the first moment that one of its processes was seen to the last, and of
-processor time, as it was last seen of each: so up to half a second of each process is missing, and the runs of programs
-and tests, which are short, are left out. It is written anew at each look, whole: so a gate that is cut off leaves what
-was seen.
+for each crate, at each look, with seconds of wall time in which its processes were seen, and of processor time. Up to
+half a second of each process is missing, and so are the short runs of programs and tests.
+
+On a terminal, file 3, it says how many crates are proved by OUTPUT, the file to which the caller copies the output, what
+is at work, and how long that took the last time (out/times_of_first_half).
 """
 from __future__ import annotations
 
 import argparse
+import json
 import os
+import re
 import subprocess
 import sys
 import time
@@ -23,13 +26,15 @@ from typing import NamedTuple, Optional
 
 sys.dont_write_bytecode = True
 
-from wrong_body_edits import write
+from wrong_body_edits import crates, read, write
 
-EACH = 0.5
+EACH, PAUSE = 0.5, 60.0  # seconds
+TERMINAL = 3  # the standard error of ./test
+LAST = os.path.abspath("out/times_of_first_half")
 TICK = os.sysconf("SC_CLK_TCK")
 KINDS = ("proof", "tests", "wrong bodies")
 
-Part = tuple[str, str]  # a crate, and one of these kinds
+Part = tuple[str, str]  # one of these kinds, and a crate
 
 
 class Process(NamedTuple):
@@ -41,14 +46,19 @@ class Process(NamedTuple):
 
 
 class Seen:
-    """What was seen of the processes of one part: when first, when last, and the processor time of each."""
+    """What was seen of the processes of one part: when last, for how long, and the processor time of each."""
 
     def __init__(self, now: float) -> None:
-        self.first, self.last = now, now
+        self.last, self.wall = now, 0.0
         self.used: dict[tuple[int, str], float] = {}
 
+    def note(self, now: float) -> None:
+        """One of them is seen. A pause isn't counted: `rt ci` and of_a_run try wrong bodies of the same crates."""
+        self.wall += now - self.last if now - self.last < PAUSE else 0.0
+        self.last = now
+
     def cell(self) -> str:
-        return f"{self.last - self.first:8.0f} {sum(self.used.values()):8.0f}"
+        return f"{self.wall:8.0f} {sum(self.used.values()):8.0f}"
 
 
 def processes() -> dict[int, Process]:
@@ -64,7 +74,7 @@ def processes() -> dict[int, Process]:
 
 
 def part_of(pid: int) -> Optional[Part]:
-    """The crate and the kind that a process is for, by its words and its folder."""
+    """The kind and the crate that a process is for, by its words and its folder."""
     try:
         words = Path(f"/proc/{pid}/cmdline").read_text(errors="replace").split("\0")
         folder = os.path.basename(os.readlink(f"/proc/{pid}/cwd"))
@@ -73,11 +83,11 @@ def part_of(pid: int) -> Optional[Part]:
     if "--crate-name" not in words[:-1]:
         return None
     kind = KINDS[2] if folder.startswith(("rt-edit-", "wrong-bodies-")) else KINDS["--test" in words]
-    return words[words.index("--crate-name") + 1], kind
+    return kind, words[words.index("--crate-name") + 1]
 
 
-def look(top: int, parts: dict[Part, Seen]) -> None:
-    """Notes what is to be seen below the process: what each is for, or else the nearest of those that started it."""
+def look(top: int, parts: dict[Part, Seen]) -> float:
+    """Notes now what each process below this one is for, or else the nearest of those that started it."""
     now, there = time.monotonic(), processes()
     for pid, process in there.items():
         part, at = None, pid
@@ -85,16 +95,27 @@ def look(top: int, parts: dict[Part, Seen]) -> None:
             part, at = part or part_of(at), there[at].parent
         if part and at == top:
             seen = parts.setdefault(part, Seen(now))
-            seen.last, seen.used[pid, process.start] = now, process.used
+            seen.note(now)
+            seen.used[pid, process.start] = process.used
+    return now
+
+
+def at_work(parts: dict[Part, Seen], now: float, output: str, last: dict[str, int]) -> str:
+    """What is said of the parts that were seen just now, if there are any."""
+    text = Path(output).read_text(errors="replace") if os.path.exists(output) else ""
+    proved = len(re.findall(r"^rt: \w+ proved$", text, re.M))
+    names = [" of ".join(it) for it, seen in parts.items() if seen.last == now]
+    told = ", ".join(it + f" ({last.get(it)} s the last time)" * (it in last) for it in names)
+    return told and f"test: {proved} of {len(crates())} crates proved; at work: {told}\n"
 
 
 def table(parts: dict[Part, Seen]) -> str:
     """The table of what was seen, in the order in which the crates were first seen."""
     rows = [[f"{'the first half, seconds: wall and used':40}", *(f"{kind:>17}" for kind in KINDS)]]
-    for crate in dict.fromkeys(crate for crate, _ in parts):
-        cells = [parts[crate, kind].cell() if (crate, kind) in parts else f"{'-':>8} {'-':>8}" for kind in KINDS]
+    for crate in dict.fromkeys(crate for _, crate in parts):
+        cells = [parts[kind, crate].cell() if (kind, crate) in parts else f"{'-':>8} {'-':>8}" for kind in KINDS]
         rows.append([f"{crate:40}", *cells])
-    whole = [sum(sum(it.used.values()) for (_, kind), it in parts.items() if kind == wanted) for wanted in KINDS]
+    whole = [sum(sum(it.used.values()) for (kind, _), it in parts.items() if kind == wanted) for wanted in KINDS]
     rows.append([f"{'all':40}", *(f"{'':8} {it:8.0f}" for it in whole)])
     return "".join(f"{' '.join(row)}\n" for row in rows)
 
@@ -102,16 +123,23 @@ def table(parts: dict[Part, Seen]) -> str:
 def main() -> int:
     words = argparse.ArgumentParser(description="Runs the first half of the gate, and measures what each crate takes.")
     words.add_argument("file", metavar="FILE", help="where the table is written")
+    words.add_argument("output", metavar="OUTPUT", help="where the caller copies what the command prints")
     words.add_argument("command", metavar="COMMAND", help="what is run")
     words.add_argument("words", metavar="WORD", nargs=argparse.REMAINDER, help="of the command")
     asked = words.parse_args()
     parts: dict[Part, Seen] = {}
+    last, said, line = json.loads(read(LAST)) if os.path.exists(LAST) else {}, "", ""
     with subprocess.Popen([asked.command, *asked.words]) as ran:
         while ran.poll() is None:
-            look(ran.pid, parts)
+            before, line = line, at_work(parts, look(ran.pid, parts), asked.output, last)
+            # Between two checks of one crate none may be at work: what is seen twice is said.
+            if line == before and line not in ("", said) and os.isatty(TERMINAL):
+                os.write(TERMINAL, line.encode())
+                said = line
             write(os.path.abspath(asked.file), table(parts))
             time.sleep(EACH)
     write(os.path.abspath(asked.file), table(parts))
+    write(LAST, json.dumps({**last, **{" of ".join(it): round(seen.wall) for it, seen in parts.items()}}))
     return ran.returncode if ran.returncode >= 0 else 128 - ran.returncode
 
 

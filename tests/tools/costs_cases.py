@@ -12,11 +12,14 @@ import os
 import pty
 import re
 import sys
+from concurrent.futures import ThreadPoolExecutor
+from io import FileIO
+from pathlib import Path
 
 sys.dont_write_bytecode = True
 
 from tool_calls import (
-    ROOT, Group, case, file_of, must_be, onto_a_full_device, room, run, says_usage, try_groups,
+    ROOT, Ended, Group, Word, case, file_of, must_be, onto_a_full_device, room, run, says_usage, try_groups,
 )  # fmt: skip
 
 COSTS, TIMES = ROOT / "tools" / "costs.py", ROOT / "tests" / "gate" / "gate_times.py"
@@ -52,18 +55,27 @@ took() { # CRATE COLUMN
 export times=$PWD/times
 export -f took
 busy() { # FOLDER COLUMN WORD..
-    cd -- "$1" && timeout 100 bash -c 'until took "$3" "$0"; do for ((n = 0; n < 100000; n += 1)); do :; done; done' \
+    cd -- "$1" && timeout 600 bash -c 'until took "$3" "$0"; do for ((n = 0; n < 100000; n += 1)); do :; done; done' \
         "$2" check --crate-name "${@:3}"
 }
 echo "rt: ci"
 (busy low 2 low src/lib.rt)
+echo "rt: low proved"
 (busy low 4 low src/lib.rt --test) &
 (busy rt-edit-1 6 low src/lib.rt)
-(busy high 2 high src/lib.rt)
 wait
+echo "rt: low: its tests are proved"
+(busy high 2 high src/lib.rt)
 exit 3
 """
+SAID_BY_CI = "rt: ci\nrt: low proved\nrt: low: its tests are proved\n"
 TOOK = ["low some some some some some some", "high some some - - - -", "all some some some"]
+
+# As ./test runs it: file 3 is its standard error, and the output is copied to a file.
+GATE = 'rm -f times output && "$1" -B "$2" times output ./ci 3>&2 2>&1 | tee output; exit "${PIPESTATUS[0]}"'
+AT_WORK_IN_CI = r"test: [01] of [0-9]+ crates proved; at work: .*"
+PROOF_OF_LOW = r"test: 0 of [0-9]+ crates proved; at work: proof of low \([0-9]+ s the last time\)"
+PROOF_OF_HIGH = r"test: 1 of [0-9]+ crates proved; at work: proof of high \([0-9]+ s the last time\)"
 
 # Two parts beside each other, as ./test runs them: `slow` ends last.
 PARTS = r"""
@@ -111,19 +123,27 @@ def costs() -> None:
 
 
 def times() -> None:
-    """What each crate took of a gate, which is run once."""
+    """What each crate took of a gate, which is run twice, and what is said of it meanwhile."""
     with room() as folder:
         for name in ("low", "high", "rt-edit-1"):
             (folder / name).mkdir()
         file_of(folder / "ci", CI).chmod(0o755)
-        with case("the gate's output and status"):
-            run(sys.executable, "-B", TIMES, "times", "./ci", folder=folder).must_print("rt: ci\n", 3)
+        gate = ("bash", "-c", GATE, "gate", sys.executable, TIMES)
+        with case("the gate's output and status, and nothing of what is at work if file 3 is no terminal"):
+            run(*gate, folder=folder).must_print(SAID_BY_CI, 3)
         with case("what was seen of each crate"):
             rows = [row.split() for row in (folder / "times").read_text(encoding="utf-8").splitlines()[1:]]
             seen = [[it if it == "-" else "some" if float(it) > 0 else "none" for it in row[1:]] for row in rows]
             must_be([" ".join([row[0], *it]) for row, it in zip(rows, seen)], TOOK)
+        with case("what is at work on a terminal, and how long it took the last time"):
+            ended, told = said_to(*pty.openpty(), *gate, folder=folder)
+            ended.must_end(3)
+            lines = told.splitlines()
+            must_be([line for line in lines if not re.fullmatch(AT_WORK_IN_CI, line)], [])
+            must_be([bool(re.fullmatch(*it)) for it in ((PROOF_OF_LOW, lines[0]), (PROOF_OF_HIGH, lines[-1]))], [True] * 2)
+            must_be([line for line, next_one in zip(lines, lines[1:]) if line == next_one], [])
     with case("no command"):
-        run(sys.executable, "-B", TIMES, "times").must_hold(2, says_usage("gate_times.py"))
+        run(sys.executable, "-B", TIMES, "times", "output").must_hold(2, says_usage("gate_times.py"))
 
 
 def parts_at_work() -> None:
@@ -139,17 +159,33 @@ def parts_at_work() -> None:
 
 def said(ours: int, theirs: int) -> tuple[str, str]:
     """What they say on standard error, of which these are the two ends, and the times that they leave."""
-    printed = b""
-    with room() as folder, open(ours, "rb", buffering=0) as ends:
+    with room() as folder:
         last = file_of(folder / "times", "other 7\nquick 41\n")
-        run("bash", "-c", PARTS, "parts", last, folder=ROOT, stderr=theirs)
-        os.close(theirs)
-        with contextlib.suppress(OSError):  # how Linux tells the end of a terminal
-            while more := ends.read(4096):
-                printed += more
-        return printed.decode(), last.read_text(encoding="utf-8")
+        _, told = said_to(ours, theirs, "bash", "-c", PARTS, "parts", last, folder=ROOT)
+        return told, last.read_text(encoding="utf-8")
+
+
+def said_to(ours: int, theirs: int, *words: Word, folder: Path) -> tuple[Ended, str]:
+    """How a command ends, and what it says on standard error, of which these are the two ends. It is read as it comes,
+    because a terminal holds only 4,096 bytes of it."""
+    with ThreadPoolExecutor(1) as pool, open(ours, "rb", buffering=0) as end:
+        told = pool.submit(text_to, end)
+        try:
+            ended = run(*words, folder=folder, stderr=theirs)
+        finally:
+            os.close(theirs)
+        return ended, told.result()
+
+
+def text_to(end: FileIO) -> str:
+    """What comes to this end until there is no other one."""
+    printed = b""
+    with contextlib.suppress(OSError):  # how Linux tells the end of a terminal
+        while more := end.read(4096):
+            printed += more
+    return printed.decode()
 
 
 if __name__ == "__main__":
-    groups = ((costs, 10), (times, 3), (parts_at_work, 3))
+    groups = ((costs, 10), (times, 4), (parts_at_work, 3))
     sys.exit(try_groups(Group(it, least, it.__name__) for it, least in groups))

@@ -17,7 +17,7 @@ tools() {
 
 # What says how long something takes: tools/costs.py, tests/gate/gate_times.py, and ./test while its parts are at work.
 costs() {
-    at_least 16 told "$room/costs" tests/tools/costs_cases.py
+    at_least 17 told "$room/costs" tests/tools/costs_cases.py
 }
 
 # Reports that are cut, and texts that are no reports: the tools refuse each, with its line.
