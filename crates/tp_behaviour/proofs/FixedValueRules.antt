@@ -1,5 +1,5 @@
 -- Values and templates in which no loop variable stands, a rule for each variant.
-use Rattle.std.proofs.Common.{◌≡◌, ◌∙◌, ℕ, ◌≤◌, ℤ, Bool, List, [], ◌∷◌, Option, Some, map, refl, subst, sym, ap, arith}
+use Rattle.std.proofs.Common.{◌≡◌, ◌∙◌, ℕ, ◌≤◌, ℤ, Bool, List, [], ◌∷◌, Option, map, refl, sym, ap, arith}
 use Rattle.std.specs.Prelude.{All}
 use Rattle.std.proofs.lemmas.List.Elements.{All-head, All-tail}
 use Rattle.tp_value.specs.declared.template.PatternPart.{PatternPart}
@@ -13,15 +13,9 @@ use Rattle.tp_play.specs.declared.body.RecvTemplate.{RecvTemplate}
 use Rattle.tp_play.specs.declared.body.RecvTemplate.TheVariants as r
 use Rattle.tp_play.specs.declared.body.RecvTemplate.TheOpen as p
 use Rattle.tp_play.specs.declared.body.RecvTemplate.TheFolds.{fold-roll-RecvTemplate}
-use Rattle.tp_play.specs.Fills.{greatest, needed_step, needed, needed_template_step, needed_by_template, filled, filled_template, filled_wanted, needed_by_wanted}
+use Rattle.tp_play.specs.Fills.{greatest, needed_step, needed, needed_template_step, needed_by_template, filled, filled_template}
 use Rattle.tp_play.proofs.FilledValueEquations.{filled_bool, filled_int, filled_list, filled_record, filled_text, needed_by_exact, needed_by_list, needed_by_none_of, needed_by_one_of, needed_by_record, needed_list, needed_record, template_any, template_exact, template_list, template_many, template_none_of, template_one_of, template_pattern, template_range, template_record}
-use Rattle.tp_play.specs.declared.body.RecvMsg.{RecvMsg}
-use Rattle.tp_play.specs.declared.body.RecvMsg.TheVariants as wanted
-use Rattle.tp_value.specs.declared.types.Ty.{Ty}
-use Rattle.tp_value.specs.declared.message.MsgTemplate.{MsgTemplate}
-use Rattle.tp_value.specs.declared.message.MsgTemplate.TheVariants as m
 use Rattle.tp_behaviour.specs.Fixed.{IsFixed, IsFixedValue}
-use Rattle.tp_behaviour.specs.Lasting.{IsWantedAlways}
 
 needed_int : (z : ℤ) → needed (w.Int z) ≡ 0
 unfolding needed

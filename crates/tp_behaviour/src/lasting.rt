@@ -90,21 +90,15 @@ fn lasting_statement(alloc: Global, statement: &ResolvedStatement) -> Result<Las
         }
         ResolvedStatement::Alt(branches, otherwise) => {
             let branches = lasting_branches(alloc, branches.as_slice())?;
-            match otherwise {
-                Some(block) => {
-                    let block = lasting_block(alloc, block.as_slice())?;
-                    Ok(Lasting {
-                        wanted: None,
-                        branches,
-                        block,
-                    })
-                }
-                None => Ok(Lasting {
-                    wanted: None,
-                    branches,
-                    block: Items::new(alloc),
-                }),
-            }
+            let block = match otherwise {
+                Some(block) => lasting_block(alloc, block.as_slice())?,
+                None => Items::new(alloc),
+            };
+            Ok(Lasting {
+                wanted: None,
+                branches,
+                block,
+            })
         }
         ResolvedStatement::For(_, _, block) => {
             let block = lasting_block(alloc, block.as_slice())?;

@@ -1,6 +1,6 @@
 //! A component's senders.
 ghost use Rattle.std.specs.Prelude.{◌≡◌, ◌≢◌, ◌↔◌, ◌<◌, [], ◌∷◌, ◌++◌, ℕ, All, Contains, IfErr, IsTrue, OnErr, OnOk};
-ghost use Rattle.std.specs.Prelude.{Some, length, slice_get, vec_capacity, vec_len};
+ghost use Rattle.std.specs.Prelude.{IfSome, Some, length, slice_get, vec_capacity, vec_len};
 ghost use Rattle.tp_inbox.specs.declared.entry.Entry.TheVariants as entry;
 ghost use Rattle.tp_inbox.specs.History.{next_of};
 ghost use Rattle.tp_inbox.specs.Desks.{adding};
@@ -61,6 +61,36 @@ fn has_come(owner: &Owner, sender: &Sender) -> bool
         }
     }
     true
+}
+
+/// So many routes are looked through, which takes less than a search in the table.
+const FEW_ROUTES: usize = 4;
+
+fn way_of(sender: &Sender, route: RouteId) -> Option<usize>
+    ensures { IfSome result (λ way. slice_get sender.now.routes way ≡ Some route) }
+{
+    for way in 0..sender.ways() {
+        if sender.route(way) == route {
+            return Some(way);
+        }
+    }
+    None
+}
+
+fn place_among(senders: &[Sender], route: RouteId) -> Option<RoutePlace>
+    ensures { IfSome result (λ place. (s : SenderLedger)
+        × (slice_get senders.now place.sender ≡ Some s)
+        × (slice_get s.routes place.route_index ≡ Some route)) }
+{
+    for sender in 0..senders.len() {
+        if let Some(route_index) = way_of(&senders[sender], route) {
+            return Some(RoutePlace {
+                sender,
+                route_index,
+            });
+        }
+    }
+    None
 }
 
 fn list(loops: &mut Vec<usize>, sender: &Sender, place: usize)
@@ -152,6 +182,11 @@ impl Outbox {
         ensures { (s : SenderLedger) × (slice_get self.now result.sender ≡ Some s)
             × (slice_get s.routes result.route_index ≡ Some route) }
     {
+        if self.places.len() <= FEW_ROUTES {
+            if let Some(place) = place_among(self.senders.as_slice(), route) {
+                return place;
+            }
+        }
         match self.places.get(&route) {
             Some(place) => *place,
             // Each route of each sender is filed, and this is one of them.

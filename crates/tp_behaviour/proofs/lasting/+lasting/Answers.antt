@@ -4,6 +4,7 @@ use Rattle.tp_play.specs.declared.body.ResolvedStatement.TheVariants as b
 use Rattle.tp_behaviour.specs.Lasting.{AreLasting, AreLastingBranches, IsLasting, IsLastingBranch}
 use Rattle.tp_behaviour.proofs.LastingStatementRules.{make_all_ports, make_alt, make_branch, make_control, make_for, make_receive, make_send, make_set_verdict, zipped_all, zipped_more}
 use Rattle.tp_behaviour.proofs.lasting.+lasting.Goals as goal
+use Rattle.tp_behaviour.proofs.lasting.+lasting.Goals.{lasting_statement-in-Some+in_ok-block-in-Some, lasting_statement-in-None}
 
 pub lasting_block-loop-statement-preserved : goal.lasting_block-loop-statement-preserved
 lasting_block-loop-statement-preserved t c =
@@ -39,18 +40,20 @@ pub lasting_statement-returns-in_ok-wanted-in-Receive : goal.lasting_statement-r
 lasting_statement-returns-in_ok-wanted-in-Receive t c =
     make_receive c.args.statement.now c.in_ok-wanted-in-Receive.wanted _ _ c.in-Receive.receiving c.in-Receive.is c.in_ok-wanted-in-Receive.ensures
 
-pub lasting_statement-returns-in_ok-block-in-Some : goal.lasting_statement-returns-in_ok-block-in-Some
-lasting_statement-returns-in_ok-block-in-Some t c =
-    make_alt c.args.statement.now None c.in_ok-branches-in-Alt.branches c.in_ok-block-in-Some.block c.in-Alt.branches (Some c.in-Some.block)
-    (c.in-Alt.is ∙ ap (λ o. b.Alt c.in-Alt.branches o) c.in-Some.is)
-    (subst (λ xs. AreLastingBranches xs c.in_ok-branches-in-Alt.branches) c.as_slice.ensures c.in_ok-branches-in-Alt.ensures)
-    (subst (λ xs. AreLasting xs c.in_ok-block-in-Some.block) c.as_slice-in-Some.ensures c.in_ok-block-in-Some.ensures)
-
-pub lasting_statement-returns-in-None : goal.lasting_statement-returns-in-None
-lasting_statement-returns-in-None t c =
-    make_alt c.args.statement.now None c.in_ok-branches-in-Alt.branches _ c.in-Alt.branches None
-    (c.in-Alt.is ∙ ap (λ o. b.Alt c.in-Alt.branches o) c.in-None.is)
-    (subst (λ xs. AreLastingBranches xs c.in_ok-branches-in-Alt.branches) c.as_slice.ensures c.in_ok-branches-in-Alt.ensures) tt
+pub lasting_statement-returns-after-otherwise : goal.lasting_statement-returns-after-otherwise
+lasting_statement-returns-after-otherwise t c =
+    let block = c.match-otherwise.block in
+    let branches = subst (λ xs. AreLastingBranches xs c.in_ok-branches-in-Alt.branches) c.as_slice.ensures c.in_ok-branches-in-Alt.ensures in
+    elim c.match-otherwise.branch [
+      | lasting_statement-in-Some+in_ok-block-in-Some w ↦
+          make_alt c.args.statement.now None c.in_ok-branches-in-Alt.branches block c.in-Alt.branches (Some w.in-Some.block)
+          (c.in-Alt.is ∙ ap (λ o. b.Alt c.in-Alt.branches o) w.in-Some.is) branches
+          (subst (AreLasting w.in-Some.block) (sym w.block-is)
+          (subst (λ xs. AreLasting xs w.in_ok-block-in-Some.block) w.as_slice-in-Some.ensures w.in_ok-block-in-Some.ensures))
+      | lasting_statement-in-None w ↦
+          make_alt c.args.statement.now None c.in_ok-branches-in-Alt.branches block c.in-Alt.branches None
+          (c.in-Alt.is ∙ ap (λ o. b.Alt c.in-Alt.branches o) w.in-None.is) branches tt
+    ]
 
 pub lasting_statement-returns-in_ok-block-in-For : goal.lasting_statement-returns-in_ok-block-in-For
 lasting_statement-returns-in_ok-block-in-For t c =
