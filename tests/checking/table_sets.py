@@ -133,7 +133,8 @@ class Writing:
         return filled(begin, [*parts, "[]"])
 
     def table(self, about: str, word: str, sets: Sets) -> list[str]:
-        """A table whose equal sets of several tokens are named once."""
+        """A table whose equal sets of several tokens are named once. Its last line is for all other rules: those of the
+        most frequent set."""
         named: dict[frozenset[str], str] = {}
         shared: list[str] = []
         for name, kinds in sets.items():
@@ -142,10 +143,13 @@ class Writing:
                 named[frozenset(kinds)] = f"{word}_{name}"
                 shared += [f"abbrev {word}_{name} : List Terminal", *self.set_lines(f"{word}_{name} =", kinds), ""]
         lines = [*shared, about, f"unfoldable pub {word} : Rule → List Terminal"]
+        others = max(named, key=lambda it: sum(kinds == it for kinds in sets.values()))
         for name, kinds in sets.items():
+            if kinds == others:
+                continue
             short = named.get(frozenset(kinds))
             lines += [f"{word} r.{name} = {short}"] if short else self.set_lines(f"{word} r.{name} =", kinds)
-        return lines
+        return [*lines, f"{word} _ = {named[others]}"]
 
     def first_tokens(self) -> str:
         they = self.computed
@@ -201,12 +205,18 @@ class Writing:
                 "",
                 "pub rules_are_right : (r : Rule) → is_right r ≡ true",
                 "unfolding firsts follows",
-                *(f"rules_are_right r.{name} = refl" for name in self.computed.rules),
+                *computed_for_each("rules_are_right"),
                 "",
                 "pub rules_are_shallow : (r : Rule) → is_shallow r ≡ true",
-                *(f"rules_are_shallow r.{name} = refl" for name in self.computed.rules),
+                *computed_for_each("rules_are_shallow"),
             ]
         )
+
+
+def computed_for_each(lemma: str) -> list[str]:
+    """A lemma that is computed for each rule: because the first has a line of its own, the second line is taken once for
+    each of the others."""
+    return [f"{lemma} r.{FIRST} = refl", f"{lemma} r = refl"]
 
 
 def text_of(lines: list[str]) -> str:

@@ -2,7 +2,7 @@
 use Rattle.std.proofs.Common.{◌≡◌, ◌≤◌, ℕ, Bool, true, false, ◌&&◌, List, [], ◌∷◌, ◌++◌, refl, ap, sym, subst, ◌∙◌, append_assoc, append-nil, arith}
 use Rattle.std.proofs.lemmas.Bool.{false≢true}
 use Rattle.tp_syntax.specs.Lexeme.{PlacedLexeme}
-use Rattle.tp_syntax.specs.Rule.{a_setup, a_start, closing, after_statements, after_variables, case_setups, case_starts, case_statements, case_variables, end_of_case, end_of_case_statement, end_of_case_variable, end_of_setup, end_of_start}
+use Rattle.tp_syntax.specs.Rule.{a_setup, a_start, closing, after_statements, after_variables, case_setups, case_starts, case_statements, case_unnamed, case_variables, end_of_case, end_of_case_statement, end_of_case_variable, end_of_setup, end_of_start}
 use Rattle.tp_tree.specs.declared.tree.Action.{Action}
 use Rattle.tp_tree.specs.declared.tree.Action.TheViews.{roll-Statement}
 use Rattle.tp_syntax.specs.declared.cursor.Parser.{Parser}
@@ -10,57 +10,51 @@ use Rattle.tp_syntax.specs.declared.case_bodies.CaseBody.{CaseBody}
 use Rattle.tp_syntax.specs.declared.cases.Stage.{Stage}
 use Rattle.tp_syntax.specs.declared.cases.Stage.TheVariants as stage
 use Rattle.tp_syntax.specs.CaseParts.{IsUpTo, part, rank_of, stage_rank, statement_part}
-use Rattle.tp_syntax.specs.CaseTrees.{Kind, Part, pairs, creates, starts, declares, does, done, is_action, is_over, is_statement, is_unnamed, part_frames, part_rule, parts_frames, stage_behind, stage_of}
+use Rattle.tp_syntax.specs.CaseTrees.{Kind, Part, pairs, creates, starts, does, done, case_all_frames, is_action, is_all, is_over, is_statement, is_unnamed, part_frames, part_rule}
+use Rattle.tp_syntax.specs.CaseTrees.{parts_frames, stage_of, unnamed_frames}
 use Rattle.tp_syntax.specs.PartialReading.{Ends, Enters, HasEnd, semicolon_frames, Frame, Leads, enter, end_frames, part_or_end}
 use Rattle.tp_syntax.specs.Parsing.{left}
-use Rattle.tp_syntax.specs.StatementTrees.{Step, shape_of}
+use Rattle.tp_syntax.specs.StatementTrees.{Step, compounded, shape_of, verdict_set}
 use Rattle.tp_syntax.proofs.ReadingGoesOn.{leading, leads_on}
 use Rattle.tp_syntax.proofs.PredefinedTypes.{predefined_parsing}
 use Rattle.tp_syntax.proofs.StatementViews.{step_made}
 use Rattle.tp_syntax.proofs.StepsOfReading.{parsing}
 
 -- which parts are also others
+pub all_unnamed : (k : Kind) → is_all k ≡ true → is_unnamed k ≡ true
+all_unnamed (does (compounded t)) e = refl
+all_unnamed (does (verdict_set v)) e = refl
+all_unnamed k e = e
+
+pub all_frames_unnamed : (k : Kind) (b : Bool) → is_all k ≡ true → unnamed_frames k b ≡ enter case_unnamed ++ case_all_frames k b
+all_frames_unnamed (does (compounded t)) b e = absurd (false≢true e)
+all_frames_unnamed (does (verdict_set v)) b e = absurd (false≢true e)
+all_frames_unnamed k b e = refl
+
 pub unnamed_statement : (k : Kind) → is_unnamed k ≡ true → is_statement k ≡ true
-unnamed_statement (pairs x a b) e = e
-unnamed_statement (creates c) e = e
-unnamed_statement (starts n f args) e = e
-unnamed_statement (declares t n) e = e
 unnamed_statement (does s) e = refl
 unnamed_statement done e = refl
+unnamed_statement k e = e
 
 pub statement_action : (k : Kind) → is_statement k ≡ true → is_action k ≡ true
-statement_action (pairs x a b) e = e
-statement_action (creates c) e = e
 statement_action (starts n f args) e = refl
-statement_action (declares t n) e = e
-statement_action (does s) e = e
-statement_action done e = e
+statement_action k e = e
 
 -- how late they stand
 pub action_late : (k : Kind) → is_action k ≡ true → 1 ≤ stage_rank (stage_of k)
 action_late (pairs x a b) e = absurd (false≢true e)
 action_late (creates c) e = absurd (false≢true e)
-action_late (starts n f args) e = omega arith
-action_late (declares t n) e = omega arith
-action_late (does s) e = omega arith
-action_late done e = omega arith
+action_late k e = omega arith
 
 pub statement_late : (k : Kind) → is_statement k ≡ true → 3 ≤ stage_rank (stage_of k)
-statement_late (pairs x a b) e = absurd (false≢true e)
-statement_late (creates c) e = absurd (false≢true e)
-statement_late (starts n f args) e = absurd (false≢true e)
-statement_late (declares t n) e = absurd (false≢true e)
 statement_late (does s) e = omega arith
 statement_late done e = omega arith
+statement_late k e = absurd (false≢true e)
 
 -- a part of the stage that it leads to, unless it is the last
 pub rank_of_stage : (k : Kind) (b : Bool) → (is_over k && b) ≡ false → b ≡ true → rank_of k ≡ stage_rank (stage_of k)
-rank_of_stage (pairs x a c) b e n = refl
-rank_of_stage (creates c) b e n = refl
-rank_of_stage (starts n f args) b e m = refl
-rank_of_stage (declares t n) b e m = refl
-rank_of_stage (does s) b e n = refl
 rank_of_stage done b e n = absurd (false≢true (sym e ∙ n))
+rank_of_stage k b e n = refl
 
 -- the ends of parts
 pub enter_case_statements : {p : Parser} {b : Bool} → Enters p b → Leads case_statements (left p) (enter case_statements) (part_or_end after_statements b) (left p)
@@ -86,6 +80,11 @@ end_statement e = e.ended end_of_case_statement case_statements after_statements
 pub end_done : {p q : Parser} {b : Bool} → HasEnd p b q → Leads end_of_case (left p) (semicolon_frames end_of_case b) closing (left q)
 end_done {b = true} e = e.ended end_of_case closing refl refl
 end_done {b = false} e = e.ended end_of_case closing refl refl
+
+-- the stage after these parts
+abbrev pub stage_behind : Stage → List Part → Stage
+stage_behind s [] = s
+stage_behind s (p ∷ ps) = stage_behind (stage_of p.kind) ps
 
 -- one more part
 frames_push : (s : Stage) (ps : List Part) (p : Part)
@@ -125,4 +124,4 @@ pub part_made : (n : ℕ) (x : Action) (e : Bool) → statement_part (roll-State
 part_made n x e = ap (λ (s : Step). part s.line (does s.shape) s.semicolon) (step_made n x e)
 
 pub ruleset case_parsing =
-    (parsing, leading, predefined_parsing, enter_case_statements, enter_setups, end_setup, end_start, end_variable, end_statement, end_done, unnamed_statement, statement_action, action_late, statement_late)
+    (parsing, leading, predefined_parsing, enter_case_statements, enter_setups, end_setup, end_start, end_variable, end_statement, end_done, all_unnamed, all_frames_unnamed, unnamed_statement, statement_action, action_late, statement_late)

@@ -35,6 +35,7 @@ pub mod PartsWithSemicolons
 pub mod DefinitionViews
 pub mod TokensPassedWithinLimits
 pub mod CutTokens
+pub mod SettledTokens
 pub mod ParsedTexts
 pub mod SameValues
 pub mod SameTemplates

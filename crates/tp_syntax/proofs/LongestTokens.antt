@@ -6,7 +6,7 @@ use Rattle.tp_syntax.specs.declared.token.Symbol.{Symbol}
 use Rattle.tp_syntax.specs.declared.token.Symbol.TheVariants as s
 use Rattle.tp_syntax.specs.Lexeme.{Lexeme, name, word, number, text, symbol}
 use Rattle.tp_syntax.specs.declared.byte.Kind.{Kind}
-use Rattle.tp_syntax.specs.declared.byte.Kind.TheVariants.{Letter, Digit, Underscore, Quote, Blank, Other}
+use Rattle.tp_syntax.specs.declared.byte.Kind.TheVariants.{Letter, Digit, Quote, Other}
 use Rattle.tp_syntax.specs.Byte.{byte_kind, is_word_byte, is_digit, is_digit_kind, in_word, is_quote}
 use Rattle.tp_syntax.specs.Cut.{StopsAt, IsLongest, BeginsAs, TokenAt}
 use Rattle.tp_syntax.specs.Spelling.{Run, IsWord, IsNumber, IsSpelled, symbol_spelling, doubled, value_on}
@@ -23,31 +23,11 @@ first_kind (symbol s) = Other
 symbol_kind : (x : Symbol) (b : ℕ) (bs : List ℕ) → b ∷ bs ≡ symbol_spelling x → byte_kind b ≡ Other
 unfolding byte_kind
 symbol_kind s.LeftBrace b bs e = let at : b ≡ 123 = cc in rw at
-symbol_kind s.RightBrace b bs e = let at : b ≡ 125 = cc in rw at
-symbol_kind s.LeftParen b bs e = let at : b ≡ 40 = cc in rw at
-symbol_kind s.RightParen b bs e = let at : b ≡ 41 = cc in rw at
-symbol_kind s.LeftBracket b bs e = let at : b ≡ 91 = cc in rw at
-symbol_kind s.RightBracket b bs e = let at : b ≡ 93 = cc in rw at
-symbol_kind s.Comma b bs e = let at : b ≡ 44 = cc in rw at
-symbol_kind s.Semicolon b bs e = let at : b ≡ 59 = cc in rw at
-symbol_kind s.Colon b bs e = let at : b ≡ 58 = cc in rw at
-symbol_kind s.Dot b bs e = let at : b ≡ 46 = cc in rw at
-symbol_kind s.Question b bs e = let at : b ≡ 63 = cc in rw at
-symbol_kind s.Star b bs e = let at : b ≡ 42 = cc in rw at
-symbol_kind s.Minus b bs e = let at : b ≡ 45 = cc in rw at
-symbol_kind s.Less b bs e = let at : b ≡ 60 = cc in rw at
-symbol_kind s.Plus b bs e = let at : b ≡ 43 = cc in rw at
-symbol_kind s.DotDot b bs e = let at : b ≡ 46 = cc in rw at
-symbol_kind s.Assign b bs e = let at : b ≡ 58 = cc in rw at
-symbol_kind s.Arrow b bs e = let at : b ≡ 45 = cc in rw at
+symbol_kind x b bs e = let at : b ≡ get_or (symbol_spelling x) 0 0 = ap (λ (z : List ℕ). get_or z 0 0) e in rw at
 
 digit_from : (k : Kind) → is_digit_kind k ≡ true → k ≡ Digit
-digit_from Letter e = absurd cc
 digit_from Digit e = refl
-digit_from Underscore e = absurd cc
-digit_from Quote e = absurd cc
-digit_from Blank e = absurd cc
-digit_from Other e = absurd cc
+digit_from k e = absurd cc
 
 quote_kind : (b : ℕ) → b ≡ 34 → byte_kind b ≡ Quote
 unfolding byte_kind
@@ -71,16 +51,11 @@ number_run (b ∷ bs) h = (h.0, h.1)
 letter_run : (l : Lexeme) (bs : List ℕ) → first_kind l ≡ Letter → IsSpelled l bs → Run is_word_byte bs
 letter_run (name n) bs k h = word_run bs h.0
 letter_run (word w) bs k h = word_run bs h.0
-letter_run (number n) bs k h = absurd cc
-letter_run (text t) bs k h = absurd cc
-letter_run (symbol x) bs k h = absurd cc
+letter_run l bs k h = absurd cc
 
 digit_run : (l : Lexeme) (bs : List ℕ) → first_kind l ≡ Digit → IsSpelled l bs → IsNumber bs
-digit_run (name n) bs k h = absurd cc
-digit_run (word w) bs k h = absurd cc
 digit_run (number n) bs k h = h.0
-digit_run (text t) bs k h = absurd cc
-digit_run (symbol x) bs k h = absurd cc
+digit_run l bs k h = absurd cc
 
 pub word_longest : (b : ℕ) (bs rest : List ℕ) → byte_kind b ≡ Letter → StopsAt is_word_byte rest → IsLongest (b ∷ bs) rest
 word_longest b bs rest k st l [] more sp e = zero-le
@@ -156,11 +131,8 @@ unfolding byte_kind
 quote_is = refl
 
 text_form : (l : Lexeme) (bs : List ℕ) → first_kind l ≡ Quote → IsSpelled l bs → (u : List ℕ) × (bs ≡ 34 ∷ closed u)
-text_form (name n) bs k h = absurd cc
-text_form (word w) bs k h = absurd cc
-text_form (number n) bs k h = absurd cc
 text_form (text t) bs k h = (t, h.0)
-text_form (symbol x) bs k h = absurd cc
+text_form l bs k h = absurd cc
 
 pub text_longest : (t rest : List ℕ) → StopsAt is_quote rest → IsLongest (34 ∷ (doubled t ++ 34 ∷ [])) rest
 text_longest t rest st l [] more sp e = zero-le

@@ -4,7 +4,7 @@ use Rattle.std.proofs.lemmas.Bool.{false≢true}
 use borrow.Author.Tests.{ltb-true}
 use Rattle.tp_syntax.specs.Lexeme.{PlacedLexeme}
 use Rattle.tp_syntax.specs.declared.stuck.Stuck.TheVariants.{At}
-use Rattle.tp_syntax.specs.Item.{Terminal, of_word, of_symbol, exactly, this_name, a_name, a_number, a_text, positive, negated, a_pattern, binds, same, finish, Item, token, rule, Guarded, accepts, one_of, next}
+use Rattle.tp_syntax.specs.Item.{Terminal, this_name, same, finish, Item, token, rule, Guarded, accepts, one_of, next}
 use Rattle.tp_syntax.specs.Rule.{Rule, a_module}
 use Rattle.tp_syntax.specs.Grammar.{production}
 use Rattle.tp_syntax.specs.Reading.{Tree, Trees, node, leaf, none, more, noted, bound_by, known, Reads, ReadsChoice, ReadsAll, reads_token, reads_rule, reads_this, reads_other, reads_else, reads_none, reads_more, Fails, FailsChoice, FailsAll, fails_token, fails_rule, fails_this, fails_other, fails_else, fails_here, fails_later}
@@ -101,18 +101,7 @@ pub data AllOutcome (bound : List ℕ) (is : List Item) (ts : List PlacedLexeme)
 
 refused_end : (t : Terminal) → can_stand t ≡ true → accepts t None ≡ false
 refused_end finish e = absurd (false≢true e)
-refused_end (of_word x) e = refl
-refused_end (of_symbol x) e = refl
-refused_end (exactly n) e = refl
-refused_end (this_name n) e = refl
-refused_end a_name e = refl
-refused_end a_number e = refl
-refused_end a_text e = refl
-refused_end positive e = refl
-refused_end negated e = refl
-refused_end a_pattern e = refl
-refused_end binds e = refl
-refused_end same e = refl
+refused_end t e = refl
 
 token_ends : (t : Terminal) (ts : List PlacedLexeme) → accepts t None ≡ false → Outcome (token t) ts
 token_ends t [] e = is_stuck 0 (fails_token e refl)

@@ -1,5 +1,5 @@
 -- The reserved words by their lengths, and by their spelling.
-use Rattle.std.proofs.Common.{◌≡◌, ◌≢◌, ℕ, ◌<◌, true, false, true≢false, List, [], ◌∷◌, length, filter, take, drop, suc, ◌&&◌, refl, ap, sym, ◌∙◌, inl, inr, Option, Some, None, map, subst, if◌then◌else◌, ◌==◌, arith}
+use Rattle.std.proofs.Common.{◌≡◌, ◌≢◌, ℕ, ◌<◌, Bool, true, false, true≢false, List, [], ◌∷◌, length, filter, take, drop, suc, ◌&&◌, refl, ap, sym, ◌∙◌, inl, inr, Option, Some, None, map, subst, if◌then◌else◌, ◌==◌, arith}
 use Rattle.std.specs.Str.{bytes_eq}
 use Rattle.std.proofs.lemmas.Bool.Decides.{eqb_tells}
 use Rattle.std.proofs.lemmas.Bool.{cases_Bool}
@@ -7,7 +7,7 @@ use Rattle.std.proofs.lemmas.Slice.Eq.{bytes_eq-Decides}
 use Rattle.std.specs.Prelude.{is_some, unwrap_or}
 use Rattle.tp_syntax.specs.declared.word.Word.{Word}
 use Rattle.tp_syntax.specs.declared.word.Word.TheVariants as w
-use Rattle.tp_syntax.specs.Word.{WordsAreSpelled, first_spelled, has_length, reserved, word_of, word_spelling, words}
+use Rattle.tp_syntax.specs.Word.{WordsAreSpelled, first_spelled, reserved, word_of, word_spelling, words}
 
 -- texts of two lengths are different
 other_length : (a b : List ℕ) → length b ≢ length a → bytes_eq a b ≡ false
@@ -17,6 +17,10 @@ other_length (x ∷ xs) [] ne = refl
 other_length (x ∷ xs) (y ∷ ys) ne =
     let rest : bytes_eq xs ys ≡ false = other_length xs ys (λ same. ne (ap suc same)) in
     elim (x == y) as (λ t. (t && bytes_eq xs ys) ≡ false) [ true ↦ rest | false ↦ refl ]
+
+-- whether the word of an entry has so many characters
+abbrev has_length : ℕ → List ℕ × Word → Bool
+has_length n entry = length entry.0 == n
 
 -- only words of its length are compared with a text
 pub by_length : (n : ℕ) (bs : List ℕ) (es : List (List ℕ × Word)) → length bs ≡ n → first_spelled bs (filter (has_length n) es) ≡ first_spelled bs es
@@ -100,57 +104,7 @@ others bs not2 not3 not4 not5 not6 not7 not8 not9 not10 =
 known : (word : Word) → word_of (word_spelling word) ≡ Some word
 unfolding reserved
 known w.Module = refl
-known w.Type = refl
-known w.Record = refl
-known w.Of = refl
-known w.Port = refl
-known w.Message = refl
-known w.Component = refl
-known w.In = refl
-known w.Out = refl
-known w.Inout = refl
-known w.Function = refl
-known w.Testcase = refl
-known w.Runs = refl
-known w.On = refl
-known w.System = refl
-known w.Var = refl
-known w.Create = refl
-known w.Connect = refl
-known w.Map = refl
-known w.Mtc = refl
-known w.SelfWord = refl
-known w.Start = refl
-known w.Stop = refl
-known w.Halt = refl
-known w.Clear = refl
-known w.Send = refl
-known w.Receive = refl
-known w.Trigger = refl
-known w.Check = refl
-known w.To = refl
-known w.From = refl
-known w.Alt = refl
-known w.Else = refl
-known w.For = refl
-known w.Setverdict = refl
-known w.NoneWord = refl
-known w.Pass = refl
-known w.Inconc = refl
-known w.Fail = refl
-known w.Error = refl
-known w.All = refl
-known w.Done = refl
-known w.True = refl
-known w.False = refl
-known w.Integer = refl
-known w.Boolean = refl
-known w.Charstring = refl
-known w.Complement = refl
-known w.Pattern = refl
-known w.Infinity = refl
-known w.Value = refl
-known w.Sender = refl
+known word = refl
 
 pub words_are_spelled : WordsAreSpelled
 unfolding reserved

@@ -24,17 +24,13 @@ use Rattle.tp_syntax.specs.Reading.{Tree, leaf, node, Trees, none, more}
 use Rattle.tp_syntax.specs.BehaviourTrees.{behind_variables, function_tree, local_frames, open_behind}
 use Rattle.tp_syntax.specs.CaseParts.{body_tree, done_parts, part, setup_kind, setup_part, start_part, statement_part, variable_part}
 use Rattle.tp_syntax.specs.CaseTrees.{Part, creates, declares, does, done, pairs, starts, action_frames, arguments_tree, owner_tree, part_frames, parts_frames, place_tree, pair_tree, statement_frames, variable_frames}
-use Rattle.tp_syntax.specs.PartialReading.{Frame, frame, under, with_last, all_frames, closing_tree, end_frames, semicolon_frames}
+use Rattle.tp_syntax.specs.PartialReading.{Frame, frame, under, all_frames, closing_tree, end_frames, semicolon_frames}
 use Rattle.tp_syntax.specs.OperationTrees.{component_tree, type_tree}
-use Rattle.tp_syntax.specs.StatementTrees.{Shape, compounded, verdict_set, on_all_ports, port_started, on_port, named_tree, shape_frames, step_frames, step_of, statements_tree}
+use Rattle.tp_syntax.specs.StatementTrees.{Shape, compounded, on_port, named_tree, shape_frames, step_frames, step_of, statements_tree}
 use Rattle.tp_syntax.specs.TemplateTrees.{of, one}
 use Rattle.tp_syntax.proofs.SameOperations.{component_back, component_returns}
-use Rattle.tp_syntax.proofs.SameStatements.{statements_told}
+use Rattle.tp_syntax.proofs.SameStatements.{statements_told, under_append}
 use Rattle.tp_syntax.proofs.SameTypes.{row_back, row_more, type_back, type_in, type_returns}
-
-pub under_both : (fs gs : List Frame) (t : Tree) → under (fs ++ gs) t ≡ under fs (under gs t)
-under_both [] gs t = refl
-under_both (frame r line trees ∷ fs) gs t = ap (λ (u : Tree). node r line (with_last trees u)) (under_both fs gs t)
 
 -- the body of a function: its variables, and the tree of its statements
 record Body : Type 0 where
@@ -73,7 +69,7 @@ function_returns [] true ss = refl
 function_returns [] false [] = refl
 function_returns [] false (x ∷ ss) = refl
 function_returns (v ∷ vs) b ss =
-    ap function_back (under_both (local_frames (variable_part v)) (all_frames local_frames (map variable_part vs)) _)
+    ap function_back (under_append (local_frames (variable_part v)) (all_frames local_frames (map variable_part vs)) _)
     ∙ (local_returns v.line v.type_name v.name v.has_semicolon _
     ∙ (ap (before (variable v.line (type_back (type_tree v.type_name)) v.name v.has_semicolon)) (function_returns vs v.has_semicolon ss)
     ∙ ap (λ (t : TypeName). record { variables = variable v.line t v.name v.has_semicolon ∷ vs; block = statements_tree ss }) (type_returns v.type_name)))
@@ -106,9 +102,7 @@ owner_back _ = e.System
 
 owner_returns : (o : EndComponent) → owner_back (owner_tree o) ≡ o
 owner_returns (e.Named n) = refl
-owner_returns e.Mtc = refl
-owner_returns e.SelfComponent = refl
-owner_returns e.System = refl
+owner_returns o = refl
 
 abbrev place_back : Tree → PairEnd
 place_back (node r l (more o (more c (more (leaf (name n)) ts)))) = record { component = owner_back o; port = n }
@@ -236,19 +230,14 @@ keep_shape line x b = keep_frames (shape_frames line x b)
 action_kept : (line : ℕ) (x : Shape) (b : Bool) (t : Tree) → part_in line (one (under (action_frames (does x) b) t)) ≡ keep_shape line x b (case_back t)
 unfolding case_back keep_shape
 action_kept line (compounded u) b t = refl
-action_kept line (verdict_set v) b t = ended_returns _ _ _ b t
-action_kept line (on_all_ports o) b t = ended_returns _ _ _ b t
-action_kept line (port_started n) b t = ended_returns _ _ _ b t
 action_kept line (on_port n u) true t = refl
 action_kept line (on_port n u) false t = refl
+action_kept line x b t = ended_returns _ _ _ b t
 
 statement_kept : (line : ℕ) (x : Shape) (b : Bool) (t : Tree) → part_in line (one (under (statement_frames (does x) b) t)) ≡ keep_shape line x b (case_back t)
 unfolding case_back keep_shape
 statement_kept line (compounded u) b t = refl
-statement_kept line (verdict_set v) b t = ended_returns _ _ _ b t
-statement_kept line (on_all_ports o) b t = ended_returns _ _ _ b t
-statement_kept line (port_started n) b t = ended_returns _ _ _ b t
-statement_kept line (on_port n u) b t = ended_returns _ _ _ b t
+statement_kept line x b t = ended_returns _ _ _ b t
 
 shape_kept : (s : Stage) (line : ℕ) (x : Shape) (b : Bool) (t : Tree) → case_back (under (part_frames s line (does x) b) t) ≡ keep_shape line x b (case_back t)
 unfolding case_back
@@ -265,9 +254,7 @@ done_ended line false t = refl
 done_kept : (s : Stage) (line : ℕ) (b : Bool) (t : Tree) → case_back (under (part_frames s line done b) t) ≡ keep_done line b (case_back t)
 unfolding case_back
 done_kept stage.Setups = done_ended
-done_kept stage.Starts = done_ended
-done_kept stage.Variables = done_ended
-done_kept stage.Statements = done_ended
+done_kept s = done_ended
 
 -- a variable, or the start of a component, is read back at this stage
 abbrev KeepsVariables : Stage → Type 0
@@ -281,17 +268,13 @@ KeepsStarts s = (line : ℕ) (n f : List ℕ) (cs : List ComponentName) (b : Boo
 var_kept : KeepsVariables stage.Setups
 unfolding case_back
 var_kept line (type_name.Named m) n b u = ended_returns _ _ _ b u
-var_kept line type_name.Integer n b u = ended_returns _ _ _ b u
-var_kept line type_name.Boolean n b u = ended_returns _ _ _ b u
-var_kept line type_name.Charstring n b u = ended_returns _ _ _ b u
+var_kept line t n b u = ended_returns _ _ _ b u
 
 local_kept : (line : ℕ) (t : TypeName) (n : List ℕ) (b : Bool) (u : Tree)
     → part_in line (more (leaf (word w.Var)) (one (under (variable_frames (declares t n) b) u))) ≡ keep_variable line t n b (case_back u)
 unfolding case_back
 local_kept line (type_name.Named m) n b u = ended_returns _ _ _ b u
-local_kept line type_name.Integer n b u = ended_returns _ _ _ b u
-local_kept line type_name.Boolean n b u = ended_returns _ _ _ b u
-local_kept line type_name.Charstring n b u = ended_returns _ _ _ b u
+local_kept line t n b u = ended_returns _ _ _ b u
 
 late_kept : KeepsVariables stage.Starts
 unfolding case_back
@@ -320,10 +303,10 @@ rest_tree s ps = under (parts_frames s ps) closing_tree
 setup_kept : (line : ℕ) (a : SetupAction) (b : Bool) (ps : List Part)
     → case_back (rest_tree stage.Setups (part line (setup_kind a) b ∷ ps)) ≡ keep_setup line a b (case_back (rest_tree stage.Setups ps))
 unfolding case_back
-setup_kept line (s.Create c) b ps = ap case_back (under_both (part_frames stage.Setups line (creates c) b) _ _) ∙ ended_returns _ _ _ b _
-setup_kept line (s.Connect x z) b ps = ap case_back (under_both (part_frames stage.Setups line (pairs w.Connect x z) b) _ _)
+setup_kept line (s.Create c) b ps = ap case_back (under_append (part_frames stage.Setups line (creates c) b) _ _) ∙ ended_returns _ _ _ b _
+setup_kept line (s.Connect x z) b ps = ap case_back (under_append (part_frames stage.Setups line (pairs w.Connect x z) b) _ _)
     ∙ (ended_returns _ _ _ b _ ∙ ap (λ (a : SetupAction). keep_setup line a b (case_back (rest_tree stage.Setups ps))) (pair_returns w.Connect x z))
-setup_kept line (s.Map x z) b ps = ap case_back (under_both (part_frames stage.Setups line (pairs w.Map x z) b) _ _)
+setup_kept line (s.Map x z) b ps = ap case_back (under_append (part_frames stage.Setups line (pairs w.Map x z) b) _ _)
     ∙ (ended_returns _ _ _ b _ ∙ ap (λ (a : SetupAction). keep_setup line a b (case_back (rest_tree stage.Setups ps))) (pair_returns w.Map x z))
 
 abbrev block_of : List Statement → Tree
@@ -336,26 +319,26 @@ made us xs vs ss d = record { setups = us; starts = xs; variables = vs; block = 
 done_returns : (d : Option AllDone) (s : Stage) → case_back (rest_tree s (done_parts d)) ≡ made [] [] [] [] d
 unfolding case_back
 done_returns None s = refl
-done_returns (Some x) s = ap case_back (under_both (part_frames s x.line done x.has_semicolon) [] closing_tree) ∙ done_kept s x.line x.has_semicolon closing_tree
+done_returns (Some x) s = ap case_back (under_append (part_frames s x.line done x.has_semicolon) [] closing_tree) ∙ done_kept s x.line x.has_semicolon closing_tree
 
 statements_return : (ss : List Statement) (d : Option AllDone) (s : Stage) → case_back (rest_tree s (map statement_part ss ++ done_parts d)) ≡ made [] [] [] ss d
 unfolding keep_shape
 statements_return [] d s = done_returns d s
-statements_return (x ∷ ss) d s = ap case_back (under_both (part_frames s (step_of x).line (does (step_of x).shape) (step_of x).semicolon) _ _)
+statements_return (x ∷ ss) d s = ap case_back (under_append (part_frames s (step_of x).line (does (step_of x).shape) (step_of x).semicolon) _ _)
     ∙ (shape_kept s _ _ _ _ ∙ (ap (keep_shape (step_of x).line (step_of x).shape (step_of x).semicolon) (statements_return ss d stage.Statements)
     ∙ ap (λ (t : Tree). record { setups = []; starts = []; variables = []; block = t; all_done = d })
-    (sym (under_both (step_frames (step_of x)) (all_frames step_frames (map step_of ss)) closing_tree))))
+    (sym (under_append (step_frames (step_of x)) (all_frames step_frames (map step_of ss)) closing_tree))))
 
 variables_return : (s : Stage) → KeepsVariables s → (vs : List Variable) (ss : List Statement) (d : Option AllDone)
     → case_back (rest_tree s (map variable_part vs ++ (map statement_part ss ++ done_parts d))) ≡ made [] [] vs ss d
 variables_return s keeps [] ss d = statements_return ss d s
-variables_return s keeps (v ∷ vs) ss d = ap case_back (under_both (part_frames s v.line (declares v.type_name v.name) v.has_semicolon) _ _)
+variables_return s keeps (v ∷ vs) ss d = ap case_back (under_append (part_frames s v.line (declares v.type_name v.name) v.has_semicolon) _ _)
     ∙ (keeps _ _ _ _ _ ∙ ap (keep_variable v.line v.type_name v.name v.has_semicolon) (variables_return stage.Variables latest_kept vs ss d))
 
 starts_return : (s : Stage) → KeepsStarts s → KeepsVariables s → (xs : List ComponentStart) (vs : List Variable) (ss : List Statement) (d : Option AllDone)
     → case_back (rest_tree s (map start_part xs ++ (map variable_part vs ++ (map statement_part ss ++ done_parts d)))) ≡ made [] xs vs ss d
 starts_return s keeps k [] vs ss d = variables_return s k vs ss d
-starts_return s keeps k (x ∷ xs) vs ss d = ap case_back (under_both (part_frames s x.line (starts x.component x.function x.arguments) x.has_semicolon) _ _)
+starts_return s keeps k (x ∷ xs) vs ss d = ap case_back (under_append (part_frames s x.line (starts x.component x.function x.arguments) x.has_semicolon) _ _)
     ∙ (keeps _ _ _ _ _ _ ∙ ap (keep_start x.line x.component x.function x.arguments x.has_semicolon) (starts_return stage.Starts later_start late_kept xs vs ss d))
 
 setups_return : (us : List SetupStatement) (xs : List ComponentStart) (vs : List Variable) (ss : List Statement) (d : Option AllDone)

@@ -12,11 +12,12 @@ use Rattle.tp_syntax.specs.Reading.{Tree, leaf, node, Trees, none, more}
 use Rattle.tp_syntax.specs.ReadTexts.{IsReadAs}
 use Rattle.tp_syntax.specs.BehaviourTrees.{body_of, system_tree, test_case_trees}
 use Rattle.tp_syntax.specs.DefinitionTrees.{defined_frames, definition_frames, frames_of_all, function_trees, module_tree}
-use Rattle.tp_syntax.specs.PartialReading.{under, closing_tree, end_frames, may_end_tree}
+use Rattle.tp_syntax.specs.PartialReading.{under, closing_tree, end_frames}
 use Rattle.tp_syntax.specs.OperationTrees.{type_tree}
 use Rattle.tp_syntax.specs.Refusal.{IsText}
 use Rattle.tp_syntax.specs.SettledTokens.{settled}
-use Rattle.tp_syntax.proofs.SameCases.{case_told, function_told, under_both}
+use Rattle.tp_syntax.proofs.SameCases.{case_told, function_told}
+use Rattle.tp_syntax.proofs.SameStatements.{may_end_back, may_end_returns, under_append}
 use Rattle.tp_syntax.proofs.SameTypes.{fields_return, fields_back, parameters_back, parameters_return, ports_back, ports_return, told, type_back, type_returns, ways_back, ways_return}
 use Rattle.tp_syntax.proofs.WholeTexts.{one_text_tree}
 use Rattle.tp_syntax.proofs.UniqueTokens.{tokens_are_unique}
@@ -86,14 +87,6 @@ case_same b c e =
       all_done = (body i).all_done;
     }
 
-abbrev has_one : Tree → Bool
-has_one (node r l (more t ts)) = true
-has_one _ = false
-
-end_returns : (b : Bool) → has_one (may_end_tree b) ≡ b
-end_returns true = refl
-end_returns false = refl
-
 -- how a list type ends
 ends_back : (r l : Rule) (b : Bool) (t : Tree) → is_ended (under (end_frames r l b) t) ≡ b
 ends_back r l true t = refl
@@ -106,12 +99,12 @@ behind_back r l false t = refl
 -- a definition, and the tree behind it
 defined_same : (k l : ℕ) (x y : Defined) (b c : Bool) (t u : Tree) → under (defined_frames k x b) t ≡ under (defined_frames l y c) u
     → (x ≡ y) × (b ≡ c) × (t ≡ u)
-defined_same k l (d.Function f) (d.Function g) b c t u e = (ap d.Function (function_same f g (cc)), told has_one end_returns b c (cc), cc)
-defined_same k l (d.TestCase f) (d.TestCase g) b c t u e = (ap d.TestCase (case_same f g (cc)), told has_one end_returns b c (cc), cc)
+defined_same k l (d.Function f) (d.Function g) b c t u e = (ap d.Function (function_same f g (cc)), told may_end_back may_end_returns b c (cc), cc)
+defined_same k l (d.TestCase f) (d.TestCase g) b c t u e = (ap d.TestCase (case_same f g (cc)), told may_end_back may_end_returns b c (cc), cc)
 defined_same k l (d.Record f) (d.Record g) b c t u e =
     let names : f.name ≡ g.name = cc in
     let fields_same : f.fields ≡ g.fields = told fields_back fields_return f.fields g.fields (cc) in
-    (λ i. d.Record (record { name = names i; fields = fields_same i }), told has_one end_returns b c (cc), cc)
+    (λ i. d.Record (record { name = names i; fields = fields_same i }), told may_end_back may_end_returns b c (cc), cc)
 defined_same k l (d.List f) (d.List g) b c t u e =
     let names : f.name ≡ g.name = cc in
     let elements : f.element ≡ g.element = told {view = type_tree} type_back type_returns f.element g.element (cc) in
@@ -123,11 +116,11 @@ defined_same k l (d.List f) (d.List g) b c t u e =
 defined_same k l (d.Port f) (d.Port g) b c t u e =
     let names : f.name ≡ g.name = cc in
     let ways_same : f.directions ≡ g.directions = told ways_back ways_return f.directions g.directions (cc) in
-    (λ i. d.Port (record { name = names i; directions = ways_same i }), told has_one end_returns b c (cc), cc)
+    (λ i. d.Port (record { name = names i; directions = ways_same i }), told may_end_back may_end_returns b c (cc), cc)
 defined_same k l (d.Component f) (d.Component g) b c t u e =
     let names : f.name ≡ g.name = cc in
     let ports_same : f.ports ≡ g.ports = told ports_back ports_return f.ports g.ports (cc) in
-    (λ i. d.Component (record { name = names i; ports = ports_same i }), told has_one end_returns b c (cc), cc)
+    (λ i. d.Component (record { name = names i; ports = ports_same i }), told may_end_back may_end_returns b c (cc), cc)
 defined_same k l _ _ b c t u e = (cc, cc, cc)
 
 abbrev line_back : Tree → Option ℕ
@@ -142,7 +135,7 @@ abbrev all_tree : List Definition → Tree
 all_tree xs = under (frames_of_all xs) closing_tree
 
 first_line : (x : Definition) (xs : List Definition) → line_back (all_tree (x ∷ xs)) ≡ Some x.line
-first_line x xs = ap line_back (under_both (definition_frames x) _ _) ∙ line_returns x.line x.defined x.has_semicolon (all_tree xs)
+first_line x xs = ap line_back (under_append (definition_frames x) _ _) ∙ line_returns x.line x.defined x.has_semicolon (all_tree xs)
 
 all_same : (xs ys : List Definition) → all_tree xs ≡ all_tree ys → xs ≡ ys
 all_same [] [] e = refl
@@ -152,7 +145,7 @@ all_same (x ∷ xs) (y ∷ ys) e =
     let lines : x.line ≡ y.line = cc (ap line_back e, first_line x xs, first_line y ys) in
     let same : (x.defined ≡ y.defined) × (x.has_semicolon ≡ y.has_semicolon) × (all_tree xs ≡ all_tree ys) =
     defined_same x.line y.line x.defined y.defined x.has_semicolon y.has_semicolon (all_tree xs) (all_tree ys)
-    (sym (under_both (definition_frames x) (frames_of_all xs) closing_tree) ∙ (e ∙ under_both (definition_frames y) (frames_of_all ys) closing_tree)) in
+    (sym (under_append (definition_frames x) (frames_of_all xs) closing_tree) ∙ (e ∙ under_append (definition_frames y) (frames_of_all ys) closing_tree)) in
     let rest : xs ≡ ys = all_same xs ys same.2 in
     λ i. record { line = lines i; defined = same.0 i; has_semicolon = same.1 i } ∷ rest i
 
@@ -162,7 +155,7 @@ modules_told m n e =
     let lines : m.line ≡ n.line = cc in
     let names : m.name ≡ n.name = cc in
     let definitions_same : m.definitions ≡ n.definitions = all_same m.definitions n.definitions (cc) in
-    let ends : m.has_semicolon ≡ n.has_semicolon = told has_one end_returns m.has_semicolon n.has_semicolon (cc) in
+    let ends : m.has_semicolon ≡ n.has_semicolon = told may_end_back may_end_returns m.has_semicolon n.has_semicolon (cc) in
     λ i. record { line = lines i; name = names i; definitions = definitions_same i; has_semicolon = ends i }
 
 pub readings_are_unique : (text : List ℕ) (m n : Module) → IsReadAs text m → IsReadAs text n → m ≡ n

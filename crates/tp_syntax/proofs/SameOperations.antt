@@ -40,9 +40,8 @@ component_back (node q l (more (leaf (word w.Mtc)) ts)) = c.Mtc
 component_back _ = c.SelfComponent
 
 pub component_returns : (x : ComponentName) → component_back (component_tree x) ≡ x
-component_returns c.Mtc = refl
-component_returns c.SelfComponent = refl
 component_returns (c.Named n) = refl
+component_returns x = refl
 
 -- what is sent, and to whom
 abbrev message_of : TypeName → Value → SentExpression
@@ -55,10 +54,8 @@ sent_back (node q l (more (node o m (more (leaf (word x)) us)) (more a (more y t
 sent_back _ = s.Variable []
 
 message_returns : (x : TypeName) (y : Value) → sent_back (message_sent x (value_tree y)) ≡ message_of x y
-message_returns t.Integer y = ap (message_of t.Integer) (value_returns y)
-message_returns t.Boolean y = ap (message_of t.Boolean) (value_returns y)
-message_returns t.Charstring y = ap (message_of t.Charstring) (value_returns y)
 message_returns (t.Named n) y = ap (message_of (t.Named n)) (value_returns y)
+message_returns x y = ap (message_of x) (value_returns y)
 
 pub sent_returns : (x : SentExpression) → sent_back (sent_tree x) ≡ x
 sent_returns (s.Message m) = message_returns m.type_name m.value
@@ -127,8 +124,7 @@ received_returns n x m f d = rw (part_returns m, from_returns f, redirect_return
 kind_returns : (n : List ℕ) (x : ReceiveKind) (m : Option MessageTemplate) (f : Option ComponentName) (d : Redirect)
     → receive_back n (kind_tree x (received_tree m f d)) ≡ record { port = n; kind = x; template = m; sender = f; redirect = d }
 kind_returns n k.Receive m f d = received_returns n k.Receive m f d
-kind_returns n k.Trigger m f d = received_returns n k.Trigger m f d
-kind_returns n k.Check m f d = received_returns n k.Check m f d
+kind_returns n x m f d = received_returns n x m f d
 
 pub receive_returns : (x : Receive) → receive_back x.port (operation_of x) ≡ x
 receive_returns x = kind_returns x.port x.kind x.template x.sender x.redirect
@@ -146,9 +142,7 @@ control_back _ = p.Start
 
 pub control_returns : (x : PortOperation) → control_back (control_tree x) ≡ x
 control_returns p.Start = refl
-control_returns p.Stop = refl
-control_returns p.Halt = refl
-control_returns p.Clear = refl
+control_returns x = refl
 
 abbrev pub verdict_back : Tree → VerdictName
 verdict_back (node q l (more (leaf (word w.Pass)) ts)) = v.Pass
@@ -159,10 +153,7 @@ verdict_back _ = v.NoVerdict
 
 pub verdict_returns : (x : VerdictName) → verdict_back (verdict_tree x) ≡ x
 verdict_returns v.NoVerdict = refl
-verdict_returns v.Pass = refl
-verdict_returns v.Inconc = refl
-verdict_returns v.Fail = refl
-verdict_returns v.Error = refl
+verdict_returns x = refl
 
 -- the head of a `for`
 abbrev integer_back : Tree → ℤ

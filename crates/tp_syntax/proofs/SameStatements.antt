@@ -7,7 +7,7 @@ use Rattle.tp_common.specs.declared.operation.ReceiveKind.{ReceiveKind}
 use Rattle.tp_common.specs.declared.operation.ReceiveKind.TheVariants as k
 use Rattle.tp_tree.specs.declared.tree.Action.{Action}
 use Rattle.tp_tree.specs.declared.tree.Action.TheOpen as o
-use Rattle.tp_tree.specs.declared.tree.Action.TheFolds.{map-Action, map-BranchBody, fold-roll-Action, fold-roll-BranchBody, fold-roll-Counted, ind-Statement}
+use Rattle.tp_tree.specs.declared.tree.Action.TheFolds.{map-Action, map-BranchBody, fold-roll-BranchBody, fold-roll-Counted, ind-Statement}
 use Rattle.tp_tree.specs.declared.tree.Action.TheViews.{roll-Action, roll-BranchBody, roll-Branch, roll-Counted, roll-ElseBranch, roll-Statement}
 use Rattle.tp_tree.specs.declared.tree.Branch.{Branch}
 use Rattle.tp_tree.specs.declared.tree.BranchBody.{BranchBody}
@@ -24,8 +24,8 @@ use Rattle.tp_syntax.specs.TemplateTrees.{of, one}
 use Rattle.tp_syntax.specs.StatementTrees.{after_branches, BranchView, ElseView, Shape, Step, action_step, body_of, body_step, branch_frames, branch_of}
 use Rattle.tp_syntax.specs.StatementTrees.{branch_step, branches_tree, block_tree, compounded, control_shape, counted_step, counted_tree, else_of, else_step}
 use Rattle.tp_syntax.specs.StatementTrees.{plain_tree, shape_frames, shape_of, statement_step, statements_tree, step_frames, step_of}
-use Rattle.tp_syntax.proofs.StatementViews.{branch_made, else_made, step_made}
-use Rattle.tp_syntax.proofs.SameTemplates.{firsts}
+use Rattle.tp_syntax.proofs.StatementViews.{action_at, branch_made, else_made, step_made}
+use Rattle.tp_syntax.proofs.SameValues.{firsts}
 use Rattle.tp_syntax.proofs.SameOperations.{sent_back, sent_returns, receivers_back, receivers_return, receive_back, receive_returns, operation_of_word}
 use Rattle.tp_syntax.proofs.SameOperations.{control_back, control_returns, verdict_back, verdict_returns, turns_back, turns_return}
 
@@ -77,7 +77,7 @@ plain_back (node q l (more (node r m us) ts)) = plain_in us
 plain_back _ = roll-Action (o.AllPorts p.Start)
 
 -- whether there is a `;`: where nothing else follows in the node, and where the rest does
-abbrev may_end_back : Tree → Bool
+abbrev pub may_end_back : Tree → Bool
 may_end_back (node q l none) = false
 may_end_back _ = true
 
@@ -154,7 +154,7 @@ otherwise_back None = None
 otherwise_back (Some x) = Some (else_back x)
 
 -- a list of parts, each of which is its frames
-under_append : (fs gs : List Frame) (t : Tree) → under (fs ++ gs) t ≡ under fs (under gs t)
+pub under_append : (fs gs : List Frame) (t : Tree) → under (fs ++ gs) t ≡ under fs (under gs t)
 under_append [] gs t = refl
 under_append (frame r l ts ∷ fs) gs t = ap (λ (u : Tree). node r l (with_last ts u)) (under_append fs gs t)
 
@@ -191,7 +191,7 @@ branch_part l n x None false t = refl
 branch_part l n x (Some u) true t = refl
 branch_part l n x (Some u) false t = refl
 
-may_end_returns : (b : Bool) → may_end_back (may_end_tree b) ≡ b
+pub may_end_returns : (b : Bool) → may_end_back (may_end_tree b) ≡ b
 may_end_returns true = refl
 may_end_returns false = refl
 
@@ -234,14 +234,11 @@ block_returns xs = block_back (map step_of (firsts xs)) ∙ all_return step_of s
 receive_action : (n : List ℕ) (k : ReceiveKind) (t : Tree)
     → operation_back n (of other_operation (one (kind_tree k t))) ≡ roll-Action (o.Receive (receive_back n (kind_tree k t)))
 receive_action n k.Receive t = refl
-receive_action n k.Trigger t = refl
-receive_action n k.Check t = refl
+receive_action n x t = refl
 
 control_action : (n : List ℕ) (x : PortOperation) → shape_back (control_shape n x) ≡ control_of n x
 control_action n p.Start = refl
-control_action n p.Stop = refl
-control_action n p.Halt = refl
-control_action n p.Clear = refl
+control_action n x = refl
 
 abbrev Layer : Type 0
 Layer = o.Action-F Action BranchBody Branch Counted ElseBranch Statement
@@ -250,11 +247,6 @@ abbrev plain_layer : o.Action-F Actions Bodies Branches Counts Elses Statements 
 plain_layer y =
     map-Action Actions Bodies Branches Counts Elses Statements Action BranchBody Branch Counted ElseBranch Statement
     (λ e. e.0) (λ e. e.0) (λ e. e.0) (λ e. e.0) (λ e. e.0) (λ e. e.0) y
-
-action_at : (z : Layer) → shape_of (roll-Action z) ≡ action_step (map-Action Action BranchBody Branch Counted ElseBranch Statement
-    Shape (Option Tree) BranchView Tree ElseView Step shape_of body_of branch_of counted_tree else_of step_of z)
-unfolding shape_of body_of branch_of counted_tree else_of step_of
-action_at z = fold-roll-Action Shape (Option Tree) BranchView Tree ElseView Step action_step body_step branch_step counted_step else_step statement_step z
 
 action_returns : (y : o.Action-F Actions Bodies Branches Counts Elses Statements)
     → shape_back (shape_of (roll-Action (plain_layer y))) ≡ roll-Action (plain_layer y)

@@ -6,13 +6,14 @@ use Rattle.tp_syntax.specs.Lexeme.{name, number, text, word, symbol}
 use Rattle.tp_tree.specs.declared.message.Template.{Template}
 use Rattle.tp_tree.specs.declared.message.Template.TheOpen as o
 use Rattle.tp_tree.specs.declared.message.Template.TheViews.{roll-Template, roll-TemplateField}
-use Rattle.tp_tree.specs.declared.message.Template.TheFolds.{map-Template, fold-roll-Template, fold-roll-TemplateField, ind-Template}
+use Rattle.tp_tree.specs.declared.message.Template.TheFolds.{map-Template, fold-roll-TemplateField, ind-Template}
 use Rattle.tp_tree.specs.declared.message.TemplateField.{TemplateField}
 use Rattle.tp_syntax.specs.Rule.{other_template, more_templates, more_template_fields}
 use Rattle.tp_syntax.specs.Reading.{Tree, leaf, node, Trees, none, more}
 use Rattle.tp_syntax.specs.TemplateTrees.{Views, FieldViews, of, chain, around, wholes, field_whole, in_parens_of, entries_of, complement_of, fields_of, range_of}
 use Rattle.tp_syntax.specs.TemplateTrees.{upper_tree, template_step, field_step, template_views, field_views, template_tree}
-use Rattle.tp_syntax.proofs.SameValues.{is_true, integer_in}
+use Rattle.tp_syntax.proofs.TemplateTrees.{views_at}
+use Rattle.tp_syntax.proofs.SameValues.{firsts, is_true, integer_in}
 
 -- a symbol that stands alone; brackets with nothing inside; and brackets around templates
 abbrev wild : Symbol → Template
@@ -109,9 +110,6 @@ Layer = o.Template-F ((x : Template) × Returns x) ((f : TemplateField) × Field
 abbrev plain_layer : Layer → o.Template-F Template TemplateField
 plain_layer y = map-Template ((x : Template) × Returns x) ((f : TemplateField) × FieldReturns f) Template TemplateField (λ e. e.0) (λ e. e.0) y
 
-abbrev pub firsts : {A : Type 0} {P : A → Type 0} → List ((x : A) × P x) → List A
-firsts xs = map (λ e. e.0) xs
-
 abbrev layer_views : o.Template-F Template TemplateField → Views
 layer_views z = template_step (map-Template Template TemplateField Views FieldViews template_views field_views z)
 
@@ -181,10 +179,6 @@ layer_back (o.Range low high) = around_back _ _ _ (range_return low high)
 layer_back (o.Pattern bs) = around_back _ _ _ refl
 layer_back (o.List xs) = around_back _ _ _ (entries_return xs)
 layer_back (o.Record fs) = around_back _ _ _ (fields_return fs)
-
-views_at : (x : o.Template-F Template TemplateField) → template_views (roll-Template x) ≡ layer_views x
-unfolding template_views field_views
-views_at x = fold-roll-Template Views FieldViews template_step field_step x
 
 field_at : (n : List ℕ) (x : Template) → field_views (field_of n x) ≡ record { field_name = n; whole = template_tree x }
 unfolding template_views field_views

@@ -91,9 +91,7 @@ type_back (leaf s) = type_name.Integer
 
 pub type_returns : (t : TypeName) → type_back (type_tree t) ≡ t
 type_returns (type_name.Named n) = refl
-type_returns type_name.Integer = refl
-type_returns type_name.Boolean = refl
-type_returns type_name.Charstring = refl
+type_returns t = refl
 
 abbrev declared_back : Tree → DeclaredName
 declared_back (node r (Some l) (more (leaf (name n)) ts)) = record { line = l; name = n }
@@ -137,8 +135,7 @@ way_back _ = y.InOut
 
 way_returns : (x : Way) → way_back (way_tree x) ≡ x
 way_returns y.In = refl
-way_returns y.Out = refl
-way_returns y.InOut = refl
+way_returns x = refl
 
 abbrev direction_back : Bool → Tree → Direction
 direction_back b (node r l (more x ts)) = record { way = way_back x; types = map type_back (row_back ts); has_semicolon = b }

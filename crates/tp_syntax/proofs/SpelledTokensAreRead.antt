@@ -62,10 +62,7 @@ accepted _ _ e = absurd (false≢true e)
 
 no_end : (l : Lexeme) → class_ahead (Some l) ≡ 6 → ⊥
 no_end (name n) c = omega arith
-no_end (word n) c = omega arith
-no_end (number n) c = omega arith
-no_end (text n) c = omega arith
-no_end (symbol n) c = omega arith
+no_end l c = omega arith
 
 accepts_kind : (t : Terminal) (o : Option Lexeme) → is_whole t ≡ true → class_ahead o ≡ class_of t → code_ahead o ≡ code_of t → accepts t o ≡ true
 accepts_kind (of_word x) (Some (word y)) p c d = eq-eqb _ _ (sym d)

@@ -8,12 +8,13 @@ use Rattle.tp_common.specs.declared.operation.PortOperation.{PortOperation}
 use Rattle.tp_tree.specs.declared.tree.Action.{Action}
 use Rattle.tp_tree.specs.declared.tree.Action.TheVariants as a
 use Rattle.tp_tree.specs.declared.tree.Action.TheOpen as o
-use Rattle.tp_tree.specs.declared.tree.Action.TheFolds.{fold-roll-Action, fold-roll-BranchBody, fold-roll-Branch, fold-roll-Counted, fold-roll-ElseBranch, fold-roll-Statement}
-use Rattle.tp_tree.specs.declared.tree.Action.TheViews.{roll-Branch, roll-Counted, roll-ElseBranch, roll-Statement}
+use Rattle.tp_tree.specs.declared.tree.Action.TheFolds.{map-Action, fold-roll-Action, fold-roll-BranchBody, fold-roll-Branch, fold-roll-Counted, fold-roll-ElseBranch, fold-roll-Statement}
+use Rattle.tp_tree.specs.declared.tree.Action.TheViews.{roll-Action, roll-Branch, roll-Counted, roll-ElseBranch, roll-Statement}
 use Rattle.tp_tree.specs.declared.tree.Branch.{Branch}
 use Rattle.tp_tree.specs.declared.tree.BranchBody.{BranchBody}
 use Rattle.tp_tree.specs.declared.tree.BranchBody.TheVariants as b
 use Rattle.tp_tree.specs.declared.tree.Control.{Control}
+use Rattle.tp_tree.specs.declared.tree.Counted.{Counted}
 use Rattle.tp_tree.specs.declared.tree.ElseBranch.{ElseBranch}
 use Rattle.tp_tree.specs.declared.tree.Receive.{Receive}
 use Rattle.tp_tree.specs.declared.tree.Send.{Send}
@@ -29,52 +30,45 @@ use Rattle.tp_syntax.specs.PartialReading.{Ends, Enters, Leads, enter, end_frame
 use Rattle.tp_syntax.specs.OperationTrees.{send_tree, turns_tree}
 use Rattle.tp_syntax.specs.Parsing.{left}
 use Rattle.tp_syntax.specs.PlainStatements.{is_named, named_part, plain_shape}
-use Rattle.tp_syntax.specs.StatementTrees.{BranchView, ElseView, Shape, Step, action_step, body_of, body_step, branch_of, branch_step, branches_tree, compounded, control_shape, counted_step, else_of, else_step, operation_of, otherwise_of, on_all_ports, on_port, plain_tree, port_started, shape_frames, shape_of, statement_step, statements_tree, step_of, verdict_set}
+use Rattle.tp_syntax.specs.StatementTrees.{BranchView, ElseView, Shape, Step, action_step, body_of, body_step, branch_of, branch_step, branches_tree, compounded, control_shape, counted_step, counted_tree, else_of, else_step, operation_of, otherwise_of, on_all_ports, on_port, plain_tree, port_started, shape_frames, shape_of, statement_step, statements_tree, step_of, verdict_set}
 use Rattle.tp_syntax.specs.TemplateTrees.{of, one, sym as symbol_leaf}
 use Rattle.tp_syntax.proofs.ReadingGoesOn.{leading}
 use Rattle.tp_syntax.proofs.StepsOfReading.{parsing}
 
+pub action_at : (z : o.Action-F Action BranchBody Branch Counted ElseBranch Statement)
+    → shape_of (roll-Action z) ≡ action_step (map-Action Action BranchBody Branch Counted ElseBranch Statement
+    Shape (Option Tree) BranchView Tree ElseView Step shape_of body_of branch_of counted_tree else_of step_of z)
+unfolding shape_of body_of branch_of counted_tree else_of step_of
+action_at z = fold-roll-Action Shape (Option Tree) BranchView Tree ElseView Step action_step body_step branch_step counted_step else_step statement_step z
+
 pub shape_send : (x : Send) → shape_of (a.Send x) ≡ on_port x.port (send_tree x.sent x.to)
-unfolding shape_of
-shape_send x = ap shape_of (sym (a.rolls-Send x)) ∙ fold-roll-Action Shape (Option Tree) BranchView Tree ElseView Step action_step body_step branch_step counted_step else_step statement_step (o.Send x)
+shape_send x = ap shape_of (sym (a.rolls-Send x)) ∙ action_at (o.Send x)
 
 pub shape_receive : (x : Receive) → shape_of (a.Receive x) ≡ on_port x.port (of other_operation (one (operation_of x)))
-unfolding shape_of
-shape_receive x = ap shape_of (sym (a.rolls-Receive x)) ∙ fold-roll-Action Shape (Option Tree) BranchView Tree ElseView Step action_step body_step branch_step counted_step else_step statement_step (o.Receive x)
+shape_receive x = ap shape_of (sym (a.rolls-Receive x)) ∙ action_at (o.Receive x)
 
 pub shape_control : (x : Control) → shape_of (a.Control x) ≡ control_shape x.port x.operation
-unfolding shape_of
-shape_control x = ap shape_of (sym (a.rolls-Control x)) ∙ fold-roll-Action Shape (Option Tree) BranchView Tree ElseView Step action_step body_step branch_step counted_step else_step statement_step (o.Control x)
+shape_control x = ap shape_of (sym (a.rolls-Control x)) ∙ action_at (o.Control x)
 
 pub shape_all_ports : (x : PortOperation) → shape_of (a.AllPorts x) ≡ on_all_ports x
-unfolding shape_of
-shape_all_ports x = ap shape_of (sym (a.rolls-AllPorts x)) ∙ fold-roll-Action Shape (Option Tree) BranchView Tree ElseView Step action_step body_step branch_step counted_step else_step statement_step (o.AllPorts x)
+shape_all_ports x = ap shape_of (sym (a.rolls-AllPorts x)) ∙ action_at (o.AllPorts x)
 
 pub shape_set_verdict : (x : VerdictName) → shape_of (a.SetVerdict x) ≡ verdict_set x
-unfolding shape_of
-shape_set_verdict x = ap shape_of (sym (a.rolls-SetVerdict x)) ∙ fold-roll-Action Shape (Option Tree) BranchView Tree ElseView Step action_step body_step branch_step counted_step else_step statement_step (o.SetVerdict x)
+shape_set_verdict x = ap shape_of (sym (a.rolls-SetVerdict x)) ∙ action_at (o.SetVerdict x)
 
 abbrev pub alt_shape : List Branch → Option ElseBranch → Shape
 alt_shape bs e = compounded (of compound (more (leaf (word w.Alt)) (more (symbol_leaf LeftBrace) (one (branches_tree (map branch_of bs) (otherwise_of e))))))
 
-alt_some : (bs : List Branch) (e : ElseBranch) → shape_of (a.Alt bs (Some e)) ≡ alt_shape bs (Some e)
-unfolding shape_of branch_of else_of
-alt_some bs e = ap shape_of (sym (a.rolls-Alt bs (Some e))) ∙ fold-roll-Action Shape (Option Tree) BranchView Tree ElseView Step action_step body_step branch_step counted_step else_step statement_step (o.Alt bs (Some e))
-
-alt_none : (bs : List Branch) → shape_of (a.Alt bs None) ≡ alt_shape bs None
-unfolding shape_of branch_of
-alt_none bs = ap shape_of (sym (a.rolls-Alt bs None)) ∙ fold-roll-Action Shape (Option Tree) BranchView Tree ElseView Step action_step body_step branch_step counted_step else_step statement_step (o.Alt bs None)
-
 pub shape_alt : (bs : List Branch) (e : Option ElseBranch) → shape_of (a.Alt bs e) ≡ alt_shape bs e
-shape_alt bs None = alt_none bs
-shape_alt bs (Some e) = alt_some bs e
+shape_alt bs None = ap shape_of (sym (a.rolls-Alt bs None)) ∙ action_at (o.Alt bs None)
+shape_alt bs (Some e) = ap shape_of (sym (a.rolls-Alt bs (Some e))) ∙ action_at (o.Alt bs (Some e))
 
 pub shape_for : (t : Turns) (ss : List Statement) → shape_of (a.For (roll-Counted (record { turns = t; block = ss })))
     ≡ compounded (of compound (more (leaf (word w.For)) (more (turns_tree t) (more (symbol_leaf LeftBrace) (one (statements_tree ss))))))
-unfolding shape_of step_of
+unfolding counted_tree step_of
 shape_for t ss =
     ap shape_of (sym (a.rolls-For (roll-Counted (record { turns = t; block = ss }))))
-    ∙ (fold-roll-Action Shape (Option Tree) BranchView Tree ElseView Step action_step body_step branch_step counted_step else_step statement_step (o.For (roll-Counted (record { turns = t; block = ss })))
+    ∙ (action_at (o.For (roll-Counted (record { turns = t; block = ss })))
     ∙ ap compounded (fold-roll-Counted Shape (Option Tree) BranchView Tree ElseView Step action_step body_step branch_step counted_step else_step statement_step (record { turns = t; block = ss })))
 
 pub body_nothing : body_of b.Nothing ≡ None
@@ -102,18 +96,14 @@ step_made n x e = fold-roll-Statement Shape (Option Tree) BranchView Tree ElseVi
 
 -- statements without a block
 pub named_plain : (s : Shape) → is_named s ≡ true → plain_tree s ≡ of plain (one (named_part s))
-named_plain (compounded t) e = absurd (false≢true e)
-named_plain (verdict_set v) e = absurd (false≢true e)
-named_plain (on_all_ports o) e = absurd (false≢true e)
 named_plain (port_started n) e = refl
 named_plain (on_port n t) e = refl
+named_plain s e = absurd (false≢true e)
 
 pub plain_frames : (line : ℕ) (x : Plain) (b : Bool)
     → shape_frames line (plain_shape x) b ≡ frame a_statement (Some line) (plain_tree (plain_shape x) ∷ []) ∷ end_frames end_of_plain statements b
-plain_frames line (p.SetVerdict v) b = refl
-plain_frames line (p.AllPorts o) b = refl
 plain_frames line (p.Start n) b = refl
-plain_frames line (p.Named n o) b = refl
+plain_frames line x b = refl
 
 -- the ends of parts
 pub enter_statements : {p : Parser} {b : Bool} → Enters p b → Leads statements (left p) (enter statements) (part_or_end a_statement b) (left p)

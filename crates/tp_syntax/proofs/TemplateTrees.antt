@@ -6,7 +6,8 @@ use Rattle.tp_syntax.specs.Lexeme.{text, word}
 use Rattle.tp_tree.specs.declared.message.Template.{Template}
 use Rattle.tp_tree.specs.declared.message.Template.TheVariants as v
 use Rattle.tp_tree.specs.declared.message.Template.TheOpen as o
-use Rattle.tp_tree.specs.declared.message.Template.TheFolds.{fold-roll-Template, fold_out-TemplateField}
+use Rattle.tp_tree.specs.declared.message.Template.TheViews.{roll-Template}
+use Rattle.tp_tree.specs.declared.message.Template.TheFolds.{map-Template, fold-roll-Template, fold_out-TemplateField}
 use Rattle.tp_tree.specs.declared.message.TemplateField.{TemplateField, out-TemplateField}
 use Rattle.tp_syntax.specs.Rule.{a_template, a_template_field, after_minus, an_integer, in_parentheses, more_template_fields, more_templates}
 use Rattle.tp_syntax.specs.Reading.{Tree, leaf, more}
@@ -14,53 +15,46 @@ use Rattle.tp_syntax.specs.TemplateTrees.{IsNegative, IsPositive, Views, FieldVi
 use Rattle.tp_syntax.proofs.StepsOfReading.{parsing}
 use Rattle.tp_syntax.proofs.PartsAfterCommas.{Separated, gathered_first}
 
+pub views_at : (x : o.Template-F Template TemplateField)
+    → template_views (roll-Template x) ≡ template_step (map-Template Template TemplateField Views FieldViews template_views field_views x)
+unfolding template_views field_views
+views_at x = fold-roll-Template Views FieldViews template_step field_step x
+
 pub views_int : (z : ℤ) → template_views (v.Int z) ≡ of_integer z
-unfolding template_views
-views_int z = ap template_views (sym (v.rolls-Int z)) ∙ fold-roll-Template Views FieldViews template_step field_step (o.Int z)
+views_int z = ap template_views (sym (v.rolls-Int z)) ∙ views_at (o.Int z)
 
 pub views_bool : (b : Bool) → template_views (v.Bool b) ≡ of_other (one (bool_leaf b))
-unfolding template_views
-views_bool b = ap template_views (sym (v.rolls-Bool b)) ∙ fold-roll-Template Views FieldViews template_step field_step (o.Bool b)
+views_bool b = ap template_views (sym (v.rolls-Bool b)) ∙ views_at (o.Bool b)
 
 pub views_text : (bs : List ℕ) → template_views (v.Text bs) ≡ of_other (one (leaf (text bs)))
-unfolding template_views
-views_text bs = ap template_views (sym (v.rolls-Text bs)) ∙ fold-roll-Template Views FieldViews template_step field_step (o.Text bs)
+views_text bs = ap template_views (sym (v.rolls-Text bs)) ∙ views_at (o.Text bs)
 
 pub views_name : (n : List ℕ) → template_views (v.Name n) ≡ of_name n
-unfolding template_views
-views_name n = ap template_views (sym (v.rolls-Name n)) ∙ fold-roll-Template Views FieldViews template_step field_step (o.Name n)
+views_name n = ap template_views (sym (v.rolls-Name n)) ∙ views_at (o.Name n)
 
 pub views_any : template_views v.Any ≡ of_other (one (symbol_leaf Question))
-unfolding template_views
-views_any = ap template_views (sym v.rolls-Any) ∙ fold-roll-Template Views FieldViews template_step field_step o.Any
+views_any = ap template_views (sym v.rolls-Any) ∙ views_at o.Any
 
 pub views_any_or_none : template_views v.AnyOrNone ≡ of_other (one (symbol_leaf Star))
-unfolding template_views
-views_any_or_none = ap template_views (sym v.rolls-AnyOrNone) ∙ fold-roll-Template Views FieldViews template_step field_step o.AnyOrNone
+views_any_or_none = ap template_views (sym v.rolls-AnyOrNone) ∙ views_at o.AnyOrNone
 
 pub views_one_of : (ts : List Template) → template_views (v.OneOf ts) ≡ of_bracket LeftParen (in_parens_of (map template_views ts))
-unfolding template_views
-views_one_of ts = ap template_views (sym (v.rolls-OneOf ts)) ∙ fold-roll-Template Views FieldViews template_step field_step (o.OneOf ts)
+views_one_of ts = ap template_views (sym (v.rolls-OneOf ts)) ∙ views_at (o.OneOf ts)
 
 pub views_complement : (ts : List Template) → template_views (v.Complement ts) ≡ of_other (complement_of (map template_views ts))
-unfolding template_views
-views_complement ts = ap template_views (sym (v.rolls-Complement ts)) ∙ fold-roll-Template Views FieldViews template_step field_step (o.Complement ts)
+views_complement ts = ap template_views (sym (v.rolls-Complement ts)) ∙ views_at (o.Complement ts)
 
 pub views_range : (low high : Option ℤ) → template_views (v.Range low high) ≡ of_bracket LeftParen (range_of low high)
-unfolding template_views
-views_range low high = ap template_views (sym (v.rolls-Range low high)) ∙ fold-roll-Template Views FieldViews template_step field_step (o.Range low high)
+views_range low high = ap template_views (sym (v.rolls-Range low high)) ∙ views_at (o.Range low high)
 
 pub views_pattern : (bs : List ℕ) → template_views (v.Pattern bs) ≡ of_other (more (leaf (word w.Pattern)) (one (leaf (text bs))))
-unfolding template_views
-views_pattern bs = ap template_views (sym (v.rolls-Pattern bs)) ∙ fold-roll-Template Views FieldViews template_step field_step (o.Pattern bs)
+views_pattern bs = ap template_views (sym (v.rolls-Pattern bs)) ∙ views_at (o.Pattern bs)
 
 pub views_list : (ts : List Template) → template_views (v.List ts) ≡ of_bracket LeftBrace (entries_of (map template_views ts))
-unfolding template_views
-views_list ts = ap template_views (sym (v.rolls-List ts)) ∙ fold-roll-Template Views FieldViews template_step field_step (o.List ts)
+views_list ts = ap template_views (sym (v.rolls-List ts)) ∙ views_at (o.List ts)
 
 pub views_record : (fs : List TemplateField) → template_views (v.Record fs) ≡ of_bracket LeftBrace (fields_of (map field_views fs))
-unfolding template_views field_views
-views_record fs = ap template_views (sym (v.rolls-Record fs)) ∙ fold-roll-Template Views FieldViews template_step field_step (o.Record fs)
+views_record fs = ap template_views (sym (v.rolls-Record fs)) ∙ views_at (o.Record fs)
 
 pub field_out : (f : TemplateField) → field_views f ≡ record { field_name = (out-TemplateField f).name; whole = template_tree (out-TemplateField f).template }
 unfolding template_views field_views

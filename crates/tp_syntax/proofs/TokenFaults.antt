@@ -45,14 +45,8 @@ some_bytes b bs e = cc
 
 never : (p : Piece) → Underscore ≡ front_kind p → ⊥
 unfolding front_kind
-never (blank b) e = cc
-never (line_comment bs) e = cc
-never (block_comment bs) e = cc
 never (token (name n) bs) e = cc
-never (token (word w) bs) e = cc
-never (token (number n) bs) e = cc
-never (token (text t) bs) e = cc
-never (token (symbol x) bs) e = cc
+never p e = cc
 
 pub no_underscore : (bytes : List ℕ) → BeginsAs Underscore bytes → IsFaulty Syntax bytes
 no_underscore [] h = absurd h

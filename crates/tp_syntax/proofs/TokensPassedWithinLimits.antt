@@ -2,10 +2,10 @@
 use Rattle.std.proofs.Common.{◌≡◌, ℕ, ◌+◌, ◌<◌, ◌≤◌, Bool, false, List, [], ◌∷◌, ◌++◌, Option, map, length, drop, get_or, refl, ap, sym, subst, ◌∙◌, append_assoc, append-nil, arith}
 use Rattle.std.proofs.lemmas.List.{drop_all, drop_more, length_push}
 use Rattle.tp_syntax.specs.declared.token.Placed.{Placed}
-use Rattle.tp_syntax.specs.Lexeme.{Lexeme, name, word, number, text, symbol, PlacedLexeme, lexeme_of, placed_lexeme}
+use Rattle.tp_syntax.specs.Lexeme.{Lexeme, symbol, PlacedLexeme, lexeme_of, placed_lexeme}
 use Rattle.tp_syntax.specs.declared.faults.Bracket.{Bracket}
 use Rattle.tp_syntax.specs.declared.faults.Bracket.TheVariants.{Opens, Closes, Neither}
-use Rattle.tp_syntax.specs.Faults.{Input, GoesOnWith, IsAllowed, IsCut, IsCutOf, AreAllowed, AreWithin, MayStandOpen, bracket_behind, input_of, is_minus, opened_behind, symbol_bracket}
+use Rattle.tp_syntax.specs.Faults.{IsAllowed, IsCut, IsCutOf, AreAllowed, AreWithin, MayStandOpen, bracket_behind, is_minus, opened_behind, symbol_bracket}
 
 pub allowed_push : (opened : ℕ) (signed : Bool) (ts : List PlacedLexeme) (t : PlacedLexeme) (end : ℕ) (end_signed : Bool) → AreAllowed opened signed ts end end_signed →
     IsAllowed end end_signed t.token → AreAllowed opened signed (ts ++ t ∷ []) (opened_behind end t.token) (is_minus t.token)
@@ -16,10 +16,16 @@ allowed_push opened signed [] t end end_signed are is = (
 allowed_push opened signed (u ∷ us) t end end_signed are is =
     (are.0, allowed_push (opened_behind opened u.token) (is_minus u.token) us t end end_signed are.1 is)
 
+-- the tokens go on with these: all before them are within the limits, and so many brackets are open there, directly after a `-` or elsewhere
+pub record GoesOnWith (tokens : List PlacedLexeme) (opened : ℕ) (signed : Bool) (rest : List PlacedLexeme) : Type 0 where
+  pub passed : List PlacedLexeme
+  pub is : tokens ≡ passed ++ rest
+  pub allowed : AreAllowed 0 false passed opened signed
+
 -- behind a token within the limits the text goes on
-abbrev pub goes_on : (i : Input) (opened : ℕ) (signed : Bool) (t : PlacedLexeme) (rest : List PlacedLexeme) → GoesOnWith i opened signed (t ∷ rest) →
-    IsAllowed opened signed t.token → GoesOnWith i (opened_behind opened t.token) (is_minus t.token) rest
-goes_on i opened signed t rest g is = record {
+abbrev goes_on : (tokens : List PlacedLexeme) (opened : ℕ) (signed : Bool) (t : PlacedLexeme) (rest : List PlacedLexeme) → GoesOnWith tokens opened signed (t ∷ rest) →
+    IsAllowed opened signed t.token → GoesOnWith tokens (opened_behind opened t.token) (is_minus t.token) rest
+goes_on tokens opened signed t rest g is = record {
   passed = g.passed ++ t ∷ [];
   is = g.is ∙ sym (append_assoc g.passed (t ∷ []) rest);
   allowed = allowed_push 0 false g.passed t opened signed g.allowed is;
@@ -32,52 +38,49 @@ few_bracket opened Neither few is = few
 
 -- behind a token within the limits 32 brackets at most are open
 pub few_behind : (opened : ℕ) (signed : Bool) (l : Lexeme) → opened ≤ 32 → IsAllowed opened signed l → opened_behind opened l ≤ 32
-few_behind opened signed (name n) few is = few
-few_behind opened signed (word w) few is = few
-few_behind opened signed (number n) few is = few
-few_behind opened signed (text t) few is = few
 few_behind opened signed (symbol s) few is = few_bracket opened (symbol_bracket s) few is
+few_behind opened signed l few is = few
 
 -- so many tokens are within the limits, and the text goes on with the others
-pub record HasGone (i : Input) (ps : List Placed) (place opened : ℕ) (signed : Bool) : Type 0 where
-  pub at : GoesOnWith i opened signed (map placed_lexeme (drop place ps))
+pub record HasGone (ps : List Placed) (place opened : ℕ) (signed : Bool) : Type 0 where
+  pub at : GoesOnWith (map placed_lexeme ps) opened signed (map placed_lexeme (drop place ps))
   pub all : length at.passed ≡ place
 
-from_place : (ps : List Placed) (place : ℕ) (t : Placed) → place < length ps → t ≡ get_or ps place t →
+pub from_place : (ps : List Placed) (place : ℕ) (t : Placed) → place < length ps → t ≡ get_or ps place t →
     map placed_lexeme (drop place ps) ≡ placed_lexeme t ∷ map placed_lexeme (drop (place + 1) ps)
 from_place ps place t within at =
     ap (λ (qs : List Placed). map placed_lexeme qs) (drop_more ps place t within)
     ∙ ap (λ (u : Placed). placed_lexeme u ∷ map placed_lexeme (drop (place + 1) ps)) (sym at)
 
 -- the token at a place comes next
-abbrev next_at : (i : Input) (ps : List Placed) (place opened : ℕ) (signed : Bool) (t : Placed) → HasGone i ps place opened signed → place < length ps →
-    t ≡ get_or ps place t → GoesOnWith i opened signed (placed_lexeme t ∷ map placed_lexeme (drop (place + 1) ps))
-next_at i ps place opened signed t g within at = record {
+abbrev next_at : (ps : List Placed) (place opened : ℕ) (signed : Bool) (t : Placed) → HasGone ps place opened signed → place < length ps →
+    t ≡ get_or ps place t → GoesOnWith (map placed_lexeme ps) opened signed (placed_lexeme t ∷ map placed_lexeme (drop (place + 1) ps))
+next_at ps place opened signed t g within at = record {
   passed = g.at.passed;
   is = g.at.is ∙ ap (λ (ts : List PlacedLexeme). g.at.passed ++ ts) (from_place ps place t within at);
   allowed = g.at.allowed;
 }
 
 -- no token is passed
-pub none_gone : (ps : List Placed) (last : ℕ) → HasGone (input_of ps last) ps 0 0 false
-none_gone ps last = record { at = record { passed = []; is = refl; allowed = (refl, refl) }; all = refl }
+pub none_gone : (ps : List Placed) → HasGone ps 0 0 false
+none_gone ps = record { at = record { passed = []; is = refl; allowed = (refl, refl) }; all = refl }
 
 -- the token at a place is passed
-pub one_gone : (i : Input) (ps : List Placed) (place opened : ℕ) (signed : Bool) (t : Placed) (opened_there : ℕ) (signed_there : Bool) →
-    HasGone i ps place opened signed → place < length ps → t ≡ get_or ps place t → IsAllowed opened signed (lexeme_of t.token) →
+pub one_gone : (ps : List Placed) (place opened : ℕ) (signed : Bool) (t : Placed) (opened_there : ℕ) (signed_there : Bool) →
+    HasGone ps place opened signed → place < length ps → t ≡ get_or ps place t → IsAllowed opened signed (lexeme_of t.token) →
     opened_there ≡ opened_behind opened (lexeme_of t.token) → signed_there ≡ is_minus (lexeme_of t.token) →
-    HasGone i ps (place + 1) opened_there signed_there
-one_gone i ps place opened signed t opened_there signed_there g within at is e f =
-    let next = goes_on i opened signed (placed_lexeme t) (map placed_lexeme (drop (place + 1) ps)) (next_at i ps place opened signed t g within at) is in
-    let gone : HasGone i ps (place + 1) (opened_behind opened (lexeme_of t.token)) (is_minus (lexeme_of t.token)) = record {
+    HasGone ps (place + 1) opened_there signed_there
+one_gone ps place opened signed t opened_there signed_there g within at is e f =
+    let next = goes_on (map placed_lexeme ps) opened signed (placed_lexeme t) (map placed_lexeme (drop (place + 1) ps)) (next_at ps place opened signed t g within at) is in
+    let gone : HasGone ps (place + 1) (opened_behind opened (lexeme_of t.token)) (is_minus (lexeme_of t.token)) = record {
       at = next;
       all = length_push g.at.passed (placed_lexeme t) ∙ ap (λ n. n + 1) g.all;
     } in
-    subst (λ n. HasGone i ps (place + 1) n signed_there) (sym e)
-    (subst (λ b. HasGone i ps (place + 1) (opened_behind opened (lexeme_of t.token)) b) (sym f) gone)
+    subst (λ n. HasGone ps (place + 1) n signed_there) (sym e)
+    (subst (λ b. HasGone ps (place + 1) (opened_behind opened (lexeme_of t.token)) b) (sym f) gone)
 
 -- behind all of them each is within the limits
-pub all_gone : (ps : List Placed) (place opened : ℕ) (signed : Bool) → HasGone (input_of ps 0) ps place opened signed → length ps ≤ place →
+pub all_gone : (ps : List Placed) (place opened : ℕ) (signed : Bool) → HasGone ps place opened signed → length ps ≤ place →
     AreWithin (map placed_lexeme ps)
 all_gone ps place opened signed g behind =
     let none : map placed_lexeme (drop place ps) ≡ [] = ap (λ (qs : List Placed). map placed_lexeme qs) (drop_all place ps behind) in
@@ -86,11 +89,11 @@ all_gone ps place opened signed g behind =
 
 -- the tokens are cut behind the first that is beyond the limits
 pub cut_there : (ps : List Placed) (place opened : ℕ) (signed : Bool) (t : Placed) (front : List PlacedLexeme) (beyond : Option ℕ) →
-    HasGone (input_of ps 0) ps place opened signed → place < length ps → t ≡ get_or ps place t → (IsAllowed opened signed (lexeme_of t.token) → ⊥) →
+    HasGone ps place opened signed → place < length ps → t ≡ get_or ps place t → (IsAllowed opened signed (lexeme_of t.token) → ⊥) →
     ((passed rest : List PlacedLexeme) (u : PlacedLexeme) → map placed_lexeme ps ≡ passed ++ u ∷ rest → length passed ≡ place → IsCutOf passed u signed front beyond) →
     IsCut (map placed_lexeme ps) front beyond
 cut_there ps place opened signed t front beyond g within at out cut =
-    let next = next_at (input_of ps 0) ps place opened signed t g within at in record {
+    let next = next_at ps place opened signed t g within at in record {
       opened = opened;
       signed = signed;
       passed = g.at.passed;

@@ -8,7 +8,7 @@ use Rattle.tp_syntax.specs.declared.token.Token.{Token}
 use Rattle.tp_syntax.specs.Byte.{byte_kind, is_word_byte, is_digit, is_printable}
 use Rattle.tp_syntax.specs.Lexeme.{Lexeme, name, word, number, text, symbol, lexeme_of}
 use Rattle.tp_syntax.specs.Spelling.{Run, IsSpelled, symbol_spelling}
-use Rattle.tp_syntax.specs.Cut.{Piece, blank, line_comment, block_comment, token, IsPiece, piece_bytes, token_of, newlines, PieceAt}
+use Rattle.tp_syntax.specs.Cut.{Piece, token, IsPiece, piece_bytes, token_of, newlines, PieceAt}
 use Rattle.tp_syntax.proofs.LongestTokens.{word_run, number_run, form, closed}
 
 -- a run of a test that the byte 10 fails holds no line end
@@ -37,23 +37,7 @@ closed_run (b ∷ bs) r = elim (form b bs) [
 
 symbol_lines : (x : Symbol) → newlines (symbol_spelling x) ≡ 0
 symbol_lines s.LeftBrace = refl
-symbol_lines s.RightBrace = refl
-symbol_lines s.LeftParen = refl
-symbol_lines s.RightParen = refl
-symbol_lines s.LeftBracket = refl
-symbol_lines s.RightBracket = refl
-symbol_lines s.Comma = refl
-symbol_lines s.Semicolon = refl
-symbol_lines s.Colon = refl
-symbol_lines s.Dot = refl
-symbol_lines s.Question = refl
-symbol_lines s.Star = refl
-symbol_lines s.Minus = refl
-symbol_lines s.Less = refl
-symbol_lines s.Plus = refl
-symbol_lines s.DotDot = refl
-symbol_lines s.Assign = refl
-symbol_lines s.Arrow = refl
+symbol_lines x = refl
 
 spelled_lines : (l : Lexeme) (bs : List ℕ) → IsSpelled l bs → newlines bs ≡ 0
 spelled_lines (name n) bs h = run_lines is_word_byte word_lines bs (word_run bs h.0)
@@ -64,10 +48,8 @@ spelled_lines (symbol x) bs h = ap newlines h ∙ symbol_lines x
 
 -- a piece that is a token ends no line
 pub token_lines : (p : Piece) (rest : List ℕ) (l : Lexeme) → IsPiece p rest → token_of p ≡ Some l → newlines (piece_bytes p) ≡ 0
-token_lines (blank b) rest l h e = absurd cc
-token_lines (line_comment bs) rest l h e = absurd cc
-token_lines (block_comment bs) rest l h e = absurd cc
 token_lines (token m bs) rest l h e = spelled_lines m bs h.0
+token_lines p rest l h e = absurd cc
 
 pub piece_lines : (bytes : List ℕ) (found : Option Token) (size : ℕ) (h : PieceAt bytes (option_map lexeme_of found) size) → is_some found ≡ true
     → newlines (piece_bytes h.piece) ≡ 0

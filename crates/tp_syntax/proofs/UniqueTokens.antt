@@ -1,5 +1,5 @@
 -- A text has one list of tokens: at each place one piece can stand.
-use Rattle.std.proofs.Common.{◌≡◌, ◌≢◌, ℕ, ◌≤◌, Bool, true, false, List, [], ◌∷◌, ◌++◌, length, refl, ap, sym, ◌∙◌, subst, arith, inl, inr, append_assoc, if◌then◌else◌, Option, Some, None}
+use Rattle.std.proofs.Common.{◌≡◌, ℕ, ◌≤◌, Bool, true, false, List, [], ◌∷◌, ◌++◌, length, get_or, refl, ap, sym, ◌∙◌, subst, arith, inl, inr, append_assoc, if◌then◌else◌, Option, Some, None}
 use Rattle.std.proofs.lemmas.List.{append_cancel_left}
 use Rattle.std.specs.Str.{bytes_eq}
 use Rattle.tp_syntax.specs.declared.token.Symbol.{Symbol}
@@ -43,23 +43,7 @@ all_symbols = s.LeftBrace ∷ s.RightBrace ∷ s.LeftParen ∷ s.RightParen ∷ 
 symbol_back : (x : Symbol) → symbol_from (symbol_spelling x) all_symbols ≡ x
 unfolding symbol_from all_symbols
 symbol_back s.LeftBrace = refl
-symbol_back s.RightBrace = refl
-symbol_back s.LeftParen = refl
-symbol_back s.RightParen = refl
-symbol_back s.LeftBracket = refl
-symbol_back s.RightBracket = refl
-symbol_back s.Comma = refl
-symbol_back s.Semicolon = refl
-symbol_back s.Colon = refl
-symbol_back s.Dot = refl
-symbol_back s.Question = refl
-symbol_back s.Star = refl
-symbol_back s.Minus = refl
-symbol_back s.Less = refl
-symbol_back s.Plus = refl
-symbol_back s.DotDot = refl
-symbol_back s.Assign = refl
-symbol_back s.Arrow = refl
+symbol_back x = refl
 
 symbols : (x y : Symbol) (bs : List ℕ) → bs ≡ symbol_spelling x → bs ≡ symbol_spelling y → x ≡ y
 symbols x y bs p q = sym (symbol_back x) ∙ ap (λ (z : List ℕ). symbol_from z all_symbols) (sym p ∙ q) ∙ symbol_back y
@@ -95,56 +79,21 @@ texts (a ∷ rest) (b ∷ bs) e = elim (form a rest) [
 
 -- no token is spelled by no bytes
 pub spelled_some : (l : Lexeme) → IsSpelled l [] → ⊥
-spelled_some (name n) h = h.0
-spelled_some (word w) h = h.0
-spelled_some (number n) h = h.0
 spelled_some (text t) h = let e = h.0 in cc
 spelled_some (symbol s.LeftBrace) h = cc
-spelled_some (symbol s.RightBrace) h = cc
-spelled_some (symbol s.LeftParen) h = cc
-spelled_some (symbol s.RightParen) h = cc
-spelled_some (symbol s.LeftBracket) h = cc
-spelled_some (symbol s.RightBracket) h = cc
-spelled_some (symbol s.Comma) h = cc
-spelled_some (symbol s.Semicolon) h = cc
-spelled_some (symbol s.Colon) h = cc
-spelled_some (symbol s.Dot) h = cc
-spelled_some (symbol s.Question) h = cc
-spelled_some (symbol s.Star) h = cc
-spelled_some (symbol s.Minus) h = cc
-spelled_some (symbol s.Less) h = cc
-spelled_some (symbol s.Plus) h = cc
-spelled_some (symbol s.DotDot) h = cc
-spelled_some (symbol s.Assign) h = cc
-spelled_some (symbol s.Arrow) h = cc
+spelled_some (symbol x) h = cc
+spelled_some l h = h.0
 
 -- tokens of one spelling that begin with the same kind of byte are the same
 alike : (l m : Lexeme) (bs : List ℕ) → first_kind l ≡ first_kind m → IsSpelled l bs → IsSpelled m bs → l ≡ m
 alike (name n) (name k) bs e h i = ap name (h.2 ∙ sym i.2)
 alike (name n) (word w) bs e h i = let no : ◌≡◌ {A = Option _} None (Some w) = sym h.1 ∙ i.1 in cc
-alike (name n) (number k) bs e h i = cc
-alike (name n) (text t) bs e h i = cc
-alike (name n) (symbol x) bs e h i = cc
 alike (word w) (name n) bs e h i = let no : ◌≡◌ {A = Option _} None (Some w) = sym i.1 ∙ h.1 in cc
 alike (word w) (word v) bs e h i = let same : ◌≡◌ {A = Option _} (Some w) (Some v) = sym h.1 ∙ i.1 in cc
-alike (word w) (number k) bs e h i = cc
-alike (word w) (text t) bs e h i = cc
-alike (word w) (symbol x) bs e h i = cc
-alike (number n) (name k) bs e h i = cc
-alike (number n) (word w) bs e h i = cc
 alike (number n) (number k) bs e h i = ap number (h.1 ∙ sym i.1)
-alike (number n) (text t) bs e h i = cc
-alike (number n) (symbol x) bs e h i = cc
-alike (text t) (name n) bs e h i = cc
-alike (text t) (word w) bs e h i = cc
-alike (text t) (number n) bs e h i = cc
 alike (text t) (text u) bs e h i = ap text (texts t u (tails 34 34 (closed t) (closed u) (sym h.0 ∙ i.0)))
-alike (text t) (symbol x) bs e h i = cc
-alike (symbol x) (name n) bs e h i = cc
-alike (symbol x) (word w) bs e h i = cc
-alike (symbol x) (number n) bs e h i = cc
-alike (symbol x) (text t) bs e h i = cc
 alike (symbol x) (symbol y) bs e h i = ap symbol (symbols x y bs h i)
+alike l m bs e h i = cc
 
 -- tokens of one spelling are the same
 spelled_same : (l m : Lexeme) (bs : List ℕ) → IsSpelled l bs → IsSpelled m bs → l ≡ m
@@ -159,10 +108,7 @@ slash_kind = refl
 
 not_blank : (l : Lexeme) → first_kind l ≡ Blank → ⊥
 not_blank (name n) e = cc
-not_blank (word w) e = cc
-not_blank (number n) e = cc
-not_blank (text t) e = cc
-not_blank (symbol x) e = cc
+not_blank l e = cc
 
 -- a token and a byte of white space don't stand at one place
 blank_token : (a : ℕ) (l : Lexeme) (bs x y : List ℕ) → byte_kind a ≡ Blank → IsSpelled l bs → a ∷ x ≡ bs ++ y → ⊥
@@ -174,36 +120,14 @@ blank_slash a x y k e =
     let same : Blank ≡ Other = sym k ∙ ap byte_kind (heads a 47 x y e) ∙ slash_kind in
     cc
 
-differs : (n : ℕ) → n ≢ 47 → (x y : List ℕ) → 47 ∷ x ≡ n ∷ y → ⊥
-differs n ne x y e = ne (sym (heads 47 n x y e))
-
 not_slash : (x : Symbol) (bs : List ℕ) → 47 ∷ bs ≡ symbol_spelling x → ⊥
-not_slash s.LeftBrace bs e = differs 123 (λ h. omega arith) bs [] e
-not_slash s.RightBrace bs e = differs 125 (λ h. omega arith) bs [] e
-not_slash s.LeftParen bs e = differs 40 (λ h. omega arith) bs [] e
-not_slash s.RightParen bs e = differs 41 (λ h. omega arith) bs [] e
-not_slash s.LeftBracket bs e = differs 91 (λ h. omega arith) bs [] e
-not_slash s.RightBracket bs e = differs 93 (λ h. omega arith) bs [] e
-not_slash s.Comma bs e = differs 44 (λ h. omega arith) bs [] e
-not_slash s.Semicolon bs e = differs 59 (λ h. omega arith) bs [] e
-not_slash s.Colon bs e = differs 58 (λ h. omega arith) bs [] e
-not_slash s.Dot bs e = differs 46 (λ h. omega arith) bs [] e
-not_slash s.Question bs e = differs 63 (λ h. omega arith) bs [] e
-not_slash s.Star bs e = differs 42 (λ h. omega arith) bs [] e
-not_slash s.Minus bs e = differs 45 (λ h. omega arith) bs [] e
-not_slash s.Less bs e = differs 60 (λ h. omega arith) bs [] e
-not_slash s.Plus bs e = differs 43 (λ h. omega arith) bs [] e
-not_slash s.DotDot bs e = differs 46 (λ h. omega arith) bs (46 ∷ []) e
-not_slash s.Assign bs e = differs 58 (λ h. omega arith) bs (61 ∷ []) e
-not_slash s.Arrow bs e = differs 45 (λ h. omega arith) bs (62 ∷ []) e
+not_slash s.LeftBrace bs e = let first : ◌≡◌ {A = ℕ} 47 123 = ap (λ (z : List ℕ). get_or z 0 0) e in omega arith
+not_slash x bs e = let first : 47 ≡ get_or (symbol_spelling x) 0 0 = ap (λ (z : List ℕ). get_or z 0 0) e in omega arith
 
 -- no token begins with `/`
 slash_spelled : (l : Lexeme) (bs : List ℕ) → IsSpelled l (47 ∷ bs) → first_kind l ≡ Other → ⊥
-slash_spelled (name n) bs h k = cc
-slash_spelled (word w) bs h k = cc
-slash_spelled (number n) bs h k = cc
-slash_spelled (text t) bs h k = cc
 slash_spelled (symbol x) bs h k = not_slash x bs h
+slash_spelled l bs h k = cc
 
 -- a token and a comment don't stand at one place
 pub slash_token : (l : Lexeme) (bs x y : List ℕ) → IsSpelled l bs → 47 ∷ x ≡ bs ++ y → ⊥
@@ -286,11 +210,8 @@ piece_same (token l bs) (token m cs) r y h i e = longest_same l m bs cs r y h.0 
 
 -- a piece has some bytes
 pub piece_some : (p : Piece) (r : List ℕ) → IsPiece p r → piece_bytes p ++ r ≡ [] → ⊥
-piece_some (blank b) r h e = cc
-piece_some (line_comment bs) r h e = cc
-piece_some (block_comment bs) r h e = cc
 piece_some (token l []) r h e = spelled_some l h.0
-piece_some (token l (b ∷ bs)) r h e = cc
+piece_some p r h e = cc
 
 -- a text is cut in one way
 cuts_same : (ps qs : List Piece) (bytes : List ℕ) → Cuts ps bytes [] → Cuts qs bytes [] → ps ≡ qs

@@ -4,7 +4,8 @@ use Rattle.tp_syntax.specs.Lexeme.{text}
 use Rattle.tp_tree.specs.declared.message.Value.{Value}
 use Rattle.tp_tree.specs.declared.message.Value.TheVariants as v
 use Rattle.tp_tree.specs.declared.message.Value.TheOpen as o
-use Rattle.tp_tree.specs.declared.message.Value.TheFolds.{fold-roll-Value, fold_out-ValueField}
+use Rattle.tp_tree.specs.declared.message.Value.TheViews.{roll-Value}
+use Rattle.tp_tree.specs.declared.message.Value.TheFolds.{map-Value, fold-roll-Value, fold_out-ValueField}
 use Rattle.tp_tree.specs.declared.message.ValueField.{ValueField, out-ValueField}
 use Rattle.tp_syntax.specs.Rule.{a_value, a_value_field, more_values, more_value_fields}
 use Rattle.tp_syntax.specs.Reading.{Tree, leaf}
@@ -13,29 +14,27 @@ use Rattle.tp_syntax.specs.ValueTrees.{Views, FieldViews, of_unnamed, of_name, o
 use Rattle.tp_syntax.proofs.StepsOfReading.{parsing}
 use Rattle.tp_syntax.proofs.PartsAfterCommas.{Separated, gathered_first}
 
+pub views_at : (x : o.Value-F Value ValueField) → value_views (roll-Value x) ≡ value_step (map-Value Value ValueField Views FieldViews value_views field_views x)
+unfolding value_views field_views
+views_at x = fold-roll-Value Views FieldViews value_step field_step x
+
 pub views_int : (z : ℤ) → value_views (v.Int z) ≡ of_unnamed (integer_tree z)
-unfolding value_views
-views_int z = ap value_views (sym (v.rolls-Int z)) ∙ fold-roll-Value Views FieldViews value_step field_step (o.Int z)
+views_int z = ap value_views (sym (v.rolls-Int z)) ∙ views_at (o.Int z)
 
 pub views_bool : (b : Bool) → value_views (v.Bool b) ≡ of_unnamed (bool_leaf b)
-unfolding value_views
-views_bool b = ap value_views (sym (v.rolls-Bool b)) ∙ fold-roll-Value Views FieldViews value_step field_step (o.Bool b)
+views_bool b = ap value_views (sym (v.rolls-Bool b)) ∙ views_at (o.Bool b)
 
 pub views_text : (bs : List ℕ) → value_views (v.Text bs) ≡ of_unnamed (leaf (text bs))
-unfolding value_views
-views_text bs = ap value_views (sym (v.rolls-Text bs)) ∙ fold-roll-Value Views FieldViews value_step field_step (o.Text bs)
+views_text bs = ap value_views (sym (v.rolls-Text bs)) ∙ views_at (o.Text bs)
 
 pub views_name : (n : List ℕ) → value_views (v.Name n) ≡ of_name n
-unfolding value_views
-views_name n = ap value_views (sym (v.rolls-Name n)) ∙ fold-roll-Value Views FieldViews value_step field_step (o.Name n)
+views_name n = ap value_views (sym (v.rolls-Name n)) ∙ views_at (o.Name n)
 
 pub views_list : (vs : List Value) → value_views (v.List vs) ≡ of_bracket (entries_of (map value_views vs))
-unfolding value_views
-views_list vs = ap value_views (sym (v.rolls-List vs)) ∙ fold-roll-Value Views FieldViews value_step field_step (o.List vs)
+views_list vs = ap value_views (sym (v.rolls-List vs)) ∙ views_at (o.List vs)
 
 pub views_record : (fs : List ValueField) → value_views (v.Record fs) ≡ of_bracket (fields_of (map field_views fs))
-unfolding value_views field_views
-views_record fs = ap value_views (sym (v.rolls-Record fs)) ∙ fold-roll-Value Views FieldViews value_step field_step (o.Record fs)
+views_record fs = ap value_views (sym (v.rolls-Record fs)) ∙ views_at (o.Record fs)
 
 pub field_out : (f : ValueField) → field_views f ≡ record { field_name = (out-ValueField f).name; whole = value_tree (out-ValueField f).value }
 unfolding value_views field_views

@@ -80,13 +80,17 @@ arguments_tree (c ∷ cs) =
     (more (component_tree c)
     (more (chain more_arguments (map component_tree cs)) (one (sym RightParen))))
 
--- whether the part stands for the rule `case_unnamed`, begins with `var`, or stands for `case_statement`, `case_action`
+-- whether the part begins with `all`, stands for the rule `case_unnamed`, begins with `var`, or stands for
+-- `case_statement`, `case_action`
+abbrev pub is_all : Kind → Bool
+is_all (does (on_all_ports o)) = true
+is_all done = true
+is_all _ = false
+
 abbrev pub is_unnamed : Kind → Bool
 is_unnamed (does (compounded t)) = true
 is_unnamed (does (verdict_set v)) = true
-is_unnamed (does (on_all_ports o)) = true
-is_unnamed done = true
-is_unnamed _ = false
+is_unnamed k = is_all k
 
 abbrev pub is_var : Kind → Bool
 is_var (creates c) = true
@@ -113,20 +117,24 @@ end_of_statement b = end_frames end_of_case_statement case_statements b
 abbrev pub end_of_declaration : Bool → List Frame
 end_of_declaration b = end_frames end_of_case_variable case_variables b
 
+-- what begins with `all`
+abbrev pub case_all_frames : Kind → Bool → List Frame
+case_all_frames (does (on_all_ports o)) b =
+    frame case_all None (leaf (word w.All) ∷ [])
+    ∷ frame after_case_all None (leaf (word w.Port) ∷ sym Dot ∷ control_tree o ∷ [])
+    ∷ end_of_statement b
+case_all_frames done b =
+    frame case_all None (leaf (word w.All) ∷ [])
+    ∷ frame after_case_all None (leaf (word w.Component) ∷ sym Dot ∷ leaf (word w.Done) ∷ [])
+    ∷ semicolon_frames end_of_case b
+case_all_frames _ b = []
+
 abbrev pub unnamed_frames : Kind → Bool → List Frame
 unnamed_frames (does (compounded t)) b =
     frame case_unnamed None (t ∷ may_end_tree b ∷ []) ∷ enter case_statements
 unnamed_frames (does (verdict_set v)) b =
     frame case_unnamed None (set_verdict_tree v ∷ []) ∷ end_of_statement b
-unnamed_frames (does (on_all_ports o)) b =
-    frame case_unnamed None [] ∷ frame case_all None (leaf (word w.All) ∷ [])
-    ∷ frame after_case_all None (leaf (word w.Port) ∷ sym Dot ∷ control_tree o ∷ [])
-    ∷ end_of_statement b
-unnamed_frames done b =
-    frame case_unnamed None [] ∷ frame case_all None (leaf (word w.All) ∷ [])
-    ∷ frame after_case_all None (leaf (word w.Component) ∷ sym Dot ∷ leaf (word w.Done) ∷ [])
-    ∷ semicolon_frames end_of_case b
-unnamed_frames _ b = []
+unnamed_frames k b = enter case_unnamed ++ case_all_frames k b
 
 -- a statement that begins with the name of a port, as one of those after all starts
 abbrev pub named_frames : Kind → Bool → List Frame
@@ -209,11 +217,6 @@ abbrev pub parts_frames : Stage → List Part → List Frame
 parts_frames s [] = []
 parts_frames s (p ∷ ps) =
     part_frames s p.line p.kind p.semicolon ++ parts_frames (stage_of p.kind) ps
-
--- the stage after these parts
-abbrev pub stage_behind : Stage → List Part → Stage
-stage_behind s [] = s
-stage_behind s (p ∷ ps) = stage_behind (stage_of p.kind) ps
 
 -- parts, and the `}` after them
 abbrev pub case_tree : List Part → Tree

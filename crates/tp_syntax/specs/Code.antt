@@ -82,23 +82,6 @@ symbol_code s.DotDot = 15
 symbol_code s.Assign = 16
 symbol_code s.Arrow = 17
 
--- the words, by their numbers
-abbrev pub words : List Word
-words =
-    w.Module ∷ w.Type ∷ w.Record ∷ w.Of ∷ w.Port ∷ w.Message ∷ w.Component ∷ w.In ∷ w.Out ∷
-    w.Inout ∷ w.Function ∷ w.Testcase ∷ w.Runs ∷ w.On ∷ w.System ∷ w.Var ∷ w.Create ∷ w.Connect ∷
-    w.Map ∷ w.Mtc ∷ w.SelfWord ∷ w.Start ∷ w.Stop ∷ w.Halt ∷ w.Clear ∷ w.Send ∷ w.Receive ∷
-    w.Trigger ∷ w.Check ∷ w.To ∷ w.From ∷ w.Alt ∷ w.Else ∷ w.For ∷ w.Setverdict ∷ w.NoneWord ∷
-    w.Pass ∷ w.Inconc ∷ w.Fail ∷ w.Error ∷ w.All ∷ w.Done ∷ w.True ∷ w.False ∷ w.Integer ∷
-    w.Boolean ∷ w.Charstring ∷ w.Complement ∷ w.Pattern ∷ w.Infinity ∷ w.Value ∷ w.Sender ∷ []
-
--- the symbols, by their numbers
-abbrev pub symbols : List Symbol
-symbols =
-    s.LeftBrace ∷ s.RightBrace ∷ s.LeftParen ∷ s.RightParen ∷ s.LeftBracket ∷ s.RightBracket ∷
-    s.Comma ∷ s.Semicolon ∷ s.Colon ∷ s.Dot ∷ s.Question ∷ s.Star ∷ s.Minus ∷ s.Less ∷ s.Plus ∷
-    s.DotDot ∷ s.Assign ∷ s.Arrow ∷ []
-
 -- the characters that have another meaning after `pattern` in TTCN-3: `\ [ ] { } ( ) | # +` and the quote
 abbrev pub meta_characters : List ℕ
 meta_characters = 92 ∷ 91 ∷ 93 ∷ 123 ∷ 125 ∷ 40 ∷ 41 ∷ 124 ∷ 35 ∷ 43 ∷ 34 ∷ []

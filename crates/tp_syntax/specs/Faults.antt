@@ -1,5 +1,5 @@
 -- Which tokens are beyond the limits, and which lines may be named.
-use Rattle.std.specs.Prelude.{◌≡◌, ℕ, zero, ◌+◌, ◌-◌, ◌<◌, ◌≤◌, min, ◌⊎◌, Bool, true, false, List, [], ◌∷◌, ◌++◌, map}
+use Rattle.std.specs.Prelude.{◌≡◌, ℕ, zero, ◌+◌, ◌-◌, ◌<◌, ◌≤◌, min, ◌⊎◌, Bool, true, false, List, [], ◌∷◌, ◌++◌}
 use Rattle.std.specs.Prelude.{length, drop, Option, None, Some}
 use Rattle.tp_syntax.specs.declared.script_fault.TextRule.TheVariants.{Syntax, Limit}
 use Rattle.tp_syntax.specs.declared.script_fault.ScriptFault.{ScriptFault}
@@ -8,8 +8,7 @@ use Rattle.tp_syntax.specs.declared.token.Symbol.{Symbol}
 use Rattle.tp_syntax.specs.declared.token.Symbol.TheVariants.{LeftBrace, RightBrace, LeftParen, RightParen, LeftBracket}
 use Rattle.tp_syntax.specs.declared.token.Symbol.TheVariants.{RightBracket, Comma, Semicolon, Colon, Dot, Question}
 use Rattle.tp_syntax.specs.declared.token.Symbol.TheVariants.{Star, Minus, Less, Plus, DotDot, Assign, Arrow}
-use Rattle.tp_syntax.specs.declared.token.Placed.{Placed}
-use Rattle.tp_syntax.specs.Lexeme.{Lexeme, name, word, number, text, symbol, PlacedLexeme, placed_lexeme}
+use Rattle.tp_syntax.specs.Lexeme.{Lexeme, name, word, number, text, symbol, PlacedLexeme}
 use Rattle.tp_syntax.specs.declared.faults.Bracket.{Bracket}
 use Rattle.tp_syntax.specs.declared.faults.Bracket.TheVariants.{Opens, Closes, Neither}
 
@@ -79,23 +78,6 @@ AreAllowed opened signed [] end end_signed = (opened ≡ end) × (signed ≡ end
 AreAllowed opened signed (t ∷ ts) end end_signed =
     IsAllowed opened signed t.token
     × AreAllowed (opened_behind opened t.token) (is_minus t.token) ts end end_signed
-
--- what the grammar reads: the tokens of a text, and the line of the text's end
-pub record Input : Type 0 where
-  pub tokens : List PlacedLexeme
-  pub last_line : ℕ
-
--- these tokens, with the line of the text's end
-abbrev pub input_of : List Placed → ℕ → Input
-input_of ps last = record { tokens = map placed_lexeme ps; last_line = last }
-
--- the text goes on with these tokens: all before them are within the limits, and so many brackets are open there,
--- directly after a `-` or elsewhere
-pub record GoesOnWith (i : Input) (opened : ℕ) (signed : Bool)
-    (rest : List PlacedLexeme) : Type 0 where
-  pub passed : List PlacedLexeme
-  pub is : i.tokens ≡ passed ++ rest
-  pub allowed : AreAllowed 0 false passed opened signed
 
 -- the line of the first of the tokens, or of the text's end
 abbrev pub fault_line : List PlacedLexeme → ℕ → ℕ

@@ -1,5 +1,5 @@
 -- What is read by the grammar from tokens, and where it fails.
-use Rattle.std.specs.Prelude.{ℕ, ◌≡◌, true, false, cond, List, [], ◌∷◌, ◌++◌, Option, Some, None, length}
+use Rattle.std.specs.Prelude.{ℕ, ◌≡◌, true, false, cond, List, [], ◌∷◌, Option, Some, None, length}
 use Rattle.tp_syntax.specs.Lexeme.{Lexeme, name, PlacedLexeme}
 use Rattle.tp_syntax.specs.declared.stuck.Stuck.{Stuck}
 use Rattle.tp_syntax.specs.declared.stuck.Stuck.TheVariants.{At, Memory}
@@ -98,13 +98,3 @@ mutual
         {t : Tree} {e : Stuck}
         → Reads (known bound i) ts t mid → FailsAll (bound_by bound i t) is mid e
         → FailsAll bound (i ∷ is) ts e
-
--- the tokens of a tree
-mutual
-  pub leaves : Tree → List Lexeme
-  leaves (leaf l) = l ∷ []
-  leaves (node r line trees) = all_leaves trees
-
-  pub all_leaves : Trees → List Lexeme
-  all_leaves none = []
-  all_leaves (more t trees) = leaves t ++ all_leaves trees

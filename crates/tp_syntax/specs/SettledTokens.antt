@@ -1,5 +1,5 @@
 -- Tokens without a `-` directly before the number 0, whose line this 0 takes.
-use Rattle.std.specs.Prelude.{ℕ, Bool, false, cond, List, [], ◌∷◌, ◌++◌, Option, Some, None, ◌==◌}
+use Rattle.std.specs.Prelude.{ℕ, Bool, false, ◌&&◌, ◌||◌, cond, List, [], ◌∷◌, ◌++◌, Option, Some, None, ◌==◌}
 use Rattle.tp_syntax.specs.declared.token.Symbol.TheVariants.{Minus}
 use Rattle.tp_syntax.specs.Lexeme.{Lexeme, number, symbol, PlacedLexeme}
 use Rattle.tp_syntax.specs.Faults.{is_minus}
@@ -37,3 +37,9 @@ settled_behind minus (t ∷ ts) = kept_of minus t ++ settled_behind (waiting t) 
 
 abbrev pub settled : List PlacedLexeme → List PlacedLexeme
 settled ts = settled_behind None ts
+
+-- whether a `-` stands directly before the number 0 among these tokens, or, if one stands before them, with the first
+abbrev pub has_negative_zero : Bool → List PlacedLexeme → Bool
+has_negative_zero after_minus [] = false
+has_negative_zero after_minus (t ∷ ts) =
+    (after_minus && is_zero t.token) || has_negative_zero (is_minus t.token) ts

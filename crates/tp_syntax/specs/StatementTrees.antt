@@ -1,5 +1,5 @@
 -- The trees of statements.
-use Rattle.std.specs.Prelude.{ℕ, Bool, true, false, List, [], ◌∷◌, ◌++◌, map, Option, Some, None}
+use Rattle.std.specs.Prelude.{ℕ, Bool, List, [], ◌∷◌, ◌++◌, map, Option, Some, None}
 use Rattle.tp_syntax.specs.declared.word.Word.TheVariants as w
 use Rattle.tp_syntax.specs.declared.token.Symbol.TheVariants.{Dot, LeftBrace, LeftBracket, RightBracket}
 use Rattle.tp_syntax.specs.Lexeme.{name, word}
@@ -203,7 +203,3 @@ otherwise_of (Some e) = Some (else_of e)
 abbrev pub compound_tree : Shape → Tree
 compound_tree (compounded t) = t
 compound_tree _ = closing_tree
-
-abbrev pub is_compounded : Shape → Bool
-is_compounded (compounded t) = true
-is_compounded _ = false

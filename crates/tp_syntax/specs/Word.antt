@@ -1,6 +1,5 @@
 -- The reserved words.
-use Rattle.std.specs.Prelude.{◌≡◌, ◌↔◌, ℕ, Bool, List, [], ◌∷◌, map, length, Option, Some, None, codes, if◌then◌else◌}
-use Rattle.std.specs.Prelude.{◌==◌}
+use Rattle.std.specs.Prelude.{◌≡◌, ◌↔◌, ℕ, List, [], ◌∷◌, map, Option, Some, None, codes, if◌then◌else◌}
 use Rattle.std.specs.Str.{bytes_eq}
 use Rattle.tp_syntax.specs.declared.word.Word.{Word}
 use Rattle.tp_syntax.specs.declared.word.Word.TheVariants as w
@@ -92,7 +91,3 @@ word_of bs = first_spelled bs reserved
 -- the bytes spell a reserved word exactly where they are its spelling
 abbrev pub WordsAreSpelled : Type 0
 WordsAreSpelled = (bs : List ℕ) (word : Word) → (word_of bs ≡ Some word) ↔ (bs ≡ word_spelling word)
-
--- whether the word of an entry has so many characters
-abbrev pub has_length : ℕ → List ℕ × Word → Bool
-has_length n entry = length entry.0 == n

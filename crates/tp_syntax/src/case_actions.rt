@@ -1,11 +1,11 @@
 //! Starts and statements of a test case's body, and which part may follow which.
 ghost use Rattle.std.specs.Prelude.{◌≡◌, ◌<◌, ◌≤◌, ◌&&◌, false, true, IfOk, OnOk, length};
 ghost use Rattle.tp_syntax.specs.Rule.{a_setup, a_start, after_case_name, after_variables, case_action, case_statement};
-ghost use Rattle.tp_syntax.specs.Rule.{case_unnamed};
+ghost use Rattle.tp_syntax.specs.Rule.{case_all, case_unnamed};
 ghost use Rattle.tp_syntax.specs.CaseParts.{kind_of, stage_rank};
-ghost use Rattle.tp_syntax.specs.CaseTrees.{action_frames, after_name_frames, is_action, is_over, is_statement};
-ghost use Rattle.tp_syntax.specs.CaseTrees.{is_unnamed, name_of, part_frames, part_rule, stage_of, statement_frames};
-ghost use Rattle.tp_syntax.specs.CaseTrees.{unnamed_frames};
+ghost use Rattle.tp_syntax.specs.CaseTrees.{action_frames, after_name_frames, case_all_frames, is_action, is_all};
+ghost use Rattle.tp_syntax.specs.CaseTrees.{is_over, is_statement, is_unnamed, name_of, part_frames, part_rule};
+ghost use Rattle.tp_syntax.specs.CaseTrees.{stage_of, statement_frames, unnamed_frames};
 ghost use Rattle.tp_syntax.specs.Reading.{line_ahead};
 ghost use Rattle.tp_syntax.specs.Parsing.{left};
 ghost use Rattle.tp_syntax.specs.PartialReading.{Goes, part_or_end};
@@ -20,6 +20,39 @@ use std::alloc::Global;
 use tp_tree::name::Name;
 
 impl<'a, 't> Parser<'a, 't> {
+    /// Passes an operation on all ports, or `all component.done`.
+    #[tactic(auto, using(crate::proofs::CaseViews::case_parsing))]
+    fn case_all(&mut self) -> Result<CasePart, Stuck>
+        ensures goes { Goes case_all (λ x. case_all_frames (kind_of x.action) x.has_semicolon)
+            (λ x. part_or_end (part_rule (stage_of (kind_of x.action))) x.is_open)
+            self.old result self.new }
+        ensures over { IfOk result (λ x. (is_over (kind_of x.action) && x.is_open) ≡ false) }
+        ensures all { IfOk result (λ x. is_all (kind_of x.action) ≡ true) }
+        ensures shorter { OnOk result (length self.new.rest.now < length self.old.rest.now) }
+    {
+        self.word(Word::All)?;
+        if self.is_word(Word::Port) {
+            self.pass_word(Word::Port);
+            self.symbol(Symbol::Dot)?;
+            let operation = self.control_word()?;
+            let (has_semicolon, is_open) = self.end();
+            return Ok(CasePart {
+                action: CaseAction::Plain(Plain::AllPorts(operation)),
+                has_semicolon,
+                is_open,
+            });
+        }
+        self.word(Word::Component)?;
+        self.symbol(Symbol::Dot)?;
+        self.word(Word::Done)?;
+        let has_semicolon = self.has_end();
+        Ok(CasePart {
+            action: CaseAction::Done,
+            has_semicolon,
+            is_open: false,
+        })
+    }
+
     /// Passes a part that doesn't begin with a name: an `alt`, a `for`, `setverdict`, an operation
     /// on all ports, or `all component.done`.
     #[tactic(auto, using(crate::proofs::CaseViews::case_parsing))]
@@ -50,27 +83,8 @@ impl<'a, 't> Parser<'a, 't> {
                 is_open,
             });
         }
-        self.word(Word::All)?;
-        if self.is_word(Word::Port) {
-            self.pass_word(Word::Port);
-            self.symbol(Symbol::Dot)?;
-            let operation = self.control_word()?;
-            let (has_semicolon, is_open) = self.end();
-            return Ok(CasePart {
-                action: CaseAction::Plain(Plain::AllPorts(operation)),
-                has_semicolon,
-                is_open,
-            });
-        }
-        self.word(Word::Component)?;
-        self.symbol(Symbol::Dot)?;
-        self.word(Word::Done)?;
-        let has_semicolon = self.has_end();
-        Ok(CasePart {
-            action: CaseAction::Done,
-            has_semicolon,
-            is_open: false,
-        })
+        let part = self.case_all()?;
+        Ok(part)
     }
 
     /// Passes a statement, or `all component.done`.

@@ -6,6 +6,7 @@ ghost use Rattle.tp_syntax.specs.TextFaults.{AreWithinLimits, GoodTextsAreAccept
 ghost use Rattle.tp_syntax.specs.Lexeme.{lexeme_of, placed_lexeme};
 ghost use Rattle.tp_syntax.specs.Word.{WordsAreSpelled};
 
+use crate::byte::{Kind, byte_kind};
 use crate::piece::piece;
 use crate::script_fault::ScriptFault;
 use crate::token::{Placed, Token};
@@ -36,6 +37,13 @@ pub fn lex<'t>(alloc: Global, text: &'t [u8]) -> Result<Vec<Placed<'t>>, ScriptF
     let mut line: u32 = 1;
     // The label is the loop's name in its proof.
     'pieces: while !rest.is_empty() {
+        // White space is passed here, which is faster than as a piece with no token.
+        if let Kind::Blank = byte_kind(rest[0]) {
+            let (blank, after) = rest.split_at(1);
+            line += lines_in(false, blank);
+            rest = after;
+            continue;
+        }
         let (found, size) = piece(alloc, rest, line)?;
         let (bytes, after) = rest.split_at(size);
         // Read before `add`, which takes the token.

@@ -1,10 +1,11 @@
 //! From a text to its module.
-ghost use Rattle.std.specs.Prelude.{◌≡◌, ◌+◌, ◌-◌, ◌≤◌, ◌++◌, IfErr, IfOk, Option, None, drop, length, map};
+ghost use Rattle.std.specs.Prelude.{◌≡◌, ◌+◌, ◌-◌, ◌≤◌, ◌++◌, IfErr, IfOk, Option, None, drop, false, length, map};
 ghost use Rattle.tp_syntax.specs.Cut.{newlines};
 ghost use Rattle.tp_syntax.specs.Lexeme.{placed_lexeme, lexeme_of};
 ghost use Rattle.tp_syntax.specs.ReadTexts.{IsReadAs, IsUnread};
 ghost use Rattle.tp_syntax.specs.Faults.{fault_in, fault_line, is_minus};
-ghost use Rattle.tp_syntax.specs.SettledTokens.{is_zero, kept_at_end, kept_of, minus_on, settled, waiting};
+ghost use Rattle.tp_syntax.specs.SettledTokens.{has_negative_zero, is_zero, kept_at_end, kept_of, minus_on};
+ghost use Rattle.tp_syntax.specs.SettledTokens.{settled, waiting};
 
 use crate::cursor::Parser;
 use crate::faults::{front_of, is_minus};
@@ -66,6 +67,20 @@ fn keep<'t>(
     Ok(None)
 }
 
+/// Whether a `-` stands directly before the number 0.
+fn has_negative_zero(tokens: &[Placed]) -> bool
+    ensures { result ≡ has_negative_zero false (map placed_lexeme tokens.now) }
+{
+    let mut after_minus = false;
+    for placed in tokens {
+        if after_minus && is_zero(&placed.token) {
+            return true;
+        }
+        after_minus = is_minus(&placed.token);
+    }
+    false
+}
+
 /// The tokens without each `-` directly before the number 0, which takes its line.
 fn settle<'t>(alloc: Global, tokens: Vec<Placed<'t>>) -> Result<Vec<Placed<'t>>, Memory>
     ensures { IfOk result (λ v. map placed_lexeme v.items
@@ -81,6 +96,18 @@ fn settle<'t>(alloc: Global, tokens: Vec<Placed<'t>>) -> Result<Vec<Placed<'t>>,
         kept.push(minus_on(line))?;
     }
     Ok(kept)
+}
+
+/// The tokens without each `-` directly before the number 0. Few texts have one, and the tokens of
+/// the others aren't copied.
+fn settled_tokens<'t>(alloc: Global, tokens: Vec<Placed<'t>>) -> Result<Vec<Placed<'t>>, Memory>
+    ensures { IfOk result (λ v. map placed_lexeme v.items
+        ≡ settled (map placed_lexeme tokens.entry.items)) }
+{
+    if has_negative_zero(&tokens) {
+        return settle(alloc, tokens);
+    }
+    Ok(tokens)
 }
 
 /// The line of the first of the last `left` tokens, or of the end of the text.
@@ -130,7 +157,7 @@ pub fn parse(alloc: Global, text: &[u8]) -> Result<Module, ScriptFault>
     let last_line = last_line(text);
     let front = front_of(tokens);
     let beyond = front.beyond;
-    let settled = settle(alloc, front.tokens)?;
+    let settled = settled_tokens(alloc, front.tokens)?;
     let mut parser = Parser { rest: &settled };
     match parser.module(alloc) {
         Ok(module) => {

@@ -6,7 +6,7 @@ use Rattle.tp_syntax.proofs.faults.front_of.Goals as goal
 
 pub more-init : goal.more-init
 more-init c = record {
-  gone = none_gone c.args.tokens.items 0;
+  gone = none_gone c.args.tokens.items;
   few = omega arith;
   within = omega arith;
 }
@@ -14,7 +14,7 @@ more-init c = record {
 pub more-preserved : goal.more-preserved
 more-preserved c =
     let allowed = c.is_allowed.ensures.0 c.if-not-is_allowed.false in record {
-      gone = one_gone _ c.args.tokens.items c.more.place c.more.opened c.more.is_signed _ _ _ c.more.invariant.gone
+      gone = one_gone c.args.tokens.items c.more.place c.more.opened c.more.is_signed _ _ _ c.more.invariant.gone
           (omega (arith, c.more-test.true)) c.index-placed.ensures allowed c.opened_behind-opened.ensures c.is_minus-is_signed.ensures;
       few = subst (λ n. n ≤ 32) (sym c.opened_behind-opened.ensures) (few_behind c.more.opened c.more.is_signed _ c.more.invariant.few allowed);
       within = omega (arith, c.more-test.true);
