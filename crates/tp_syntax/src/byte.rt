@@ -32,9 +32,14 @@ pub fn byte_kind(byte: u8) -> Kind
     }
 }
 
+#[tactic(auto, unfolding(crate::specs::Byte::byte_kind))]
 pub fn is_word_byte(byte: u8) -> bool
     ensures { result ≡ is_word_byte byte }
 {
+    // Most bytes of a name are lower-case letters, which the compiler tests last in `byte_kind`.
+    if b'a' <= byte && byte <= b'z' {
+        return true;
+    }
     matches!(
         byte_kind(byte),
         Kind::Letter | Kind::Digit | Kind::Underscore

@@ -123,12 +123,14 @@ fn line_at(tokens: &[Placed], left: usize, last_line: u32) -> u32
 
 /// The fault of a text whose last `left` tokens can't be read: 10 `Syntax` at the first of them. If
 /// `left` is 0: 15 `Limit` if the last token is beyond the limits, else 10 at the end of the text.
-fn fault(tokens: &[Placed], beyond: Option<u32>, left: usize, last_line: u32) -> ScriptFault
-    ensures { result ≡ fault_in (map placed_lexeme tokens.now) beyond left last_line }
+fn fault(tokens: &[Placed], beyond: Option<u32>, left: usize, text: &[u8]) -> ScriptFault
+    requires { length text.now ≤ 1048576 }
+    ensures { result
+        ≡ fault_in (map placed_lexeme tokens.now) beyond left (newlines text.now + 1) }
 {
     match beyond {
         Some(line) if left == 0 => ScriptFault::limit(line),
-        _ => ScriptFault::syntax(line_at(tokens, left, last_line)),
+        _ => ScriptFault::syntax(line_at(tokens, left, last_line(text))),
     }
 }
 
@@ -154,7 +156,6 @@ pub fn parse(alloc: Global, text: &[u8]) -> Result<Module, ScriptFault>
     ensures refused { IfErr result (IsUnread text.now) }
 {
     let tokens = lex(alloc, text)?;
-    let last_line = last_line(text);
     let front = front_of(tokens);
     let beyond = front.beyond;
     let settled = settled_tokens(alloc, front.tokens)?;
@@ -164,9 +165,9 @@ pub fn parse(alloc: Global, text: &[u8]) -> Result<Module, ScriptFault>
             if parser.rest.is_empty() && beyond.is_none() {
                 return Ok(module);
             }
-            Err(fault(&settled, beyond, parser.rest.len(), last_line))
+            Err(fault(&settled, beyond, parser.rest.len(), text))
         }
-        Err(Stuck::At(left)) => Err(fault(&settled, beyond, left, last_line)),
+        Err(Stuck::At(left)) => Err(fault(&settled, beyond, left, text)),
         Err(Stuck::Memory) => Err(ScriptFault::Memory(Memory)),
     }
 }

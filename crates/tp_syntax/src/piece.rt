@@ -12,7 +12,7 @@ ghost use Rattle.tp_syntax.specs.Spelling.{Run, value_on, doubled};
 use crate::byte::{Kind, byte_kind, is_digit, is_printable, is_word_byte};
 use crate::script_fault::{ScriptFault, TextRule};
 use crate::token::{Symbol, Token};
-use crate::word::word_of;
+use crate::word::word_spelled;
 use std::alloc::Global;
 
 /// The maximum number of characters of a name.
@@ -71,17 +71,18 @@ fn word<'t>(bytes: &'t [u8], line: u32) -> Result<(Token<'t>, usize), ScriptFaul
     ensures refused { IfErr result (IsFaultAt bytes.now line) }
 {
     let size = word_len(bytes);
-    let Ok(spelling) = str::from_utf8(&bytes[..size]) else {
-        // Letters, digits and underscores are each one byte.
-        unreachable!();
-    };
-    if let Some(word) = word_of(spelling) {
+    let spelling = &bytes[..size];
+    if let Some(word) = word_spelled(spelling) {
         return Ok((Token::Word(word), size));
     }
     if size > LONGEST_NAME {
         return Err(ScriptFault::limit(line));
     }
-    Ok((Token::Name(spelling), size))
+    let Ok(name) = str::from_utf8(spelling) else {
+        // Letters, digits and underscores are each one byte.
+        unreachable!();
+    };
+    Ok((Token::Name(name), size))
 }
 
 fn word_len(bytes: &[u8]) -> usize

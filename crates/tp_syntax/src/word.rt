@@ -128,7 +128,14 @@ pub const WORDS: [(&str, Word); 52] = [
 pub fn word_of(text: &str) -> Option<Word>
     ensures { result ≡ word_of text.now }
 {
-    first_spelled(text, words_of_length(text.len()))
+    word_spelled(text.as_bytes())
+}
+
+/// As [`word_of`], of bytes that needn't be a text.
+pub(crate) fn word_spelled(bytes: &[u8]) -> Option<Word>
+    ensures { result ≡ word_of bytes.now }
+{
+    first_spelled(bytes, words_of_length(bytes.len()))
 }
 
 fn words_of_length(size: usize) -> &'static [(&'static str, Word)]
@@ -151,11 +158,11 @@ fn words_of_length(size: usize) -> &'static [(&'static str, Word)]
     }
 }
 
-fn first_spelled(text: &str, table: &[(&str, Word)]) -> Option<Word>
-    ensures { result ≡ first_spelled text.now (map (λ entry. (entry.0.now, entry.1)) table.now) }
+fn first_spelled(bytes: &[u8], table: &[(&str, Word)]) -> Option<Word>
+    ensures { result ≡ first_spelled bytes.now (map (λ entry. (entry.0.now, entry.1)) table.now) }
 {
     for (spelling, word) in table {
-        if text == *spelling {
+        if bytes == spelling.as_bytes() {
             return Some(*word);
         }
     }

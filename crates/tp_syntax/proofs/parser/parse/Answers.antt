@@ -1,5 +1,5 @@
 -- The module that is read, or the fault in the front of the text's tokens.
-use Rattle.std.proofs.Common.{inr, ◌≡◌, ◌+◌, ◌<◌, ℕ, List, None, length, map, ap, subst, ◌∙◌, arith}
+use Rattle.std.proofs.Common.{inr, ◌≡◌, ◌+◌, ◌<◌, List, None, length, map, ap, subst, ◌∙◌, arith}
 use Rattle.std.proofs.lemmas.List.{length-map}
 use Rattle.tp_syntax.specs.declared.token.Placed.{Placed}
 use Rattle.tp_syntax.specs.Cut.{newlines}
@@ -47,9 +47,8 @@ returns-in-Ok-clause-refused c =
     ] in
     let told : c.fault.result ≡ fault_in (settled front) beyond left (newlines c.args.text.now + 1) =
     c.fault.ensures
-    ∙ (ap (λ (ps : List Placed). fault_in (map placed_lexeme ps) beyond left c.last_line-last_line.result) c.deref-in-Ok.ensures.value
-    ∙ (ap (λ (ts : List PlacedLexeme). fault_in ts beyond left c.last_line-last_line.result) c.in_ok-settled.ensures
-    ∙ ap (λ (n : ℕ). fault_in (settled front) beyond left n) c.last_line-last_line.ensures)) in
+    ∙ (ap (λ (ps : List Placed). fault_in (map placed_lexeme ps) beyond left (newlines c.args.text.now + 1)) c.deref-in-Ok.ensures.value
+    ∙ ap (λ (ts : List PlacedLexeme). fault_in ts beyond left (newlines c.args.text.now + 1)) c.in_ok-settled.ensures) in
     inr (
       map placed_lexeme c.in_ok-tokens.tokens.items,
       record { are = c.in_ok-tokens.ensures.tokens; limits = c.in_ok-tokens.ensures.limits; short = c.in_ok-tokens.ensures.short },
@@ -68,12 +67,11 @@ returns-in-Err-At-clause-refused c =
     let fails : Fails (rule a_module) (settled front) (At left) =
     subst (λ (ts : List PlacedLexeme). Fails (rule a_module) ts (At left)) seen
     (subst (λ (e : Stuck). Fails (rule a_module) (map placed_lexeme c.deref.result.now) e) same c.in-Err-At.ensures.parses.parsed) in
-    let first : c.fault-in-Err-At.result ≡ fault_in (map placed_lexeme c.deref-in-Err-At.result.now) beyond left c.last_line-last_line.result =
+    let first : c.fault-in-Err-At.result ≡ fault_in (map placed_lexeme c.deref-in-Err-At.result.now) beyond left (newlines c.args.text.now + 1) =
     cc (c.fault-in-Err-At.ensures, c.in-Err-At.left-is) in
     let told : c.fault-in-Err-At.result ≡ fault_in (settled front) beyond left (newlines c.args.text.now + 1) =
-    first ∙ (ap (λ (ps : List Placed). fault_in (map placed_lexeme ps) beyond left c.last_line-last_line.result) c.deref-in-Err-At.ensures.value
-    ∙ (ap (λ (ts : List PlacedLexeme). fault_in ts beyond left c.last_line-last_line.result) c.in_ok-settled.ensures
-    ∙ ap (λ (n : ℕ). fault_in (settled front) beyond left n) c.last_line-last_line.ensures)) in
+    first ∙ (ap (λ (ps : List Placed). fault_in (map placed_lexeme ps) beyond left (newlines c.args.text.now + 1)) c.deref-in-Err-At.ensures.value
+    ∙ ap (λ (ts : List PlacedLexeme). fault_in ts beyond left (newlines c.args.text.now + 1)) c.in_ok-settled.ensures) in
     inr (
       map placed_lexeme c.in_ok-tokens.tokens.items,
       record { are = c.in_ok-tokens.ensures.tokens; limits = c.in_ok-tokens.ensures.limits; short = c.in_ok-tokens.ensures.short },

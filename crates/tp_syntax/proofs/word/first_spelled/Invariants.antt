@@ -5,4 +5,4 @@ use Rattle.tp_syntax.proofs.word.first_spelled.Given as goal
 
 abbrev pub invariant-loop-spelling : goal.invariant-loop-spelling
 invariant-loop-spelling l =
-    first_spelled l.text (map (λ e. (e.0.now, e.1)) (drop l.spelling-index l.table)) ≡ first_spelled l.text (map (λ e. (e.0.now, e.1)) l.table)
+    first_spelled l.bytes (map (λ e. (e.0.now, e.1)) (drop l.spelling-index l.table)) ≡ first_spelled l.bytes (map (λ e. (e.0.now, e.1)) l.table)
