@@ -129,11 +129,13 @@ def main() -> int:
     asked = words.parse_args()
     parts: dict[Part, Seen] = {}
     last, said, line = json.loads(read(LAST)) if os.path.exists(LAST) else {}, "", ""
+    has_terminal = os.isatty(TERMINAL)
     with subprocess.Popen([asked.command, *asked.words]) as ran:
         while ran.poll() is None:
-            before, line = line, at_work(parts, look(ran.pid, parts), asked.output, last)
+            now = look(ran.pid, parts)
+            before, line = line, at_work(parts, now, asked.output, last) if has_terminal else ""
             # Between two checks of one crate none may be at work: what is seen twice is said.
-            if line == before and line not in ("", said) and os.isatty(TERMINAL):
+            if line == before and line not in ("", said):
                 os.write(TERMINAL, line.encode())
                 said = line
             write(os.path.abspath(asked.file), table(parts))

@@ -16,7 +16,7 @@ use std::sync::Wait;
 use tp_common::memory::Memory;
 use tp_config::port_type::RouteId;
 use tp_inbox::desk::Desk;
-use tp_inbox::owner::Owner;
+use tp_inbox::owner::{FEW_ROUTES, Owner};
 use tp_inbox::sender::{PutFault, Sender};
 use tp_value::message::Message;
 
@@ -62,9 +62,6 @@ fn has_come(owner: &Owner, sender: &Sender) -> bool
     }
     true
 }
-
-/// So many routes are looked through, which takes less than a search in the table.
-const FEW_ROUTES: usize = 4;
 
 fn way_of(sender: &Sender, route: RouteId) -> Option<usize>
     ensures { IfSome result (λ way. slice_get sender.now.routes way ≡ Some route) }

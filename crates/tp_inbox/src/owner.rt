@@ -147,8 +147,8 @@ fn in_hand(hand: &Option<InboxEnvelope>) -> Option<Woken>
     None
 }
 
-/// So many routes are looked through, which takes less than a search in the table.
-const FEW_ROUTES: usize = 4;
+/// So many routes are looked through, which takes less than a search in a table.
+pub const FEW_ROUTES: usize = 4;
 
 fn place_of(routes: &[RouteId], places: &IndexMap<RouteId, usize>, route: RouteId) -> Option<usize>
     requires { AreFiled (length routes.now) routes.now places.now }

@@ -3,9 +3,10 @@ ghost use Rattle.std.specs.Prelude.{◌≡◌, ◌<◌, ◌≤◌, ◌&&◌, fal
 ghost use Rattle.tp_syntax.specs.Rule.{a_setup, a_start, after_case_name, after_variables, case_action, case_statement};
 ghost use Rattle.tp_syntax.specs.Rule.{case_all, case_unnamed};
 ghost use Rattle.tp_syntax.specs.CaseParts.{kind_of, stage_rank};
-ghost use Rattle.tp_syntax.specs.CaseTrees.{action_frames, after_name_frames, case_all_frames, is_action, is_all};
-ghost use Rattle.tp_syntax.specs.CaseTrees.{is_over, is_statement, is_unnamed, name_of, part_frames, part_rule};
-ghost use Rattle.tp_syntax.specs.CaseTrees.{stage_of, statement_frames, unnamed_frames};
+ghost use Rattle.tp_syntax.specs.CaseTrees.{action_frames, after_name_frames, case_all_frames};
+ghost use Rattle.tp_syntax.specs.CaseTrees.{is_action, is_all, is_over, is_statement, is_unnamed};
+ghost use Rattle.tp_syntax.specs.CaseTrees.{name_of, part_frames, part_rule, stage_of};
+ghost use Rattle.tp_syntax.specs.CaseTrees.{statement_frames, unnamed_frames};
 ghost use Rattle.tp_syntax.specs.Reading.{line_ahead};
 ghost use Rattle.tp_syntax.specs.Parsing.{left};
 ghost use Rattle.tp_syntax.specs.PartialReading.{Goes, part_or_end};

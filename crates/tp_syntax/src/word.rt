@@ -159,7 +159,8 @@ fn words_of_length(size: usize) -> &'static [(&'static str, Word)]
 }
 
 fn first_spelled(bytes: &[u8], table: &[(&str, Word)]) -> Option<Word>
-    ensures { result ≡ first_spelled bytes.now (map (λ entry. (entry.0.now, entry.1)) table.now) }
+    ensures { result
+        ≡ first_spelled bytes.now (map (λ entry. (entry.0.now, entry.1)) table.now) }
 {
     for (spelling, word) in table {
         if bytes == spelling.as_bytes() {
