@@ -1,5 +1,5 @@
-# A script of 1 MiB, in which one line is wrong, and the lines are those of usual scripts. The gate looks what
-# tools/explain says of it, bench/explaining/run how long that takes.
+# A script of 1 MiB with one wrong line among ordinary lines. The gate tests what tools/explain prints for it, and
+# bench/explaining/run measures how long that takes.
 script_of_a_mebibyte() {
     printf '%s\n' 'module M {' '  type record Order { integer number, charstring dish }' \
         '  type port Counter message { inout Order; }' '  type component Person { port Counter counter; }' \

@@ -11,7 +11,7 @@ End = tuple[int, str]
 
 
 class Program:
-    """The instructions of all components, in the making."""
+    """The instructions of all components, while they are built."""
 
     def __init__(self, links: list[tuple[End, End]]) -> None:
         self.links = links
@@ -37,7 +37,7 @@ class Program:
 
 
 class Body:
-    """The instructions of one component, from the end to the front, as `tpr` numbers them."""
+    """The instructions of one component, built from the last to the first, as `tpr` numbers them."""
 
     def __init__(self, program: Program, number: int, variables: str) -> None:
         self.program, self.number, self.variables = program, number, variables
@@ -45,7 +45,7 @@ class Body:
         self.count = 1
 
     def add(self, *lines: str) -> int:
-        """Adds an instruction, and answers its number."""
+        """Adds an instruction, and returns its number."""
         self.lines += lines
         self.count += 1
         return self.count - 1
@@ -66,10 +66,10 @@ class Body:
 
 class Statement(Protocol):
     def text(self) -> str:
-        """As a script has it."""
+        """The statement in a script."""
 
     def put(self, body: Body, turns: dict[str, int], behind: int) -> int:
-        """Puts its instructions, where the loop variables have these values, and answers the first."""
+        """Adds the instructions of the statement, for these values of the loop variables, and returns the first."""
 
 
 def text_of(block: Sequence[Statement]) -> str:
@@ -77,7 +77,7 @@ def text_of(block: Sequence[Statement]) -> str:
 
 
 class Variables(NamedTuple):
-    """The variables of a body, n or w or both: a number, and a component. Loop variables are others."""
+    """The variables of a body: n (a number), w (a component), or both. Loop variables don't belong to them."""
 
     names: str
 
@@ -89,7 +89,7 @@ class Variables(NamedTuple):
 
 
 class Send(NamedTuple):
-    """A send of a number, or of what a loop variable or n holds."""
+    """A send of a number, or of the value of a loop variable or n."""
 
     message: int | str
     to: str = ""
@@ -116,8 +116,8 @@ class Send(NamedTuple):
 
 
 class Take(NamedTuple):
-    """A receiving operation: of a number, of what a loop variable holds, or of any message, `?`. Into n and w go the
-    message and its sender."""
+    """A receiving operation: for a number, for the value of a loop variable, or for any message, `?`. The message is
+    stored in n, its sender in w."""
 
     wanted: int | str = "?"
     block: Sequence[Statement] = ()

@@ -1,4 +1,4 @@
-"""The works whose verdicts `bench/verdicts/run` has the programs find."""
+"""The works for `bench/verdicts/run`."""
 from __future__ import annotations
 
 from collections.abc import Sequence
@@ -12,14 +12,14 @@ TO_ALL = "all component"
 
 
 class Work(NamedTuple):
-    """What `mtc`, component 0, and the components that it starts carry out, and which ports are connected."""
+    """The bodies of `mtc`, component 0, and of the components that it starts, and the connected ports."""
 
     mtc: Sequence[Statement]
     others: Sequence[Sequence[Statement]]
     links: list[tuple[End, End]]
 
     def script(self) -> str:
-        """A component for each body, started with it; `mtc` carries out its own."""
+        """A script with a component for each body; `mtc` runs its own body."""
         lines = [HEADER]
         lines += [f"function f{at}() runs on C {{ {text_of(it)} }}" for at, it in enumerate(self.others)]
         lines.append("testcase t() runs on C {")
@@ -30,7 +30,7 @@ class Work(NamedTuple):
         return "\n".join([*lines, text_of(self.mtc), "all component.done; } }"])
 
     def program(self) -> str:
-        """The same for plain.rs, which reads no scripts."""
+        """The same for plain.rs, which can't read scripts."""
         program = Program(self.links)
         for number, statements in enumerate([self.mtc, *self.others]):
             program.add_component(number, statements)
@@ -42,7 +42,7 @@ def to_mtc(number: int) -> list[tuple[End, End]]:
 
 
 def senders(number: int, same: bool) -> Work:
-    """Each sends `mtc` one message, the same or its number; `mtc` takes all, with a branch by value."""
+    """Each component sends `mtc` one message, the same or its own number; `mtc` has a branch for each value."""
     takes = For(number, [Alt([Take(1), Take()])])
     return Work([takes, PASS], [[Send(1 if same else at)] for at in range(number)], to_mtc(number))
 
@@ -61,7 +61,7 @@ def star(number: int) -> Work:
 
 
 def two_phase_commit(number: int, against: int) -> Work:
-    """Each votes yes (1) or no (2). If nobody votes no, all are told to commit (3), and else to abort (4)."""
+    """Each component votes yes (1) or no (2). If nobody votes no, all get a commit (3), and otherwise an abort (4)."""
     votes = [1] * (number - against) + [2] * against
     others: list[list[Statement]] = [[Take(0), Send(it), Alt([Take(3, [PASS]), Take(4, [INCONC])])] for it in votes]
     count: list[Statement] = [Send(3, TO_ALL)]
@@ -71,31 +71,31 @@ def two_phase_commit(number: int, against: int) -> Work:
 
 
 def collector(number: int, messages: int) -> Work:
-    """Each sends so many messages, and `mtc` takes all."""
+    """Each component sends `messages` messages, and `mtc` receives all."""
     takes = For(number, [For(messages, [Take()], "j")])
     return Work([takes, PASS], [[For(messages, [Send(1)])] for _ in range(number)], to_mtc(number))
 
 
 def token_round(number: int, rounds: int) -> Work:
-    """A token goes so often round the components, `mtc` among them."""
+    """A token is passed `rounds` times round the components, including `mtc`."""
     links = [((at, "p"), ((at + 1) % number, "q")) for at in range(number)]
     passes = [For(rounds, [Take(1, port="q"), Send(1)])]
     return Work([For(rounds, [Send(1), Take(port="q")]), PASS], [passes] * (number - 1), links)
 
 
 def fixed_order(number: int) -> Work:
-    """Each sends its number, and `mtc` waits for them in one order: it is `pass` or `error`."""
+    """Each component sends its number, and `mtc` waits for them in one order: the verdict is `pass` or `error`."""
     return Work([For(number, [Take("i")]), PASS], [[Send(at)] for at in range(number)], to_mtc(number))
 
 
 def answered_by_name(number: int) -> Work:
-    """Each sends one message, and `mtc` answers its sender."""
+    """Each component sends one message, and `mtc` answers its sender."""
     answers = For(number, [Take(into="w"), Send(2, "w")])
     return Work([Variables("w"), answers, PASS], [[Send(1), Take(2)]] * number, to_mtc(number))
 
 
 def halted(number: int) -> Work:
-    """Each sends two numbers, and `mtc` looks for them beside operations on its port."""
+    """Each component sends two numbers, and `mtc` waits for them between operations on its port."""
     asks = [[Send(at), Send(9)] for at in range(number)]
     echo: list[Statement] = [Take(into="nw"), Send("n", "w")]
     body: list[Statement] = [
@@ -112,28 +112,28 @@ def halted(number: int) -> Work:
 
 
 def questions(number: int, turns: int, same: bool) -> Work:
-    """Each asks `mtc` so often, by the same number or by its own, and `mtc` repeats the number to its sender."""
+    """Each component asks `mtc` `turns` times, with the same number or its own, and `mtc` returns the number."""
     asked = [1 if same else at for at in range(number)]
     asks = [[For(turns, [Send(it), Alt([Take(it, [PASS]), Take(block=[FAIL])])])] for it in asked]
     return Work([Variables("nw"), For(turns * number, [Take(into="nw"), Send("n", "w")])], asks, to_mtc(number))
 
 
 def barriers(number: int, rounds: int) -> Work:
-    """All meet twice in each round: `mtc` tells all of them when the last has come, and takes nothing else."""
+    """All components meet twice in each round: `mtc` tells all when the last has arrived, and receives nothing else."""
     come = [For(number, [Alt([Take(it), Take(block=[FAIL])])], "j") for it in (1, 3)]
     body: list[Statement] = [For(rounds, [come[0], Send(2, TO_ALL), come[1], Send(4, TO_ALL)]), PASS]
     return Work(body, [[For(rounds, [Send(1), Take(2), Send(3), Take(4)]), PASS]] * number, to_mtc(number))
 
 
 def races(number: int) -> Work:
-    """So many receivers, each with two senders of its own: what comes first decides."""
+    """Receivers with two senders each: the first message decides."""
     takes = Alt([Take(1, [PASS]), Take(2, [INCONC])])
     links = [((at, "p"), (at + more, "p")) for at in range(1, 3 * number, 3) for more in (1, 2)]
     return Work([], [[takes], [Send(1)], [Send(2)]] * number, links)
 
 
 def philosophers(number: int) -> Work:
-    """Each asks (1) for the fork on its left and then for that on its right, is given it (2), and gives both back (3)."""
+    """Each philosopher asks (1) for the left fork and then for the right one, gets it (2), and gives both back (3)."""
     eats: list[Statement] = [Send(1), Take(2), Send(1, port="q"), Take(2, port="q"), Send(3), Send(3, port="q"), PASS]
 
     def given(port: str) -> list[Statement]:
@@ -149,7 +149,7 @@ def philosophers(number: int) -> Work:
 
 
 def two_groups(number: int) -> Work:
-    """Two servers, each with so many clients that it answers by name. The groups have nothing to do with each other."""
+    """Two servers with `number` clients each, which they answer by name. The groups are independent of each other."""
     server: list[Statement] = [Variables("w"), For(number, [Take(into="w"), Send(2, "w")])]
     client: list[Statement] = [Send(1), Take(2)]
     links = [((first, "p"), (first + at, "p")) for first in (1, number + 2) for at in range(1, number + 1)]
@@ -157,13 +157,13 @@ def two_groups(number: int) -> Work:
 
 
 def heartbeats(number: int, beats: int) -> Work:
-    """Each sends so many heartbeats, and then that it is done. `mtc` counts who is done, and drops heartbeats."""
+    """Each component sends heartbeats, and then an end. `mtc` drops the heartbeats, and counts the ends."""
     done = Alt([Take(9, [FAIL]), Take(1, kind="trigger")])
     return Work([For(number, [done]), PASS], [[For(beats, [Send(0)]), Send(1), PASS]] * number, to_mtc(number))
 
 
 def alone(turns: int) -> Work:
-    """`mtc` sends itself so many messages, and takes each before the next: there is one order."""
+    """`mtc` sends itself `turns` messages, and receives each before it sends the next: there is only one order."""
     return Work([For(turns, [Send(1), Take(port="q")]), PASS], [], [((0, "p"), (0, "q"))])
 
 

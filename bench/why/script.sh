@@ -1,6 +1,6 @@
-# A script with two loops of 1,000 turns, whose report has 60,000 entries: each turn sends 30 messages, with the
-# loop variable in them, and the other component takes them in an `alt`. The gate looks what tools/why says of it,
-# bench/why/run how long that takes.
+# A script with two loops of 1,000 turns, whose report has 60,000 entries: each turn sends 30 messages that contain the
+# loop variable, and the other component receives them in an `alt`. The gate tests what tools/why prints for it, and
+# bench/why/run measures how long that takes.
 script_of_60000_entries() {
     local turn
     printf '%s\n' 'module M {' '  type record Order { integer number, charstring dish }' \
