@@ -1,17 +1,17 @@
 #!/usr/bin/env python3
-"""Whether the documents name what is there, and are as short as they are to be.
+"""Tests that what the documents name exists, and that they aren't too long.
 
     document_names.py [ROOT]
 
-For each document a line `passed ..`, or lines `FAILED: ..`, by these rules:
+It prints a line `passed ..` for each document, or lines `FAILED: ..`, by these rules:
 
-- each file and each wrong body that it names is there, and so is each section, also where a source names one;
-- each name of the code in a document on the code is a word of a source, and `Type::name` stands in one source;
-- what a program counts (crates, wrong bodies, examples, cases) has no number in a document, and no other count stands
-  in two documents. CHANGELOG.md tells of the past, and may have any;
-- each crate stands in docs/ARCHITECTURE.md and docs/PROVED.md;
-- the records of docs/DECISIONS.md are numbered one after the other, and have 120 words at most;
-- README.md has 1,300 words at most, and all documents have 47,000.
+- each file, each wrong body and each section that it names exists; each section that a source names exists too;
+- each name of the code in a document on the code is a word of a source, and one source has both parts of `Type::name`;
+- what a program counts (crates, wrong bodies, examples, cases) has no number in a document, and no other count is in
+  two documents. CHANGELOG.md describes the past, and may have any;
+- docs/ARCHITECTURE.md and docs/PROVED.md name each crate;
+- the records of docs/DECISIONS.md are numbered consecutively, and have at most 120 words;
+- README.md has at most 1,300 words, and all documents together have at most 47,000.
 """
 import argparse
 import glob
@@ -48,7 +48,7 @@ def text_of(path: str) -> str:
 
 
 def files_below(*places: str) -> Iterator[str]:
-    """The files at and below these places, but those that are built, recorded or proofs."""
+    """The files at and below these places, without those that are built or recorded, and without proofs."""
     for place in places:
         if os.path.isfile(place):
             yield place
@@ -64,18 +64,18 @@ def find_documents() -> dict[str, str]:
 
 
 def anchor_of(heading: str) -> str:
-    """The anchor of a heading, as a page of the repository has it."""
+    """The anchor that the repository's web page gives a heading."""
     shown = re.sub(r"\[([^\]]*)\]\([^)]*\)", r"\1", heading.strip()).lower()
     return re.sub(r"[^\w\- ]", "", shown).replace(" ", "-")
 
 
 def headings_of(text: str) -> list[str]:
-    """The headings of a document, without what stands in fences."""
+    """The headings of a document outside its fenced blocks."""
     return [heading.strip() for heading in _HEADING.findall(_FENCED.sub("", text))]
 
 
 def lost_links(path: str, documents: dict[str, str]) -> Iterator[str]:
-    """What the links of a document lead to and isn't there."""
+    """The files and sections to which a document links and which don't exist."""
     for link in _LINK.findall(documents[path]):
         if link.startswith("http"):
             continue
@@ -88,7 +88,7 @@ def lost_links(path: str, documents: dict[str, str]) -> Iterator[str]:
 
 
 def spread(pattern: str) -> list[str]:
-    """The patterns that one with braces stands for: `a{b,c}` for `ab` and `ac`."""
+    """The patterns that a pattern with braces stands for: `ab` and `ac` for `a{b,c}`."""
     found = re.search(r"\{([^{}]*)\}", pattern)
     if not found:
         return [pattern]
@@ -109,7 +109,7 @@ def is_wrong_body(crate: str, name: str) -> bool:
 
 
 def lost_wrong_bodies(text: str) -> Iterator[str]:
-    """The wrong bodies, `crate/name`, that a document names and that aren't there."""
+    """The wrong bodies `crate/name` that a document names and that don't exist."""
     for word in words_of_code(text):
         found = re.fullmatch(r"(tp[a-z]*_[a-z]+)/([a-z0-9_]+)", word)
         if found and not is_wrong_body(found[1], found[2]):
@@ -117,7 +117,7 @@ def lost_wrong_bodies(text: str) -> Iterator[str]:
 
 
 def lost_files(text: str) -> Iterator[str]:
-    """The files of the repository that a document names in backquotes or in a command, and that aren't there. A word in
+    """The files of the repository that a document names in backquotes or in a command, and that don't exist. A word in
     capitals stands for any name."""
     for word in words_of_code(text):
         path = word.removeprefix("./").removeprefix(">").rstrip(".,:;)")
@@ -135,7 +135,7 @@ def unnumbered(title: str) -> str:
 
 
 def lost_sections(text: str, documents: dict[str, str]) -> Iterator[str]:
-    """The sections of documents that a text names, and that aren't there."""
+    """The sections of documents that a text names, and that don't exist."""
     for name, section in _SECTION.findall(text):
         page = documents.get(f"docs/{name}.md", documents.get(f"{name}.md", ""))
         title = unnumbered(" ".join(section.split()))
@@ -144,13 +144,13 @@ def lost_sections(text: str, documents: dict[str, str]) -> Iterator[str]:
 
 
 def names_of(text: str) -> set[str]:
-    """The names in backquotes, and those in bold letters that are no plain words."""
+    """The names in backquotes, and the names in bold that aren't plain words."""
     named = {name for name in _CODE.findall(_FENCED.sub("", text)) if _NAME.fullmatch(name)}
     return named | {name for name in _BOLD.findall(text) if "_" in name or name[1:].lower() != name[1:]}
 
 
 def lost_names(text: str, sources: list[frozenset[str]], words: frozenset[str]) -> Iterator[str]:
-    """The names of the code that are in no source, and each `Type::name` both parts of which are in no one source."""
+    """The names of the code that no source has, and each `Type::name` whose parts no single source has."""
     for name in sorted(names_of(text)):
         parts = frozenset(name.split("::"))
         if not parts <= words or not any(parts <= one for one in sources):
@@ -171,7 +171,7 @@ def wrong_counts(documents: dict[str, str]) -> Iterator[tuple[str, str]]:
 
 
 def wrong_records(text: str) -> Iterator[str]:
-    """What is wrong with the records of docs/DECISIONS.md."""
+    """The faults of the records of docs/DECISIONS.md."""
     numbers = [int(number) for number in _RECORD.findall(text)]
     if not numbers or numbers != list(range(1, len(numbers) + 1)):
         yield "the records aren't numbered one after the other"
@@ -183,7 +183,7 @@ def wrong_records(text: str) -> Iterator[str]:
 
 
 def missing_crates(documents: dict[str, str]) -> Iterator[tuple[str, str]]:
-    """The crates that a document on all of them doesn't name."""
+    """The crates that a document about all crates doesn't name."""
     crates = re.findall(r"^([a-z_]+)\b", text_of("crates.txt"), re.MULTILINE)
     for path in ("docs/ARCHITECTURE.md", "docs/PROVED.md"):
         words = frozenset(_WORD.findall(documents[path]))
@@ -191,7 +191,7 @@ def missing_crates(documents: dict[str, str]) -> Iterator[tuple[str, str]]:
 
 
 def long_documents(documents: dict[str, str]) -> Iterator[tuple[str, str]]:
-    """What has more words than it is to have."""
+    """The documents with too many words."""
     of_all = sum(len(text.split()) for text in documents.values())
     of_readme = len(documents["README.md"].split())
     if of_readme > MOST_WORDS_OF_README:

@@ -1,15 +1,15 @@
 #!/usr/bin/env python3
-"""Whether the documents and the sources keep the style of docs/DEVELOPING.md ("How we write").
+"""Tests that the documents and the sources keep the style of docs/DEVELOPING.md ("How we write").
 
     document_style.py [FILE..]
 
-Without a FILE it looks at all documents and sources. It prints a line `passed ..` for each document and for all sources
+Without a FILE it reads all documents and sources. It prints a line `passed ..` for each document and for all sources
 of a folder, or lines `FAILED: ..`, by these rules:
 
-- no document has a phrase of the table below: each stands beside what to write instead. Blocks of code may have it,
-  since they show what a program prints;
-- no source has such a phrase: neither a comment, nor what a tool, `build`, `test`, `try` or a test prints. Only comments
-  are looked at in the statements and proofs of `crates/` (`.antt`), whose names may be any;
+- no document has a phrase of the table below, which has a replacement for each. Blocks of code may have it, since they
+  show what a program prints;
+- no source has such a phrase: neither a comment, nor what a tool, `build`, `test`, `try` or a test prints. In the
+  statements and proofs of `crates/` (`.antt`) only comments are checked, since names there may be any;
 - no sentence of README.md has more than 30 words, or begins with Who, What, Of or That. A question may begin with What.
 
 Before that it checks that it finds each phrase, and each fault of a sentence, in texts of its own.
@@ -32,7 +32,7 @@ SHOWING_PHRASES = frozenset(("tests/documents/document_style.py", "tests/gate/pa
 MOST_WORDS_OF_A_SENTENCE = 30
 NO_BEGINNINGS = ("who", "what", "of", "that")
 
-# What isn't written, and what is written instead.
+# Phrases to avoid, and their replacements.
 INSTEAD = {
     "always is always": "an `always` verdict is guaranteed",
     "memory aside": "unless memory runs out",
@@ -102,17 +102,17 @@ def prose_of(text: str) -> str:
 
 
 def prose_of_source(text: str) -> str:
-    """A source in which a sentence runs on over the lines of a comment, or of a text in several pieces."""
+    """A source without the marks of comments and of joined texts, so that a sentence can continue on the next line."""
     return _QUOTED_END.sub("", _MARKS_OF_COMMENTS.sub("", text))
 
 
 def prose_of_statements(text: str) -> str:
-    """The comments of a file of statements or proofs, each apart from the next."""
+    """The comments of a file of statements or proofs, each separate from the next."""
     return prose_of_source(_STATEMENT.sub("|", text))
 
 
 def found_phrases(prose: str) -> Iterator[str]:
-    """What is wrong with the words of a document, or of a source."""
+    """The faults in the words of a document or of a source."""
     words = " ".join(re.sub(r"[`*_\[\]]", "", prose).lower().split())
     for phrase, instead in INSTEAD.items():
         if phrase in words:
@@ -120,7 +120,7 @@ def found_phrases(prose: str) -> Iterator[str]:
 
 
 def sentences_of(text: str) -> Iterator[str]:
-    """The sentences of a document: each item of a list begins one. A word of code is a word, and ends none."""
+    """The sentences of a document. Each item of a list begins one, and code counts as words and ends no sentence."""
     shown = _NO_PROSE.sub("", prose_of(text))
     shown = _CODE.sub(lambda code: " ".join("X" for _ in code[1].split()), shown)
     for block in re.split(r"\n\s*\n", _ITEM.sub("\n\n", shown)):
@@ -128,7 +128,7 @@ def sentences_of(text: str) -> Iterator[str]:
 
 
 def wrong_sentences(text: str) -> Iterator[str]:
-    """What is wrong with the sentences of a document."""
+    """The faults in the sentences of a document."""
     for sentence in filter(None, sentences_of(text)):
         words, begin = sentence.split(), " ".join(sentence.split()[:5])
         if len(words) > MOST_WORDS_OF_A_SENTENCE:
@@ -139,7 +139,7 @@ def wrong_sentences(text: str) -> Iterator[str]:
 
 
 def is_found(phrase: str) -> bool:
-    """Whether the phrase is found in a document, in a comment of each kind, and in what a tool prints."""
+    """Whether the phrase is found in a document, in each kind of comment, and in what a tool prints."""
     document = prose_of(f"Here\n**{phrase}** it is.\n\n    {phrase}\n")
     first, _, last = phrase.partition(" ")
     sources = (f"{mark} Here {first}\n    {mark} {last} it is\n" for mark in ("///", "//!", "#", " *"))
@@ -164,7 +164,7 @@ def tell_finding() -> bool:
 
 
 def tell_faults(path: str, faults: list[str]) -> bool:
-    """Whether there are none."""
+    """Prints the faults. Returns whether there are none."""
     for it in faults:
         print(f"FAILED: {path}: {it}")
     return not faults
@@ -179,7 +179,7 @@ def is_document_well(path: str) -> bool:
 
 
 def is_source(path: str) -> bool:
-    """Whether the whole file is held to the style."""
+    """Whether the whole file must keep the style."""
     return path not in SHOWING_PHRASES and not path.endswith(".antt")
 
 
@@ -190,7 +190,7 @@ def are_sources_well(place: str, documents: Container[str]) -> bool:
 
 
 def are_statements_well() -> bool:
-    """Whether no comment beside a statement or in a proof has a phrase of the table."""
+    """Whether no comment in a statement or proof has a phrase of the table."""
     found = (path for part in ("specs", "proofs") for path in Path("crates").glob(f"*/{part}/**/*.antt"))
     return are_well(sorted(map(str, found)), prose_of_statements, "crates, the comments of its statements and proofs")
 

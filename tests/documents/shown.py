@@ -1,5 +1,5 @@
 #!/usr/bin/env python3
-"""Whether the documents show what the program prints, and what stands in the sources.
+"""Tests that the documents show what the program prints, and the sources as they are.
 
     tests/documents/shown.py PROGRAM
 
@@ -18,11 +18,11 @@ ROOT = Path(__file__).resolve().parents[2]
 EXAMPLE = "examples/closed_counter_serves_no_order"
 MOST_SECONDS = 60
 
-Case = tuple[str, Optional[str]]  # its name, and what is wrong
+Case = tuple[str, Optional[str]]  # its name, and what is wrong with it
 
 
 class Block(NamedTuple):
-    """What stands in fences, the heading above it, and the line in backquotes behind it."""
+    """A fenced block, the heading above it, and the line in backquotes after it."""
 
     heading: str
     text: str
@@ -30,21 +30,21 @@ class Block(NamedTuple):
 
 
 class Program:
-    """The program, and the scripts that it was given: each must be another."""
+    """The program, and the scripts that it was given: no two of them may be the same."""
 
     def __init__(self, path: str):
         self.path = path
         self.given: set[str] = set()
 
     def ran(self, mode: str, script: str) -> tuple[int, str]:
-        """The status, and what was printed; what is said is wrong."""
+        """The status, and what was printed. Output on standard error is a fault, and is added."""
         ended = subprocess.run(
             [self.path, mode], input=script.encode(), capture_output=True, timeout=MOST_SECONDS, check=False
         )
         return ended.returncode, (ended.stdout + ended.stderr).decode("latin-1")
 
     def answers(self, script: str, answer: str) -> Optional[str]:
-        """What is wrong where `check` is to print this answer."""
+        """Describes what is wrong if `check` doesn't print this answer."""
         if script in self.given:
             return "another document shows the same script"
         self.given.add(script)
@@ -61,7 +61,7 @@ def text_of(path: str) -> str:
 
 
 def blocks(document: str, heading: str) -> Iterator[Block]:
-    """The blocks behind which an answer stands, each below a heading of this form."""
+    """The blocks that have an answer after them, each below a heading of this form."""
     above, inside, text = "", False, ""
     for line in text_of(document).splitlines():
         if line == "```":
@@ -91,7 +91,7 @@ def refusal_scripts(program: Program) -> Iterator[Case]:
 
 
 def construct_scripts(program: Program) -> Iterator[Case]:
-    """A script below `### LETTER NAME`, with what `check` prints, and where that is `accepted` the last line of the report."""
+    """A script below `### LETTER NAME`, with what `check` prints, and if that is `accepted`, the report's last line."""
     for it in blocks("docs/FROM_TTCN3.md", r"### [A-Z] "):
         answer, title = it.answer.split("`")[1], f"docs/FROM_TTCN3.md, {it.heading}"
         yield title, program.answers(it.text, answer)
@@ -102,14 +102,14 @@ def construct_scripts(program: Program) -> Iterator[Case]:
 
 
 def shows(document: str, text: str) -> Case:
-    """The document shows the text, each of its lines behind four spaces."""
+    """The document shows the text, with four spaces before each line."""
     shown = "\n".join(line.removeprefix("    ") for line in text_of(document).splitlines())
     whole = text_of(text).rstrip("\n")
     return f"{document} shows {text}", None if whole and whole in shown else "it isn't as it is"
 
 
 def first_example(program: Program) -> Iterator[Case]:
-    """The first example of README.md, and the one with a changed line; the report of docs/PROFILE.md."""
+    """The first example of README.md, with and without a changed line; what PROFILE.md and EXPLORING.md show."""
     yield shows("README.md", f"{EXAMPLE}.ttcn")
     yield shows("README.md", f"{EXAMPLE}.expected")
     yield shows("docs/PROFILE.md", "examples/halt_holds_back_what_comes_later.expected")
@@ -129,7 +129,7 @@ def script_of_the_profile(program: Program) -> Iterator[Case]:
 
 
 def quoted_contracts(_: Program) -> Iterator[Case]:
-    """Each contract that docs/CONTRACTS.md shows stands so in the source that is named above it, line by line."""
+    """Each contract that docs/CONTRACTS.md shows is in the source that is named above it, line by line."""
     source, inside, quote = "", False, ""
     for line in text_of("docs/CONTRACTS.md").splitlines():
         if line == "```" and inside:
@@ -149,7 +149,7 @@ def lost(source: str, quote: str) -> Optional[str]:
     return None if quote and f"\n{quote}" in f"\n{text_of(source)}\n" else "it doesn't stand there"
 
 
-# Where somebody looks who pipes a report into `judge`, and what is to stand there.
+# The places where a user looks who pipes a report into `judge`, and the text that must be there.
 ON_REPORTS = (
     ("docs/TRACES.md, its beginning", r"\A.*?^## ", "`judge` prints `unlawful Lost` for it"),
     ("docs/TRACES.md, Lost", r"^### Lost$.*?^### ", "write `tpr trace`, not `tpr run`"),
@@ -158,8 +158,8 @@ ON_REPORTS = (
 
 
 def report_for_a_trace(program: Program) -> Iterator[Case]:
-    """`tpr run X | tpr judge` calls the messages of a report lost. The documents say so where one looks, and what
-    tools/explain says of the same pipe names `tpr trace`."""
+    """`tpr run X | tpr judge` calls the messages of a report lost. The documents say so where a user looks for it, and
+    tools/explain names `tpr trace` when it explains that output."""
     report = program.ran("run", text_of(f"{EXAMPLE}.ttcn"))[1]
     status, said = program.ran("judge", report)
     is_lost = (status, said.partition("\n")[0]) == (2, "unlawful Lost line 2")
@@ -174,7 +174,7 @@ def report_for_a_trace(program: Program) -> Iterator[Case]:
     yield "tools/explain of a piped report", None if has else f"it says {told.decode()}"
 
 
-# Each group, with how many cases it has at least.
+# Each group, with its minimum number of cases.
 GROUPS: tuple[tuple[Callable[[Program], Iterator[Case]], int], ...] = (
     (refusal_scripts, 26),
     (construct_scripts, 26),

@@ -1,14 +1,14 @@
 #!/usr/bin/env python3
-"""Whether each list of port operations, of their lines, of modes, of reserved words has them all; and where a new word
-belongs.
+"""Tests that each list of port operations, of their lines, of modes and of reserved words is complete; and finds the
+places where a new word belongs.
 
-    word_lists.py               a line `passed ..` or `FAILED: ..` for each list
-    word_lists.py NEW [OLD]     the places that name words related to the OLD word (`halt`), but not the NEW one
+    word_lists.py               prints a line `passed ..` or `FAILED: ..` for each list
+    word_lists.py NEW [OLD]     prints the places that name words related to the OLD word (`halt`), but not the NEW one
 
-What there is, the sources say. A list is a row of words with nothing but marks, `and` and `or` between them, or lines
-of one form with one of the words in each. Somebody who adds the port operation `flush` calls the second form with that
-word; for a mode it is `word_lists.py NEW judge`, for a refusal `word_lists.py NewName NotSending`, for a reserved word
-`word_lists.py NEW setverdict`. A place may need nothing: each is to be read.
+The sources define the words. A list is a row of words with nothing but marks, `and` and `or` between them, or lines of
+one form with one of the words in each. To add the port operation `flush`, call the second form with that word; for a
+mode call `word_lists.py NEW judge`, for a refusal `word_lists.py NewName NotSending`, for a reserved word
+`word_lists.py NEW setverdict`. Read each place: some need no change.
 """
 from __future__ import annotations
 
@@ -25,12 +25,12 @@ from document_names import SOURCES, files_below, text_of
 
 ROOT = Path(__file__).resolve().parents[2]
 PLACES = (*SOURCES, "docs", "examples/README.md", "README.md")
-# Scripts, reports, records and the like: no list is looked for there.
+# Scripts, reports, records and the like, in which lists aren't searched.
 LEFT_OUT = re.compile(
     r"\.(answers|csv|cuts|edit|expected|log|queue|report|svg|table|texts|trace|ttcn|verdicts)$"
     r"|/golden/|/record$|word_lists\.py$"
 )
-LINES_BETWEEN = 2  # of one place
+LINES_BETWEEN = 2  # between the words of one place
 
 _WORD = re.compile(r"[A-Za-z][A-Za-z0-9]*(?:_[A-Za-z0-9]+)*")
 _LINK = re.compile(r"(?!\.$)(?:\W|\b(?:and|or|b)\b)*")
@@ -38,7 +38,7 @@ _COMMENT = re.compile(r"\s*(?://|#|--)")
 
 
 class Family(NamedTuple):
-    """Words of one kind, and lists of some of them that are whole by themselves. So many are meant as all."""
+    """Words of one kind, and shorter lists of them that are complete too. A list has at least `least` of them."""
 
     name: str
     words: frozenset[str]
@@ -47,7 +47,7 @@ class Family(NamedTuple):
 
 
 class Place(NamedTuple):
-    """Lines of a file, and which words of a family they have."""
+    """Lines of a file, and which words of a family are in them."""
 
     path: str
     first: int
@@ -58,7 +58,7 @@ class Place(NamedTuple):
         return f"{self.path}:{self.first}" + (f"-{self.last}" if self.last > self.first else "")
 
 
-# The lists that are short with a reason.
+# The lists that are incomplete for a reason.
 SHORT = {
     ("bench/running/plain.rs", "clear halt stop"): "what the comparison lacks",
     ("crates/tp_syntax/src/operations.rt", "clear halt stop"): "what starts no component either",
@@ -75,7 +75,7 @@ def named_in(source: str, pattern: str) -> list[str]:
 
 
 def variants(source: str, name: str) -> frozenset[str]:
-    """The names of an enum without fields."""
+    """The variants of an enum that have no fields."""
     body = re.search(rf"pub enum {name} \{{(.*?)^\}}", text_of(source), re.MULTILINE | re.DOTALL)
     assert body, f"{source} has no {name}"
     return frozenset(it.lower() for it in re.findall(r"^    ([A-Z]\w*),$", body[1], re.MULTILINE))
@@ -102,23 +102,23 @@ def texts() -> Iterator[tuple[str, str]]:
 
 
 def member(token: str, words: frozenset[str]) -> str | None:
-    """The word of a family that a token is, in any letters. `SelfWord` is the variant of `self`."""
+    """The word of a family that a token is, in upper or lower case. `SelfWord` is the variant of `self`."""
     plain = token.lower().replace("_", "")
     return next((it for it in (plain, plain.removesuffix("word")) if it in words), None)
 
 
 def members(text: str, words: frozenset[str]) -> Iterator[tuple[str, int, int]]:
-    """The words of a family in a text, and where each begins and ends."""
+    """The words of a family in a text, with the begin and end of each."""
     for token in _WORD.finditer(text):
         if (word := member(token[0], words)) is not None:
             yield word, token.start(), token.end()
 
 
-# Lists that are to be whole
+# Lists that must be complete
 
 
 def rows(path: str, text: str, words: frozenset[str]) -> Iterator[Place]:
-    """Words with nothing but marks between them."""
+    """Rows of words with nothing but marks between them."""
     row: list[tuple[str, int, int]] = []
     for it in members(text, words):
         if row and not _LINK.fullmatch(text, row[-1][2], it[1]):
@@ -135,7 +135,7 @@ def place_of(path: str, text: str, row: list[tuple[str, int, int]]) -> Place:
 
 
 def columns(path: str, text: str, words: frozenset[str]) -> Iterator[Place]:
-    """Lines of one form, each with one of the words. Comments may stand between them."""
+    """Lines of one form, each with one of the words. Comments may be between them."""
     lines = [it for it in enumerate(text.splitlines(), 1) if it[1].strip() and not _COMMENT.match(it[1])]
     for _, alike in groupby(lines, lambda it: _WORD.sub("w", it[1])):
         found = [(at, {word for word, _, _ in members(line, words)}) for at, line in alike]
@@ -144,7 +144,7 @@ def columns(path: str, text: str, words: frozenset[str]) -> Iterator[Place]:
 
 
 def tell_lists() -> None:
-    """Definitions and lemmas in specs/ the prover looks at."""
+    """Prints a line for each list. The prover checks the definitions and lemmas in specs/, so these are left out."""
     for path, text in texts():
         for family in families() if "/specs/" not in path else ():
             for place in (*rows(path, text, family.words), *columns(path, text, family.words)):
@@ -163,8 +163,8 @@ def told(family: Family, place: Place) -> str:
 
 
 def roots_beside(old: str) -> tuple[dict[str, str], int]:
-    """The words related to a word, the line of an operation as that operation; and how many must be near each other in
-    a place."""
+    """The words related to a word, where the line of an operation counts as that operation; and how many of them must
+    be near each other in a place."""
     operations, lines, *others = families()
     if old in operations.words | lines.words:
         roots = {line: word for line in lines.words for word in operations.words if line.startswith(word)}
@@ -175,7 +175,7 @@ def roots_beside(old: str) -> tuple[dict[str, str], int]:
 
 
 def places(path: str, text: str, words: frozenset[str]) -> Iterator[Place]:
-    """Where words stand near each other."""
+    """The places where words are near each other."""
     lines = [(at, {it for it, _, _ in members(line, words)}) for at, line in enumerate(text.splitlines(), 1)]
     named = [it for it in lines if it[1]]
     begin = 0
@@ -187,7 +187,7 @@ def places(path: str, text: str, words: frozenset[str]) -> Iterator[Place]:
 
 
 def tell_places(new: str, old: str) -> int:
-    """A line for each place, and last how many there are."""
+    """Prints a line for each place, and finally their number."""
     roots, least = roots_beside(old)
     if not roots:
         print(f"word_lists.py: {old} isn't a word of any list", file=sys.stderr)

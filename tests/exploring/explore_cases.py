@@ -1,5 +1,5 @@
 #!/usr/bin/env python3
-"""What tools/explore says of scripts, of orders that are forced, and with other programs (other_programs.py).
+"""Tests what tools/explore prints for scripts, for orders that are forced, and with other programs (other_programs.py).
 
     tests/exploring/explore_cases.py TPR ORDERED
 
@@ -67,7 +67,7 @@ def told_of_example(tool: Tool, name: str, status: int, answer: str) -> None:
 
 
 def tells(answer: str, script: str) -> Test:
-    """It has this answer, and its reports are those that the script may have."""
+    """The answer is this one, and the reports are those that the script may have."""
 
     def holds(ended: Ended) -> bool:
         told = json.loads(ended.text)
@@ -80,7 +80,7 @@ def tells(answer: str, script: str) -> Test:
 
 
 def wrongly_told(told: dict[str, Any], expected: set[str]) -> Optional[str]:
-    """What of an answer isn't so, or None."""
+    """Describes what is wrong with an answer, or returns None."""
     if not {it["report"] for it in told["runs"]} <= expected:
         return "a report isn't one of the expected"
     if set(told["verdicts"]) != {it.split()[-1] for it in expected}:
@@ -94,11 +94,11 @@ def wrongly_told(told: dict[str, Any], expected: set[str]) -> Optional[str]:
     return None if told["decided"] and not told["faults"] else "it isn't decided, or has faults"
 
 
-# What parts runs, and orders that are run again
+# Where runs diverge, and orders that are run again
 
 
 def one_script(asked: Exploring) -> None:
-    """What its text says, and the document; and the order of a run that is told, run again."""
+    """The answer for a script is as docs/EXPLORING.md shows it, and the order of one of its runs can be run again."""
     ended = asked.tool.run(f"{OVERTAKEN}.ttcn")
     judged("where two runs part", ended, DEPENDS, TELLS_PARTING)
     judged("what docs/EXPLORING.md shows", ended, DEPENDS, says_nothing, is_shown)
@@ -111,7 +111,7 @@ def one_script(asked: Exploring) -> None:
 
 
 def pictures(asked: Exploring) -> None:
-    """Two runs beside each other, with a line where they diverge; and a script that has no two."""
+    """Two runs side by side, with a line where they diverge; and a script that has no two."""
     case = asked.tool.case
     case("two runs beside each other", [f"{OVERTAKEN}.ttcn", "--svg"], DEPENDS, says_nothing, shows_where)
     discarded = f"{DISCARDED}.ttcn"
@@ -122,7 +122,7 @@ def pictures(asked: Exploring) -> None:
 
 
 def shows_where(ended: Ended) -> bool:
-    """In both charts the same rows stand above the line, below it another one, and on it no text."""
+    """Above the line both charts have the same rows, below it different ones, and no text is on it."""
     root = xml.fromstring(ended.text)
     charts = [it for it in root.iter(f"{SVG}g") if it.get("transform")]
     must(len(charts) == 2, f"there are {len(charts)} charts")
@@ -142,28 +142,29 @@ def height_of_the_line(chart: xml.Element) -> float:
 
 
 def struck_by_the_line(chart: xml.Element) -> list[str]:
-    """The texts of the chart that stand on it, but for its own. A letter is 9 pixels high, and 3 below the line."""
+    """The texts of the chart that the line strikes through, without its own. A letter extends 9 pixels above its
+    baseline, and 3 below it."""
     texts = [it for it in chart.iter(f"{SVG}text") if "where" not in (it.get("class") or "")]
     above = [float(it.get("y") or 0) - height_of_the_line(chart) for it in texts]
     return [it.text or "" for it, far in zip(texts, above) if -3 <= far <= 9]
 
 
 def rows_round_the_line(chart: xml.Element) -> tuple[list[str], list[str]]:
-    """What is told of the rows above the line where the runs diverge, and of those below it. A row is as high as its
-    lowest text; what stands below the last row isn't one."""
+    """The labels of the rows above the line where the runs diverge, and of those below it. A row reaches down to its
+    lowest text; what is below the last row isn't a row."""
     height = height_of_the_line(chart)
     rows: tuple[list[str], list[str]] = ([], [])
     for row in chart.iter(f"{SVG}g"):
         title = row.findtext(f"{SVG}title") or ""
         if title.startswith("line ") and (texts := list(row.iter(f"{SVG}text"))):
             lowest = max(float(it.get("y") or 0) for it in texts)
-            # What becomes of a message later stands behind a comma, and isn't common to both.
+            # The later fate of a message follows a comma, and isn't common to both.
             rows[0 if lowest < height else 1].append(re.split(", wh(?:ich|ere) ", row.get("aria-label") or "")[0])
     return rows
 
 
 def is_shown(ended: Ended) -> bool:
-    """The parts above the first report stand in the document, which leaves out what each component came to."""
+    """The document shows the parts above the first report. It leaves out the runs with each verdict."""
     head = ended.text[: ended.text.index(f"\n{COMES_TO}")].rstrip("\n")
     parts = re.sub("^(?=.)", "    ", head, flags=re.M).split("\n\n")
     shown = (ROOT / "docs" / "EXPLORING.md").read_text(encoding="utf-8").split("\n\n")
@@ -171,7 +172,7 @@ def is_shown(ended: Ended) -> bool:
 
 
 def orders(asked: Exploring) -> None:
-    """Orders that are given, right and wrong."""
+    """Orders that a user gives, valid and invalid."""
     file, script = asked.room / "order", f"{OVERTAKEN}.ttcn"
     unnamed = f"explore: {file}, line 1: no component is named"
     between = ("component mtc", "dropped p a 0 integer:1", "took q a 0 integer:2", "else", "set pass")
@@ -179,7 +180,7 @@ def orders(asked: Exploring) -> None:
         ("an order that is run again", "mtc a a mtc b b b", script, 0, prints_file(f"{OVERTAKEN}.expected.1")),
         ("the other order", "mtc mtc a a b b b", script, 0, prints_file(f"{OVERTAKEN}.expected.2")),
         ("an order that names nobody", "mtc nobody", script, 2, says_alone(unnamed)),
-        # A send tries no branch: the gate gives up at once, and not after its ten million turns.
+        # A send tries no branch, so the gate gives up at once, and not after its ten million turns.
         ("an order that can't be held", "mtc mtc+ a", script, 5, prints("not held\n")),
         (
             "an order with a message between two looks",
@@ -198,7 +199,7 @@ def orders(asked: Exploring) -> None:
 
 
 def other_scripts(asked: Exploring) -> None:
-    """Larger ones, and those in which others act between two discards or two looks."""
+    """Larger scripts, and scripts in which others act between two discards or two looks."""
     case, room = asked.tool.case, asked.room
     same, different = file_of(room / "same.ttcn", senders(10, "1")), file_of(room / "different.ttcn", senders(4, "@"))
     case("ten senders that can't be told apart", [same], 0, begins_with("always pass"))
@@ -206,7 +207,7 @@ def other_scripts(asked: Exploring) -> None:
     discards = "tests/golden/receiving/trigger_in_an_alt_comes_before_else.ttcn"
     always_inconc = begins_with("always inconc")
     case("an alt between the discards of which others may act", [discards], 0, always_inconc)
-    # Both messages are of one sender, in one order: it is the look that comes before or behind the second.
+    # Both messages are from one sender, in a fixed order: only the look can come before or after the second.
     parting = has_in_order(
         "  line 17: mtc discarded integer:1 from a at port p, sent at line 7;",
         "    in the other run, at line 16, it took integer:2 from a at port q, sent at line 8",
@@ -237,7 +238,7 @@ def refusals(asked: Exploring) -> None:
 
 
 def suites(asked: Exploring) -> None:
-    """What tools/suite writes of each case where it is asked."""
+    """The answer that tools/suite writes for each case with --explore."""
     names = ("clear_may_discard_the_answer", "clear_comes_before_the_question")
     scripts, file = [f"examples/{it}.ttcn" for it in names], asked.room / "explored.xml"
     suite = asked.asking(asked.tpr, asked.ordered, "suite")
@@ -248,18 +249,18 @@ def suites(asked: Exploring) -> None:
 
 
 def has_answer(answer: str) -> Test:
-    """Its table has this answer behind the result."""
+    """The table has this answer after the result."""
     return lambda ended: re.search(f" {answer} +[0-9.]+s$", ended.text, re.M) is not None
 
 
 def explored_in(file: Path) -> list[tuple[Optional[str], Optional[str]]]:
-    """The name of each case with what was explored of it."""
+    """The name of each case, with the answer of its exploration."""
     cases = xml.parse(file).iter("testcase")
     found = [(it.get("name"), it.find("properties/property[@name='explored']")) for it in cases]
     return [(name, explored.get("value")) for name, explored in found if explored is not None]
 
 
-# Each group, with how many cases it has at least.
+# Each group, with its minimum number of cases.
 GROUPS = (
     (pairs, 24),
     (one_script, 4),

@@ -1,4 +1,4 @@
-"""Runs of tools/explore, with any programs, and what it prints of them."""
+"""Runs tools/explore with any programs, and tests what it prints."""
 from __future__ import annotations
 
 from itertools import takewhile
@@ -8,11 +8,11 @@ from tool_calls import ROOT, Ended, Test, Tool, prints, says_nothing
 
 OVERTAKEN = "examples/broadcast_is_overtaken_by_an_answer"
 PING_PONG = "examples/ping_pong.ttcn"
-DEPENDS, UNDECIDED = 5, 6  # the statuses for several verdicts, and for an answer that promises nothing
+DEPENDS, UNDECIDED = 5, 6  # the statuses for several verdicts, and for an answer that guarantees nothing
 
 
 class Exploring:
-    """The programs that the tool asks, and a folder for files."""
+    """The programs that the tool runs, and a folder for files."""
 
     def __init__(self, tpr: str, ordered: str, room: Path):
         self.tpr, self.ordered, self.room = tpr, ordered, room
@@ -25,7 +25,7 @@ class Exploring:
 
 
 def begins_with(*lines: str) -> Test:
-    """The first lines are these, and it says nothing."""
+    """The output begins with these lines, and standard error is empty."""
     return lambda ended: tuple(ended.text.split("\n")[: len(lines)]) == lines and says_nothing(ended)
 
 
@@ -34,12 +34,12 @@ def prints_file(file: str) -> Test:
 
 
 def has_in_order(*lines: str) -> Test:
-    """Of its lines those that are one of these are these, and it says nothing."""
+    """The output has each of these lines once, in this order, and standard error is empty."""
     return lambda ended: tuple(it for it in ended.text.split("\n") if it in lines) == lines and says_nothing(ended)
 
 
 def tells_faults(*lines: str) -> Test:
-    """These follow the first two lines, no two runs diverge, and it says nothing."""
+    """These lines follow the first two, no two runs diverge, and standard error is empty."""
     return lambda ended: faults_of(ended) == lines and not parts_runs(ended) and says_nothing(ended)
 
 
@@ -51,7 +51,7 @@ def parts_runs(ended: Ended) -> bool:
     return "\nWhere the runs diverge (" in f"\n{ended.text}"
 
 
-# What stands between the two runs of OVERTAKEN, in the words of the script.
+# The lines on the two runs of OVERTAKEN, in the words of the script.
 TELLS_PARTING = has_in_order(
     '  line 13: b took charstring:"begin" from mtc at port line, sent at line 32;',
     '    in the other run, at line 17, it took charstring:"hello" from a at port line, sent at line 8',

@@ -1,18 +1,18 @@
-"""Tests tools/explore: by the order of each verdict that `tpr verdicts` names a run comes to it, and its report is one
-that the script may have.
+"""Tests tools/explore: for each verdict that `tpr verdicts` names, its order leads to a run with that verdict, whose
+report is one that the script may have.
 
     explored.py each TPR ORDERED SCRIPT..
     explored.py random TPR ORDERED SEED NUMBER
     explored.py grammar TPR ORDERED SEED NUMBER
 
-`each` looks at what is shown of each script: each verdict has a report with this result, which the judge of
-tests/orders allows, and where two runs part is told. It prints a line `passed VERDICTS SCRIPT` for each script.
-`random` does so with scripts made by chance that have few components, and with orders of their steps by chance: each is
-forced, and comes to the report that the model of runs has. A hundredth of them must have several verdicts.
-`grammar` does all this with scripts in which every form of the grammar occurs (grammar_scripts.py), and the model of
-runs must allow what `tpr run` prints of each.
+`each` tests what is shown of each script: each verdict has a report with this result, which the judge of tests/orders
+allows, and the place where two runs diverge is printed. It prints a line `passed VERDICTS SCRIPT` for each script.
+`random` does so with random scripts of few components, and with random orders of their steps: each order is forced, and
+must give the report of the model of runs. A hundredth of the scripts must have several verdicts.
+`grammar` does all this with scripts in which every form of the grammar occurs (grammar_scripts.py). The model of runs
+must also allow what `tpr run` prints for each.
 
-It prints lines that begin with `FAILED: ` where something doesn't hold.
+For each fault it prints lines that begin with `FAILED: `.
 """
 from __future__ import annotations
 
@@ -45,8 +45,8 @@ from tpr_tools.model.reading import read_script
 from tpr_tools.model.run import Run
 from tpr_tools.script.tokens import Text
 
-MOST_COMPONENTS = 5  # of a script by chance
-ORDERS_BY_CHANCE = 5  # of each
+MOST_COMPONENTS = 5  # of a random script
+ORDERS_BY_CHANCE = 5  # of each script
 NOTHING_ANSWERED = Answer((), False, 0, ())
 
 
@@ -58,7 +58,7 @@ class Programs(NamedTuple):
 
 
 class Looked(NamedTuple):
-    """How many verdicts a script has, and what is wrong."""
+    """The number of a script's verdicts, and what is wrong."""
 
     verdicts: int
     wrong: Optional[str]
@@ -71,7 +71,7 @@ def runs_of(programs: Programs, script: ForcedScript) -> ForcedRuns:
 
 
 def explored(programs: Programs, path: Path) -> Exploration:
-    """As tools/explore does it."""
+    """Explores a script as tools/explore does."""
     data = path.read_bytes()
     answer = verdicts_by(programs.tpr, data)
     assert isinstance(answer, Answer), answer
@@ -82,7 +82,7 @@ def explored(programs: Programs, path: Path) -> Exploration:
 
 
 def wrong_run_in(exploration: Exploration, path: Path) -> Optional[str]:
-    """The first run that isn't as it should be."""
+    """Describes the first wrong run, or returns None."""
     if faults := exploration.faults():
         return faults[0]
     case = TestCase(read_script(str(path)))
@@ -97,7 +97,7 @@ def wrong_run_in(exploration: Exploration, path: Path) -> Optional[str]:
 
 
 def wrong_in(exploration: Exploration, path: Path) -> Optional[str]:
-    """The first thing that isn't as it should be."""
+    """Describes the first fault, or returns None."""
     if wrong := wrong_run_in(exploration, path):
         return wrong
     if [it.verdict for it in exploration.shown] != list(exploration.answer.verdicts):
@@ -110,12 +110,12 @@ def looked_at(programs: Programs, path: Path) -> Looked:
     try:
         exploration = explored(programs, path)
         return Looked(len(exploration.answer.verdicts), wrong_in(exploration, path))
-    except Exception as error:  # a script that can't be read is a failure, and not the end of the others
+    except Exception as error:  # a script that can't be read fails, and the others go on
         return Looked(0, repr(error))
 
 
 def tell_each(looking: Callable[[Path], Looked], paths: list[Path]) -> list[Looked]:
-    """A line, or lines, for each script."""
+    """Prints the result of each script."""
     with ProcessPoolExecutor(len(os.sched_getaffinity(0))) as pool:
         looked = []
         for path, it in zip(paths, pool.map(looking, paths)):
@@ -125,7 +125,7 @@ def tell_each(looking: Callable[[Path], Looked], paths: list[Path]) -> list[Look
     return looked
 
 
-# Scripts by chance
+# Random scripts
 
 
 def is_small(text: str) -> bool:
@@ -133,7 +133,7 @@ def is_small(text: str) -> bool:
 
 
 def made_by_chance(seed: str, number: int, folder: str, some: Callable[[random.Random], str]) -> list[Path]:
-    """So many scripts of few components."""
+    """Makes this many random scripts of few components."""
     made: list[Path] = []
     for at in range(2 * number):
         text = some(random.Random(f"{seed} {at}"))
@@ -144,7 +144,7 @@ def made_by_chance(seed: str, number: int, folder: str, some: Callable[[random.R
 
 
 def order_by_chance(case: TestCase, chance: random.Random) -> tuple[str, tuple[str, ...]]:
-    """An order of steps to an end, and the verdict there."""
+    """A random order of steps up to an end, and the verdict there."""
     run, names = Run(case), list[str]()
     able = list(case.names)
     while able:
@@ -158,7 +158,7 @@ def order_by_chance(case: TestCase, chance: random.Random) -> tuple[str, tuple[s
 
 
 def wrong_by_chance(programs: Programs, path: Path) -> Optional[str]:
-    """The first order by chance by which something goes wrong."""
+    """Describes what is wrong with the first faulty of some random orders, or returns None."""
     script, chance = forced_script(path.read_bytes()), random.Random(path.name)
     case = TestCase(read_script(str(path)))
     exploration = Exploration(script, NOTHING_ANSWERED)
@@ -182,11 +182,11 @@ def by_chance(programs: Programs, seed: str, number: int) -> None:
     print(f"{word} {several} of {number} scripts by chance have several verdicts")
 
 
-# Scripts of the grammar
+# Scripts with every form of the grammar
 
 
 def wrong_beside_a_run(programs: Programs, path: Path) -> Optional[str]:
-    """What the program prints of a free run, where the model of runs can't come to it."""
+    """Describes what the program prints for a free run, if the model of runs doesn't allow it."""
     status, printed = printed_by([programs.tpr, "run", str(path)])
     if status != 0:
         return f"tpr run ended with status {status}: {printed}"

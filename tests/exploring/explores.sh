@@ -1,11 +1,11 @@
-# tools/explore: on each script of tests/orders/, and on scripts made by chance, each verdict that `tpr verdicts` names
-# has a run and a report (explored.py); what it says, and how it ends (explore_cases.py).
+# Tests tools/explore: for each script of tests/orders/, and for random scripts, each verdict that `tpr verdicts` names
+# has a run and a report (explored.py); what it prints, and how it ends (explore_cases.py).
 
-# How many scripts are made by chance: of the common statements, and of every form of the grammar.
+# The numbers of random scripts: with the common statements, and with every form of the grammar.
 explored_of_chance=300
 explored_of_grammar=200
 
-# Scripts with every kind of step, and those in which others act between two messages of a send, or two looks.
+# Scripts with every kind of step, and those in which others act between two messages of a send, or between two looks.
 explored_scripts() {
     told "$room/explored" tests/exploring/explored.py each "$tpr" "$ordered" tests/orders/*/*.ttcn \
         tests/exploring/acts/*.ttcn

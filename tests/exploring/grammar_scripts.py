@@ -41,7 +41,7 @@ PATTERNS = ('"*"', '"a?"', '"?*b"', '""')
 NO_GAP_NEEDED = re.compile(r"[^A-Za-z0-9_]")
 GAPS = (" ", " ", "\n", "\r\n", "\t", " /* a comment; } */ ", " // to the end of the line }\n")
 
-# A form that must occur somewhere among the scripts, by a text of its tokens with a space between each two.
+# The forms that must occur somewhere among the scripts, each as a pattern of tokens with a space between each two.
 FORMS = {
     "a loop variable that is sent": r"send \( i[12] \)",
     "a loop variable in a value": r"send \( [A-Z]\w* : [^;]*\bi[12]\b",
@@ -64,10 +64,10 @@ FORMS = {
 
 
 class GrammarMaker(Maker):
-    """A script of every form in the making."""
+    """Makes a random script, in which any form of the grammar may occur."""
 
     def value(self, of: str, place: Place) -> str:
-        """A value of the type. A loop variable may stand in it."""
+        """A random value of the type, possibly with loop variables in it."""
         if of == "integer":
             loops = [f"i{it}" for it in range(1, place.loops + 1)]
             return self.chance.choice(["0", "1", "2", "-0", "-1", "9223372036854775807", *loops * 2])
@@ -78,7 +78,7 @@ class GrammarMaker(Maker):
         return self.members(of, lambda it: self.value(it, place), self.chance.randint(0, 2))
 
     def members(self, of: str, member: Callable[[str], str], length: int) -> str:
-        """What stands in the brackets of a record or of a record of."""
+        """A record or a `record of`, with its brackets."""
         if of in LISTS:
             return "{" + ", ".join(member(LISTS[of]) for _ in range(length)) + "}"
         fields = list(RECORDS[of].items())
@@ -88,7 +88,7 @@ class GrammarMaker(Maker):
         return "{" + ", ".join(f"{name} := {member(it)}" for name, it in fields) + "}"
 
     def template(self, of: str, place: Place, depth: int = 0) -> str:
-        """A template of the type."""
+        """A random template of the type."""
         kinds: list[Callable[[], str]] = [lambda: "?", lambda: self.value(of, place)]
         if depth < 3:
             kinds += [lambda: f"({self.several(of, place, depth)})"]
@@ -142,7 +142,7 @@ class GrammarMaker(Maker):
         return self.without_empty_blocks(super().choice(place))
 
     def without_empty_blocks(self, lines: list[str]) -> list[str]:
-        """Some branches end with a semicolon in place of a block in which nothing stands."""
+        """Replaces some of the empty blocks of branches by a semicolon."""
         made, at = list[str](), 0
         while at < len(lines):
             is_empty = lines[at].startswith("[] ") and lines[at].endswith("{") and lines[at + 1] == "}"
@@ -169,7 +169,7 @@ class GrammarMaker(Maker):
 
 
 def some_grammar_script(chance: random.Random) -> str:
-    """A script, of which the same chances make the same."""
+    """A random script. The same state of `chance` makes the same script."""
     made = some_names(chance)[:4]
     system = ["system"] if chance.random() < 0.2 else []
     maker = GrammarMaker(chance, chance.choice((0.1, 0.4)), 3, ["mtc", *made, *system])
@@ -194,7 +194,7 @@ def function_of(maker: GrammarMaker, name: str) -> str:
 
 
 def laid_out(text: str, chance: random.Random) -> str:
-    """The same tokens in another layout, and without some of the semicolons that may be missing."""
+    """The same tokens in another layout, without some of the optional semicolons."""
     tokens = Text(text.encode()).tokens
     pieces = []
     for token, behind in zip(tokens, [*tokens[1:], ""]):
@@ -205,6 +205,6 @@ def laid_out(text: str, chance: random.Random) -> str:
 
 
 def is_glued(token: str, behind: str) -> bool:
-    """Whether the two would be read as other tokens without a gap."""
+    """Whether the two would be read as other tokens if there is no gap between them."""
     are_words = not (NO_GAP_NEEDED.match(token) or NO_GAP_NEEDED.match(behind))
     return are_words or {token[-1:], behind[:1]} <= set('.:-="/*>')

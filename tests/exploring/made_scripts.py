@@ -1,10 +1,10 @@
-"""Scripts that are made for tools/explore, larger than those that are kept."""
+"""Makes scripts for tools/explore that are larger than those in the repository."""
 from __future__ import annotations
 
 
 def senders(number: int, message: str) -> str:
-    """Components c0, c1 and so on that send to `mtc` one message each, which takes as many. An `@` in the message is
-    the component's number."""
+    """Components c0, c1 and so on each send one message to `mtc`, which receives them all. An `@` in the message
+    becomes the component's number."""
     each = range(number)
     lines = [
         "module Senders { type port P message { inout integer; } type component C { port P p; }",
@@ -20,7 +20,7 @@ def senders(number: int, message: str) -> str:
 
 
 def stars(number: int, length: int) -> str:
-    """A pattern and a list of so many stars, and values of this length that they almost match."""
+    """A pattern and a list with this many stars, and values of this length that almost match them."""
     pattern, members = "*a" * number + "*b", "*, 1, " * number + "*, 2"
     text, ones = "a" * length, ", ".join(["1"] * (length + 1))
     return f"""module Stars {{

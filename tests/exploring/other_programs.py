@@ -1,4 +1,4 @@
-"""What tools/explore says where one of its programs isn't there, says something else, or is interrupted."""
+"""Tests what tools/explore prints if one of its programs is missing, prints something else, or is interrupted."""
 from __future__ import annotations
 
 import json
@@ -38,13 +38,13 @@ TO_PASS, TO_FAIL = "mtc a mtc a b b b", "mtc a a mtc b b b"  # orders of OVERTAK
 
 
 def answer_of(asked: Exploring, status: int, text: str, script: str) -> Ended:
-    """What is said where `tpr verdicts` prints this, and ends so."""
+    """The tool's output if `tpr verdicts` prints this text and ends with this status."""
     program = program_of(asked.room / "answer", f"printf %s {shlex.quote(text)}", f"exit {status}")
     return asked.asking(program, asked.ordered).run(script)
 
 
 def undecided_answers(asked: Exploring) -> None:
-    """Above the limit of states, and without memory."""
+    """Answers above the limit of states, and out of memory."""
     script, undecided = f"{OVERTAKEN}.ttcn", "undecided, seen pass"
     one = answer_of(asked, 3, f"undecided\nseen pass\nstates 9\npass: {TO_PASS}\n", script)
     judged("where one verdict is seen", one, UNDECIDED, begins_with(undecided, "states 9"), runs_to_pass)
@@ -60,7 +60,7 @@ def runs_to_pass(ended: Ended) -> bool:
 
 
 def orders_that_are_wrong(asked: Exploring) -> None:
-    """By the order of a verdict the model of runs comes to another, or to none."""
+    """With the order of a verdict the model of runs reaches another verdict, or no end."""
     fault = f"{FAULT} the model of runs reaches"
     for name, orders, faults in (
         (
@@ -96,11 +96,11 @@ def answers_that_are_none(asked: Exploring) -> None:
     asked.asking(asked.nowhere, asked.ordered).case("no program", [PING_PONG], 1, nothing)
 
 
-# No program, or another one, that forces orders
+# The program that forces orders is missing, or is another one
 
 
 def without_reports(asked: Exploring) -> None:
-    """Reports are left out where nothing runs orders, and said to be."""
+    """Reports are left out if no program can run orders, and the tool says why."""
     script, tool = f"{OVERTAKEN}.ttcn", asked.asking(asked.tpr, asked.nowhere)
     ended = tool.run(script)
     judged("where two runs part, without reports", ended, DEPENDS, TELLS_PARTING)
@@ -114,7 +114,7 @@ def without_reports(asked: Exploring) -> None:
 
 
 def prints_orders(ended: Ended) -> bool:
-    """What `tpr verdicts` prints stands above where the runs diverge, with an empty line behind the states."""
+    """The output of `tpr verdicts` precedes the place where the runs diverge, with an empty line after the states."""
     told, _, behind = ended.text.partition("\nWhere the runs diverge (")
     wanted = (ROOT / f"{OVERTAKEN}.verdicts").read_text(encoding="utf-8")
     lines = told.split("\n")
@@ -127,7 +127,7 @@ def lacks_reports(ended: Ended) -> bool:
 
 
 def forced_by(asked: Exploring, line: str) -> Ended:
-    """What is said where orders are run by a program of this line."""
+    """The tool's output if a program with this line runs the orders."""
     program = program_of(asked.room / "other", line)
     return asked.asking(asked.tpr, program).run(PING_PONG)
 
@@ -137,7 +137,7 @@ def altered_by(asked: Exploring, sed: str) -> Ended:
 
 
 def other_reports(asked: Exploring) -> None:
-    """A program that holds no order, two that come to something else, one that refuses the script."""
+    """A program that holds no order, two with other results, and one that refuses the script."""
     ended = forced_by(asked, 'while read -r line; do printf "order %s\\nnot held\\n\\n" "$line"; done <"$2"')
     judged("a program that holds no order", ended, 0, has_in_order("no report: the order couldn't be held"))
     ended = altered_by(asked, "s/^result pass/result fail/")
@@ -165,7 +165,7 @@ def programs_that_break_off(asked: Exploring) -> None:
 
 
 def interrupted(asked: Exploring) -> None:
-    """A signal comes while a program is asked, which is ended with the tool."""
+    """A signal arrives while the tool waits for a program: the program ends with the tool."""
     number = asked.room / "number"
     sleeps = f"echo $$ >{shlex.quote(str(number))}; exec sleep {MOST_SECONDS}"
     sleeper = program_of(asked.room / "sleeper", sleeps)
@@ -182,7 +182,7 @@ def interrupted(asked: Exploring) -> None:
 
 
 def ended_by(sent: signal.Signals, programs: Mapping[str, str], number: Path) -> Ended:
-    """How the tool ends at the signal, which comes once a program of it is asleep, and has written its number."""
+    """How the tool ends by the signal, which is sent once a program of it is asleep and has written its number."""
     number.unlink(missing_ok=True)
     command = [*TAKES_SIGNALS, str(ROOT / "tools" / "explore"), f"{OVERTAKEN}.ttcn"]
     variables, none, pipe = {**os.environ, **programs}, subprocess.DEVNULL, subprocess.PIPE
@@ -196,7 +196,7 @@ def ended_by(sent: signal.Signals, programs: Mapping[str, str], number: Path) ->
 
 
 def is_gone(number: Path) -> None:
-    """The program that was asleep is no longer there."""
+    """The program that was asleep has ended."""
     process = int(number.read_text())
     must(not Path(f"/proc/{process}").exists(), f"process {process} is still there")
 
@@ -215,13 +215,13 @@ def waits_are_shown(asked: Exploring) -> None:
 
 
 def shows_alone(asked: Exploring, tpr: str, shown: str) -> None:
-    """Its terminal gets this first; a busy machine may take longer, and show more. At the end the line is wiped out."""
+    """The terminal gets this text first; a busy machine may take longer, and show more. Finally the line is cleared."""
     said = said_at_a_terminal(asked, tpr)
     must(said.startswith(shown) and said.endswith("\r\x1b[K"), f"it says {said!r}")
 
 
 def said_at_a_terminal(asked: Exploring, tpr: str) -> str:
-    """What is written on standard error, if that is a terminal."""
+    """The tool's standard error, if it is a terminal."""
     ours, theirs = pty.openpty()
     command, none = [str(ROOT / "tools" / "explore"), PING_PONG], subprocess.DEVNULL
     variables = {**os.environ, **asked.asking(tpr, asked.nowhere).variables}
@@ -234,7 +234,7 @@ def said_at_a_terminal(asked: Exploring, tpr: str) -> str:
         os.close(ours)
 
 
-# Each group, with how many cases it has at least.
+# Each group, with its minimum number of cases.
 GROUPS = (
     (undecided_answers, 4),
     (orders_that_are_wrong, 3),

@@ -1,11 +1,11 @@
 #!/usr/bin/env python3
-"""What tpr_ordered answers where a read, a write, an allocation or the start of a thread fails.
+"""Tests what tpr_ordered prints if a read, a write, an allocation or the start of a thread fails.
 
     tests/forced/failed_orders.py ORDERED FOLDER REFUSED
 
-ORDERED is tpr_ordered, REFUSED the library of tests/program/refused.c, which is loaded before the C library, and files
-are written into FOLDER. Each call of a kind is refused in turn, up to the run that has no such call more. It prints a
-line `passed NAME` for each case, and lines that begin with `FAILED: NAME` for one that is wrong.
+ORDERED is tpr_ordered, REFUSED is the library of tests/program/refused.c, which is loaded before the C library, and
+files are written into FOLDER. Each call of a kind is refused in turn, up to the first run without such a call. It
+prints a line `passed NAME` for each case, or lines that begin with `FAILED: NAME`.
 """
 from __future__ import annotations
 
@@ -27,14 +27,14 @@ FREE, IN_TURN, _ = answers_of(bytes_of(f"{SCRIPTS}/receive_beside_a_send.answers
 
 
 class Given(NamedTuple):
-    """The program, the library that refuses calls, and where files are written."""
+    """The program, the folder for files, and the library that refuses calls."""
 
     ordered: str
     folder: str
     refused: str
 
     def run(self, refusals: dict[str, int], orders: bytes) -> tuple[Ended, bool]:
-        """Runs SCRIPT in these orders with such calls refused. Whether it came to the one of the last kind."""
+        """Runs SCRIPT in the orders with these calls refused. Also returns whether it reached that of the last kind."""
         path = f"{self.folder}/orders_of_failures"
         with open(path, "wb") as file:
             file.write(orders)
@@ -50,8 +50,8 @@ class Given(NamedTuple):
         return Ended(done.returncode, done.stdout, done.stderr), [*refusals][-1] in came
 
     def in_turn(self, kind: str, orders: bytes, more: dict[str, int]) -> Iterator[tuple[int, Ended]]:
-        """What comes of each call of the kind refused, by its number. In the run that has no such call more all is
-        answered."""
+        """The result of each run with one call of the kind refused, with the number of the call. The first run without
+        such a call must answer all orders."""
         for number in range(1, MOST_CALLS):
             ended, came = self.run({**more, kind: number}, orders)
             if not came:
@@ -64,7 +64,7 @@ class Given(NamedTuple):
 
 
 def writes_that_fail(kind: str) -> Callable[[Given], None]:
-    """Each order is answered by one write. Those before it are there, and nothing is written behind it."""
+    """One write prints the answer to an order. After the failed write only the earlier answers are there."""
 
     def fails(given: Given) -> None:
         for number, ended in given.in_turn(kind, b"a o\n\na o\n", {}):
@@ -75,13 +75,13 @@ def writes_that_fail(kind: str) -> Callable[[Given], None]:
 
 
 def writes_of_single_bytes(given: Given) -> None:
-    """The bytes go one by one, and behind so many each write fails."""
+    """The bytes are written one by one, and from some byte on each write fails."""
     for number, ended in given.in_turn("WRITES_FROM", b"a o\n", {"SHORT_WRITES_FROM": 1}):
         must(ended == Ended(3, IN_TURN[: number - 1]), f"behind {number - 1} bytes: {ended}")
 
 
 def reads_that_fail(given: Given) -> None:
-    """The bytes come one by one: those of the script, and then those of the orders."""
+    """The bytes are read one by one: those of the script, and then those of the orders."""
     of_script, of_orders = Ended(2, UNREAD), Ended(2, b"", b"orders: " + UNREAD)
     found = [ended for _, ended in given.in_turn("READ", b"a o\n", {"SHORT_READS_FROM": 1})]
     least = len(bytes_of(SCRIPT))
@@ -92,13 +92,13 @@ def reads_that_fail(given: Given) -> None:
 
 
 def opens_that_fail(given: Given) -> None:
-    """The script is opened first, and then the orders. What the C library opens before comes in neither."""
+    """The script is opened first, and then the orders. An earlier open of the C library may fail without effect."""
     told = [ended for _, ended in given.in_turn("OPEN", b"a o\n", {}) if ended != Ended(0, IN_TURN)]
     must(told == [Ended(2, UNREAD), Ended(2, b"", b"orders: " + UNREAD)], f"{told}")
 
 
 def allocations_that_fail(given: Given) -> None:
-    """The line of the fault stands in place of the report of that run, or of all, with status 3."""
+    """The line of the fault replaces the report of that run; or it replaces all, with status 3."""
     fault = Ended(3, NO_MEMORY)
     allowed = {fault, Ended(3, b"", b"orders: " + NO_MEMORY), Ended(0, FREE + FREE)}
     of_runs = [b"order \n" + line + b"\n" for line in (NO_MEMORY, NO_THREAD)]
@@ -111,7 +111,7 @@ def allocations_that_fail(given: Given) -> None:
 
 
 def threads_that_fail(given: Given) -> None:
-    """51 stands in place of the report of that run, and the next one has its own."""
+    """51 replaces the report of that run, and the next run has its own report."""
     without = b"order \n" + NO_THREAD + b"\n"
     found = [ended for _, ended in given.in_turn("THREAD", b"\n\n", {})]
     half = len(found) // 2

@@ -1,12 +1,11 @@
 #!/usr/bin/env python3
-"""Whether tpr_ordered keeps the orders that it is given, refuses what says none, and runs end by themselves.
+"""Tests that tpr_ordered keeps the orders that it is given, refuses what isn't an order, and that its runs end.
 
     tests/forced/forced.py PROGRAM ORDERED FOLDER
 
-PROGRAM is tpr and ORDERED tpr_ordered; files are written into FOLDER. Of each script in tests/forced/ NAME.answers has
-what ORDERED prints, and the orders are those that it names; or NAME.report has the one report of the script, which it
-must have in free runs. It prints a line `passed NAME` for each case, and lines that begin with `FAILED: NAME` for one
-that is wrong.
+PROGRAM is tpr and ORDERED tpr_ordered; files are written into FOLDER. For a script in tests/forced/, NAME.answers has
+what ORDERED must print for the orders that it names; or NAME.report has the only report of the script, which each free
+run must have. It prints a line `passed NAME` for each case, or lines that begin with `FAILED: NAME`.
 """
 from __future__ import annotations
 
@@ -20,14 +19,14 @@ from typing import NamedTuple, Optional
 ROOT = os.path.dirname(os.path.dirname(os.path.dirname(os.path.realpath(__file__))))
 SCRIPTS = f"{ROOT}/tests/forced"
 OWN = f"{ROOT}/crates/tpr_ordered"  # the crate's own example: a halt beside two sends, in its six orders
-MOST_SECONDS = 120  # a gate that gives up has yielded ten million times before
+MOST_SECONDS = 120  # a gate gives up after it has yielded ten million times
 ROUNDS = 50
 USAGE = b"usage: tpr_ordered SCRIPT ORDERS\n"
 UNREAD = b"refused 2 Read\n"
 
 
 class Ended(NamedTuple):
-    """How a run ended, what it printed, and what it said."""
+    """How a run ended: its status, its standard output and its standard error."""
 
     status: int
     printed: bytes
@@ -35,7 +34,7 @@ class Ended(NamedTuple):
 
 
 class Programs(NamedTuple):
-    """Both programs, and where files for them are written."""
+    """Both programs, and the folder for files."""
 
     program: str
     ordered: str
@@ -65,17 +64,17 @@ def bytes_of(path: str) -> bytes:
 
 
 def difference(found: Ended, wanted: Ended) -> Optional[str]:
-    """What is wrong, None where nothing is."""
+    """Describes how the result differs from the expected one, or returns None."""
     if found == wanted:
         return None
     return f"status {found.status}, printed {found.printed[:2000]!r}, said {found.said[:200]!r}; wanted is {wanted!r}"
 
 
-# Orders that are kept, or aren't held
+# Orders that are kept, or that can't be held
 
 
 def answers_of(text: bytes) -> list[bytes]:
-    """What stands of each order: its line, what came of it, and an empty line."""
+    """The part of each order: its line, its result, and an empty line."""
     return [answer + b"\n\n" for answer in text.split(b"\n\n")[:-1]]
 
 
@@ -84,13 +83,13 @@ def order_of(answer: bytes) -> bytes:
 
 
 def in_order(script: str, answer: bytes) -> Attempt:
-    """The order alone, without an end of its line: where it has no step, its line would be no line."""
+    """The order alone, without a line end. An order without steps needs one, because it would have no line."""
     line = order_of(answer) or b"\n"
     return lambda programs: difference(programs.in_orders(script, line), Ended(0, answer))
 
 
 def in_all_orders(script: str, answers: list[bytes]) -> Attempt:
-    """One behind the other. Those that aren't held are left out, since to give up takes seconds."""
+    """All orders, one after the other. Those that can't be held are left out, since giving up takes seconds."""
     held = [it for it in answers if not it.endswith(b"\nnot held\n\n")]
     lines = b"".join(order_of(it) + b"\n" for it in held)
     return lambda programs: difference(programs.in_orders(script, lines), Ended(0, b"".join(held)))
@@ -105,9 +104,9 @@ def cases_of_orders() -> Iterator[tuple[str, Attempt]]:
         yield f"{name} in all its orders", in_all_orders(script, answers)
 
 
-# Texts that say no orders, or few
+# Texts with no orders, or with few
 
-# Each with the line of the name that no component has.
+# Each with the line of a name that no component has.
 UNKNOWN = (
     (b"a\no b\n", 2),
     (b"a  o", 1),
@@ -117,7 +116,7 @@ UNKNOWN = (
     (b"a+\n+\n", 2),
     (b"a o++", 1),
 )
-# Each with what is said of it.
+# Each with the expected line on standard error.
 REFUSED = (
     *((text, b"refused 11 Unknown line %d" % line) for text, line in UNKNOWN),
     (b"a\n\xff\n", b"refused 2 Read"),
@@ -160,11 +159,11 @@ def cases_of_words() -> Iterator[tuple[str, Attempt]]:
     yield "a text that is no script", words_are_so([orders, orders], Ended(2, b"refused 10 Syntax line 1\n"))
 
 
-# Runs in which all that are left wait: they end by themselves
+# Runs in which all remaining components wait: they end by themselves
 
 
 def ends_in_one_process(script: str, report: bytes) -> Attempt:
-    """The order of no step leaves all free."""
+    """With an order without steps, all components are free."""
     answers = (b"order \n" + report + b"\n") * ROUNDS
     return lambda programs: difference(programs.in_orders(script, b"\n" * ROUNDS), Ended(0, answers))
 

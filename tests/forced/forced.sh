@@ -1,4 +1,4 @@
-# tpr_ordered: orders that it keeps, refuses or can't hold, among them those in which components must be inside their
+# Tests tpr_ordered: orders that it keeps, refuses or can't hold, some of which need several components inside their
 # operations at once; runs that end by themselves (forced.py); and calls that fail (failed_orders.py).
 
 forced_of_each() {

@@ -1,15 +1,14 @@
-# What the tests in shell have in common: how a case is run, judged and counted. ./test reads all files
-# tests/FOLDER/NAME.sh, and these variables are its own: `root`, the folder of the repository; `tpr`, the program,
-# `called`, what is called on command lines, and `ordered`, tpr_ordered; `room`, a folder of the part's own, and
-# `room_of_all`, one of all parts; the counters `passed` and `failed`.
+# Functions that all tests in shell use to run, judge and count cases. ./test reads all files tests/FOLDER/NAME.sh, and
+# defines these variables: `root`, the folder of the repository; `tpr`, the program, `called`, what is called on command
+# lines, and `ordered`, tpr_ordered; `room`, the part's own folder, and `room_of_all`, the folder of all parts; the
+# counters `passed` and `failed`.
 
-# Counts a case, by the status of the command before it or of the one given.
+# Counts a case, by this status.
 count() {
     if (($1 == 0)); then ((passed += 1)); else ((failed += 1)); fi
 }
 
-# Runs the cases of a table, of which there are so many at least: a table that lost its entries, or
-# that isn't found, fails.
+# Runs the cases of a table, and fails if there are fewer than LEAST: the table lost its entries, or isn't found.
 at_least() { # LEAST COMMAND..
     local least=$1 before=$((passed + failed)) tried
     shift
@@ -21,8 +20,8 @@ at_least() { # LEAST COMMAND..
     fi
 }
 
-# What must hold before a case is tried, or the case would show nothing: told and counted where it
-# doesn't.
+# Tests what must hold before a case is tried, because the case would otherwise show nothing. If it doesn't hold, prints
+# and counts a failure.
 set_up() { # WHAT HOLDS, COMMAND..
     if "${@:2}"; then return 0; fi
     echo "FAILED: it doesn't hold that $1"
@@ -32,15 +31,15 @@ set_up() { # WHAT HOLDS, COMMAND..
 
 # Examples
 
-# The scripts of the examples and of tests/orders/ that can be run, by the list (tests/cases.list), in `runnable`.
+# Puts the scripts of the examples and of tests/orders/ that can be run into `runnable`, by the list tests/cases.list.
 find_runnable() {
     mapfile -t runnable < <(awk '$1 == "right" || $1 == "small" { print $2 }' tests/cases.list)
 }
 
 # Tests in Python
 
-# Counts the lines `passed ..` and the scripts that failed, of which all that is said is told. What is left out is
-# told at the end of all.
+# Counts the lines `passed ..` and `FAILED: ..`, and prints all others and the failures. What is left out is printed at
+# the end of all parts.
 count_told() { # FILE
     local line
     while IFS= read -r line; do
@@ -56,8 +55,8 @@ count_told() { # FILE
     done <"$1"
 }
 
-# Runs a test in Python, keeps what it tells, and counts it. One that ends with a failure and tells none, as where it
-# breaks off, has failed.
+# Runs a test in Python, keeps its output, and counts its cases. A test has failed if its status says so but it prints
+# no failure, for example because it breaks off.
 told() { # FILE WORD..
     local ended
     python3 -B "${@:2}" >"$1" 2>&1
@@ -68,20 +67,20 @@ told() { # FILE WORD..
     count_told "$1"
 }
 
-# The same of one whose lines are `passed RUNS NAME`: the runs are added to `runs_of_all`, or to `refused_of_all`.
+# The same for a test whose lines are `passed RUNS NAME`: adds the runs to `runs_of_all`, or to `refused_of_all`.
 told_of_runs() { # COUNTER WORD..
     told "$room/told" "${@:2}"
     declare -g -i "$1+=$(sum_of 2 "$room/told")"
 }
 
-# The sum of the numbers that stand at the place of each line `passed ..`.
+# Prints the sum of the numbers at this place of each line `passed ..`.
 sum_of() { # PLACE FILE
     awk -v place="$1" '$1 == "passed" { sum += $place } END { print sum + 0 }' "$2"
 }
 
 # Files and processes
 
-# A program that is a script would be refused its shell's calls: its cases of that kind are left out.
+# Whether the program is a script. Its shell's calls would be refused too, so cases of that kind are left out.
 is_script() { # PROGRAM
     [[ $(head -c 2 -- "$1") == '#!' ]]
 }

@@ -1,15 +1,15 @@
 #!/usr/bin/env python3
-"""Whether each part of ./test fails on the fault that tests/gate/parts has for it.
+"""Tests that each part of ./test fails on the fault that tests/gate/parts has for it.
 
     tests/gate/faults.py PROGRAM ORDERED [NAME..]
     tests/gate/faults.py PROGRAM ORDERED --some COUNT SEED TIMES
 
-The first form tries the faults of all parts, or of those named; the second of so many by chance, beside each other, of
-those that took 30 seconds at most in this run, by the file TIMES. Each is planted in a copy of the tree, in which the
-part is tried with `./test part NAME`. tests/gate/parts says of which two kinds they are.
+The first form tries the faults of all parts, or of those named. The second tries COUNT random ones at once, of parts
+that took at most 30 seconds in this run; the file TIMES has the seconds. Each is planted in a copy of the tree, in
+which `./test part NAME` tries the part. tests/gate/parts describes the two kinds of faults.
 
-It prints a line `passed NAME` for each fault that is told, `left out the fault of NAME: WHY`, or `FAILED: ..`. The same
-seed chooses others where other parts took 30 seconds at most.
+It prints a line `passed NAME` for each fault that is detected, `left out the fault of NAME: WHY`, or `FAILED: ..`. The
+same seed chooses other faults if other parts took at most 30 seconds.
 """
 from __future__ import annotations
 
@@ -25,7 +25,7 @@ from typing import NamedTuple, Optional
 
 ROOT = os.path.dirname(os.path.dirname(os.path.dirname(os.path.realpath(__file__))))
 LIST = f"{ROOT}/tests/gate/parts"
-# What this tries must be built: TPR names no other program to it.
+# This part tries what is built: TPR can't give it another program.
 OF_THE_BUILT, BUILT = "refused_in_tests", f"{ROOT}/crates/tp_tests/out/tp_tests_tests"
 OF_ORDERED = ("orders", "forced_orders", "exploring", "language_server", "soak")
 OF_THE_LIBRARY = ("port_library", "embedding", "titan_ports")
@@ -34,7 +34,7 @@ MOST_SECONDS_OF_SOME = 30
 
 
 class Fault(NamedTuple):
-    """The fault of a part: its kind, the file that is changed if it is of that kind, and how."""
+    """The fault of a part: its kind, the file that a fault of kind `text` changes, and the command of sed."""
 
     part: str
     kind: str
@@ -54,7 +54,7 @@ def listed_faults() -> list[Fault]:
 
 
 def copy_of_tree(folder: str) -> str:
-    """A copy of the tree, in which what is built is that of the tree itself."""
+    """Makes a copy of the tree that uses the built files of the tree itself."""
     tree = f"{folder}/tree"
     shutil.copytree(ROOT, tree, symlinks=True, ignore=shutil.ignore_patterns("out", ".git", "__pycache__"))
     for crate in os.listdir(f"{ROOT}/crates"):
@@ -64,14 +64,14 @@ def copy_of_tree(folder: str) -> str:
 
 
 def write_program(path: str) -> None:
-    """A program that says what FAULTY_PROGRAM says, but for the fault."""
+    """Writes a program that prints what FAULTY_PROGRAM prints, changed by the fault."""
     with open(path, "w", encoding="utf-8") as file:
         file.write('#!/usr/bin/env bash\n"$FAULTY_PROGRAM" "$@" | sed -e "$FAULT"\nexit "${PIPESTATUS[0]}"\n')
     os.chmod(path, 0o755)
 
 
 def change(path: str, sed: str) -> bool:
-    """Changes a file. Whether that made a difference."""
+    """Changes a file. Returns whether that made a difference."""
     with open(path, "rb") as file:
         before = file.read()
     subprocess.run(["sed", "-i", "-e", sed, path], check=True)
@@ -95,7 +95,7 @@ def why_left_out(fault: Fault, ordered: str) -> Optional[str]:
 
 
 def answer(fault: Fault, program: str, ordered: str) -> str:
-    """What is said of a fault, in one or two lines."""
+    """The result of a fault, in one or two lines."""
     if (why := why_left_out(fault, ordered)) is not None:
         return f"left out the fault of {fault.part}: {why}"
     isnt_told = f"FAILED: the fault that is planted for {fault.part} isn't told"
@@ -110,7 +110,7 @@ def answer(fault: Fault, program: str, ordered: str) -> str:
             programs["TPR_ORDERED"] = ordered
         if os.path.exists(f"{port()}/lib/libtp_port.a"):
             programs["TP_PORT"] = port()
-        # Not by subprocess.run, which kills where it is interrupted: ./test ends what it has started.
+        # Not subprocess.run, which kills its process on an interrupt: ./test must end what it has started.
         done = subprocess.Popen(
             [f"{tree}/test", "part", fault.part],
             env={**os.environ, **programs},
@@ -128,7 +128,7 @@ def answer(fault: Fault, program: str, ordered: str) -> str:
 
 
 def some(faults: list[Fault], count: int, seed: str, times: str) -> list[Fault]:
-    """So many faults by chance, of parts that took little time."""
+    """Random faults, of parts that took little time."""
     quick = set()
     if os.path.exists(times):
         with open(times, encoding="utf-8") as file:

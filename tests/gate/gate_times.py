@@ -1,16 +1,16 @@
 #!/usr/bin/env python3
-"""Runs the first half of ./test, and writes what each crate took: its proof, its tests, its wrong bodies.
+"""Runs the first half of ./test, and writes how long each crate took: its proof, its tests, its wrong bodies.
 
     tests/gate/gate_times.py FILE OUTPUT COMMAND..
 
-The command's output and status are its own. rt says when a crate is proved, and neither when that began nor when its
-wrong bodies were done. So the processes below the command are looked at twice a second: which crate each is for
-(`--crate-name`), and for what (`--test`, or a folder rt-edit-.. or wrong-bodies-.. for a wrong body). FILE gets a line
-for each crate, at each look, with seconds of wall time in which its processes were seen, and of processor time. Up to
-half a second of each process is missing, and so are the short runs of programs and tests.
+The output and the status are those of the command. rt reports when a crate is proved, but not when its proof began or
+when its wrong bodies were done. So twice a second this script looks at the processes below the command: for which crate
+each works (`--crate-name`), and at what (`--test`, or a folder rt-edit-.. or wrong-bodies-.. for a wrong body). At each
+look it writes FILE, with a line for each crate: the seconds of wall time in which processes of the crate were seen, and
+their processor time. Up to half a second of each process is missing, and so are the short runs of programs and tests.
 
-On a terminal, file 3, it says how many crates are proved by OUTPUT, the file to which the caller copies the output, what
-is at work, and how long that took the last time (out/times_of_first_half).
+On a terminal, file 3, it prints how many crates are proved by OUTPUT, the file to which the caller copies the output,
+what is at work, and how long that took last time (out/times_of_first_half).
 """
 from __future__ import annotations
 
@@ -38,7 +38,7 @@ Part = tuple[str, str]  # one of these kinds, and a crate
 
 
 class Process(NamedTuple):
-    """What is to be seen of a process: its parent, its start and its processor time."""
+    """A process: its parent, its start and its processor time."""
 
     parent: int
     start: str
@@ -46,14 +46,14 @@ class Process(NamedTuple):
 
 
 class Seen:
-    """What was seen of the processes of one part: when last, for how long, and the processor time of each."""
+    """The processes of one part: when one was last seen, for how long, and the processor time of each."""
 
     def __init__(self, now: float) -> None:
         self.last, self.wall = now, 0.0
         self.used: dict[tuple[int, str], float] = {}
 
     def note(self, now: float) -> None:
-        """One of them is seen. A pause isn't counted: `rt ci` and of_a_run try wrong bodies of the same crates."""
+        """Notes that one is seen. A pause isn't counted: `rt ci` and of_a_run try wrong bodies of the same crates."""
         self.wall += now - self.last if now - self.last < PAUSE else 0.0
         self.last = now
 
@@ -62,7 +62,7 @@ class Seen:
 
 
 def processes() -> dict[int, Process]:
-    """All processes that can be seen, by their numbers."""
+    """All visible processes, by their numbers."""
     found = {}
     for folder in Path("/proc").glob("[0-9]*"):
         try:
@@ -74,7 +74,7 @@ def processes() -> dict[int, Process]:
 
 
 def part_of(pid: int) -> Optional[Part]:
-    """The kind and the crate that a process is for, by its words and its folder."""
+    """The kind and the crate of a process, from its command line and its folder."""
     try:
         words = Path(f"/proc/{pid}/cmdline").read_text(errors="replace").split("\0")
         folder = os.path.basename(os.readlink(f"/proc/{pid}/cwd"))
@@ -87,7 +87,7 @@ def part_of(pid: int) -> Optional[Part]:
 
 
 def look(top: int, parts: dict[Part, Seen]) -> float:
-    """Notes now what each process below this one is for, or else the nearest of those that started it."""
+    """Notes the part of each process below `top`, which may be that of its nearest ancestor. Returns the time."""
     now, there = time.monotonic(), processes()
     for pid, process in there.items():
         part, at = None, pid
@@ -101,7 +101,7 @@ def look(top: int, parts: dict[Part, Seen]) -> float:
 
 
 def at_work(parts: dict[Part, Seen], now: float, output: str, last: dict[str, int]) -> str:
-    """What is said of the parts that were seen just now, if there are any."""
+    """The line on the parts that were seen just now, or an empty text."""
     text = Path(output).read_text(errors="replace") if os.path.exists(output) else ""
     proved = len(re.findall(r"^rt: \w+ proved$", text, re.M))
     names = [" of ".join(it) for it, seen in parts.items() if seen.last == now]
@@ -110,7 +110,7 @@ def at_work(parts: dict[Part, Seen], now: float, output: str, last: dict[str, in
 
 
 def table(parts: dict[Part, Seen]) -> str:
-    """The table of what was seen, in the order in which the crates were first seen."""
+    """The table of the times, in the order in which the crates were first seen."""
     rows = [[f"{'the first half, seconds: wall and used':40}", *(f"{kind:>17}" for kind in KINDS)]]
     for crate in dict.fromkeys(crate for _, crate in parts):
         cells = [parts[kind, crate].cell() if (kind, crate) in parts else f"{'-':>8} {'-':>8}" for kind in KINDS]
@@ -134,7 +134,7 @@ def main() -> int:
         while ran.poll() is None:
             now = look(ran.pid, parts)
             before, line = line, at_work(parts, now, asked.output, last) if has_terminal else ""
-            # Between two checks of one crate none may be at work: what is seen twice is said.
+            # Between two checks of a crate none may be at work, so only a line that is seen twice is printed.
             if line == before and line not in ("", said):
                 os.write(TERMINAL, line.encode())
                 said = line

@@ -1,17 +1,18 @@
-# What a whole gate leaves in out/gate if it passes, for tools/release.
+# Writes out/gate, which a whole gate leaves for tools/release if it passes.
 
-# The commit of the work tree, and nothing where that isn't just as committed.
+# Prints the commit of the work tree, or nothing if the tree differs from it.
 clean_commit() {
     if [[ -z $(git status --porcelain 2>&1) ]]; then git rev-parse HEAD 2>/dev/null; fi
 }
 
-# What an earlier gate left isn't left by this one, which may fail.
+# Removes what an earlier gate left, because this one may fail.
 begin_gate() {
     rm -f -- out/gate
     commit_of_gate=$(clean_commit)
 }
 
-# Only where the sources were those of one commit from the beginning to the end, and the toolchain says which it is.
+# Keeps the gate only if the sources were those of one commit from the beginning to the end, and the toolchain reports
+# its version.
 keep_gate() { # LAST LINES
     local toolchain program ordered library
     if [[ -z $commit_of_gate || $commit_of_gate != "$(clean_commit)" ]]; then return; fi

@@ -1,15 +1,14 @@
 #!/usr/bin/env python3
-"""The list of all examples, of all small scripts and of the tables of texts, tests/cases.list, by which none is
-lost unseen.
+"""Keeps tests/cases.list, the list of all examples, small scripts and tables of texts, so that none is lost unnoticed.
 
     ./test list                           writes the list
-    tests/gate/listed_cases.py compare    whether the folders have what the list has, and nothing else
-    tests/gate/listed_cases.py counts     how many there are of each kind, by the list
+    tests/gate/listed_cases.py compare    tests that the folders have what the list has, and nothing else
+    tests/gate/listed_cases.py counts     prints how many there are of each kind, by the list
 
-A line of the list is `KIND FILE NUMBER`. Of an example the number says how many texts may be printed of it, of a table
-how many texts it has. `compare` prints `passed ..`, or a line that begins with `FAILED: ` for each difference, and for
-each part that tests/README.md doesn't name. `counts` prints lines `NAME=NUMBER`. By these numbers ./test knows how many
-cases a part has at least: so an example is its files, and no number is raised by hand for it.
+A line of the list is `KIND FILE NUMBER`. The number of an example says how many texts it may print, that of a table how
+many texts it has. `compare` prints `passed ..`, or a line that begins with `FAILED: ` for each difference, and for each
+part that tests/README.md doesn't name. `counts` prints lines `NAME=NUMBER`, from which ./test computes the minimum
+number of cases of a part: a new example needs only its files.
 """
 from __future__ import annotations
 
@@ -38,7 +37,7 @@ MOST_ENTRIES = 40  # of a folder of tests/
 
 
 class Kind(Enum):
-    """What a listed file is."""
+    """The kind of a listed file."""
 
     QUEUE = "queue"  # an example that is a queue file
     RIGHT = "right"  # one that is a script, and is run
@@ -69,7 +68,7 @@ def example(file: Path) -> Listed:
 
 
 def all_listed() -> list[Listed]:
-    """What is there, in the order of the list."""
+    """All files that must be listed, in the order of the list."""
     found = [example(it) for ending in ENDINGS for it in example_files.texts(ending)]
     found += [listed(Kind.SMALL, it, 1) for it in ROOT.glob("tests/orders/*/*.ttcn")]
     for file in changes.FOLDER.glob("*.changes"):
@@ -79,7 +78,7 @@ def all_listed() -> list[Listed]:
 
 
 def strays() -> Iterator[str]:
-    """A file that is neither an example nor belongs to one would never be looked at."""
+    """Files that are no examples and belong to none, so that no test reads them."""
     for file in sorted(chain.from_iterable(it.glob("[!.]*") for it in example_files.FOLDERS)):
         name, ending, number = file.name.partition(".expected.")
         base = name if ending and number.isdecimal() else file.stem
@@ -91,7 +90,7 @@ def strays() -> Iterator[str]:
 
 
 def full_folders() -> Iterator[str]:
-    """In a folder of many entries nobody finds anything."""
+    """Folders with so many entries that one finds nothing in them."""
     tests = ROOT / "tests"
     entries = Counter(it.parent for it in tests.rglob("*") if it.name != "__pycache__")
     for folder, number in sorted(entries.items()):
@@ -100,7 +99,7 @@ def full_folders() -> Iterator[str]:
 
 
 def twins(there: list[Listed]) -> Iterator[str]:
-    """An example of the same text as another shows nothing, and one of the same name isn't found by it."""
+    """An example with the same text as another shows nothing, and one with the same name isn't found by it."""
     known: dict[str, str] = {}
     names = Counter(Path(it.file).name for it in there if it.kind in (Kind.QUEUE, Kind.RIGHT, Kind.REFUSED))
     yield from (f"{number} examples have the name {name}" for name, number in names.items() if number > 1)
@@ -111,7 +110,7 @@ def twins(there: list[Listed]) -> Iterator[str]:
 
 
 def differences(there: list[Listed]) -> Iterator[str]:
-    """What the list has and the folders haven't, and the other way round."""
+    """The lines that only the list or only the folders have."""
     lines, wanted = [it.line() for it in there], LIST.read_text(encoding="utf-8").splitlines()
     for line in sorted({*lines, *wanted}):
         if line not in wanted:
@@ -123,7 +122,7 @@ def differences(there: list[Listed]) -> Iterator[str]:
 
 
 def unnamed_parts() -> Iterator[str]:
-    """A part that tests/README.md doesn't name would be found by chance alone."""
+    """Parts that tests/README.md doesn't name, so that they are found only by chance."""
     named = {*re.findall(r"\w+", (ROOT / "tests" / "README.md").read_text(encoding="utf-8"))}
     for line in (ROOT / "tests" / "gate" / "parts").read_text(encoding="utf-8").splitlines():
         part = line.partition(" ")[0]
@@ -132,7 +131,7 @@ def unnamed_parts() -> Iterator[str]:
 
 
 def counts() -> dict[str, int]:
-    """How many there are of each kind, by the list."""
+    """How many files or texts there are of each kind, by the list."""
     lines = [line.split() for line in LIST.read_text(encoding="utf-8").splitlines()]
     kinds = Counter(kind for kind, _, _ in lines)
     numbers = {kind: [int(it) for value, _, it in lines if value == kind.value] for kind in Kind}

@@ -1,11 +1,11 @@
-# The parts of ./test by their list, tests/gate/parts, which stands apart from where they are called. Of each part that
-# has ended a line is kept, with what it tried (side_by_side.sh); and at the end of all ./test fails where a part of the
-# list has no line, or two, or tried fewer cases than the list has for it, or where one isn't in the list. `chosen` and
-# `left_out` are those of ./test.
+# Compares the parts of ./test with their list, tests/gate/parts, which is separate from their calls. Each part that has
+# ended leaves a line with its number of cases (side_by_side.sh). At the end ./test fails if a part of the list has no
+# line, or two, or tried fewer cases than the list demands, or if a part isn't in the list. ./test defines `chosen` and
+# `left_out`.
 
 parts_list=tests/gate/parts
 
-# How many examples there are of each kind, and so on, as numbers of these names, by the list (tests/cases.list).
+# Defines the numbers of examples of each kind, and so on, as variables with these names, by the list tests/cases.list.
 read_counts() {
     local name number
     while IFS='=' read -r name number; do
@@ -14,7 +14,7 @@ read_counts() {
     [[ ${small_scripts-} ]]
 }
 
-# The lines of the list: NAME LEAST FAULT. LEAST may be a sum of such numbers.
+# Prints the lines of the list: NAME LEAST FAULT. LEAST may be a sum of such variables.
 listed_parts() {
     grep -v -e '^#' -e '^$' -- "$parts_list"
 }
@@ -23,12 +23,12 @@ is_listed() { # NAME
     listed_parts | grep -q -- "^$1 "
 }
 
-# Whether the command line names the part, or none.
+# Whether the command line names the part, or no part at all.
 is_chosen() { # NAME
     ((${#chosen[@]} == 0)) || [[ " ${chosen[*]} " == *" $1 "* ]]
 }
 
-# Why a part may be left out as a whole: told at the end. One that the command line names is tried.
+# Leaves out a whole part, and prints the reason at the end. If the command line names the part, it is tried.
 may_leave_out() { # NAME WHY
     if ((${#chosen[@]} == 0)); then left_out["$1"]=$2; fi
 }
@@ -37,12 +37,12 @@ is_tried() { # NAME
     is_chosen "$1" && [[ ! ${left_out[$1]-} ]]
 }
 
-# What a part leaves out of what it tries, since it can't be tried here: told at the end.
+# Notes a case that a part leaves out because it can't be tried here. The note is printed at the end.
 leave_out() { # WHAT, AND WHY
     echo "left out: $1" >>"$room_of_all/left_out"
 }
 
-# One part of the list: it said once what it tried, and that is enough.
+# Tests that a part of the list has ended once, with enough cases.
 part_was_tried() { # NAME LEAST
     local times cases
     times=$(grep -c -- "^$1 " "$room_of_all/parts")
@@ -58,7 +58,7 @@ part_was_tried() { # NAME LEAST
     fi
 }
 
-# That no part is missing. Where the command line names some, only these are looked at.
+# Tests that no part is missing. If the command line names some, only these are looked at.
 all_parts_were_tried() {
     local name least
     touch -- "$room_of_all/parts"
@@ -77,7 +77,7 @@ all_parts_were_tried() {
     fi
 }
 
-# The table of what each part took, in the order of the list.
+# Prints the cases, failures and seconds of each part, in the order of the list.
 times_of_parts() {
     echo "the built program, by parts:               cases   failed  seconds"
     awk 'NR == FNR { place[$1] = NR; next }

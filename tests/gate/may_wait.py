@@ -1,10 +1,10 @@
 #!/usr/bin/env python3
-"""Whether crates.txt counts as the prover did: how many functions of each crate may wait, and what its tests may do.
+"""Tests that crates.txt counts as the prover did: how many functions of each crate may wait, and what its tests may do.
 
     tests/gate/may_wait.py FILE
 
-FILE is what `rt ci` printed. It holds each crate to HANDLES, and to no count; `rt verdict` does, by one more proof. So
-each count is compared with the last line of the prover, `logic=proved ..`.
+FILE is the output of `rt ci`, which compares each crate with HANDLES, but not with a count. `rt verdict` does that, by
+one more proof. So each count is compared with the last line of the prover, `logic=proved ..`.
 
 It prints a line `passed CRATE` or `FAILED: CRATE: WHY` for each crate of crates.txt.
 """
@@ -16,17 +16,17 @@ sys.dont_write_bytecode = True
 
 from wrong_body_edits import ROOT, read
 
-# What a count is where crates.txt, or the prover's line, has none.
+# The counts if crates.txt, or the prover's line, has none.
 NONE = {"may_wait": "0", "tests_may": "-"}
 
 
 def counts_in(words: list[str]) -> dict[str, str]:
-    """What stands behind the `=` of each word."""
+    """The count after the `=` of each word."""
     return {name: count for name, _, count in (word.partition("=") for word in words)}
 
 
 def wanted() -> dict[str, dict[str, str]]:
-    """The counts of crates.txt, by the crates."""
+    """The counts of crates.txt, by crate."""
     found = {}
     for line in read(f"{ROOT}/crates.txt").splitlines():
         name, *words = re.split("[:#]", line)[0].split() or [""]
@@ -36,8 +36,8 @@ def wanted() -> dict[str, dict[str, str]]:
 
 
 def counted(lines: list[str]) -> dict[str, dict[str, str]]:
-    """What the prover counted of each crate, and of its tests. What it said of a crate stands behind a line `== CRATE`,
-    and of its tests `== CRATE: its tests`."""
+    """The prover's counts for each crate, and for its tests. Its output for a crate follows a line `== CRATE`, and for
+    the tests of the crate `== CRATE: its tests`."""
     found: dict[str, dict[str, str]] = {}
     crate, of_tests = "", ""
     for line in lines:
@@ -45,7 +45,7 @@ def counted(lines: list[str]) -> dict[str, dict[str, str]]:
             crate, _, of_tests = line.removeprefix("== ").partition(": ")
         elif line.startswith("logic=proved ") and crate:
             said = counts_in(line.split())
-            # That a test may end its process needs no word in crates.txt.
+            # A test may end its process without a word in crates.txt.
             may = [it for it in said.get("main", "").split("+") if it not in ("", "Abort")]
             count = {"tests_may": "+".join(may) or "-"} if of_tests else {"may_wait": said.get("may-wait", "0")}
             found.setdefault(crate, {}).update(count)
@@ -53,7 +53,7 @@ def counted(lines: list[str]) -> dict[str, dict[str, str]]:
 
 
 def told(crate: str, counts: dict[str, str], found: dict[str, str]) -> str:
-    """The line for a crate with these counts in crates.txt, of which this is found."""
+    """The result of a crate with these counts in crates.txt, and with those that the prover found."""
     if "may_wait" not in found:
         return f"FAILED: {crate}: rt ci said nothing that is understood"
     for name, none in NONE.items():
@@ -66,7 +66,7 @@ def main() -> int:
     words = argparse.ArgumentParser(description="Compares the counts of crates.txt with the prover's.")
     words.add_argument("file", metavar="FILE", help="what rt ci said")
     asked = words.parse_args()
-    # The program's tests may print bytes that are no text.
+    # The program's tests may print bytes that aren't UTF-8.
     with open(asked.file, encoding="utf-8", errors="replace") as file:
         found, lines = counted(file.read().split("\n")), []
     for crate, counts in wanted().items():

@@ -1,11 +1,11 @@
 #!/usr/bin/env python3
-"""Whether the types of tools/ and tests/ fit, by `mypy --strict` (pyproject.toml).
+"""Checks the types of tools/ and tests/ with `mypy --strict` (pyproject.toml).
 
     tests/gate/python_types.py [FOLDER..]
 
-For each folder that has modules, or each of those named, a line `passed FOLDER`, or lines `FAILED: ..`. The modules of
-tests/ have short names, of which two folders may have the same: so each folder is looked at by itself, with those whose
-modules it uses.
+For each folder that has modules, or each of those named, it prints a line `passed FOLDER`, or lines `FAILED: ..`. The
+modules of tests/ have short names, and two folders may have modules of the same name. So each folder is checked by
+itself, with the folders whose modules it uses.
 """
 from __future__ import annotations
 
@@ -47,13 +47,13 @@ def files_of(folder: str) -> list[str]:
 
 
 def folders() -> list[str]:
-    """Those that have modules or commands."""
+    """The folders that have modules or commands."""
     found = {str(it.parent.relative_to(ROOT)) for it in (ROOT / "tests").rglob("*") if is_python(it)}
     return ["tools", "embedding", *sorted(found)]
 
 
 def wrong_in(folder: str) -> str:
-    """What mypy says of a folder; nothing where all fits."""
+    """The messages of mypy on a folder; empty if all types fit."""
     used = [str(ROOT / "tests" / it) for it in USES.get(folder, ())]
     environment = {**os.environ, "MYPYPATH": os.pathsep.join(used)}
     command = ["mypy", "--no-error-summary", *files_of(folder)]

@@ -1,2 +1,2 @@
-# Whether the types of tools/ and tests/ fit, by mypy.
+# Checks the types of tools/ and tests/ with mypy.
 python_types() { told "$room/types" tests/gate/python_types.py; }

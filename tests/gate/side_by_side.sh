@@ -1,14 +1,14 @@
-# Runs the parts of ./test beside each other: as many at once as there are processors, each in a subshell and in a room
-# of its own. What a part prints is kept, and printed whole once it has ended. What it hands back is a line of numbers:
-# a part that ends without it ended early, and has failed. `is_tried` is that of listed_parts.sh.
+# Runs the parts of ./test in parallel: as many at once as there are processors, each in a subshell and in a room of its
+# own. The output of a part is kept, and printed as a whole once the part has ended. A part hands back a line of
+# numbers: one without it ended early, and has failed. listed_parts.sh defines `is_tried`.
 
 declare -A at_work=() # by its process, when each part that is at work began, and its room
 last_times=           # the file that keeps how long each part took the last time, if ./test names one
 ending=(TERM KILL)    # the signals that end what is at work
 takes_signals=(env --default-signal=HUP,INT,PIPE,TERM) # before a command, so that it ignores none of them
 
-# bash ends by SIGTERM and SIGHUP at once, and this comes before; but without a trap it ignores an interrupt that comes
-# to it alone while it waits for a command.
+# SIGTERM and SIGHUP end bash at once, after the trap of EXIT. But without a trap bash ignores an interrupt that it
+# alone gets while it waits for a command.
 make_room_of_all() {
     room_of_all=$(mktemp -d) || exit 1
     trap leave_nothing EXIT
@@ -21,10 +21,10 @@ leave_nothing() {
     rm -rf -- "$room_of_all"
 }
 
-# Runs a command that is no part as a group of processes too, so that whatever ends ./test ends all that it has
-# started: by an interrupt first, since rt then gives back what it has set aside, and by another signal doesn't. Its
-# folder for temporary files stays the common one, since rt runs programs there as nobody, who can't get into the room:
-# a variable of its own is what its processes are found by.
+# Runs a command that isn't a part as a group of processes too, so that whatever ends ./test ends everything that it has
+# started. An interrupt comes first, since rt then restores what it has set aside, which it doesn't do on another
+# signal. The folder for temporary files stays the common one, since rt runs programs there as nobody, who can't enter
+# the room: instead, a variable of its own identifies its processes.
 in_a_group() { # COMMAND..
     local process status
     ending=(INT TERM KILL)
@@ -66,7 +66,7 @@ begin_part() { # NAME COMMAND..
     tell_what_is_at_work
 }
 
-# On a terminal: how many parts are done, which are at work, and how long each took the last time.
+# On a terminal: prints how many parts are done, which are at work, and how long each took last time.
 tell_what_is_at_work() {
     local process its_room name ended all=0 parts=()
     [[ -t 2 ]] || return 0
@@ -87,7 +87,7 @@ last_time_of() { # NAME
     awk -v name="$1" '$1 == name { printf " (%d s the last time)", $2 }' "$last_times"
 }
 
-# The next run tells it. No part fails because it can't be kept.
+# Keeps the time for the next run to print. A part doesn't fail because its time can't be kept.
 keep_time_of() { # NAME SECONDS
     if [[ ! $last_times ]]; then return; fi
     {
@@ -97,9 +97,9 @@ keep_time_of() { # NAME SECONDS
     } 2>/dev/null
 }
 
-# What a part does in its subshell. By its folder for temporary files all that it starts can be found again. It ignores
-# an interrupt and a hangup, as it would where ./test was started in the background of a script, or by nohup: so it is
-# the same however ./test was started, and a test that needs one of them says so by `takes_signals`.
+# Runs a part in its subshell. Its folder for temporary files identifies everything that it starts. It ignores an
+# interrupt and a hangup, as if ./test were started in the background of a script, or by nohup. So a part behaves alike
+# however ./test was started, and a test that needs one of these signals uses `takes_signals`.
 do_part() { # ROOM COMMAND..
     room=$1
     export TMPDIR=$room
@@ -109,7 +109,7 @@ do_part() { # ROOM COMMAND..
     echo "$passed $failed $runs_of_all $refused_of_all" >"$room.counts"
 }
 
-# bash forgets which of its jobs have ended, so that `wait -n` can miss one, but not how they ended.
+# bash forgets which of its jobs have ended, so that `wait -n` can miss one. But it remembers how they ended.
 await_a_part() {
     local process status begun its_room
     while sleep 0.1; do
@@ -125,7 +125,7 @@ await_a_part() {
     done
 }
 
-# Until this part isn't at work.
+# Waits until this part has ended.
 await_part() { # NAME
     while [[ " ${at_work[*]##*/} " == *" $1."* ]]; do await_a_part; done
 }
@@ -134,7 +134,7 @@ await_all_parts() {
     while ((${#at_work[@]} > 0)); do await_a_part; done
 }
 
-# Adds what a part hands back that has ended. Where that is nothing, what it left at work is ended too.
+# Adds the numbers of a part that has ended. If there are none, ends the processes that it left.
 take_back() { # ROOM PROCESS STATUS SECONDS
     local name=${1##*/} right=0 wrong=1 runs=0 refused=0
     name=${name%.*}
@@ -151,7 +151,7 @@ take_back() { # ROOM PROCESS STATUS SECONDS
     echo "part $name: $((right + wrong)) cases, $wrong failed, $4 seconds"
 }
 
-# The processes that were started by the part of this room, or by all parts, however far they have gone.
+# Prints the processes that the part of this room has started, or all parts, even indirectly.
 started_in() { # ROOM
     grep -lsF -e "TMPDIR=$1" -e "STARTED_IN=$1" /proc/[0-9]*/environ | cut -d / -f 3
 }
@@ -162,7 +162,7 @@ send_to_all() { # SIGNAL ROOM GROUP..
     for process in $(started_in "$2"); do kill -s "$1" -- "$process"; done
 } 2>/dev/null
 
-# Ends them. They are asked to first, since some have to end what they have started, or to take a folder away.
+# Ends these processes. They are asked to end first, since some must end what they have started, or remove a folder.
 end_processes() { # ROOM GROUP..
     local signal turn turns
     for signal in "${ending[@]}"; do

@@ -7,14 +7,14 @@
 
 The first form tries all, the N that were last refused the longest ago, or those named, after a check of their crates,
 and writes tests/wrong_bodies/seen. `of_a_run` tries those of a run of the gate after `rt ci`, which has proved the
-crates: the blocks with one star or a `!`, others by turns (wrong_body_seen.py), and one right body, so that a trial that
-refuses everything fails. `stale_libraries` comes before `rt ci`, which gives back the libraries that it found: it
-removes those of older sources.
+crates: the blocks with one star or a `!`, others by turns (wrong_body_seen.py), and one right body, so that a trial
+that refuses everything fails. `stale_libraries` is called before `rt ci`, which restores the libraries that it found:
+it removes those that are older than their sources.
 
 A trial checks the edited function in a copy of the crate, over the libraries of the crates below. It tries up to 16
 edits of different functions at once: a function is proved from the contracts of the functions that it calls, so one
-wrong body changes nothing for another. An edit that isn't refused there is tried again alone. With --jobs N, so many
-crates are tried at once, each by a check with one job, in 1 to 3 GB.
+wrong body changes nothing for another. An edit that isn't refused there is tried again alone. With --jobs N, N crates
+are tried at once, each by a check with one job, which takes 1 to 3 GB.
 
 It prints a line `FAILED: ..` for each edit that isn't refused in its function; that is refused only because of its
 shape, since a proof names something that the body no longer has; or on which the check gives no answer, for example
@@ -54,7 +54,7 @@ RIGHT = "right_body"
 
 
 class Tried(NamedTuple):
-    """What became of an edit, and what more is to be said of that."""
+    """The outcome of an edit, and more on that outcome."""
 
     edit: Edit
     outcome: str
@@ -95,13 +95,13 @@ def remove_stale_libraries() -> None:
 
 @functools.lru_cache(maxsize=None)
 def kit() -> str:
-    """The toolchain's folder, in which its first page stands."""
+    """The toolchain's folder, which contains its first page."""
     ran = subprocess.run(["rt", "doc"], stdin=subprocess.DEVNULL, capture_output=True, text=True)
     return os.path.dirname(ran.stdout.strip())
 
 
 def words_of_check(crate: str) -> list[str]:
-    """The words by which `rattle` checks the crate. `rt check` would prove the libraries that `rt ci` leaves again."""
+    """The command by which `rattle` checks the crate. `rt check` would again prove the libraries of `rt ci`."""
     uses = crates()
     root = "main" if os.path.exists(f"{ROOT}/crates/{crate}/src/main.rt") else "lib"
     libraries = {it: library(it) for it in uses[crate] if it in uses}
@@ -133,7 +133,7 @@ def said_by(words: Sequence[str], folder: str) -> str:
 
 
 def try_together(edits: Sequence[Edit], room: str) -> list[Tried]:
-    """Checks the functions of these edits of a crate in its copy, with all of the edits, and takes them back."""
+    """Checks the functions of these edits in a copy of their crate, with all of the edits, and takes the edits back."""
     crate, before = edits[0].crate, {it.file: read(f"{room}/{it.file}") for it in edits}
     try:
         for it in edits:
@@ -147,7 +147,7 @@ def try_together(edits: Sequence[Edit], room: str) -> list[Tried]:
 
 
 def outcome(edit: Edit, said: str) -> Tried:
-    """What a check says of the function of an edit."""
+    """The outcome of an edit, from the check's output on its function."""
     if edit.stars == UNCOMPILED and names_what_is_gone(edit, said):
         return Tried(edit, NOT_COMPILED)
     answers = dict(re.findall(rf"^fn {edit.crate}::(\S+): (.*)$", said, re.M))
@@ -170,7 +170,7 @@ def names_what_is_gone(edit: Edit, said: str) -> bool:
 
 def batches(edits: Iterable[Edit]) -> list[list[Edit]]:
     """Groups the edits of a crate, so that no two of a group are in one function or in one cycle of calls. An edit
-    outside the function that it names is alone, and one that must not compile."""
+    outside the function that it names is alone in its group, and so is one that must not compile."""
     made: list[dict[str, Edit]] = []
     for edit in edits:
         key = "" if edit.stars == UNCOMPILED else edit.key()
@@ -182,10 +182,10 @@ def batches(edits: Iterable[Edit]) -> list[list[Edit]]:
 
 
 def try_batch(edits: Sequence[Edit], room: str) -> list[Tried]:
-    """Tries a group of edits, and again alone those that weren't refused."""
+    """Tries a group of edits, and then each of them alone that wasn't refused."""
     try:
         found = try_together(edits, room)
-    except Unfit:  # one of them puts in what another one looks for
+    except Unfit:  # one of them inserts the text that another one replaces
         found = [Tried(it, NO_ANSWER) for it in edits]
     if len(edits) > 1:
         found = [it if it.outcome in (REFUSED, SHAPED) else try_together([it.edit], room)[0] for it in found]
@@ -201,7 +201,7 @@ def tell(found: Sequence[Tried]) -> None:
             print(*(it.line() for it in found), sep="\n", flush=True)
 
 
-# What is tried
+# The edits to try
 
 
 def named(words: Sequence[str]) -> list[Edit]:
@@ -215,7 +215,7 @@ def named(words: Sequence[str]) -> list[Edit]:
 
 
 def why_not(crate: str, is_proved: bool) -> str:
-    """Why the edits of a crate can't be tried, if they can't: it must be proved, and the libraries below be new."""
+    """Why the edits of a crate can't be tried, if they can't: it isn't proved, or a library below it is stale."""
     if is_proved:
         uses = crates()
         stale = [it for it in below(crate, uses) if is_stale(it, uses)]
@@ -247,7 +247,7 @@ def try_crate(crate: str, edits: Sequence[Edit], is_proved: bool) -> list[Tried]
 
 
 def of_a_run() -> list[Edit]:
-    """The edits of a run of the gate. The last is no wrong body: it changes nothing."""
+    """The edits of a run of the gate. The last one is a right body: it changes nothing."""
     edits = all_edits()
     starred = [it for it in edits if it.stars == OF_EACH_RUN]
     removed = [it for it in edits if it.stars == UNCOMPILED]
@@ -256,8 +256,8 @@ def of_a_run() -> list[Edit]:
 
 
 def try_all(jobs: int, edits: Sequence[Edit], is_proved: bool) -> list[Tried]:
-    """Tries the edits, in so many crates at once: first those that take longest, by the number of checks and what each has
-    to read, the sources of the crate and of those below."""
+    """Tries the edits, with this many crates at once. The longest come first, estimated by the number of checks and the
+    size of what each reads: the sources of the crate and of those below."""
     uses = crates()
     of_each = {it: [edit for edit in edits if edit.crate == it] for it in {edit.crate for edit in edits}}
     sizes = {it: sum(map(len, sources_of(it))) for it in uses}
@@ -283,7 +283,7 @@ def main() -> int:
     if asked.names == ["stale_libraries"]:
         remove_stale_libraries()
         return 0
-    for it in (signal.SIGTERM, signal.SIGHUP):  # whatever ends it, the copies are removed
+    for it in (signal.SIGTERM, signal.SIGHUP):  # so that the copies are removed, whatever ends the process
         if signal.getsignal(it) is not signal.SIG_IGN:
             signal.signal(it, signal.default_int_handler)
     try:

@@ -2,9 +2,9 @@
 
 tests/wrong_bodies/CRATE.edits has a block for each. Its first line has the name of the edit and the function, as a
 check prints it; its second line is the file. A line `- OLD` is a text that the file has exactly once, and the line
-`+ NEW` after it replaces that. With a star before its name each run of the gate tries the edit, and with two `rt ci`
-does, from crates/CRATE/must-fail/. An edit with a `!` there names what has been removed: each run of the gate tries it
-too, and it must not compile.
+`+ NEW` after it replaces that. Each run of the gate tries an edit with a star before its name. `rt ci` tries one with
+two stars, from crates/CRATE/must-fail/. An edit with a `!` there names what has been removed: each run of the gate
+tries it too, and it must not compile.
 """
 from __future__ import annotations
 
@@ -19,11 +19,11 @@ OF_RT, OF_EACH_RUN, UNCOMPILED = "**", "*", "!"
 
 HEAD = re.compile(r"(?:(\*\*?|!) )?([\w.-]+): (\w+(?:::\w+)*)")
 FUNCTION = re.compile(r"^ *(?:pub(?:\(\w+\))? )?(?:const )?(?:unsafe )?(?:extern \"C\" )?fn (\w+)", re.M)
-# A comment, a raw string, a string, a character: what names nothing.
+# A comment, a raw string, a string, a character: these contain no names.
 NO_NAMES = re.compile(
     r'//[^\n]*|/\*.*?\*/|b?r(#*)".*?"\1|b?"(?:\\.|[^"\\])*"' r"|b?'(?:\\(?:x..|u\{\w+\}|.)|[^\\'\n])'", re.S
 )
-# Words of the language and of the toolchain's library that edits have, and no source below them.
+# Words of the language and of the toolchain's library that edits have, but that may be in no source of ours.
 OF_THE_KIT = frozenset(
     "Err MAX None Ok Some _ allocator and as bool break continue else false fn for if in is_err is_none is_ok iter let"
     " loop match max mem min move mut or position ref remove return rev reverse saturating_add saturating_sub self swap trim true"
@@ -32,11 +32,11 @@ OF_THE_KIT = frozenset(
 
 
 class Unfit(Exception):
-    """Why a block is none, or can't be applied."""
+    """Why a block isn't valid, or can't be applied."""
 
 
 class Edit(NamedTuple):
-    """A wrong body: what says who tries it, its names, and the texts that it replaces."""
+    """A wrong body: the stars that say who tries it, its names, and the texts that it replaces."""
 
     crate: str
     stars: str
@@ -49,7 +49,7 @@ class Edit(NamedTuple):
         return f"{self.crate}/{self.name}"
 
     def head(self) -> str:
-        """The name of the function, and of a closure, `fn::FUNCTION::CLOSURE`, that of the function round it."""
+        """The name of the function. For a closure, `fn::FUNCTION::CLOSURE`, that is the function around it."""
         words = self.function.split("::")
         return words[words.index("fn") + 1] if "fn" in words else words[-1]
 
@@ -62,7 +62,7 @@ class Edit(NamedTuple):
         return text
 
     def key(self) -> str:
-        """The function that it names, or its cycle of calls; nothing if it edits something else."""
+        """The function that it names, or its cycle of calls; empty if it edits something else."""
         path = f"{ROOT}/crates/{self.crate}/{self.file}"
         text = read(path) if os.path.exists(path) else ""
         heads = [*FUNCTION.finditer(text, 0, max(0, text.find(self.pairs[0][0])))]
@@ -73,12 +73,12 @@ class Edit(NamedTuple):
         return f"+{cycle[1]}" if cycle else self.function
 
     def added(self) -> set[str]:
-        """The words that its new texts have, and not its old ones."""
+        """The words that only its new texts have, and not its old ones."""
         olds, news = (" ".join(texts) for texts in zip(*self.pairs))
         return words_of(news) - words_of(olds)
 
     def unknown(self, known: set[str]) -> list[str]:
-        """The words that its new texts have, and neither its old ones nor the known sources: it won't compile."""
+        """The words of its new texts that neither its old texts nor the known sources have: it won't compile."""
         news = " ".join(new for _, new in self.pairs)
         declared = words_of(" ".join(re.findall(r"\blet ([^=]*)=", news)))
         return sorted(self.added() - known - declared - OF_THE_KIT)
@@ -94,7 +94,7 @@ def read(path: str) -> str:
 
 
 def write(path: str, text: str) -> None:
-    """Writes a file beside it and puts that in its place, so that nobody reads half of one."""
+    """Writes the text into a file beside this one, which it then replaces, so that nobody reads half a file."""
     os.makedirs(os.path.dirname(path), exist_ok=True)
     with open(f"{path}.new", "w", encoding="utf-8") as file:
         file.write(text)
@@ -116,7 +116,7 @@ def edit_of(crate: str, block: str) -> Edit:
 
 
 def crates() -> dict[str, list[str]]:
-    """The crates of crates.txt, each with those that it names."""
+    """The crates of crates.txt, each with the crates that it names."""
     lines = [line.partition("#")[0].partition(":") for line in read(f"{ROOT}/crates.txt").split("\n")]
     return {head.split()[0]: named.split() for head, colon, named in lines if colon}
 

@@ -1,15 +1,15 @@
 #!/usr/bin/env python3
-"""Looks at the blocks of wrong bodies without the prover.
+"""Checks the blocks of wrong bodies without the prover.
 
     ./test list                              writes the blocks of `rt ci` into crates/CRATE/must-fail/, and adds what a
                                              gate has seen refused to tests/wrong_bodies/seen
-    tests/gate/wrong_body_list.py compare    prints a line `passed CRATE/NAME` for each block that can be applied, and
-                                             that names a function and no word that isn't there,
-                                             or with a `!` one such word
+    tests/gate/wrong_body_list.py compare    prints a line `passed CRATE/NAME` for each block that can be applied, that
+                                             names a function, and whose words all exist, except that a block with a
+                                             `!` has one that doesn't
 
-`compare` prints a line `FAILED: ..` for each other block; if each run of the gate tries none of a crate, not all of
-NAMED_OF_EACH_RUN, or too few of all; and if must-fail/ or tests/wrong_bodies/seen isn't as it is written. Its last line
-says how many blocks there are.
+`compare` prints a line `FAILED: ..` for each other block, and also in these cases: the blocks that each run of the gate
+tries include none of some crate, not all of NAMED_OF_EACH_RUN, or too few in all; or must-fail/ or
+tests/wrong_bodies/seen isn't as this script writes it. Its last line says how many blocks there are.
 """
 from __future__ import annotations
 
@@ -29,7 +29,7 @@ from wrong_body_edits import (
 )
 from wrong_body_seen import REFUSED, SEEN, lines_of, of_this_gate, take_over
 
-LEAST_OF_EACH_RUN = 80  # so that none is lost from those that each run tries unseen
+LEAST_OF_EACH_RUN = 80  # so that a run can't lose them unnoticed
 MOST_LINES_OF_RT = 500  # for two stars `rt ci` checks the whole crate once more, and for one the edited function
 # Each of these breaks a rule of ports, of values or of connections, or the promise of a report: each run tries them.
 NAMED_OF_EACH_RUN = frozenset(
@@ -46,7 +46,7 @@ LINE_OF_SEEN = re.compile(r"\w+/[\w.-]+ \d{4}-\d\d-\d\d (?:[0-9a-f]{8}|none)\+? 
 
 
 def faults_of(edit: Edit, functions: set[str], known: set[str]) -> Iterator[str]:
-    """What is wrong with an edit of a crate that has these functions, and sees these words."""
+    """The faults of an edit, if its crate has these functions and sees these words."""
     if edit.head() not in functions:
         yield f"{edit.title()}: {edit.crate} has no function {edit.function}"
     try:
@@ -81,7 +81,7 @@ def list_them(edits: list[Edit]) -> None:
 
 
 def faults_of_all(edits: list[Edit]) -> Iterator[str]:
-    """What is wrong with the edits together."""
+    """The faults of the edits as a whole."""
     titles = Counter(it.title() for it in edits)
     others = {*os.listdir(SHELF)} - {"seen", *(f"{it}.edits" for it in crates())}
     yield from (f"{it} is the name of {number} blocks" for it, number in titles.items() if number > 1)
@@ -107,7 +107,7 @@ def faults_of_all(edits: list[Edit]) -> Iterator[str]:
 
 
 def count(edits: list[Edit]) -> str:
-    """The line on how many there are, and when they were seen."""
+    """The line on how many blocks there are, and when they were seen refused."""
     seen = lines_of(SEEN) | lines_of(REFUSED)
     days = sorted(seen[it.title()][1] for it in edits if it.title() in seen)
     tried = f"each run tries {sum(bool(it.stars) for it in edits)}, and {len(of_this_gate(edits))} by turns"

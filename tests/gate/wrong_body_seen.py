@@ -1,5 +1,5 @@
-"""tests/wrong_bodies/seen: when the prover, or of a block with `!` the compiler, last refused each. A line has
-CRATE/NAME, the day, the commit, with a + if the sources had changed since, and the function.
+"""Keeps tests/wrong_bodies/seen: when the prover last refused each block, or the compiler, for a block with `!`. A line
+has CRATE/NAME, the day, the commit, with a + if the sources had changed since, and the function.
 
 A trial notes its lines in out/refused, because a gate doesn't change the commit that it tries. `./test list` adds them
 to `seen`, and so does `./test wrong_bodies` at its end.
@@ -14,7 +14,7 @@ from collections.abc import Iterable
 from wrong_body_edits import OF_EACH_RUN, ROOT, SHELF, UNCOMPILED, Edit, crates, read, write
 
 SEEN, REFUSED = f"{SHELF}/seen", f"{ROOT}/out/refused"
-GATES = 25  # so many gates try all that they try by turns
+GATES = 25  # after this many gates, each of the others has had its turn
 
 
 def output_of(*words: str) -> str:
@@ -31,19 +31,19 @@ def commit() -> str:
 
 
 def lines_of(path: str) -> dict[str, list[str]]:
-    """The words of each line, by the first."""
+    """The words of each line, by its first word."""
     return {line.split()[0]: line.split() for line in read(path).splitlines()} if os.path.exists(path) else {}
 
 
 def note(edits: Iterable[Edit]) -> None:
-    """Keeps that these were refused just now."""
+    """Notes that these were refused just now."""
     day, at = time.strftime("%Y-%m-%d", time.gmtime()), commit()
     lines = lines_of(REFUSED) | {it.title(): [it.title(), day, at, it.function] for it in edits}
     write(REFUSED, "".join(f"{' '.join(lines[it])}\n" for it in sorted(lines)))
 
 
 def take_over(edits: Iterable[Edit]) -> None:
-    """Puts the lines of trials into `seen`, and takes those of edits that are gone out of it."""
+    """Adds the lines of trials to `seen`, and removes the lines of edits that no longer exist."""
     lines, there = lines_of(SEEN) | lines_of(REFUSED), {it.title() for it in edits}
     write(SEEN, "".join(f"{' '.join(lines[it])}\n" for it in sorted(lines) if it in there))
     if os.path.exists(REFUSED):
@@ -51,13 +51,13 @@ def take_over(edits: Iterable[Edit]) -> None:
 
 
 def oldest(edits: Iterable[Edit], count: int) -> list[Edit]:
-    """Those that were refused the longest ago, or never."""
+    """The edits that were refused the longest ago, or never."""
     seen = lines_of(SEEN) | lines_of(REFUSED)
     return sorted(edits, key=lambda it: seen.get(it.title(), ["", ""])[1])[:count]
 
 
 def spread(edits: Iterable[Edit]) -> list[Edit]:
-    """The edits by their crates, and those of one function far from each other, since they can't be tried at once."""
+    """The edits by crate, with those of one function far from each other, since they can't be tried at once."""
     groups: dict[tuple[str, str], list[Edit]] = {}
     edits = [*edits]
     for it in edits:
@@ -67,8 +67,8 @@ def spread(edits: Iterable[Edit]) -> list[Edit]:
 
 
 def of_this_gate(edits: Iterable[Edit]) -> list[Edit]:
-    """The edits whose turn it is: those that were refused the longest ago. Of one day the commit's hash says where they
-    begin, so that a gate tries edits of few crates."""
+    """The edits whose turn it is: those that were refused the longest ago. Among those of one day, the commit's hash
+    says where they begin, so that a gate tries edits of few crates."""
     by_turns = spread(it for it in edits if it.stars not in (OF_EACH_RUN, UNCOMPILED))
     start = int(output_of("git", "rev-parse", "HEAD") or "0", 16) % max(1, len(by_turns))
     return oldest((*by_turns[start:], *by_turns[:start]), -(-len(by_turns) // GATES))

@@ -1,4 +1,4 @@
-"""A client of tools/lsp, for tests and measurements: it sends frames, and keeps what comes until it is asked for."""
+"""A client of tools/lsp, for tests and measurements: it sends frames, and keeps messages until they are asked for."""
 from __future__ import annotations
 
 import json
@@ -27,7 +27,7 @@ def frame(message: Any) -> bytes:
 
 
 class Client:
-    """A server, and the script that is open in it, by the number of its version."""
+    """A server, and the version of the script that is open in it."""
 
     def __init__(self, program: str, *words: str, is_initialized: bool = True, can: Any = None):
         command = [sys.executable, "-B", str(ROOT / "tools" / "lsp"), "--tpr", program, "--delay", "20", *words]
@@ -59,13 +59,13 @@ class Client:
         self.write(frame({"jsonrpc": "2.0", "method": method, "params": params}))
 
     def begin(self, method: str, params: Any = None) -> int:
-        """Sends a request; its number."""
+        """Sends a request, and returns its number."""
         self.requests += 1
         self.write(frame({"jsonrpc": "2.0", "id": self.requests, "method": method, "params": params}))
         return self.requests
 
     def next(self, wanted: Callable[[Any], Any]) -> Any:
-        """The next message that is wanted. The others are kept."""
+        """Returns the next message that is wanted, and keeps the others."""
         for number, message in enumerate(self.kept):
             if wanted(message):
                 return self.kept.pop(number)
@@ -79,7 +79,7 @@ class Client:
         return self.next(lambda it: it.get("id", "") == number and "method" not in it)
 
     def ask(self, method: str, params: Any = None) -> Any:
-        """The result of a request, or its error."""
+        """Sends a request, and returns its result or its error."""
         answer = self.answer(self.begin(method, params))
         return answer["result"] if "result" in answer else answer["error"]
 
@@ -94,25 +94,25 @@ class Client:
         self.tell("textDocument/didOpen", {"textDocument": item})
 
     def change(self, text: str, span: Any = None) -> None:
-        """Another text, or another piece of it."""
+        """Replaces the text, or a piece of it."""
         self.version += 1
         change = {"text": text} if span is None else {"text": text, "range": span}
         params = {"textDocument": {"uri": URI, "version": self.version}, "contentChanges": [change]}
         self.tell("textDocument/didChange", params)
 
     def diagnostics(self, text: Optional[str] = None) -> list[Any]:
-        """Those of the script as it is, or of another text that it has now."""
+        """The diagnostics of the script, or of another text that replaces it."""
         if text is not None:
             self.change(text)
         found = self.next(lambda it: it.get("method") == PUBLISHED and it["params"].get("version") == self.version)
         return list(found["params"]["diagnostics"])
 
     def of(self, request: str, **more: Any) -> Any:
-        """What is answered of the script."""
+        """The result of a request on the script."""
         return self.ask(f"textDocument/{request}", {"textDocument": {"uri": URI}, **more})
 
     def end(self, is_shut_down: bool = True) -> int:
-        """Ends the server; its status."""
+        """Ends the server, and returns its status."""
         if is_shut_down:
             self.ask("shutdown")
             self.tell("exit", None)

@@ -1,5 +1,5 @@
 #!/usr/bin/env python3
-"""What tools/lsp says over its protocol, frame by frame, and in a headless neovim where there is one.
+"""Tests tools/lsp over its protocol, frame by frame, and in a headless neovim if there is one.
 
     tests/lsp/language_server.py PROGRAM ORDERED
 """
@@ -125,7 +125,7 @@ def full_language() -> None:
 
 
 def rewritten_in_a_folder(imported: str) -> list[str]:
-    """What is said of tools/rewrite for an import and a `log`, in a text that isn't saved yet."""
+    """The messages about tools/rewrite for an import and a `log`, in a text that isn't saved yet."""
     with room() as folder, Client(PROGRAM) as client:
         for name, text in (("near.ttcn", NEAR), ("far.ttcn3", imported), ("main.ttcn", "module Main {}\n")):
             file_of(folder / name, text)
@@ -164,7 +164,7 @@ def several_files_and_edits() -> None:
 
 
 def edited(client: Client, text: str, chance: random.Random) -> str:
-    """The text after random edits, each of which the server is told too."""
+    """Makes random edits, which it also sends to the server. Returns the new text."""
     for _ in range(198):
         start, end = sorted(chance.randrange(len(text) + 1) for _ in range(2))
         end = min(end, start + 9)
@@ -176,13 +176,13 @@ def edited(client: Client, text: str, chance: random.Random) -> str:
 
 PORT = "port `bell` of `Person`, of type `Bell`\n\n- inout charstring\n"
 JOINED = ("- `mtc.bell` is connected to `chef.bell`", "- `chef.bell` is connected to `mtc.bell`")
-# What is hovered over, and the text of the hover.
+# The places to hover over, and the text of each hover.
 HOVERS = (
     ("a port", "bell.send", 0, PORT + "\n".join(JOINED)),
     ("a port of one component", "chef:bell", 5, PORT + JOINED[1]),
     ("a type", "Order:{?", 0, "```ttcn\ntype record Order { integer number, charstring dish }\n```"),
 )
-# A name, and the beginning of what defines it.
+# A name, and the beginning of its definition.
 DEFINED = (
     ("cook());", 0, "cook() runs"),
     ("chef.start", 0, "chef := "),
@@ -285,7 +285,7 @@ UNDECIDED = r"cat >/dev/null; printf 'undecided\nseen pass\nstates 4194304\npass
 
 
 def programs_of_each_kind() -> None:
-    """What an editor shows of verdicts that aren't decided, of a run that takes too long, and without an answer."""
+    """The server with undecided verdicts, with a run that takes too long, and without an answer."""
     with room() as folder:
         started = folder / "started"
         kinds = f"case $1 in verdicts) {UNDECIDED} ;; run) echo $$ >{started}; exec sleep 600 ;; esac"
@@ -463,7 +463,7 @@ def colours() -> None:
     vim_colours()
 
 
-# What stands in a line, and its group of colours.
+# Pieces of a line, and the group of colours of each.
 COLOURED = {
     "testcase": "Keyword", " t()": "", "in": "Comment", "send": "Operation", "charstring": "Type", "b": "String",
     "}": "",

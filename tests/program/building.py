@@ -1,5 +1,6 @@
 #!/usr/bin/env python3
-"""What ./build builds, and that ./tpr then runs it and tries nothing: in a tree of five crates.
+"""Tests that ./build builds what it should in a tree of five crates, and that ./tpr then runs the built program instead
+of compiling the sources.
 
     tests/program/building.py
 
@@ -24,23 +25,23 @@ from tree_of_crates import (
 BUILD = f"{NAME}/build"
 USAGE = "usage: ./build [tpr_ordered] [--jobs N] | ./build is_built | ./build lanes | ./build clear\n"
 AGAIN = "building the program again, because a source is newer than its last build"
-# Two crates of a minute each, side by side, and then the program, for which 360 seconds are foreseen.
+# The estimate: two crates of a minute each, side by side, and then the program, which takes 360 seconds.
 NONE_PROVED = "0 of 3 proved, about 7 minutes left"
-# All that is foreseen took next to nothing here, and for more than that no machine is taken.
+# The crates take almost no time here, but the estimate assumes no machine faster than FASTEST in ./build.
 ONE, TWO, THREE = "1 of 3 proved, about 2 minutes left", "2 of 3 proved, about 2 minutes left", "3 of 3 proved"
 LAST_LEFT, LOW_LEFT = "2 of 3 proved, about 6 minutes left", "1 of 3 proved, about 7 minutes left"
 LAST, LOW, EACH = (LAST_LEFT, THREE), (LOW_LEFT, TWO, THREE), (NONE_PROVED, ONE, TWO, THREE)
-LEFT = ["build.log", "built", "lock", "times_of_crates"]  # by a build
+LEFT = ["build.log", "built", "lock", "times_of_crates"]  # by a build in out/
 ASKED_LAST = "rt was asked in tpr: run --jobs 1 -- queue"
 
 
 def of_tpr(*said: str) -> str:
-    """What the build says, line by line."""
+    """Lines that the build prints on standard error."""
     return lines(*(f"tpr: {it}" for it in said))
 
 
 class Building:
-    """The tree, and what is said of its builds."""
+    """The tree, and what its builds print."""
 
     def __init__(self, tree: Tree):
         self.tree, self.cases, self.crates = tree, tree.cases, tree.crates
@@ -51,11 +52,11 @@ class Building:
         return self.tree.call([BUILD, *words], commands)
 
     def answers(self, name: str, words: Sequence[str], status: int, said: str = "") -> None:
-        """./build ends so with these words, and prints nothing."""
+        """./build with these words ends with this status and this standard error, and prints nothing."""
         self.tree.must_end(name, self.build(*words), status, "", said)
 
     def builds(self, name: str, *said: str) -> None:
-        """The program is built, which is said so, and then runs. Where nothing is newer, nothing is said."""
+        """./build reports that it builds the program, which then runs. If nothing is newer, it reports nothing."""
         self.answers(name, ["--jobs", "2"], 0, of_tpr(*said))
         self.tree.runs(name)
 
@@ -63,7 +64,7 @@ class Building:
         self.answers(name, ["--jobs", "2"], 1, lines(*said))
 
     def must_be_in_the_log(self, name: str, *wanted: str) -> None:
-        """These lines alone, with each time of a crate as `N seconds`, in some order."""
+        """The log has only these lines, in any order, with the time of each crate as `N seconds`."""
         found = re.sub(r" took [0-9]+ seconds ", " took N seconds ", (self.tree.out / "build.log").read_text())
         self.cases.must_be(name, sorted(found.splitlines()), sorted(wanted))
 
@@ -76,7 +77,7 @@ class Building:
 
 
 def first_build(building: Building) -> None:
-    """Without the toolchain nothing is built; with it two crates side by side, and then the program."""
+    """Without the toolchain nothing is built; with it, two crates side by side, and then the program."""
     name, no_rt = "a first build without the toolchain", "the toolchain's command `rt` is not on PATH"
     without_rt = building.build("--jobs", "2", commands=WITHOUT_RT)
     building.tree.must_end(name, without_rt, 1, "", of_tpr(f"the program has to be built, and {no_rt}"))
@@ -96,7 +97,7 @@ def first_build(building: Building) -> None:
 
 
 def words_of_a_build(building: Building) -> None:
-    """Whether all is built, how many checks there may be at one time, and words that it doesn't know."""
+    """`is_built`, `lanes`, which prints how many checks may run at once, and words that ./build doesn't know."""
     building.answers("all is built", ["is_built"], 0)
     building.answers("another word for the build", ["it"], 4, USAGE)
     building.answers("on no processor", ["--jobs", "0"], 4, USAGE)
@@ -107,7 +108,7 @@ def words_of_a_build(building: Building) -> None:
 
 
 def progress_on_a_terminal(building: Building) -> None:
-    """Which crates are at work, and how long each took the last time, if a build has kept that."""
+    """The build prints which crates are at work, and how long each took last time, if a build has kept that."""
     for name, last_time in (("of the last time", " (N s the last time)"), ("of the first time", "")):
         if not last_time:
             (building.tree.out / "times_of_crates").unlink()
@@ -136,7 +137,7 @@ def other_program(building: Building) -> None:
 
 
 def what_is_newer(building: Building) -> None:
-    """What is newer is built again, with what stands on it, and nothing else; a proof makes no other program."""
+    """Newer sources are built again, with the crates that depend on them, and no others. Proofs change no program."""
     log = building.log
     building.builds("nothing is newer")
     (building.tree.folder / "link").symlink_to(building.tree.path / "tpr")
@@ -161,7 +162,7 @@ def what_is_newer(building: Building) -> None:
 
 
 def failed_builds(building: Building) -> None:
-    """A build that failed isn't taken for one, and is begun again."""
+    """A failed build doesn't count as a build, and is begun again."""
     log, listed = building.log, building.tree.path / "crates.txt"
     building.touch("refused in low", "low/src/lib.rt")
     said = (*of_tpr(AGAIN, log, LOW_LEFT).splitlines(), "rt was asked in low: lib --jobs 2", building.failed)
@@ -198,7 +199,7 @@ runpy.run_path(sys.argv[0], run_name="__main__")
 
 
 def interrupted_build(building: Building) -> None:
-    """An interrupt while a crate is at work: what was kept of it is given back."""
+    """An interrupt while a crate is at work: the files of the crate that were set aside are restored."""
     hanging, log = building.crates / "hanging", building.log
     building.touch("hangs in low", "low/src/lib.rt")
     with building.tree.started(BUILD, "--jobs", "2") as process:
@@ -218,8 +219,8 @@ def interrupted_build(building: Building) -> None:
 
 
 def killed_build(building: Building) -> None:
-    """A build that is killed ends no `rt` and gives nothing back: the kernel tells `rt` to end, and `clear` or the next
-    build puts back what was kept."""
+    """A killed build can't end `rt` or restore anything: the kernel tells `rt` to end, and `clear` or the next build
+    restores what was set aside."""
     hanging, out, kept = building.crates / "hanging", building.tree.out, building.crates / "low/out"
     building.touch("hangs in low", "low/src/lib.rt")
     for name in ("clear", "another build"):
@@ -252,7 +253,7 @@ JUDGED = {
 
 
 def judged_reports(building: Building) -> None:
-    """`./tpr judge` recognises a report in place of a trace. The program gives the same answer to all texts here."""
+    """`./tpr judge` recognises a report that is given instead of a trace. The program here answers all texts alike."""
     tree, answer = building.tree, "unlawful Lost line 2\n"
     judge, said = [f"{NAME}/tpr", "judge"], "cat: none: No such file or directory\n"
     program = f"#!/bin/sh\ncat $2 >/dev/null\nprintf '{answer}'\nexit 2\n"
@@ -265,7 +266,7 @@ def judged_reports(building: Building) -> None:
     tree.must_end("judge is given a missing file", tree.call([*judge, "none"]), 2, answer, said)
 
 
-# Each group, with how many cases it has at least. Each begins with the tree that the one before it leaves.
+# Each group, with its minimum number of cases. Each begins with the tree that the previous one leaves.
 GROUPS = (
     (first_build, 6),
     (words_of_a_build, 5),

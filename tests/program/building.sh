@@ -1,5 +1,5 @@
-# What ./build builds, and that ./tpr then runs it and tries nothing (building.py); what ./tpr answers if the program
-# isn't built, or is older than a source (trying.py); and what tools do then that ask it (by_tools.py).
+# Tests that ./build builds what it should, and that ./tpr then runs the built program (building.py); what ./tpr does if
+# the program isn't built, or is older than a source (trying.py); and what the tools do then that call it (by_tools.py).
 building() {
     at_least 73 told "$room/building" tests/program/building.py
     at_least 100 told "$room/trying" tests/program/trying.py

@@ -1,6 +1,6 @@
 #!/usr/bin/env python3
-"""What tools do that ask ./tpr or ./build in a tree where nothing is built: a suite builds nothing unasked, and a tool
-that is interrupted leaves nothing running.
+"""Tests the tools that call ./tpr or ./build in a tree where nothing is built: a suite builds nothing unless it is
+asked to, and an interrupted tool leaves no process running.
 
     tests/program/by_tools.py
 
@@ -29,7 +29,7 @@ SUITE = (f"{NAME}/tools/suite", "text.ttcn")
 
 
 class Tools(Trying):
-    """The tree with the tools, of which nothing is built, and a script."""
+    """The tree with the tools and a script; nothing in it is built."""
 
     def __init__(self, tree: Tree):
         super().__init__(tree)
@@ -47,7 +47,7 @@ class Tools(Trying):
 
     @contextmanager
     def on_a_terminal(self, answer: str) -> Iterator[tuple[subprocess.Popen[bytes], int]]:
-        """The suite with a terminal, at which somebody gives this answer. What it says can be read there."""
+        """The suite on a terminal, where somebody gives this answer. Its messages can be read there."""
         ours, theirs = pty.openpty()
         os.write(ours, answer.encode())
         with subprocess.Popen(
@@ -70,7 +70,7 @@ class Tools(Trying):
 
 
 def suites_build_nothing_unasked(tools: Tools) -> None:
-    """Without a terminal a suite refuses; on one it asks."""
+    """Without a terminal a suite refuses to run; on a terminal it asks whether to build."""
     tree, crates = tools.tree, tools.tree.crates
     without = f"TPR={tree.path}/try runs the sources without proofs"
     refused = f"suite: {tools.not_built}: {tools.builds}; {without}\n"
@@ -101,7 +101,7 @@ def suites_build_nothing_unasked(tools: Tools) -> None:
 
 
 def interrupted_builds(tools: Tools) -> None:
-    """The suite alone is told to end while it builds: the build ends, and puts back what it has set aside."""
+    """Only the suite gets a signal while it builds: the build ends, and restores what it has set aside."""
     tree, hanging = tools.tree, tools.tree.crates / "hanging"
     for number in (signal.SIGINT, signal.SIGTERM):
         (tree.crates / "hangs in low").touch()
@@ -119,7 +119,7 @@ def interrupted_builds(tools: Tools) -> None:
 
 
 def interrupted_tools(tools: Tools) -> None:
-    """A tool that asks ./tpr, which compiles, is told to end alone: nothing that it has started goes on."""
+    """Only the tool gets a signal while it calls ./tpr, which compiles: no process that it has started goes on."""
     for words in (("explain", "text.ttcn"), ("why", "text.ttcn"), ("explore", "text.ttcn")):
         for number in (signal.SIGINT, signal.SIGTERM):
             is_interrupted(tools, words, number)
@@ -139,7 +139,7 @@ def is_interrupted(tools: Tools, words: tuple[str, str], number: signal.Signals)
     tools.cases.must_be(f"no file of it is left: {name}", tree.left_files(), [])
 
 
-# Each group, with how many cases it has at least.
+# Each group, with its minimum number of cases.
 GROUPS = ((suites_build_nothing_unasked, 6), (interrupted_builds, 6), (interrupted_tools, 30))
 
 

@@ -1,4 +1,4 @@
-"""Commands called as users call them: what each is given, how it must end, and what is told of each case."""
+"""Calls commands as users call them, tests how they end, and prints the result of each case."""
 from __future__ import annotations
 
 import difflib
@@ -17,7 +17,7 @@ from typing import IO, Any, NamedTuple, Optional, TypeVar, Union
 from refusing import Wrong, must
 
 MOST_SECONDS, MOST_SECONDS_OF_A_CALL = 20, 120
-MOST_LINES = 40  # of what was printed, where it is wrong
+MOST_LINES = 40  # of a wrong output that a failure shows
 ENDING = (signal.SIGINT, signal.SIGTERM, signal.SIGHUP)
 
 Word = Union[str, bytes]
@@ -25,7 +25,7 @@ Tried = TypeVar("Tried")
 
 
 class Ended(NamedTuple):
-    """How a run ended, what it printed, and what it said."""
+    """How a run ended: its status, its standard output and its standard error."""
 
     status: int
     printed: bytes
@@ -36,7 +36,7 @@ class Ended(NamedTuple):
         must(self == wanted, f"status {self.status}, printed {self.printed[-80:]!r}, said {self.said[-80:]!r}")
 
     def difference(self, wanted: Ended) -> Optional[str]:
-        """What isn't as it is wanted, None where all is."""
+        """Describes how the result differs from the expected one, or returns None."""
         if self == wanted:
             return None
         other = "" if self.status == wanted.status else f", and {wanted.status} is expected"
@@ -53,8 +53,8 @@ def different_lines(what: str, wanted: bytes, found: bytes) -> list[str]:
 
 
 def take_signals() -> None:
-    """Undoes what this was started with, where a script, nohup or a daemon ignores or blocks one of these: whoever is
-    started by this takes them."""
+    """Takes these signals, even if a script, nohup or a daemon has started this process so that it ignores or blocks
+    them. Processes that it starts take them too."""
     signal.pthread_sigmask(signal.SIG_UNBLOCK, ENDING)
     for number in ENDING:
         signal.signal(number, signal.SIG_DFL)
@@ -68,13 +68,13 @@ def wait_until(holds: Callable[[], bool], what: str) -> None:
 
 
 def waiting_bytes(pipe: Union[int, IO[bytes], None]) -> int:
-    """How many bytes stand in a pipe."""
+    """The number of unread bytes in a pipe."""
     assert pipe is not None
     return int.from_bytes(fcntl.ioctl(pipe, termios.FIONREAD, b"\0" * 4), sys.byteorder)
 
 
 def give(process: subprocess.Popen[bytes], piece: bytes) -> None:
-    """A piece of its standard input, which it has read then."""
+    """Writes a piece to the process's standard input, and waits until the process has read it."""
     assert process.stdin is not None
     os.write(process.stdin.fileno(), piece)
     wait_until(lambda: waiting_bytes(process.stdin) == 0, f"{piece!r} was read")
@@ -82,7 +82,7 @@ def give(process: subprocess.Popen[bytes], piece: bytes) -> None:
 
 @contextmanager
 def opened(file: Path) -> Iterator[int]:
-    """A file or a folder, opened to be read."""
+    """A file or a folder, opened for reading."""
     number = os.open(file, os.O_RDONLY)
     try:
         yield number
@@ -92,15 +92,15 @@ def opened(file: Path) -> Iterator[int]:
 
 @contextmanager
 def printed_by(*command: str) -> Iterator[IO[bytes]]:
-    """A pipe in which stands what a command prints, which may be without an end."""
+    """A pipe with the output of a command, which may be endless."""
     with subprocess.Popen(command, stdout=subprocess.PIPE, stderr=subprocess.DEVNULL) as process:
         assert process.stdout is not None
         yield process.stdout
 
 
 def call(words: Sequence[Word], pieces: Sequence[bytes] = (), closed: Sequence[int] = (), **streams: Any) -> Ended:
-    """Calls a command, by default with an empty standard input. The PIECES come there one by one. The standard streams
-    of these numbers are closed."""
+    """Calls a command, by default with an empty standard input. The pieces are written there one by one. The standard
+    streams with the numbers in `closed` are closed."""
     stdin = subprocess.PIPE if pieces else subprocess.DEVNULL
     given: dict[str, Any] = {"stdin": stdin, "stdout": subprocess.PIPE, "stderr": subprocess.PIPE, **streams}
 
@@ -120,14 +120,14 @@ def call(words: Sequence[Word], pieces: Sequence[bytes] = (), closed: Sequence[i
 
 
 class Cases:
-    """The cases that were tried, each of another name, and whether one failed."""
+    """The cases that were tried, each with a unique name, and whether one failed."""
 
     def __init__(self) -> None:
         self.names: set[str] = set()
         self.count, self.has_failed = 0, False
 
     def told(self, name: str, wrong: Optional[str]) -> None:
-        """Tells of a case what is wrong with it, if anything is."""
+        """Prints the result of a case, with what is wrong, if anything is."""
         if name in self.names:
             wrong = "two cases have this name"
         self.names.add(name)
@@ -142,7 +142,7 @@ class Cases:
         self.told(name, None if found == wanted else f"{found!r}, and {wanted!r} is wanted")
 
     def must_come(self, name: str, holds: Callable[[], bool]) -> None:
-        """It holds, or does so soon."""
+        """The condition holds, or does so soon."""
         try:
             wait_until(holds, "it holds")
             self.told(name, None)
@@ -150,7 +150,7 @@ class Cases:
             self.told(name, str(late))
 
     def try_groups(self, tried: Tried, groups: Iterable[tuple[Callable[[Tried], None], int]]) -> int:
-        """Tries each group of cases, of which there are so many at least. The status to end with."""
+        """Tries each group of cases, with its minimum number of them. Returns the exit status."""
         for group, least in groups:
             before = self.count
             try:

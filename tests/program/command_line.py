@@ -1,5 +1,5 @@
 #!/usr/bin/env python3
-"""What the program makes of its command line, of what it reads and of where it prints.
+"""Tests the program's command line, its input and its output.
 
     tests/program/command_line.py PROGRAM
 
@@ -39,7 +39,7 @@ class Program:
         self.path, self.folder, self.cases = os.path.abspath(path), folder, Cases()
 
     def answers(self, name: str, words: list[Word], status: int, printed: bytes, said: bytes = b"", **how: Any) -> None:
-        """It ends so where it is called with these words."""
+        """The program, called with these words, must end so."""
         self.cases.must_end(name, call([self.path, *words], cwd=self.folder, **how), status, printed, said)
 
     def write(self, name: str, text: bytes) -> Path:
@@ -48,7 +48,7 @@ class Program:
 
 
 def command_lines(program: Program) -> None:
-    """Words to which it has nothing but its usage to say."""
+    """Wrong command lines, to which the program prints only its usage."""
     lines: dict[str, list[Word]] = {
         "no word": [],
         "an unknown word": ["replay"],
@@ -68,7 +68,7 @@ def command_lines(program: Program) -> None:
 
 
 def what_cannot_be_read(program: Program) -> None:
-    """A file that can't be read, while there is a text on standard input; and a standard input of that kind."""
+    """A file that can't be read, while standard input has a text; and a standard input that can't be read."""
     text, folder = program.write("text", TEXT), program.folder / "a folder"
     folder.mkdir()
     files = {
@@ -89,7 +89,7 @@ def what_cannot_be_read(program: Program) -> None:
 
 
 def what_is_read(program: Program) -> None:
-    """The same text in files of several names, and on standard input, also where that comes in pieces."""
+    """The same text in files with several names, and on standard input, also in pieces."""
     text, folder = program.write("text", TEXT), program.folder
     program.write("--help", TEXT)
     program.write("a folder/a text", TEXT)
@@ -125,14 +125,14 @@ class Text(NamedTuple):
 
 
 def what_sends_twice_does(*came: str) -> bytes:
-    """A component that sends twice to itself: its report, or its trace, in which this came."""
+    """The report of a component that sends twice to itself, or its trace, with these arrivals."""
     sent, ends = ["component mtc", "sent mtc.q 0 integer:4", "sent mtc.q 1 integer:5"], ["end done", "verdict none"]
     lines = [*sent, *came, "took q mtc 0 integer:4", *ends, "left q mtc 1 integer:5", "result none"]
     return "".join(f"{line}\n" for line in lines).encode()
 
 
 def listed_texts() -> Iterator[Text]:
-    """Texts of each mode, some of them in lines without an end."""
+    """Texts for each mode, some without the end of their last line."""
     yield Text("a queue file without a line", "queue", 0, b"", b"left 0\n")
     halts = b"arrive a 1\nhalt\narrive a 2\nreceive ?\nreceive ?\n"
     answer = b"queued\nhalted 1\nqueued\ntook a 1\nno\nleft 1\na 2\n"
@@ -156,7 +156,7 @@ def listed_texts() -> Iterator[Text]:
 
 
 def texts(program: Program) -> None:
-    """A text has its answer on standard input, and in a file, where standard input has another text."""
+    """A text has the same answer on standard input and in a file, where standard input has another text."""
     listed = [*listed_texts()]
     must(len({(it.mode, it.text) for it in listed}) == len(listed), "two have the same text in the same mode")
     other = program.write("other", b"no line of any\n")
@@ -176,7 +176,7 @@ def of_a_file_and_a_pipe(program: Program, name: str, text: bytes, status: int, 
 
 
 def limits(program: Program) -> None:
-    """A text may have 1,048,576 bytes. What has more isn't read to its end: some read-ahead is allowed."""
+    """A text may have 1,048,576 bytes. A longer one isn't read to its end, although some read-ahead is allowed."""
     longest = b"halt\n" * 209714 + b"clear\n"
     must(len(longest) == MOST_BYTES, f"the longest text has {len(longest)} bytes")
     answer = b"halted 0\n" + b"unchanged\n" * 209713 + b"cleared 0\nleft 0\n"
@@ -191,7 +191,7 @@ def limits(program: Program) -> None:
 
 
 def reader_that_leaves(program: Program) -> Ended:
-    """Its reader goes after a line: how it ends then, and that line."""
+    """How the program ends if its reader closes the pipe after a line, with that line."""
     words = [program.path, "queue", "many"]
     how: dict[str, Any] = {"stdin": subprocess.DEVNULL, "stdout": subprocess.PIPE, "stderr": subprocess.PIPE}
     with subprocess.Popen(words, cwd=program.folder, **how) as process:
@@ -203,7 +203,7 @@ def reader_that_leaves(program: Program) -> Ended:
 
 
 def writing(program: Program) -> None:
-    """It prints into what takes nothing, or not all."""
+    """The program prints into a file that takes nothing, or not everything."""
     for name, text in (("many", b"halt\n" * 200000), ("text", TEXT), ("bad", b"resume\n"), ("trace", b"component a\n")):
         program.write(name, text)
     must(not (program.folder / "missing").exists(), "there is a file of the name missing")
@@ -217,7 +217,7 @@ def writing(program: Program) -> None:
         program.answers(f"a closed standard output, with the words {line}", words, 3, b"", closed=[1])
 
 
-# Each group, with how many cases it has at least.
+# Each group, with its minimum number of cases.
 GROUPS = ((command_lines, 12), (what_cannot_be_read, 44), (what_is_read, 10), (texts, 24), (limits, 7), (writing, 15))
 
 

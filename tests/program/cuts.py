@@ -1,11 +1,11 @@
 #!/usr/bin/env python3
-"""Examples that are cut short: after each of their bytes, what is left of the text has an answer.
+"""Tests the answers to examples that are cut short after each of their bytes.
 
-    tests/program/cuts.py PROGRAM            whether the program gives the answers in tests/program/NAME.cuts
-    tests/program/cuts.py --write PROGRAM    writes those of this program there
+    tests/program/cuts.py PROGRAM            compares the program's answers with those in tests/program/NAME.cuts
+    tests/program/cuts.py --write PROGRAM    writes the answers of this program there
 
-bench/write_cuts has the answers written by a program that was written apart from this one. A line `passed NAME` is
-printed for each example, or lines that begin with `FAILED: NAME`.
+bench/write_cuts lets a program that was written independently of this one write the answers. It prints a line
+`passed NAME` for each example, or lines that begin with `FAILED: NAME`.
 """
 from __future__ import annotations
 
@@ -25,7 +25,7 @@ MOST_SECONDS, MOST_LINES = 60, 40
 
 
 def answers_to_cuts(program: str, text: bytes) -> bytes:
-    """What the program answers to each cut of a queue file."""
+    """The program's answer to each cut of a queue file."""
     answers = []
     for size in range(1, len(text) + 1):
         ended = subprocess.run(

@@ -1,10 +1,10 @@
 #!/usr/bin/env python3
-"""What mode verdicts says of each example: the verdicts of the reports that are allowed of it, and no other.
+"""Tests that mode verdicts prints exactly the verdicts of each example's allowed reports.
 
     tests/program/decided.py PROGRAM
 
-All scripts of examples/ and tests/golden/. Where there is a NAME.verdicts, that is all that is printed, with the states
-and the orders. It prints a line `passed FILE` for each, or lines that begin with `FAILED: FILE`.
+It tries all scripts of examples/ and tests/golden/. If there is a NAME.verdicts, this is the whole output, with the
+states and the orders. It prints a line `passed FILE` for each, or lines that begin with `FAILED: FILE`.
 """
 from __future__ import annotations
 
@@ -22,7 +22,7 @@ MOST_SECONDS = 60
 
 
 def first_line(text: Path) -> str:
-    """What is to be printed first: by the results of all reports that are allowed, or the refusal."""
+    """The expected first line: the verdicts of all allowed reports, or the refusal."""
     if example_files.is_refused(text):
         return example_files.answers(text)[0].read_text(encoding="latin-1").splitlines()[0]
     results = {it.read_text(encoding="latin-1").splitlines()[-1] for it in example_files.answers(text)}

@@ -1,4 +1,4 @@
-"""The files of the examples: those of examples/, that one would show, and those of tests/golden/."""
+"""Finds the files of the examples: those of examples/, which are worth showing to users, and those of tests/golden/."""
 from __future__ import annotations
 
 from itertools import chain
@@ -9,7 +9,7 @@ FOLDERS = (ROOT / "examples", *sorted(it for it in (ROOT / "tests" / "golden").i
 
 
 def texts(ending: str) -> list[Path]:
-    """All texts with this ending, by their names."""
+    """All texts with this ending, sorted by their names."""
     return sorted(chain.from_iterable(it.glob(f"*.{ending}") for it in FOLDERS), key=lambda it: it.name)
 
 
@@ -22,7 +22,7 @@ def example(file: str) -> Path:
 
 
 def answers(text: Path) -> list[Path]:
-    """What may be printed of it: NAME.expected, or NAME.expected.1, .2 and so on."""
+    """The files with its allowed outputs: NAME.expected, or NAME.expected.1, .2 and so on."""
     one, several = text.with_suffix(".expected"), text.parent.glob(f"{text.stem}.expected.[0-9]*")
     return [it for it in (one, *several) if it.exists()]
 

@@ -1,11 +1,11 @@
 #!/usr/bin/env python3
-"""What the program answers where a read, a write or a flush fails behind so many bytes: 2 or 3, as docs/PROFILE.md,
+"""Tests how the program ends if a read, a write or a flush fails after some bytes: with 2 or 3, as docs/PROFILE.md,
 "The program", says.
 
     tests/program/failed_calls.py PROGRAM FOLDER REFUSED
 
-All three are those of from_outside.py, and so is what it prints. The writes of long reports, of `run` and of `trace`,
-are refused here alone; allocations, threads and reads of runs in tests/runs/runs.sh too.
+The arguments and the output are those of from_outside.py. Only this test refuses the writes of long reports, of `run`
+and of `trace`; tests/runs/runs.sh refuses allocations, threads and reads of runs too.
 """
 from __future__ import annotations
 
@@ -17,14 +17,14 @@ from calling import Ended
 from from_outside import Case, Program, try_each
 from refusing import NO_READ, Wrong, must
 
-# The modes whose answers to the texts of a program are written in several pieces. That of mode queue is as long, and
-# goes past the buffer in one.
+# The modes whose answers to the program's texts are written in several pieces. The answer of mode queue is as long, but
+# bypasses the buffer in one piece.
 IN_PIECES = ("run", "trace")
 
 
 def read_that_fails(taken: int) -> Callable[[Program, str], None]:
-    """The bytes come one by one, and behind so many the next read fails. What came is a bad line in each mode, and
-    isn't looked at."""
+    """The bytes are read one by one, and after some of them the next read fails. The bytes before are a bad line in
+    each mode, which isn't reported."""
 
     def fails(program: Program, mode: str) -> None:
         refusals = {"SHORT_READS_FROM": 1, "READ": taken + 1}
@@ -44,8 +44,8 @@ def read_that_fails(taken: int) -> Callable[[Program, str], None]:
 
 
 def write_that_fails(kind: str) -> Callable[[Program, str], None]:
-    """Each write of a long answer in turn, alone or with all behind it. What went before is the beginning of the
-    answer, and nothing is written behind it: what is kept of the answer isn't tried once more."""
+    """Each write of a long answer fails in turn, alone or with all later ones. The output is the beginning of the
+    answer, and nothing is written after the failure: the rest that is kept isn't tried again."""
 
     def fails(program: Program, mode: str) -> None:
         for number in range(1, 1000):
@@ -61,7 +61,7 @@ def write_that_fails(kind: str) -> Callable[[Program, str], None]:
 
 
 class Short(NamedTuple):
-    """A text with a short answer: it is kept until the end, and then written at once, by the flush."""
+    """A text with a short answer, which is kept until the end, and then written at once by the flush."""
 
     name: str
     mode: str
@@ -76,7 +76,7 @@ class Short(NamedTuple):
         return program.run_with(refusals, self.mode, path)
 
     def flush_that_fails(self, program: Program, _mode: str) -> None:
-        """It is the one write that there is, nothing was written before, and it isn't tried once more."""
+        """The flush is the only write: nothing is written before it, and it isn't tried again."""
         ended, came = self.run_with(program, {"WRITE": 1})
         must(came, "nothing was written")
         ended.must_be(3, b"")
@@ -85,7 +85,7 @@ class Short(NamedTuple):
         ended.must_be(self.status, self.answer)
 
     def cut_behind(self, written: int) -> Callable[[Program, str], None]:
-        """The bytes go one by one, and behind so many each write fails. Behind the last there is none."""
+        """The bytes are written one by one, and after some of them each write fails. After the last there is none."""
 
         def cut(program: Program, _mode: str) -> None:
             ended, came = self.run_with(program, {"SHORT_WRITES_FROM": 1, "WRITES_FROM": written + 1})

@@ -1,11 +1,11 @@
 #!/usr/bin/env python3
-"""What the program answers where something outside it fails: docs/PROFILE.md, "The program".
+"""Tests how the program ends if something outside it fails: docs/PROFILE.md, "The program".
 
     tests/program/from_outside.py PROGRAM FOLDER [REFUSED]
 
 Its texts are written into FOLDER. REFUSED is the library of refused.c, which is loaded before the C library; without it
 the cases that need it are left out. It prints a line `passed NAME` for each case, `left out NAME: WHY` for one that
-can't be tried here, and lines that begin with `FAILED: NAME` for one that is wrong.
+can't be tried here, or lines that begin with `FAILED: NAME`.
 """
 from __future__ import annotations
 
@@ -63,7 +63,7 @@ class LeftOut(Exception):
 
 
 class Program:
-    """The program, its texts, and what it answers where nothing fails."""
+    """The program, its texts, and its answers if nothing fails."""
 
     def __init__(self, path: str, folder: str, refused: Optional[str]):
         self.path, self.folder, self.refused = path, folder, refused
@@ -103,7 +103,7 @@ class Program:
         return Ended(done.returncode, done.stdout or b"", done.stderr or b"")
 
     def run_with(self, refusals: dict[str, int], *words: str, **files: Any) -> tuple[Ended, set[str]]:
-        """Runs it with the call of this number refused, of each kind. To which kinds it came."""
+        """Runs it with the call of this number refused, of each kind. Returns also the kinds that it reached."""
         if self.refused is None:
             raise LeftOut("there is no library that refuses calls")
         with refused_calls(self.refused, refusals) as (more, came):
@@ -111,7 +111,7 @@ class Program:
         return ended, came
 
     def must_be_cut(self, mode: str, printed: bytes) -> None:
-        """What was printed is the beginning of the answer, and doesn't look whole."""
+        """The output is the beginning of the answer, and doesn't look complete."""
         whole = self.answers[mode]
         must(whole.startswith(printed) and len(printed) < len(whole), f"printed {printed[-80:]!r}")
         last = b"\nresult " if mode in ("run", "trace") else b"\nleft "
@@ -143,7 +143,7 @@ def full_device(program: Program, mode: str) -> None:
 
 
 def closed_pipe(program: Program, mode: str) -> None:
-    """Nobody reads, from the start."""
+    """The pipe has no reader from the start."""
     reader, writer = os.pipe()
     os.close(reader)
     try:
@@ -153,7 +153,7 @@ def closed_pipe(program: Program, mode: str) -> None:
 
 
 def pipe_that_closes(program: Program, mode: str) -> None:
-    """The reader goes after a line, once the pipe is full."""
+    """The reader closes the pipe after a line, once the pipe is full."""
     with started(program, mode, program.file(mode), stdin=subprocess.DEVNULL) as process:
         wait_until(lambda: waits_for_a_reader(process), "the pipe is full")
         assert process.stdout is not None and process.stderr is not None
@@ -165,7 +165,7 @@ def pipe_that_closes(program: Program, mode: str) -> None:
 
 
 def file_that_is_full(program: Program, mode: str) -> None:
-    """A file may have so many bytes and no more, as where a disk is full."""
+    """A file can take only about half of the answer, as on a full disk."""
     most = len(program.answers[mode]) // 2 + 3
 
     def limit() -> None:
@@ -180,7 +180,7 @@ def file_that_is_full(program: Program, mode: str) -> None:
 
 
 def small_disk(program: Program, mode: str) -> None:
-    """A file system of 64 KiB in memory, where one can be mounted."""
+    """A file system of 64 KiB in memory, if one can be mounted."""
     disk, kept = f"{program.folder}/disk", f"{program.folder}/kept"
     os.makedirs(disk, exist_ok=True)
     script = """mount -t tmpfs -o size=64k small "$1" || exit 99
@@ -200,7 +200,7 @@ def small_disk(program: Program, mode: str) -> None:
         program.must_be_cut(mode, file.read())
 
 
-# What isn't given
+# Refused resources
 
 
 def no_threads(program: Program, mode: str) -> None:
@@ -211,7 +211,7 @@ def no_threads(program: Program, mode: str) -> None:
 
 
 def limit_on_processes(program: Program, mode: str) -> None:
-    """The user may have no further process or thread. That holds for nobody as which root runs it."""
+    """The user may start no further process or thread. This limit doesn't hold for root, which runs it as nobody."""
 
     def limit() -> None:
         resource.setrlimit(resource.RLIMIT_NPROC, (0, 0))
@@ -232,7 +232,7 @@ def limit_on_processes(program: Program, mode: str) -> None:
 
 
 def limit_on_memory(program: Program, mode: str) -> None:
-    """So little that it is refused, up to what suffices: that line and nothing else, or the answer."""
+    """Limits from too little memory up to enough: the output is the line of the fault alone, or the answer."""
     refusals, low, high = 0, 0, 1 << 20
     while high - low > 64:
         kib = (low + high) // 2
@@ -254,7 +254,7 @@ def limit_on_memory(program: Program, mode: str) -> None:
 
 
 def no_file_more(program: Program, mode: str) -> None:
-    """The opening of a file is refused, since so many are open: nothing can be read."""
+    """Opening a file is refused because too many are open: nothing can be read."""
     for number in range(1, 20):
         ended, refused = program.run_with({"OPEN": number}, mode, program.file(mode))
         if not refused:
@@ -266,11 +266,11 @@ def no_file_more(program: Program, mode: str) -> None:
 
 
 def few_files(program: Program, mode: str) -> None:
-    """Four files may be open, three of which are: that is enough."""
+    """Four files may be open, and three of them are: one more is enough."""
     program.run(mode, program.file(mode), before=limited(resource.RLIMIT_NOFILE, 4)).must_be(0, program.answers[mode])
 
 
-# Calls that are interrupted or cut short: the answer is the whole one
+# Calls that are interrupted or cut short: the answer is complete
 
 
 def each_call(kind: str) -> Callable[[Program, str], None]:
@@ -295,7 +295,7 @@ def started(program: Program, *words: str, **files: Any) -> subprocess.Popen[byt
 
 
 def waits_for_a_reader(process: subprocess.Popen[bytes]) -> bool:
-    """Whether the process has written much, and does nothing more."""
+    """Whether the process has written much, and now sleeps."""
     before = waiting_bytes(process.stdout)
     time.sleep(0.1)
     with open(f"/proc/{process.pid}/stat", encoding="ascii", errors="replace") as file:
@@ -308,7 +308,7 @@ def threads_of(process: subprocess.Popen[bytes]) -> int:
 
 
 def must_be_ended_by(number: signal.Signals, process: subprocess.Popen[bytes]) -> bytes:
-    """The signal ends the process, which says nothing. What it printed."""
+    """The signal ends the process, which prints nothing on standard error. Returns its output."""
     process.send_signal(number)
     printed, said = process.communicate(timeout=MOST_SECONDS)
     must((process.returncode, said) == (-number, b""), f"status {process.returncode}, said {said!r}")
@@ -316,7 +316,7 @@ def must_be_ended_by(number: signal.Signals, process: subprocess.Popen[bytes]) -
 
 
 def signal_while_reading(number: signal.Signals) -> Callable[[Program, str], None]:
-    """Half of the text has come, and been read."""
+    """The first bytes of the text have arrived and been read."""
 
     def sent(program: Program, mode: str) -> None:
         with started(program, mode) as process:
@@ -340,7 +340,7 @@ def signal_while_writing(number: signal.Signals) -> Callable[[Program, str], Non
 
 
 def signal_while_running(number: signal.Signals) -> Callable[[Program, str], None]:
-    """One component looks for long, and another waits for it."""
+    """One component looks for a long time, and another one waits for it."""
 
     def sent(program: Program, mode: str) -> None:
         path = f"{program.folder}/waits_long"
@@ -354,7 +354,7 @@ def signal_while_running(number: signal.Signals) -> Callable[[Program, str], Non
 
 
 def signal_that_is_ignored(program: Program, mode: str) -> None:
-    """Who calls it may have said that SIGHUP is ignored, as nohup does: it goes on to its answer."""
+    """If the caller has it ignore SIGHUP, as nohup does, the program goes on to its answer."""
     reader, writer = os.pipe()
     ignored = {"preexec_fn": lambda: signal.signal(signal.SIGHUP, signal.SIG_IGN) and None}
     with started(program, mode, stdin=reader, **ignored) as process:
@@ -400,7 +400,7 @@ def cases() -> Iterator[Case]:
 
 
 def try_each(tried: Iterable[Case]) -> None:
-    """Tries each case on the program of the command line, and prints what came of it."""
+    """Tries each case on the program of the command line, and prints the result."""
     take_signals()
     words = argparse.ArgumentParser(description="What the program answers where something outside it fails.")
     words.add_argument("program", metavar="PROGRAM")

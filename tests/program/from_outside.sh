@@ -1,6 +1,5 @@
-# What the program answers where something outside it fails: where its answer goes, memory, threads, files, signals,
-# calls that are interrupted or cut short (from_outside.py), and calls that fail behind so many bytes
-# (failed_calls.py).
+# Tests how the program ends if something outside it fails: its output, memory, threads, files, signals, calls that are
+# interrupted or cut short (from_outside.py), and calls that fail after some bytes (failed_calls.py).
 
 cases_from_outside() {
     local refused=()

@@ -1,10 +1,10 @@
 #!/usr/bin/env python3
-"""What the program prints of each example, given by its name, and then as standard input.
+"""Tests what the program prints for each example, given by its name, and then on standard input.
 
     tests/program/golden.py PROGRAM [NAME..]
 
-All examples of examples/ and tests/golden/, or those of these names. It prints a line `passed FILE in mode MODE` for
-each, or lines that begin with `FAILED: FILE in mode MODE`.
+It tries all examples of examples/ and tests/golden/, or those with these names. It prints a line
+`passed FILE in mode MODE` for each, or lines that begin with `FAILED: FILE in mode MODE`.
 """
 from __future__ import annotations
 
@@ -20,13 +20,13 @@ sys.dont_write_bytecode = True
 
 import example_files
 
-# The modes that the ending of an example stands for. A further kind of example is a further line.
+# The modes for each ending of an example's file. Another kind of example needs another line.
 MODES = {"queue": ("queue",), "ttcn": ("check", "run")}
 MOST_SECONDS, MOST_LINES = 60, 40
 
 
 class Wanted(NamedTuple):
-    """The status, and the texts of which one must be printed. Nothing may be said."""
+    """The status, and the texts of which one must be printed. Standard error must be empty."""
 
     status: int
     texts: list[str]
@@ -43,7 +43,7 @@ def printed_in(text: Path) -> list[str]:
 
 
 def wrong_with(command: list[str], text: Optional[bytes], wanted: Wanted) -> Optional[str]:
-    """What isn't as it must be, where the command is given this text as standard input."""
+    """Describes what is wrong if the command gets this text on standard input, or returns None."""
     try:
         ended = subprocess.run(command, input=text or b"", capture_output=True, timeout=MOST_SECONDS, check=False)
     except subprocess.TimeoutExpired:

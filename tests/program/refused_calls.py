@@ -1,11 +1,11 @@
 #!/usr/bin/env python3
-"""Each call of a kind refused in turn: what the program answers, and whether the tests of a crate pass.
+"""Refuses each call of a kind in turn, and tests what the program prints, and whether the tests of a crate pass.
 
     refused_calls.py program LIBRARY PROGRAM    each allocation of the program, and each read and write of its judge: it
-                                                answers that it was refused and nothing else, or what it answers with
-                                                ample memory
-    refused_calls.py tests LIBRARY PROGRAM      each allocation of the tests that are right under refused memory: they
-                                                pass, whatever program there is
+                                                reports the refusal and nothing else, or prints its answer with ample
+                                                memory
+    refused_calls.py tests LIBRARY PROGRAM      each allocation of the tests that must pass with memory refused; they
+                                                don't use PROGRAM
 
 LIBRARY is that of refused.c. It prints `passed REFUSED NAME` or `FAILED: NAME: ..` for each case.
 """
@@ -36,8 +36,8 @@ QUEUES = (
     "integer_too_large_is_refused",
 )
 SCRIPTS = ("system_under_test_answers", "login_is_answered", "replies_go_to_their_senders")
-# How many tests of each crate are right under refused memory, at least. They are found by their names, so that one
-# which is given another name is missed here.
+# The minimum number of tests of each crate that pass with memory refused. They are found by their names, so a test that
+# gets another name is missed here.
 LEAST_TESTS = {"tp_tests": 10}
 
 
@@ -66,13 +66,13 @@ def example(mode: str, file: str) -> Asked:
 
 
 def verdicts_of(file: str) -> Asked:
-    """An example that comes to several verdicts, and what is printed of them."""
+    """An example with several verdicts, and the output of that mode."""
     path = example_files.example(file)
     return Asked("verdicts", path, 2, path.with_suffix(".verdicts").read_bytes())
 
 
 def traces(folder: Path) -> Iterator[Asked]:
-    """A lawful trace, one that isn't lawful in many lines, and one that has a bad line."""
+    """A lawful trace, a trace with many unlawful lines, and one with a bad line."""
     lawful = (ROOT / "tests" / "traces" / "lawful" / "ask_and_answer.trace").read_bytes()
     unlawful = "".join(f"component a{number}\ntook p b 0 m\n" for number in range(1, 401)).encode()
     for name, text in (("lawful", lawful), ("unlawful", unlawful), ("bad", lawful + b"sent\n")):
@@ -85,7 +85,7 @@ def traces(folder: Path) -> Iterator[Asked]:
 
 
 def each_allocation(refusing: Refusing, asked: Asked) -> None:
-    """Where one is refused, that is the answer, or the one with ample memory."""
+    """If an allocation is refused, the output says so, or is the answer with ample memory."""
     refusals = 0
     for number, ran in refusing.each(asked.words(refusing.program), "MEMORY", MOST_CALLS):
         is_told = "MEMORY" in ran.refused and ran.is_fault(NO_MEMORY)
@@ -97,13 +97,13 @@ def each_allocation(refusing: Refusing, asked: Asked) -> None:
 
 
 def each_read(refusing: Refusing, asked: Asked) -> None:
-    """Where one is refused, the answer is 2."""
+    """If a read is refused, the answer is 2."""
     words = asked.words(refusing.program)
     refusing.each_is_told(words, "READ", lambda ran: ran.is_so(2, NO_READ), asked.is_answered)
 
 
 def each_write(refusing: Refusing, asked: Asked) -> None:
-    """Where one is refused, the status is 3, and what was written before is the beginning."""
+    """If a write is refused, the status is 3, and the output is the beginning of the answer."""
 
     def is_cut(ran: Ran) -> bool:
         return ran.status == 3 and asked.answer.startswith(ran.printed) and ran.said == b""

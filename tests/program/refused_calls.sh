@@ -1,4 +1,4 @@
-# Each call of a kind refused in turn, by a library that is made once for all parts.
+# Refuses each call of a kind in turn, by a library that is made once for all parts.
 
 compile_refusals() {
     ${CC:-cc} -O1 -shared -fPIC -o "$room_of_all/refused.so" "$root/tests/program/refused.c"

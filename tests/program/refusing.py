@@ -1,6 +1,6 @@
-"""Runs in which a call is refused, by the library of refused.c, which is loaded before the C library.
+"""Runs commands with a call refused, by the library of refused.c, which is loaded before the C library.
 
-The program is no script, since the shell that runs it would be refused calls too.
+The program must not be a script, since the shell that runs it would be refused calls too.
 """
 from __future__ import annotations
 
@@ -15,12 +15,12 @@ from typing import NamedTuple, Optional
 
 ROOT = Path(__file__).resolve().parents[2]
 MOST_SECONDS, MOST_CALLS = 20, 5000
-SHOWN = 400  # of what was printed, where it is wrong
+SHOWN = 400  # bytes of a wrong output that a failure shows
 NO_MEMORY, NO_THREAD, NO_READ = b"fault 50 Memory\n", b"fault 51 NoThread\n", b"refused 2 Read\n"
 
 
 class Wrong(Exception):
-    """A case isn't as it must be."""
+    """A case has failed."""
 
 
 def must(holds: object, text: str) -> None:
@@ -30,8 +30,8 @@ def must(holds: object, text: str) -> None:
 
 @contextmanager
 def refused_calls(library: str, calls: Mapping[str, int]) -> Iterator[tuple[dict[str, str], set[str]]]:
-    """The variables by which the call of each number is refused, of its kind: MEMORY, THREAD, READ, WRITE and the
-    others of refused.c. In the end the set has the kinds of which it came to that."""
+    """The variables by which the call with the given number is refused, for each kind: MEMORY, THREAD, READ, WRITE and
+    the others of refused.c. At the end the set contains the kinds for which the program reached that call."""
     came: set[str] = set()
     with tempfile.TemporaryDirectory() as marks:
         numbers = {f"REFUSED_{kind}": str(number) for kind, number in calls.items()}
@@ -40,7 +40,7 @@ def refused_calls(library: str, calls: Mapping[str, int]) -> Iterator[tuple[dict
 
 
 class Ran(NamedTuple):
-    """How a run ended, None where it didn't, what it printed and said, and the kinds of calls that were refused."""
+    """How a run ended: its status, None if it didn't end, both outputs, and the kinds of calls that were refused."""
 
     status: Optional[int]
     printed: bytes
@@ -78,20 +78,20 @@ def run(words: Sequence[str], before: Before = None, more: Optional[Mapping[str,
 
 
 class Refusing:
-    """Runs commands with calls refused, and counts the runs in which one was. The folder is for whatever is written."""
+    """Runs commands with calls refused, and counts the runs in which one was. The folder is for files."""
 
     def __init__(self, library: str, program: str, folder: Path):
         self.library, self.program, self.folder, self.refused = library, os.path.abspath(program), folder, 0
 
     def run(self, words: Sequence[str], **calls: int) -> Ran:
-        """Runs it with the call of this number refused, of each kind."""
+        """Runs a command with the call of this number refused, for each kind."""
         with refused_calls(self.library, calls) as (more, came):
             ran = run(words, more=more)
         self.refused += bool(came)
         return ran._replace(refused=frozenset(came))
 
     def each(self, words: Sequence[str], kind: str, most: int, **others: int) -> Iterator[tuple[int, Ran]]:
-        """Runs it with each call of a kind refused in turn. The last run is the first that made fewer of them."""
+        """Runs a command with each call of a kind refused in turn. The last run is the first that makes fewer calls."""
         for number in range(1, most + 1):
             ran = self.run(words, **{kind: number}, **others)
             yield number, ran
@@ -102,7 +102,7 @@ class Refusing:
     def each_is_told(
         self, words: Sequence[str], kind: str, is_told: Callable[[Ran], bool], is_whole: Callable[[Ran], bool]
     ) -> None:
-        """Where one is refused, that is told; where none is, the answer is whole."""
+        """If a call is refused, the output says so; if none is, the answer is complete."""
         for number, ran in self.each(words, kind, MOST_CALLS):
             if kind in ran.refused and not is_told(ran):
                 raise ran.wrong(f"with {kind.lower()} {number} refused")

@@ -1,5 +1,5 @@
-"""A tree of five crates with the repository's ./tpr, ./try and ./build, and a command `rt` in the toolchain's place,
-which proves nothing, and says what it was asked for."""
+"""A tree of five crates with the repository's ./tpr, ./try and ./build, and a command `rt` instead of the toolchain,
+which proves nothing, and prints its arguments."""
 from __future__ import annotations
 
 import argparse
@@ -19,8 +19,8 @@ from calling import MOST_SECONDS, Cases, Ended, Tried, Word, call, take_signals
 from refusing import ROOT, must
 
 # The program that it makes prints its words and ends with 7. Files beside the crates of the tree TREE make it refuse a
-# crate, fail once it has made the program, edit a source meanwhile, hang, or wait for another crate; and one is what it
-# does where it tries.
+# crate, fail once it has made the program, edit a source meanwhile, hang, or wait for another crate. For `rt try` it
+# executes the file `tried`.
 RT = r"""#!/bin/sh
 # Waits until two crates are at work.
 meet() {
@@ -42,7 +42,7 @@ if [ -e "$TREE/edits" ]; then rm "$TREE/edits" && sleep 0.1 && touch "$TREE/low/
 if [ "$1" = run ]; then printf '#!/bin/sh\nprintf "%%s;" "$@"\nexit 7\n' >"out/$crate" && chmod +x "out/$crate"; fi
 if [ -e "$TREE/fails in $crate" ]; then exit 2; fi
 """
-# `tpr` and `tpr_ordered` stand on `low` and `side`, and `beside` doesn't matter to them.
+# `tpr` and `tpr_ordered` depend on `low` and `side`, but not on `beside`.
 CRATES = """low: thiserror
 side: thiserror
 beside: low
@@ -55,7 +55,7 @@ COMMANDS = (
     "tail", "tee", "touch",
 )
 NAME = "a tree"
-# The folders of commands, by what is to be found there.
+# The folders of commands, by what they contain.
 ALL, WITHOUT_RT, WITHOUT_PYTHON = ("rt", "without_rt"), ("without_rt",), ("without_python",)
 
 
@@ -84,7 +84,7 @@ class Tree:
         return re.findall(r"^\w+", CRATES, re.MULTILINE)
 
     def environment(self, commands: Sequence[str]) -> dict[str, str]:
-        """What the commands of the tree find around them: no TPR, and temporary files in `rooms`."""
+        """The environment of the tree's commands: without TPR, and with temporary files in `rooms`."""
         path = os.pathsep.join(str(self.folder / "commands" / it) for it in commands)
         of_this = {"TREE": str(self.crates), "PATH": path, "TMPDIR": str(self.rooms)}
         return {**{name: value for name, value in os.environ.items() if name != "TPR"}, **of_this}
@@ -92,12 +92,12 @@ class Tree:
     def call(
         self, words: Sequence[Word], commands: Sequence[str] = ALL, more: Optional[dict[str, str]] = None, **how: Any
     ) -> Ended:
-        """Calls a command in the folder of the tree. What is left among the temporary files is told as said."""
+        """Calls a command in the folder of the tree. Its standard error also lists remaining temporary files."""
         ended = call(words, cwd=self.folder, env={**self.environment(commands), **(more or {})}, **how)
         return ended._replace(said=ended.said + "".join(f"{it} is left\n" for it in self.left_files()).encode())
 
     def said_on_a_terminal(self, *words: str) -> str:
-        """What a command says if a terminal is its standard error."""
+        """The standard error of a command, if that is a terminal."""
         ours, theirs = pty.openpty()
         self.call(words, stderr=theirs)
         os.close(theirs)
@@ -113,12 +113,12 @@ class Tree:
         self.cases.must_end(name, ended, status, printed.encode("latin-1"), said.encode())
 
     def runs(self, name: str, program: str = f"{NAME}/tpr") -> None:
-        """The program that is built runs, and nothing is tried."""
+        """The built program runs, and `rt try` doesn't."""
         self.must_end(f"{name}, and the program runs", self.call([program, "run", "a file"]), 7, "run;a file;")
 
     @contextmanager
     def started(self, *words: str) -> Iterator[subprocess.Popen[bytes]]:
-        """A command at work, which takes the signals that would end it, and is ended where its case breaks off."""
+        """A running command, which takes the signals that would end it, and is ended if its case breaks off."""
         with subprocess.Popen(
             words,
             cwd=self.folder,
@@ -136,7 +136,7 @@ class Tree:
 
 
 def make_commands(folder: Path) -> None:
-    """Folders of commands: `rt` alone, all but it, and one that has all but python3."""
+    """Makes folders of commands: `rt` alone, all but `rt`, and all but python3."""
     without_rt, without_python, alone = (folder / it for it in ("without_rt", "without_python", "rt"))
     without_rt.mkdir(parents=True)
     for name in COMMANDS:
@@ -161,7 +161,7 @@ def end_of(process: subprocess.Popen[bytes]) -> Ended:
 
 
 def said_at(terminal: int) -> str:
-    """What stands at a terminal that nobody else has open any more. The answer stands there too."""
+    """The text at a terminal that nobody else has open any more, including the answer that was given there."""
     said = b""
     try:
         while piece := os.read(terminal, 1 << 16):
@@ -176,7 +176,7 @@ def lines(*texts: str) -> str:
 
 
 def is_gone(file: Path) -> bool:
-    """Whether the process of which the file has the number has ended."""
+    """Whether the process whose number is in the file has ended."""
     try:
         status = Path(f"/proc/{int(file.read_text())}/stat").read_text(encoding="latin-1")
     except (FileNotFoundError, ProcessLookupError):
@@ -185,14 +185,14 @@ def is_gone(file: Path) -> bool:
 
 
 def has_begun(file: Path) -> bool:
-    """Whether something stands in the file."""
+    """Whether the file has any text."""
     return file.exists() and file.stat().st_size > 0
 
 
 def try_in_a_tree(
     description: str, trying: Callable[[Tree], Tried], groups: Iterable[tuple[Callable[[Tried], None], int]]
 ) -> int:
-    """Tries the groups in a new tree. The status to end with."""
+    """Tries the groups in a new tree. Returns the exit status."""
     argparse.ArgumentParser(description=description).parse_args()
     with tempfile.TemporaryDirectory() as folder:
         tree = Tree(Path(folder))

@@ -1,2 +1,2 @@
-# Mode verdicts beside the reports that are allowed of each example.
+# Compares mode verdicts with the allowed reports of each example.
 verdicts() { at_least "$script_examples" told "$room/decided" tests/program/decided.py "$tpr"; }

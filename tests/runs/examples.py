@@ -8,7 +8,7 @@ from refusing import Ran
 
 
 def names() -> list[str]:
-    """Those that are right."""
+    """The names of the examples that aren't refused."""
     return [it.stem for it in example_files.texts("ttcn") if not example_files.is_refused(it)]
 
 
@@ -22,7 +22,7 @@ def reports(name: str) -> frozenset[bytes]:
 
 
 def is_report(ran: Ran, allowed: frozenset[bytes], mode: str = "run") -> bool:
-    """Whether it ended with a report that it may have, in mode `trace` with the arrivals in it."""
+    """Whether the run ended with a report that it may have. In mode `trace` the report has arrivals too."""
     report = ran.printed
     if mode == "trace":
         report = b"".join(it for it in report.splitlines(keepends=True) if not it.startswith(b"came "))

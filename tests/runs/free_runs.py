@@ -1,8 +1,8 @@
 #!/usr/bin/env python3
-"""Runs of the examples in threads of their own: each ends by itself, with a report that it may have.
+"""Runs the examples in threads of their own, and tests that each run ends by itself, with a report that it may have.
 
     free_runs.py again PROGRAM     each again and again, half of the runs on one processor
-    free_runs.py load PROGRAM      each beside a load of a busy process for each processor
+    free_runs.py load PROGRAM      each while a busy process loads each processor
     free_runs.py memory PROGRAM    each in little memory: a little less than it needs, and a little more
     free_runs.py stack PROGRAM     a script of 1 MiB on a stack of 128 KiB
 
@@ -34,7 +34,7 @@ LONG_SCRIPT, SMALL_STACK = 1 << 20, 128 << 10
 
 
 def run_again(program: str, name: str, times: int, *before: str) -> int:
-    """Runs an example so many times, behind the words of a command if some are given. How often it was run."""
+    """Runs an example this often, after the words of a command if some are given. Returns how often it was run."""
     allowed = reports(name)
     for turn in range(1, times + 1):
         ran = run([*before, program, "run", script(name)])
@@ -45,7 +45,7 @@ def run_again(program: str, name: str, times: int, *before: str) -> int:
 
 @contextmanager
 def on_one_processor() -> Iterator[None]:
-    """Where only one thread is carried out at a time."""
+    """Lets only one thread run at a time."""
     all_of_them = os.sched_getaffinity(0)
     os.sched_setaffinity(0, {min(all_of_them)})
     try:
@@ -55,7 +55,7 @@ def on_one_processor() -> Iterator[None]:
 
 
 def again(program: str, name: str) -> int:
-    """Half of the runs on one processor."""
+    """Runs an example, half of the times on one processor."""
     times = run_again(program, name, AGAIN)
     with on_one_processor():
         return times + run_again(program, name, AGAIN)
@@ -74,15 +74,15 @@ def load() -> Iterator[list[subprocess.Popen[bytes]]]:
 
 
 def within(program: str, name: str, kib: int) -> tuple[bool, bool]:
-    """Runs an example where the process may map so many KiB. Whether it reported, and whether it was refused that."""
+    """Runs an example that may map this much memory. Returns whether it reported, and whether it was refused memory."""
     most = (kib << 10, kib << 10)
     ran = run([program, "run", script(name)], lambda: resource.setrlimit(resource.RLIMIT_AS, most))
     return is_report(ran, reports(name)), ran.is_fault(NO_MEMORY) or ran.is_fault(NO_THREAD)
 
 
 def in_little_memory(program: str, name: str) -> int:
-    """What it needs is found by halving. Around it memory or a thread is refused, or there is a report. How often it
-    was run there."""
+    """Finds the memory that it needs by halving. With a little more or less, memory or a thread is refused, or there is
+    a report. Returns how often it was run so."""
     low, high = 0, MOST_KIB
     while high - low > STEP_KIB:
         middle = (low + high) // 2
@@ -109,7 +109,7 @@ def on_a_small_stack(program: str, name: str) -> int:
 
 
 def told(name: str, attempt: Callable[[], int]) -> str:
-    """What is told of an example."""
+    """The result of an example."""
     try:
         return f"passed {attempt()} {name}"
     except (Wrong, OSError, subprocess.SubprocessError) as wrong:
@@ -124,8 +124,8 @@ def each_again(program: str) -> Iterator[str]:
 
 
 def each_beside_a_load(program: str) -> Iterator[str]:
-    """Behind the load in rank: as many runs at once as there are processors, since one alone would wait for the load
-    and for nothing else."""
+    """The runs have a lower priority than the load. As many run at once as there are processors, since a single one
+    would wait only for the load."""
 
     def beside(name: str, busy: list[subprocess.Popen[bytes]]) -> int:
         times = run_again(program, name, BESIDE_A_LOAD, "nice", "-n", "10")

@@ -1,22 +1,22 @@
 #!/usr/bin/env python3
-"""Whether the forced races of crates/tp_floor (src/races.rt) tell each fault that is planted in floor and notifier.
+"""Tests that the forced races of crates/tp_floor (src/races.rt) detect each fault planted in floor and notifier.
 
     tests/runs/races.py [NAME..]
     tests/runs/races.py --fit
 
-All faults, or those named, are planted at once in one copy of the crate: each has the modules `floor`, `notifier` and
-`races` for itself, in a module of its own name. One more, `none`, has no fault. The tests of the copy are compiled and
-run, unproved (`rt try --test`): those of each fault must fail, and those of `none` must not. All of them took six
-minutes on a busy machine, so the gate doesn't do it: whoever changes one of the three modules does. With `--fit`
-nothing is tried: a line `passed NAME` says that the fault can still be planted. That much the gate does.
+All faults, or those named, are planted at once in one copy of the crate: each has its own modules `floor`, `notifier`
+and `races`, in a module with the fault's name. One more, `none`, has no fault. The tests of the copy are compiled and
+run, unproved (`rt try --test`): those of each fault must fail, and those of `none` must pass. All of them took six
+minutes on a busy machine, so the gate doesn't run them: whoever changes one of the three modules must do so. With
+`--fit` nothing is tried: a line `passed NAME` says that the fault can still be planted. The gate runs that.
 
-In each loop of the floor the load of the counts is made once for all turns, or left out, or no second one is made; the
-exchange is made for the counts that are there, or without a look at what is there, or left out; and a lost turn is
-given up, at once or after ten. So with what the notifier keeps and looks at. Clauses exclude what the notifier does
-wrong, and a rest or a rise that isn't counted. Of who leaves, of who is told to be the last, and of how often a call
-tries again, no clause says anything.
+A faulty loop of the floor loads the counts only once for all turns, never, or not a second time; it makes the exchange
+for the counts that are there, without comparing them, or not at all; or it gives up a lost turn, at once or after ten.
+The faults of what the notifier keeps and compares are similar. Clauses exclude the faults of the notifier, and a rest
+or a rise that isn't counted. No clause says anything about the component that leaves, about which one learns that it is
+the last, or about how often a call tries again.
 
-Of each fault a line is printed, `told NAME; TEST: WHAT IT SAID`, or one that begins with FAILED. The last line is
+For each fault it prints a line `told NAME; TEST: WHAT IT SAID`, or one that begins with FAILED. The last line is
 `races: N faults, M failed`.
 """
 from __future__ import annotations
@@ -42,9 +42,10 @@ class Unfit(Exception):
 
 
 class Fault(NamedTuple):
-    """A fault: its name, the module and the function that have it, and what of the function's text is replaced by what.
+    """A fault: its name, its module, its function, and the texts of the function that are replaced, each with its
+    replacement.
 
-    In what is replaced, any white space stands for any other.
+    In a replaced text, any white space stands for any other.
     """
 
     name: str
@@ -56,8 +57,8 @@ class Fault(NamedTuple):
 def faults_of_loop(function: str, cell: str, change: str, given_up: dict[str, str]) -> list[Fault]:
     """The faults of a loop in the floor that loads the counts, changes them and exchanges them.
 
-    `cell` is what the loop calls the cell's owner and the pass by, `change` the counts that it writes, and `given_up`
-    what it may answer where it gives up, each with a word for the fault's name.
+    `cell` has the loop's names for the cell's owner and for the pass, `change` is the counts that it writes, and
+    `given_up` has the answers that it may return when it gives up, each with a word for the fault's name.
     """
     owner, its_pass = cell.split()
     load = f"let seen = {owner}.look(rt, &mut {its_pass});"
@@ -152,7 +153,7 @@ def with_fault(text: str, fault: Fault) -> str:
 
 
 def plant(folder: str, fault: Fault) -> None:
-    """Puts modules with the fault into the copy."""
+    """Writes modules with the fault into the copy."""
     of_fault = f"{folder}/src/{fault.name}"
     files = [f"{module}.rt" for module in MODULES] + [f"races/{name}" for name in os.listdir(f"{SOURCE}/races")]
     for file in files:
@@ -164,7 +165,7 @@ def plant(folder: str, fault: Fault) -> None:
 
 
 def copy_with(folder: str, faults: list[Fault]) -> str:
-    """A copy of the crate with these faults, and of those below it. Returns its folder."""
+    """Makes a copy of the crate with these faults, and of those below it. Returns its folder."""
     lines = {line.split()[0].rstrip(":"): line for line in read(f"{ROOT}/crates.txt").splitlines() if ":" in line}
     below = [word for word in lines[CRATE].split(":")[1].split() if word in lines]
     write(f"{folder}/crates.txt", "".join(f"{lines[it]}\n" for it in [*below, CRATE]))
@@ -183,7 +184,7 @@ def copy_with(folder: str, faults: list[Fault]) -> str:
 
 
 def failed_tests(said: str) -> dict[str, list[str]]:
-    """The tests of each fault that failed, each with the first line that it said; of each fault that was tried."""
+    """For each fault that was tried, its failed tests, each with the first line of its message."""
     found: dict[str, list[str]] = {}
     lines = said.splitlines()
     for line, behind in zip(lines, [*lines[1:], ""]):
@@ -195,7 +196,7 @@ def failed_tests(said: str) -> dict[str, list[str]]:
 
 
 def all_fit() -> bool:
-    """Says of each fault whether it can be planted."""
+    """Prints for each fault whether it can be planted. Returns whether all can."""
     wrong = 0
     for fault in FAULTS:
         try:
@@ -208,7 +209,7 @@ def all_fit() -> bool:
 
 
 def asked(names: list[str]) -> list[Fault]:
-    """The faults of these names, all where there are none, and the one that is none."""
+    """The faults with these names, or all without one; and `none`, which has no fault."""
     known = {it.name: it for it in FAULTS}
     for name in names:
         if name not in known:

@@ -1,9 +1,8 @@
 #!/usr/bin/env python3
-"""Runs of examples with calls refused, and how often a template is filled.
+"""Runs examples with calls refused, and tests how often a template is filled.
 
     refused_runs.py runs LIBRARY PROGRAM         each allocation, start of a thread and read of runs refused in turn
-    refused_runs.py templates LIBRARY PROGRAM    a template in which no loop variable stands is filled once for a
-                                                 behaviour
+    refused_runs.py templates LIBRARY PROGRAM    a template without a loop variable is filled once for a behaviour
 
 LIBRARY is that of tests/program/refused.c. It prints `passed REFUSED NAME` or `FAILED: NAME: ..` for each case.
 """
@@ -52,7 +51,8 @@ LONG = """module Long {
     }
 }
 """
-# More than a filling takes, and less than one at each turn would: an allocation at least for each of its lists, 50,000.
+# More than filling a template once takes, and less than filling it at each turn: that takes at least one allocation for
+# each of its lists, 50,000.
 MANY_ALLOCATIONS = 20000
 
 
@@ -67,7 +67,7 @@ class Example:
         return is_report(ran, self.reports, self.mode)
 
     def each_allocation(self) -> None:
-        """In whatever thread it falls: memory or a thread was refused, or there is a report."""
+        """In whatever thread an allocation is, the run reports that memory or a thread was refused, or has a report."""
         refusals = 0
         for number, ran in self.refusing.each(self.words, "MEMORY", MOST_CALLS):
             is_fault = ran.is_fault(NO_MEMORY) or ran.is_fault(NO_THREAD)
@@ -78,15 +78,15 @@ class Example:
             raise ran.wrong(f"{refusals} runs were refused memory, and the last")
 
     def each_thread(self, threads: int) -> None:
-        """Each of so many starts: 51 each time, and the other threads end."""
+        """Each of this many starts is refused: the answer is 51 each time, and the other threads end."""
         for number in range(1, threads + 1):
             ran = self.refusing.run(self.words, THREAD=number)
             if "THREAD" not in ran.refused or not ran.is_fault(NO_THREAD):
                 raise ran.wrong(f"with thread {number} refused")
 
     def thread_and_each_allocation(self, thread: int) -> None:
-        """Where it came to the thread, the answer is 51, whatever else was refused. A thread's start takes memory too,
-        so where it didn't, 51 is right as well as 50."""
+        """If the run reaches the thread, the answer is 51, whatever else is refused. The start of a thread takes memory
+        too, so if the run doesn't reach it, both 51 and 50 are right."""
         both = 0
         for number, ran in self.refusing.each(self.words, "MEMORY", MOST_CALLS, THREAD=thread):
             is_early = "THREAD" not in ran.refused and ran.is_fault(NO_MEMORY)
@@ -102,7 +102,7 @@ class Example:
 
 
 def spared_in(refusing: Refusing, turns: int) -> int:
-    """How many allocations of a run with so many turns can be refused and leave its report as it is."""
+    """How many allocations of a run with this many turns can be refused without a change of its report."""
     file = refusing.folder / f"{turns}.ttcn"
     file.write_text(LONG.replace("TURNS", str(turns)), encoding="ascii")
     words, spared = [refusing.program, "run", str(file)], 0
@@ -116,8 +116,8 @@ def spared_in(refusing: Refusing, turns: int) -> int:
 
 
 def grows_as_it_is_used(refusing: Refusing) -> None:
-    """A history of 80 entries gets room for many by one allocation, and one of 4 entries doesn't. If that is refused,
-    there is the same report."""
+    """A history of 80 entries gets room for many by one allocation, and a history of 4 entries doesn't. If that
+    allocation is refused, the report is the same."""
     few, many = spared_in(refusing, 2), spared_in(refusing, 40)
     if many != few + 1:
         raise Wrong(f"{many} refusals were followed by a report, and {few} in a short run")
@@ -146,7 +146,7 @@ def of_runs(refusing: Refusing) -> Iterator[Case]:
 
 
 def fills_once(refusing: Refusing) -> None:
-    """500 turns, each with an alt over a template of 100 lists: with a loop variable in it, and without."""
+    """500 turns, each with an alt over a template of 100 lists: with and without a loop variable in it."""
     for element, is_often in (("turn", True), ("2", False)):
         file = refusing.folder / f"{element}.ttcn"
         file.write_text(TURNS.replace("LISTS", "{1, 2}," * 99).replace("ELEMENT", element), encoding="ascii")

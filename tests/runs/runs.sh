@@ -8,5 +8,5 @@ refused_runs() { # WHAT
     told_of_runs refused_of_all tests/runs/refused_runs.py "$1" "$room_of_all/refused.so" "$tpr"
 }
 
-# Whether the faults that races.py plants in the floor and the notifier still fit there.
+# Tests that the faults that races.py plants in the floor and the notifier still fit there.
 faults_of_races() { told "$room/races" tests/runs/races.py --fit; }

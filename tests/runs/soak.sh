@@ -1,8 +1,8 @@
-# Scripts made by chance for three minutes (tests/runs/soak), with a seed that is said: each report judged by the model
-# of runs. A script whose report is wrong stays in out/soak, and the same seed makes it again.
+# Runs random scripts for three minutes (tests/runs/soak), with a seed that it prints; the model of runs judges each
+# report. A script with a wrong report stays in out/soak, and the same seed makes it again.
 
 minutes_of_soak=3
-# How many scripts are tried in that time at least, and how many with many components, on however slow a machine.
+# The minimum numbers of scripts, and of scripts with many components, that are tried in that time on any machine.
 least_of_soak=40
 least_of_soak_of_many=2
 

@@ -1,10 +1,10 @@
-"""Whether a report is one that a script with many components may have.
+"""Decides whether a report is one that a script with many components may have.
 
-Its lines must be those of the form, but for the words that are open. And its lines must be such that all can be
-carried out, one after the other: a message is queued when it is sent, and taken from the front of the queue. In
-which order a port's messages came is what was taken there, and then what is left. So each can be carried out
-as soon as it is its turn, and there is nothing to choose: no statement of these scripts looks whether
-nothing has come, and none empties a queue.
+Its lines must be those of the form, except for the open words. It must also be possible to carry out all lines, one
+after the other: a message is queued when it is sent, and is taken from the front of the queue. The messages of a port
+arrived in the order in which they were taken, followed by those that are left. So each line can be carried out as soon
+as it is its turn, and there is no choice: no statement of these scripts looks whether nothing has arrived, and none
+empties a queue.
 """
 from collections import defaultdict
 from typing import NamedTuple
@@ -13,7 +13,7 @@ from shapes import Shape
 
 
 class Came(NamedTuple):
-    """A message as its receiver's part of a report tells it."""
+    """A message in its receiver's part of a report."""
 
     sender: str
     number: str
@@ -21,7 +21,7 @@ class Came(NamedTuple):
 
 
 def is_line(wanted: str, line: str) -> bool:
-    """Whether the line is the one that is wanted, in which a `?` may stand for any word."""
+    """Whether the line is the expected one, in which a `?` stands for any word."""
     if "?" not in wanted:
         return wanted == line
     one, other = wanted.split(" "), line.split(" ")
@@ -29,7 +29,7 @@ def is_line(wanted: str, line: str) -> bool:
 
 
 class Report:
-    """The lines of a report by its components, and of each port what came there, the oldest first."""
+    """The lines of a report by component, and for each port the messages that arrived there, the oldest first."""
 
     def __init__(self, lines: list[str]):
         self.sent_or_took: dict[str, list[list[str]]] = {}
@@ -47,8 +47,8 @@ class Report:
 
 
 class Replay:
-    """How far the lines of a report are carried out: of each component how many, of each port how many messages
-    have come and how many of them were taken."""
+    """How far a report is carried out: the number of lines of each component, and for each port how many messages have
+    arrived and how many were taken."""
 
     def __init__(self, report: Report):
         self.report = report
@@ -57,7 +57,7 @@ class Replay:
         self.taken: dict[tuple[str, str], int] = defaultdict(int)
 
     def all(self) -> str | None:
-        """Carries out all that can be. What is wrong, if anything is."""
+        """Carries out as much as possible. Describes what is wrong, or returns None."""
         while any([self.some_of(name) for name in self.done]):
             pass
         for name, done in self.done.items():
@@ -69,14 +69,14 @@ class Replay:
         return None
 
     def some_of(self, name: str) -> bool:
-        """Carries out what the component can do next, up to where it has to wait. Whether there was anything."""
+        """Carries out the component's next lines, until it has to wait. Returns whether there were any."""
         entries, begun = self.report.sent_or_took[name], self.done[name]
         while self.done[name] < len(entries) and self.one(name, entries[self.done[name]]):
             self.done[name] += 1
         return self.done[name] > begun
 
     def one(self, name: str, words: list[str]) -> bool:
-        """Carries out one line. False where its time hasn't come."""
+        """Carries out one line. Returns False if it can't be carried out yet."""
         if words[0] == "took":
             end = (name, words[1])
             if self.taken[end] == self.queued[end]:
@@ -92,7 +92,7 @@ class Replay:
 
 
 def wrong_in(shape: Shape, report: str) -> str | None:
-    """What is wrong in a report of the script, if anything is."""
+    """Describes what is wrong in a report of the script, or returns None."""
     if not report.endswith("\n"):
         return f"the report is cut: {report[-100:]}"
     lines = report[:-1].split("\n")

@@ -2,16 +2,16 @@
 
     many.py PROGRAM RUNS [NAME..]
 
-Each script of shapes.py, or each of those named, is run so many times by `PROGRAM run`: a quarter of the runs on all
-processors, one on two, one on a single one, and one beside a load, a busy process for each processor that goes
-before the program in rank. A run that hasn't ended after 20 seconds, or beside a load after 100, is stopped, and is
-wrong.
+Each script of shapes.py, or each of those named, is run RUNS times by `PROGRAM run`: a quarter of the runs on all
+processors, one on two, one on a single one, and one beside a load, which is a busy process for each processor with a
+higher priority than the program. A run that hasn't ended after 20 seconds, or beside a load after 100, is stopped, and
+is wrong.
 
-It prints a line `passed RUNS REPORTS NAME WAY` for each script and way, REPORTS of the reports being different ones;
-or lines that begin with `FAILED: NAME WAY`. The last line says how many runs there were.
+It prints a line `passed RUNS REPORTS NAME WAY` for each script and way, where REPORTS is the number of different
+reports; or lines that begin with `FAILED: NAME WAY`. The last line says how many runs there were.
 
-Runs of different scripts go on side by side: those that need one or two processors each on processors of its own, two
-that need all, and beside a load as many as there are processors.
+Runs of different scripts go on in parallel: each that needs one or two processors on processors of its own, two at a
+time that need all, and beside a load as many as there are processors.
 """
 import argparse
 import os
@@ -32,7 +32,7 @@ PROCESSORS = sorted(os.sched_getaffinity(0))
 
 @dataclass(frozen=True)
 class Way:
-    """How a script is run: on so many processors, or on all with so many others at once; and whether beside a load."""
+    """How a script is run: on this many processors, or on all, with this many runs at once; and whether with a load."""
 
     name: str
     processors: int = 0
@@ -40,7 +40,7 @@ class Way:
     is_loaded: bool = False
 
     def places(self) -> list[list[int]]:
-        """The processors of each run of those that go on side by side."""
+        """The processors of each of the runs that go on in parallel."""
         if self.processors == 0:
             return [PROCESSORS] * self.at_once
         starts = range(0, len(PROCESSORS) - self.processors + 1, self.processors)
@@ -72,7 +72,7 @@ class Work:
         return [*pinned, *behind, self.program, "run", self.path]
 
     def wrong(self) -> tuple[str | None, int]:
-        """What is wrong in one of the runs, if anything is, and how many reports are different ones."""
+        """Describes what is wrong in one of the runs, or None, and returns the number of different reports."""
         judged: set[bytes] = set()
         most = MOST_SECONDS_LOADED if self.way.is_loaded else MOST_SECONDS
         for _ in range(self.times):
@@ -101,7 +101,7 @@ class Work:
 
 @contextmanager
 def load(is_wanted: bool) -> Iterator[None]:
-    """A busy process for each processor, where a load is wanted."""
+    """A busy process for each processor, if a load is wanted."""
     busy = [sys.executable, "-c", "while True: pass"]
     processes = [subprocess.Popen(busy) for _ in PROCESSORS if is_wanted]
     try:
@@ -113,7 +113,7 @@ def load(is_wanted: bool) -> Iterator[None]:
 
 
 def work_of(way: Way, program: str, folder: str, shapes: list[Shape], times: int) -> list[list[Work]]:
-    """What is to be done in one way, by the place where it is done."""
+    """The work to do in one way, by the processors that do it."""
     places = way.places()
     work: list[list[Work]] = [[] for _ in places]
     for number, shape in enumerate(shapes):
@@ -127,7 +127,7 @@ def lines_of(work: list[Work]) -> list[str]:
 
 
 def run_all(program: str, runs: int, shapes: list[Shape]) -> int:
-    """How many runs were right. A script that was wrong in one way isn't run in the others."""
+    """Runs all scripts, but none in a further way once it was wrong in one. Returns how many runs were right."""
     right, left = 0, shapes
     with tempfile.TemporaryDirectory() as folder, ProcessPoolExecutor(len(PROCESSORS)) as pool:
         for shape in shapes:

@@ -1,13 +1,13 @@
 """Scripts with many components, and the form of each report: what docs/PROFILE.md ("A run") lets it say.
 
-Each script is so made that all is known of its report but in which order a port's messages came. So the form of
-a report is its lines, in which a `?` stands for a word that is open. tests/runs/many_components/judging.py says which
-words may stand there.
+In the report of each script everything is known except the order in which a port's messages arrived. So the form of a
+report is its lines, in which a `?` stands for an open word. tests/runs/many_components/judging.py decides which words
+may be there.
 """
 from collections.abc import Callable
 from dataclasses import dataclass, field
 
-# The components of a script, `mtc` among them. 62 is as many as docs/SPEED.md measures; 64 are the most.
+# The numbers of components, including `mtc`. docs/SPEED.md measures up to 62, and 64 is the limit.
 COUNTS = (8, 20, 40, 62)
 MOST = 64
 VERDICTS = ("none", "pass", "inconc", "fail", "error")
@@ -15,7 +15,7 @@ VERDICTS = ("none", "pass", "inconc", "fail", "error")
 
 @dataclass(frozen=True)
 class Part:
-    """What a report says of one component: its history, its end, its verdict, and what is left at its ports."""
+    """The part of a report on one component: its history, its end, its verdict, and what is left at its ports."""
 
     history: list[str]
     end: str = "done"
@@ -47,8 +47,8 @@ def block_of(statements: list[str], depth: int) -> str:
 
 @dataclass
 class Script:
-    """A script in the making. `functions` has what each function does, `roles` which one a component runs;
-    `body` is what `mtc` does."""
+    """Builds a script. `functions` has the statements of each function, `roles` the function that each component runs,
+    and `body` the statements of `mtc`."""
 
     names: list[str]
     functions: dict[str, list[str]]
@@ -77,7 +77,7 @@ class Script:
 
 
 def shape_of(name: str, script: Script, parts: list[Part]) -> Shape:
-    """The lines of all parts, and the overall verdict (24.1; where a behaviour waits for good, `error`)."""
+    """The lines of all parts, and the overall verdict (24.1; `error` if a behaviour waits for good)."""
     lines = []
     for component, part in zip(script.names, parts, strict=True):
         lines += [f"component {component}", *part.history, f"end {part.end}", f"verdict {part.verdict}", *part.left]
@@ -87,7 +87,7 @@ def shape_of(name: str, script: Script, parts: list[Part]) -> Shape:
 
 
 def passed_round(script: Script, turns: int) -> list[list[str]]:
-    """Connects all to a ring, and tells the history of each where a token is passed so many times round."""
+    """Connects all components to a ring, and returns the history of each if a token goes round this many times."""
     histories = []
     for place, name in enumerate(script.names):
         following, before = script.names[(place + 1) % len(script.names)], script.names[place - 1]
@@ -101,7 +101,7 @@ def passed_round(script: Script, turns: int) -> list[list[str]]:
 
 
 def ring(count: int, turns: int = 100) -> Shape:
-    """A token is passed so many times round. Nothing is open."""
+    """A token goes round this many times. Nothing is open."""
     names = names_of(count)
     functions = {"passes": [loop(turns, "q.receive(integer:turn);", "p.send(integer:turn);"), "setverdict(pass);"]}
     body = [loop(turns, "p.send(integer:turn);", "q.receive(integer:turn);"), "setverdict(pass);"]
@@ -111,7 +111,7 @@ def ring(count: int, turns: int = 100) -> Shape:
 
 
 def star(count: int, turns: int = 10) -> Shape:
-    """`mtc` asks all, so many times, and all answer: open is who answers first."""
+    """`mtc` asks all components, this many times, and all answer. The order of their answers is open."""
     names = names_of(count)
     functions = {"answers": [loop(turns, "p.receive(integer:turn);", "p.send(integer:turn);"), "setverdict(pass);"]}
     taking = loop(count - 1, "p.receive(integer:turn);", variable="answer")
@@ -129,7 +129,7 @@ def star(count: int, turns: int = 10) -> Shape:
 
 
 def all_to_all(count: int, turns: int = 2) -> Shape:
-    """Each sends so many times to all others, and takes what they sent."""
+    """Each component sends this many times to all others, and takes what they sent."""
     names = names_of(count)
     talk = [
         loop(turns, "p.send(integer:turn) to all component;"),
@@ -149,7 +149,7 @@ def all_to_all(count: int, turns: int = 2) -> Shape:
 
 
 def tree(count: int) -> Shape:
-    """A tree that ends leaf by leaf: each waits for those below it, at port q, and tells the one above it."""
+    """A tree that ends leaf by leaf: each component waits for those below it, at port q, and then sends upwards."""
     names = names_of(count)
     below = {name: names[2 * place + 1 : 2 * place + 3] for place, name in enumerate(names)}
     functions = {
@@ -171,8 +171,8 @@ def tree(count: int) -> Shape:
 
 
 def relay(count: int) -> Shape:
-    """One half ends one after the other, each once the one before it has told it, while the others wait for
-    `mtc`, which wakes them in the end. Nothing is open."""
+    """The components of one half end one after the other, each after a message from the previous one, while the others
+    wait for `mtc`, which wakes them at the end. Nothing is open."""
     names = names_of(count)
     sleepers, runners = names[1 : count // 2], names[count // 2 :]
     functions = {
@@ -201,8 +201,8 @@ def relay(count: int) -> Shape:
 
 
 def all_wait(count: int, turns: int = 5) -> Shape:
-    """A token is passed so many times round, and then each waits for one more, but for one that ends. Nothing is
-    open: who waits for good ends as waiting, and that makes the result `error`."""
+    """A token goes round this many times. Then each component waits for one more, except for one that ends. Nothing is
+    open: a component that waits for good ends as waiting, and that makes the result `error`."""
     names = names_of(count)
     passing = loop(turns, "q.receive(integer:turn);", "p.send(integer:turn);")
     functions = {"waits": [passing, "q.receive;"], "ends": [passing, "setverdict(pass);"]}
@@ -217,8 +217,8 @@ def all_wait(count: int, turns: int = 5) -> Shape:
 
 
 def one_ends_last(count: int, turns: int = 3000) -> Shape:
-    """All wait from the start for what one sends, which is busy for a while and ends without a send. So mostly it is
-    the last that isn't at rest, and it must be told by its end that the others wait for good."""
+    """All components wait from the start for one that is busy for a while and ends without a send. So it is usually the
+    last that isn't at rest, and its end must reveal that the others wait for good."""
     names = names_of(count)
     ender = names[count // 2]
     functions = {"waits": ["p.receive;"], "ends": [loop(turns, "setverdict(pass);")]}
@@ -234,8 +234,8 @@ def one_ends_last(count: int, turns: int = 3000) -> Shape:
 
 
 def half_waits(count: int) -> Shape:
-    """One half is told by `mtc` to end, all at once, and the others wait for good. Nothing is open: each that ends must
-    be counted, or the end isn't found."""
+    """`mtc` lets one half end, all at once, and the others wait for good. Nothing is open: each component that ends
+    must be counted, because otherwise the end of the run isn't found."""
     names = names_of(count)
     waiting, ending = names[1 : count // 2], names[count // 2 :]
     functions = {"waits": ["p.receive;"], "ends": ["p.receive(integer:1);", "setverdict(pass);"]}
@@ -250,8 +250,7 @@ def half_waits(count: int) -> Shape:
 
 
 def half_ended(count: int) -> Shape:
-    """One half does nothing but tell `mtc`, and ends, before the others begin: what is sent to those that have
-    ended is left at their ports."""
+    """One half only sends to `mtc`, and ends before the others begin: messages to these components are left."""
     names = names_of(count)
     early, late = names[1 : count // 2], names[count // 2 :]
     functions = {
@@ -283,7 +282,7 @@ def half_ended(count: int) -> Shape:
 
 
 def all_to_one(count: int, turns: int = 20) -> Shape:
-    """All others send so many messages to `mtc`, which takes half of them: the others are left."""
+    """All others send this many messages each to `mtc`, which takes half of them: the others are left."""
     names = names_of(count)
     functions = {"tells": [loop(turns, "p.send(integer:turn) to all component;"), "setverdict(pass);"]}
     half = turns * (count - 1) // 2
@@ -298,8 +297,8 @@ def all_to_one(count: int, turns: int = 20) -> Shape:
 
 
 def system(count: int, turns: int = 5) -> Shape:
-    """All that a test case may have: each created component asks the system at a port of its own, so many times,
-    and it answers; then each tells `mtc`. Open is who tells first."""
+    """Everything that a test case may have: each created component asks the system this many times, at a port of its
+    own, and the system answers; then each sends to `mtc`. The order of these last messages is open."""
     names = [*names_of(count - 1), "system"]
     created = names[1:-1]
     functions = {
@@ -332,7 +331,7 @@ MAKERS: tuple[Callable[[int], Shape], ...] = (
 )
 
 
-# How many of so many components each send a thousand messages to `mtc`, which takes them meanwhile: all but itself.
+# The numbers of components in which all but `mtc` send it a thousand messages each, and it takes some meanwhile.
 THOUSANDS = (2, 4, 9)
 
 

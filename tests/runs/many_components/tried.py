@@ -1,10 +1,10 @@
-"""Tests the judge of runs with many components beside the model of runs, on scripts of the same shapes with few.
+"""Compares the judge of runs with many components with the model of runs, on scripts of the same shapes with few.
 
     tried.py TIMES
 
-Of each shape with 3 to 8 components so many runs of the model (tools/tpr_tools/model/), the acts by chance: each of
-these reports must be allowed, and each that is altered a little exactly where the judge of tests/orders allows it;
-where that one finds no answer soon, nothing is compared. It prints a line `passed ALLOWED REFUSED NAME` for each
+For each shape with 3 to 8 components there are TIMES runs of the model (tools/tpr_tools/model/), with random acts. The
+judge must allow each of these reports. It must allow a slightly altered one if and only if the judge of tests/orders
+does; if that judge finds no answer soon, nothing is compared. It prints a line `passed ALLOWED REFUSED NAME` for each
 script, or lines that begin with `FAILED: NAME`.
 """
 import argparse
@@ -54,7 +54,7 @@ def case_of(shape: Shape) -> TestCase:
 
 
 def report_of(case: TestCase, chance: random.Random) -> str:
-    """The report of a run of the model, of which chance says who acts next."""
+    """The report of a run of the model, in which a random component acts next."""
     run = Run(case)
     living = list(range(len(run.components)))
     while living:
@@ -67,7 +67,7 @@ def report_of(case: TestCase, chance: random.Random) -> str:
 
 
 def exchanged(report: str, chance: random.Random) -> str:
-    """The report with two takes exchanged, which may be of two senders."""
+    """The report with two messages of receivers exchanged, possibly of two senders."""
     lines = report.splitlines(True)
     takes = [place for place, line in enumerate(lines) if line.startswith(("took ", "left "))]
     if len(takes) < 2:
@@ -79,7 +79,7 @@ def exchanged(report: str, chance: random.Random) -> str:
 
 
 def tried(shape: Shape, times: int) -> str:
-    """The line for one script."""
+    """The result of one script."""
     case, chance = case_of(shape), random.Random(shape.name)
     reports = {report_of(case, chance) for _ in range(times)}
     for report in reports:
