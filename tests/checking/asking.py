@@ -1,4 +1,4 @@
-"""What is asked of the program: texts, each with its name and its answer."""
+"""Runs the program on texts, each with its name and its expected answer."""
 from __future__ import annotations
 
 import subprocess
@@ -9,11 +9,11 @@ from typing import NamedTuple, Optional, Protocol
 
 ROOT = Path(__file__).resolve().parents[2]
 MOST_SECONDS = 60
-SHOWN = 300  # of what was printed, where it is wrong
+SHOWN = 300  # bytes of a wrong output that a failure shows
 
 
 class Ended(NamedTuple):
-    """How a run ended, what it printed, and what it said on standard error."""
+    """How a run ended: its status, its standard output and its standard error."""
 
     status: int
     printed: bytes
@@ -24,13 +24,13 @@ class Ended(NamedTuple):
 
 
 class Asking:
-    """Asks the program, by a file in the folder."""
+    """Runs the program on a text, which it writes into a file of the folder."""
 
     def __init__(self, program: str, folder: Path):
         self.program, self.file = program, folder / "script"
 
     def answer(self, mode: str, text: bytes) -> Optional[Ended]:
-        """What it answers to the text, None where it takes too long."""
+        """Returns how the program ends on the text, or None if it takes too long."""
         self.file.write_bytes(text)
         words = [self.program, mode, str(self.file)]
         try:
@@ -42,7 +42,7 @@ class Asking:
         return Ended(done.returncode, done.stdout, done.stderr)
 
     def fault(self, mode: str, text: bytes, wanted: Ended) -> Optional[str]:
-        """How the answer differs from the one that is wanted."""
+        """Describes how the result differs from the expected one, or returns None."""
         ended = self.answer(mode, text)
         if ended == wanted:
             return None
@@ -50,7 +50,7 @@ class Asking:
 
 
 def told(answer: str) -> Ended:
-    """What `check` tells of a script with this answer: `accepted`, or `CODE NAME LINE`."""
+    """The result of `check` that a table's answer stands for: `accepted`, or `CODE NAME LINE`."""
     if answer == "accepted":
         return Ended(0, b"accepted\n", b"")
     rule, _, line = answer.rpartition(" ")
@@ -58,18 +58,18 @@ def told(answer: str) -> Ended:
 
 
 class Case(Protocol):
-    """What is tried under one name."""
+    """One test case."""
 
     name: str
     script: bytes
 
     def fault(self, asking: Asking) -> Optional[str]:
-        """What is wrong, if anything is."""
+        """Describes what is wrong, or returns None."""
 
 
 @dataclass
 class Script:
-    """A script with its answer."""
+    """A script, and the expected answer of `check`."""
 
     name: str
     script: bytes
@@ -81,7 +81,7 @@ class Script:
 
 @dataclass
 class Reported:
-    """A script that is run, with its report."""
+    """A script that is run, and its expected report."""
 
     name: str
     script: bytes
@@ -93,7 +93,7 @@ class Reported:
 
 @dataclass
 class Replayed:
-    """A queue file, with what `queue` prints of it and the status."""
+    """A queue file, and what `queue` must print and return."""
 
     name: str
     script: bytes
@@ -106,7 +106,7 @@ class Replayed:
 
 @dataclass
 class Cut:
-    """A script that is cut after any byte before its last bracket: it is refused in the line where it ends."""
+    """A script that is cut after any byte before its last bracket: `check` must refuse it in the line where it ends."""
 
     name: str
     script: bytes
@@ -121,7 +121,7 @@ class Cut:
 
 
 class Group(NamedTuple):
-    """Cases that belong together, and how many there are at least."""
+    """Cases that belong together, and their minimum number."""
 
     name: str
     least: int
@@ -132,21 +132,21 @@ class Group(NamedTuple):
 
 
 def in_module(*lines: str) -> bytes:
-    """A module of these lines, behind three with a port type and a component type."""
+    """A module with these lines, after three lines with a port type and a component type."""
     head = ("module M {", "type port P message { inout integer; }", "type component C { port P p, q; }")
     return "".join(f"{line}\n" for line in (*head, *lines)).encode()
 
 
 def listed(text: str, times: int) -> str:
-    """The text so many times, with a comma between; each `@` in it is the number, from 0."""
+    """Repeats the text, with commas between the copies; each `@` in it becomes the number of the copy, from 0."""
     return ", ".join(text.replace("@", str(number)) for number in range(times))
 
 
 def on_lines(text: str, times: int) -> str:
-    """The same with each on a line of its own."""
+    """The same, with each copy on its own line."""
     return "\n".join(text.replace("@", str(number)) for number in range(times))
 
 
 def loop(name: str, turns: int, statement: str) -> str:
-    """A loop of so many turns around the statement."""
+    """A loop around the statement, with the given number of turns."""
     return f"for (var integer {name} := 0; {name} < {turns}; {name} := {name} + 1) {{ {statement} }}"

@@ -1,8 +1,8 @@
-"""Scripts that differ in a line or two from one that is right: each refusal, and its nearest accepted neighbour.
+"""Scripts that differ from a valid one in a line or two: for each refusal also its nearest accepted neighbour.
 
-Of changes/NAME.ttcn the files NAME.changes and NAME.TOPIC.changes have a block for each script: the answer, and then
-lines `N TEXT`: TEXT stands in the place of line N, and `\\n` in it for the end of a line. Lines that begin with `#` are
-titles, and say the rule.
+For changes/NAME.ttcn, the files NAME.changes and NAME.TOPIC.changes have a block for each script: the answer, and then
+lines `N TEXT`. TEXT replaces line N, and `\\n` in it is a line end. Lines that begin with `#` are titles, which state
+the rule.
 """
 from __future__ import annotations
 
@@ -16,12 +16,12 @@ FOLDER = ROOT / "tests" / "checking" / "changes"
 
 @cache
 def base(name: str) -> list[str]:
-    """The lines of a script that is right."""
+    """The lines of a valid script."""
     return (FOLDER / f"{name}.ttcn").read_text(encoding="utf-8").splitlines()
 
 
 def change(name: str, answer: str, changes: list[str]) -> Script:
-    """The lines of the base, some of them changed."""
+    """A script made from the base by replacing some of its lines."""
     lines = [*base(name)]
     for it in changes:
         number, _, text = it.partition(" ")
@@ -33,7 +33,7 @@ def change(name: str, answer: str, changes: list[str]) -> Script:
 
 
 def changes_of(topic: str) -> Iterator[Case]:
-    """The scripts of a file of changes."""
+    """The scripts that a file of changes describes."""
     text = (FOLDER / f"{topic}.changes").read_text(encoding="utf-8")
     lines = [line for line in text.split("\n") if not line.startswith("#")]
     for block in "\n".join(lines).split("\n\n"):
@@ -43,6 +43,6 @@ def changes_of(topic: str) -> Iterator[Case]:
 
 
 def groups() -> list[Group]:
-    """How many scripts each file has stands in tests/cases.list."""
+    """A group for each file; tests/cases.list says how many scripts each file has."""
     topics = sorted(it.name.removesuffix(".changes") for it in FOLDER.glob("*.changes"))
     return [Group(f"changes of {it}", 1, partial(changes_of, it)) for it in topics]

@@ -1,11 +1,11 @@
 #!/usr/bin/env python3
-"""Which texts `tpr check` accepts, and how it refuses the others: by tables, each of a module beside this.
+"""Tests which texts `tpr check` accepts and how it refuses the others, by tables: each is a module of this folder.
 
-    check.py --tpr PROGRAM TABLE.. [--name PART]   tries each text of these tables, or those with this part of a name
+    check.py --tpr PROGRAM TABLE.. [--name PART]   tries each text of these tables, or those with PART in their name
     check.py --texts FOLDER TABLE..                writes each into N.ttcn of the folder, and its answer into N.answer
 
-It prints a line `passed NAME` for each text that is answered so, and else a line that begins with `FAILED: NAME`. A
-table that lost its entries fails, and so does one of which two have one name or one text.
+It prints a line `passed NAME` for each text with the expected answer, and otherwise a line that begins with
+`FAILED: NAME`. A table fails if it has too few entries, or if two entries have the same name or the same text.
 """
 from __future__ import annotations
 
@@ -31,7 +31,7 @@ TABLES = {it.__name__: it.groups for it in (changes, first_faults, grammar, limi
 
 
 class Known:
-    """The names and the texts of a table, of which no two are the same."""
+    """The names and the texts of a table, in order to find two that are the same."""
 
     def __init__(self) -> None:
         self.names: set[str] = set()
@@ -48,7 +48,7 @@ class Known:
 
 
 def told_of(group: Group, known: Known, asking: Asking, name: Optional[str]) -> Iterator[str]:
-    """What is told of each case of a group, and of their number; or of those with this part of a name alone."""
+    """The result lines of a group, or of its cases with this part of a name; one more if it has too few cases."""
     cases = [*group.cases()]
     for case in cases:
         if name is not None and name not in case.name:
@@ -62,7 +62,7 @@ def told_of(group: Group, known: Known, asking: Asking, name: Optional[str]) -> 
 
 
 def write_texts(folder: Path, tables: list[str]) -> None:
-    """Writes each script in place of trying it."""
+    """Writes each script into a file instead of trying it."""
     folder.mkdir()
     cases = [case for table in tables for group in TABLES[table]() for case in group.cases()]
     for number, case in enumerate((it for it in cases if isinstance(it, Script)), 1):
@@ -71,7 +71,7 @@ def write_texts(folder: Path, tables: list[str]) -> None:
 
 
 def try_tables(tables: list[str], asking: Asking, name: Optional[str]) -> Iterator[str]:
-    """What is told of the texts of these tables."""
+    """The result lines of these tables."""
     for table in tables:
         known = Known()
         for group in TABLES[table]():

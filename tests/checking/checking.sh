@@ -1,10 +1,10 @@
-# Which scripts `tpr check` accepts, and how it refuses the others: tables of check.py.
+# Tests which scripts `tpr check` accepts, and how it refuses the others, by the tables of check.py.
 
 checked() { # TABLE
     told "$room/checked" tests/checking/check.py --tpr "$tpr" "$1"
 }
 
-# Whether the table of the grammar spells what PROFILE says, and what is written from it is as it would be written.
+# Tests that the table of the grammar spells what PROFILE says, and that the files written from it are up to date.
 grammar_table() {
     told "$room/grammar_table" tests/checking/grammar_table.py
 }

@@ -1,7 +1,7 @@
-"""Where the reader tells 10: at the first token with which no text of the grammar goes on.
+"""Tests that the parser reports 10 at the first token with which no text of the grammar continues.
 
-In scripts whose tokens stand on a line each, one token is exchanged for another, put in, or taken out, and the line that
-is told is compared with that of the grammar in docs/PROFILE.md (recogniser.py): neither a token earlier nor one later.
+In scripts with one token on each line, a token is replaced, inserted or removed. The line that `check` reports must be
+that of the grammar in docs/PROFILE.md (recogniser.py), and neither an earlier nor a later one.
 """
 from __future__ import annotations
 
@@ -22,11 +22,11 @@ SCRIPTS = (
 TOKENS = re.compile(r'"(?:[^"]|"")*"|[A-Za-z]\w*|[0-9]+|:=|->|\.\.|[^\s]')
 COMMENTS = re.compile(r'("(?:[^"]|"")*")|//[^\n]*|/\*.*?\*/', re.DOTALL)
 EXCHANGED, PUT_IN = 6, 3
-OTHERS = ("another", "7", "1", '"a?"', '"(b"')  # beside those that the grammar names
+OTHERS = ("another", "7", "1", '"a?"', '"(b"')  # in addition to those that the grammar names
 
 
 class Change(NamedTuple):
-    """At a place so many tokens are taken out, and these put in."""
+    """At a place, removes `out` tokens and inserts others."""
 
     place: int
     out: int
@@ -34,7 +34,7 @@ class Change(NamedTuple):
 
 
 def changes_of(tokens: list[str], others: list[str], chance: Random) -> Iterator[Change]:
-    """At each place a token is exchanged for some others, some are put in before it, and one and two are taken out."""
+    """At each place a token is replaced by some others, some are inserted before it, and one and two are removed."""
     for at in range(len(tokens) + 1):
         yield from (Change(at, 1, (it,)) for it in chance.sample(others, EXCHANGED))
         yield from (Change(at, 0, (it,)) for it in chance.sample(others, PUT_IN))
@@ -43,7 +43,7 @@ def changes_of(tokens: list[str], others: list[str], chance: Random) -> Iterator
 
 @dataclass
 class ChangedInTurn:
-    """A script that is changed in one place after the other, from the last on."""
+    """A script that is changed in one place after the other, from the last place on."""
 
     name: str
     script: bytes
@@ -64,7 +64,7 @@ class ChangedInTurn:
 
 
 def refused_line(recogniser: Recogniser, tokens: list[str], place: int) -> Optional[int]:
-    """The line of the first token with which no text goes on, or of the end; None where the text is right."""
+    """The line of the first token with which no text continues, or of the end; None if the text is in the grammar."""
     for at in range(place, len(tokens)):
         if not recogniser.goes_on(tokens[at]):
             return at + 1
@@ -72,7 +72,7 @@ def refused_line(recogniser: Recogniser, tokens: list[str], place: int) -> Optio
 
 
 def fault_of(asking: Asking, text: bytes, line: Optional[int]) -> Optional[str]:
-    """How the answer differs: 10 at this line, or another answer than 10 where the text is right."""
+    """How the answer differs: from 10 at this line, or from any answer but 10 if the text is in the grammar."""
     if line is not None:
         return asking.fault("check", text, told(f"10 Syntax {line}"))
     ended = asking.answer("check", text)

@@ -1,8 +1,8 @@
-"""Which texts the reader of scripts reads, and where it refuses the others: grammar.texts, and open brackets.
+"""Tests which texts the parser accepts, and where it refuses the others: the table grammar.texts, and open brackets.
 
-In the table a line `in NAME` says what stands around the texts that follow. Before a text stands its answer, `accepted`
-or `CODE NAME LINE`: 10 and 15 where the reader refuses it, and else what the checks say of it. `\\n` in a text stands
-for the end of a line.
+In the table a line `in NAME` selects the context of the texts that follow. A text comes after its answer, `accepted` or
+`CODE NAME LINE`: 10 and 15 if the parser refuses the text, and otherwise the answer of the later checks. `\\n` in a
+text is a line end.
 """
 from __future__ import annotations
 
@@ -25,7 +25,7 @@ VARIABLES = f"{HEAD}\nfunction f(C a) runs on C {{ var integer v; var R r; var C
 
 
 class Around(NamedTuple):
-    """What stands before a text, and behind it."""
+    """The context of a text: what comes before it and after it."""
 
     before: str
     behind: str
@@ -64,13 +64,13 @@ def texts_of_the_table() -> Iterator[Case]:
 
 
 def behind_brackets(brackets: int, statement: str) -> bytes:
-    """The statement behind so many open brackets, on line 2 of its module. It can send `v`."""
+    """The statement after this many open brackets, on line 2 of its module. It can send `v`."""
     before = "".join(f"for (var integer i{it} := 0; i{it} < 1; i{it} := i{it} + 1) {{" for it in range(brackets - 2))
     head = f"module M {{ {PORTS} {TYPES} {COMPONENT} testcase t() runs on C {{ var integer v; {before}\n"
     return Around(head, f"\n{'}' * (brackets - 2)} }} }}").script(statement)
 
 
-# Behind how many open brackets each statement may stand, and its answer there.
+# The largest number of open brackets before each statement, and the answer for that number.
 MOST_BRACKETS = (
     (31, "accepted", "p.send(v)"),
     (31, "accepted", "p.receive(integer:1)"),
@@ -96,7 +96,7 @@ MOST_BRACKETS = (
 
 
 def open_brackets() -> Iterator[Case]:
-    """Each statement may stand behind so many open brackets, and not behind one more."""
+    """Each statement may follow its largest number of open brackets, but not one more."""
 
     def behind(brackets: int, statement: str, answer: str) -> Script:
         return Script(f"{statement} behind {brackets} brackets", behind_brackets(brackets, statement), answer)
@@ -108,7 +108,8 @@ def open_brackets() -> Iterator[Case]:
     yield behind(33, "p.stop", "15 Limit 1")
 
 
-# The line of the bracket or number that is too much, and 10 where none can stand, or another token before it.
+# The answer has the line of the bracket or number that exceeds the limit. It is 10 if no bracket or number may be
+# there, or if an earlier token is wrong.
 TOO_MANY = (
     (32, "15 Limit 2", r"p.send(\nv)"),
     (32, "15 Limit 2", r"p.check(\nreceive)"),
@@ -148,7 +149,7 @@ def brackets_too_many() -> Iterator[Case]:
 
 
 def token_faults_first() -> Iterator[Case]:
-    """A fault of the tokens comes before one of the grammar, wherever it stands."""
+    """A fault of the tokens takes precedence over one of the grammar, wherever it is."""
     faults = {it: "10 Syntax 6" for it in ('"', '"\x7f"', "@", "p > q", "/*/")}
     faults |= {it: "15 Limit 6" for it in ("9223372036854775809", "x" * 65)}
     for before in ("module M {", "module M } {", "module M { type record of"):
@@ -157,7 +158,7 @@ def token_faults_first() -> Iterator[Case]:
 
 
 def characters_of_patterns() -> Iterator[Case]:
-    """Characters that a text behind `pattern` may hold, and others."""
+    """Characters that a text after `pattern` may have, and others."""
 
     def pattern(character: str) -> bytes:
         text = f'function f() runs on C {{ p.receive(charstring:pattern\n"a{character}b"\n); }}'
@@ -170,7 +171,7 @@ def characters_of_patterns() -> Iterator[Case]:
 
 
 def groups() -> list[Group]:
-    """How many texts the table has stands in tests/cases.list."""
+    """The groups of this table; tests/cases.list says how many texts grammar.texts has."""
     return [
         Group("grammar.texts", 1, texts_of_the_table),
         Group("open brackets", 42, open_brackets),

@@ -1,12 +1,12 @@
 #!/usr/bin/env python3
-"""Whether the table of the grammar, crates/tp_syntax/specs/Grammar.antt, spells the texts of docs/PROFILE.md's grammar.
+"""Tests that the grammar's table, crates/tp_syntax/specs/Grammar.antt, spells the texts of docs/PROFILE.md's grammar.
 
-    grammar_table.py    for each rule, and each file of table_sets.py, a line `passed NAME` or `FAILED: NAME: WHY`
+    grammar_table.py    prints a line `passed NAME` or `FAILED: NAME: WHY` for each rule, and each file of table_sets.py
 
-Above each rule of the table stands what it spells, in the words of the document and of other rules of the table. Both
-are run as automata, one beside the other: after the same tokens the same tokens must be able to follow, or the end. A
-block, a value and a template contain themselves: an inner one counts as a token, so that the comparison ends. What is
-inside a block, a value or a template is itself compared, in the line of its rule.
+The comment above each rule of the table says what the rule spells, in the words of the document and of other rules of
+the table. Rule and comment are run side by side as automata: after the same tokens, the same tokens or the end must be
+able to follow. A block, a value and a template contain themselves: an inner one counts as a token, so that the
+comparison ends. The inside of a block, a value or a template is compared in the line of its own rule.
 """
 from __future__ import annotations
 
@@ -24,15 +24,15 @@ from table import TableRule, Way, rules_of_the_table
 NESTED = ("unnamed_value", "other_template")  # a token, unless nothing follows
 BLOCK = "statements of a block"
 BEFORE_BRACE = "only before }"  # nothing, if a `}` comes next
-SAID = "said "  # before the name of a rule of the table, for what stands above it
+SAID = "said "  # before the name of a rule of the table, for the comment above it
 WORDS = re.compile(r'"[^"]*"|[a-z_]+|[][{}()|]')
 Grammar = dict[str, list[Way]]
-Form = tuple[bool, Way]  # what is still to come; whether it must begin with a `}`
+Form = tuple[bool, Way]  # whether it must begin with a `}`; what is still to come
 Forms = frozenset[Form]
 
 
 class SaidReader(GrammarReader):
-    """Reads what stands above a rule, in the notation of the document."""
+    """Reads the comment above a rule, in the notation of the document."""
 
     def __init__(self, name: str, text: str):
         super().__init__("")
@@ -40,7 +40,7 @@ class SaidReader(GrammarReader):
 
 
 def plain(name: str, rules: dict[str, list[Rule]]) -> Grammar:
-    """The rules, those of brackets with this name before theirs."""
+    """The rules; those that stand for brackets get this name before theirs."""
     return {
         named(name, of): [tuple(named(name, it) for it in rule.parts) for rule in ways] for of, ways in rules.items()
     }
@@ -61,10 +61,11 @@ def with_one_loop_name(way: Way) -> Way:
 
 
 def said_of(table: dict[str, TableRule]) -> Grammar:
-    """The rules of the document, and what stands above the rules of the table.
+    """The rules of the document, and the comments above the rules of the table.
 
-    A block is a `{` and its statements, a value is a name or another value, and a template a name, an integer or
-    another one: the lines of `statements`, `unnamed_value` and `other_template` say the same of the document's own rules.
+    A block is a `{` and its statements, a value is a name or another value, and a template is a name, an integer or
+    another one. The comments above `statements`, `unnamed_value` and `other_template` say the same of the document's
+    own rules.
     """
     profile = plain("profile", rules_of_the_profile())
     rules: Grammar = {**profile, "end": [('";"',), (BEFORE_BRACE,)]}
@@ -96,13 +97,13 @@ def with_blocks(way: Way) -> Way:
 
 
 class Run:
-    """What may come next, at one place after another of the texts of a grammar."""
+    """Computes which tokens may come next, at one place after another of the texts of a grammar."""
 
     def __init__(self, rules: Grammar):
         self.rules = rules
 
     def opened(self, forms: Forms) -> Forms:
-        """The same, each form opened until it begins with a token or is at its end."""
+        """The same, with each form expanded until it begins with a token or is at its end."""
         left, seen = list(forms), set(forms)
         found: set[Form] = set()
         while left:
@@ -117,7 +118,7 @@ class Run:
         return frozenset(it for it in found if not it[0] or it[1][:1] == ('"}"',))
 
     def inner(self, form: Form) -> Optional[list[Form]]:
-        """What the form may be instead, or None if it begins with a token."""
+        """The forms that this one expands to, or None if it begins with a token or is at its end."""
         bound, parts = form
         if not parts:
             return None
@@ -137,7 +138,7 @@ def first_of(parts: Way) -> str:
 
 
 def difference(one: Run, other: Run, names: tuple[str, str]) -> str:
-    """The first tokens after which only one of the two goes on so, or nothing."""
+    """The first tokens after which the two continue with different tokens, or an empty text."""
     begin = one.opened(frozenset({(False, (names[0],))})), other.opened(frozenset({(False, (names[1],))}))
     passed, left = {begin: ""}, [begin]
     for here in left:
@@ -153,7 +154,7 @@ def difference(one: Run, other: Run, names: tuple[str, str]) -> str:
 
 
 def differences() -> Iterator[tuple[str, str]]:
-    """Each rule, and how the two differ."""
+    """Each rule, and how table and document differ in it."""
     table = rules_of_the_table()
     said = Run(said_of(table))
     spelled = Run(ways_of(table))

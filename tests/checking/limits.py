@@ -1,4 +1,4 @@
-"""The limits of scripts, each bound itself and one more, and scripts that are cut short."""
+"""The limits of scripts, each at its bound and one above it, and scripts that are cut short."""
 from __future__ import annotations
 
 from collections.abc import Iterator
@@ -8,7 +8,7 @@ from asking import ROOT, Case, Cut, Group, Replayed, Script, in_module, loop
 MOST_BYTES = 1_048_576
 MOST_COUNT = 9223372036854775807
 
-# What opens so many brackets in one another, each kind of bracket the innermost once.
+# How many brackets each statement opens inside one another. Each kind of bracket is the innermost one once.
 BRACKETS_OF = {
     "setverdict(pass);": 1,
     "p.send(integer:1);": 1,
@@ -57,14 +57,14 @@ def limit_of_names_in_queue_files() -> Iterator[Case]:
 
 
 def loops_round(loops: int, statement: str) -> bytes:
-    """So many loops in one another round the statement, which stands in line 9 of its script."""
+    """Nested loops around the statement, which is on line 9 of its script."""
     heads = (f"for (var integer i{it} := 0; i{it} < 1; i{it} := i{it} + 1) {{ " for it in range(loops))
     types = ("type record of T T;", "type port R message { inout T; }", "type component D { port P p; port R r; }")
     return in_module(*types, "testcase t() runs on D {", "".join(heads), statement, "}" * loops, "}", "}")
 
 
 def limit_of_brackets() -> Iterator[Case]:
-    """Beside the statement's brackets those of the module and of the test case are open."""
+    """The brackets of the module and of the test case are open too, in addition to those of the statement."""
     for statement, brackets in BRACKETS_OF.items():
         script = loops_round(30 - brackets, statement)
         yield Script(f"32 brackets open in {statement}", script, "accepted")
@@ -78,7 +78,7 @@ def limit_of_brackets() -> Iterator[Case]:
 
 
 def on_one_line(braces: int) -> bytes:
-    """A module of one line, which sends a value of so many lists in one another."""
+    """A module on one line, which sends a value of nested lists."""
     return (
         "module M { type record of T T; type port P message { inout T; } type component C { port P p; } "
         f"testcase t() runs on C {{ p.send(T:{'{' * braces}{'}' * braces}); }} }}\n"
@@ -96,7 +96,7 @@ def limit_of_numbers() -> Iterator[Case]:
 
 def limit_of_components() -> Iterator[Case]:
     def components(count: int, clause: str) -> bytes:
-        """So many component variables, all started, in a test case whose head has the clause."""
+        """A test case whose head has the clause, with this many component variables, all started."""
         made = [f"var C c{it} := C.create;" for it in range(count)]
         begun = [f"c{it}.start(f());" for it in range(count)]
         head = ("function f() runs on C { }", f"testcase t() runs on C {clause}{{")
@@ -122,7 +122,7 @@ def limit_of_statements() -> Iterator[Case]:
         return in_module("testcase t() runs on C {", loop("i", count, statement), "}", "}")
 
     def started(count: int, starts: str, other: str = "") -> bytes:
-        """The starts of `f`, of so many statements and two, or of another function."""
+        """A test case that executes `starts`. They start `f`, whose loop has `count` turns, or another function."""
         made = ("var C a := C.create;", "var C b := C.create;")
         head = (f"{other}function f() runs on C {{", loop("i", count, "setverdict(pass);"), "}")
         return in_module(*head, "testcase t() runs on C {", *made, starts, "all component.done;", "}", "}")
@@ -139,14 +139,14 @@ def limit_of_statements() -> Iterator[Case]:
 
 
 def row_of_a_system(line_4: str, line_5: str, line_6: str) -> bytes:
-    """A test case with a test system interface, which `sut` plays: these are its lines 4 to 6."""
+    """A test case with a test system interface, which `sut` plays; the arguments are its lines 4 to 6."""
     case = ("map(mtc:p, system:s);", "p.send(integer:1); p.receive(integer:2);")
     verdicts = "setverdict(pass); setverdict(fail); setverdict(pass);"
     return in_module(line_4, line_5, line_6, *case, verdicts, "}", "}")
 
 
 def played_systems() -> Iterator[Case]:
-    """What stands in line 5 of the script, or beside it, decides."""
+    """The answer depends on line 5 of the script, or on a line next to it."""
     line_4, played = "type component S { port P s; }", "{ s.receive(integer:1); s.send(integer:2); }"
     line_5, line_6 = f"function sut() runs on S {played}", "testcase t() runs on C system S {"
     yield Script("a system that is played", row_of_a_system(line_4, line_5, line_6), "accepted")

@@ -1,5 +1,5 @@
-"""Scripts with many of a kind, more than small tables hold, with a fault in the last of them; faults beside a limit
-that is passed; and a long report."""
+"""Scripts with more items of a kind than small tables hold, and a fault in the last one; faults in scripts that also
+exceed a limit; and a long report."""
 from __future__ import annotations
 
 from collections.abc import Iterator
@@ -13,7 +13,7 @@ CREATED = "var C c@ := C.create;"
 
 
 def with_70_fields(statement: str) -> bytes:
-    """A record of 70 fields, and on line 6 a statement at a port for it."""
+    """A record with 70 fields, and on line 6 a statement at a port for it."""
     types = f"type record R {{ {listed('integer f@', 70)} }} type port Q message {{ inout R; }}"
     return in_module(f"{types} type component D {{ port Q r; }}", "testcase t() runs on D {", statement, "}", "}")
 
@@ -78,7 +78,7 @@ def many_functions() -> Iterator[Case]:
 
 
 def with_70_parameters(arguments: str) -> bytes:
-    """Function f has 70 parameters, and is started on line 7 with these arguments."""
+    """A script whose function f has 70 parameters, and is started on line 7 with these arguments."""
     sends = "p.send(integer:1) to c68; " * 2
     return in_module(
         f"type component D {{ }} function f({listed('C c@', 69)}, D d) runs on C {{ {sends} }}",
@@ -105,7 +105,7 @@ def many_parameters() -> Iterator[Case]:
 
 
 def kinds(name: str, direction: str, count: int) -> str:
-    """A type of ports with so many message types."""
+    """A port type with this many message types."""
     return f"type port {name} message {{ {direction} {listed('Kind@', count)}; }}"
 
 
@@ -135,7 +135,7 @@ def many_message_types() -> Iterator[Case]:
 
 
 def with_connections(line: str) -> bytes:
-    """63 components, each connected with one port of mtc, and then this line."""
+    """63 components, each connected with the same port of mtc, and then this line."""
     return in_module(
         "function f() runs on C { }",
         "testcase t() runs on C {",
@@ -187,7 +187,7 @@ def many_statements() -> Iterator[Case]:
 
 def many_elements() -> Iterator[Case]:
     def with_elements(elements: str) -> bytes:
-        """A list on line 6."""
+        """A script with this list on line 6."""
         types = "type record of integer L; type port Q message { inout L; } type component D { port Q r; }"
         return in_module(types, "testcase t() runs on D {", f"r.send(L:{{{elements}}});", "}", "}")
 
@@ -208,8 +208,8 @@ def long_names() -> Iterator[Case]:
     yield Script("the same name of 64 letters twice", in_module(a, a, EMPTY_CASE, "}"), "12 Duplicate 5")
 
 
-# The component variable one too many, on line 69: its name, its type and that both types are the same come before the
-# limit, and the limit before the next statement.
+# One component variable too many, on line 69. Faults of its name or its type, and two types that differ, take
+# precedence over the limit. The limit takes precedence over the next statement.
 LAST_COMPONENTS = (
     ("12 Duplicate 69", "var C c0 := C.create;"),
     ("12 Duplicate 69", "var X c62 := C.create;"),
@@ -230,8 +230,8 @@ def limit_of_components_last() -> Iterator[Case]:
 
 
 def limit_of_ports_first() -> Iterator[Case]:
-    """A component type with too many ports, on line 4: in one definition what is unknown comes before the limit, and
-    definitions come in the order of the text. Names come before all."""
+    """A component type with too many ports, on line 4. Names are checked before everything else, and then the
+    definitions in the order of the text. Within a definition an unknown name takes precedence over the limit."""
     ports, record, sut = f"port P {listed('a@', 64)};", "type record R { X a }", "function sut() runs on C { }"
     too_many = f"type component D {{ {ports} port P a64; }}"
     setup = "testcase t() runs on D { connect(mtc:a0, mtc:a0); }"
@@ -249,7 +249,7 @@ def limit_of_ports_first() -> Iterator[Case]:
 
 
 def limit_of_text_first() -> Iterator[Case]:
-    """A text that is too long is told before all that stands in it."""
+    """If a text is too long, that is reported before any other fault in it."""
     byte = "a byte that begins no token, in a text that is"
     yield Script(f"{byte} too long", b"@".ljust(1048577), "15 Limit 0")
     yield Script(f"{byte} just short enough", b"@".ljust(1048576), "10 Syntax 1")
@@ -258,7 +258,7 @@ def limit_of_text_first() -> Iterator[Case]:
 
 
 def long_report() -> Iterator[Case]:
-    """7,000 messages to each of 61 components, all sent and all left: nothing gives up where there is much."""
+    """7,000 messages to each of 61 components, all sent and all left: a long run and its report are complete."""
     script = in_module(
         "function f() runs on C { }",
         "testcase t() runs on C {",
@@ -279,7 +279,7 @@ def long_report() -> Iterator[Case]:
 
 
 def most_types() -> Iterator[Case]:
-    """As many types as a text has room for, and a message of the last of them."""
+    """As many types as fit into a text, and a message of the last one."""
     names = ["".join(it) for it in product(ascii_uppercase, *[f"{ascii_letters}{digits}_"] * 2)][:61_600]
     last = names[-1]
     script = in_module(

@@ -1,4 +1,4 @@
-"""Two faults in one script: that of the earlier pass is answered, wherever the two stand."""
+"""Scripts with two faults: the fault of the earlier pass is reported, wherever the two are."""
 from __future__ import annotations
 
 from collections.abc import Iterator
@@ -12,14 +12,14 @@ LAST = 13  # the line of the bracket that ends the module
 
 
 class Fault(NamedTuple):
-    """A fault that a pass finds: the answer, the line that it changes, and the text."""
+    """A fault that a pass finds: the answer, the line that it changes, and the new text of that line."""
 
     answer: str
     line: int
     text: str
 
 
-# One of each pass, in their order. Those of the last line stand there together, before the bracket.
+# One for each pass, in their order. Those of the last line are put there together, before the bracket.
 PASSES = (
     Fault("10 Syntax 12", 12, "] }"),
     Fault("12 Duplicate 13", LAST, "type record T { } type record T { }"),
@@ -31,7 +31,7 @@ PASSES = (
 
 
 def with_faults(*faults: Fault) -> Script:
-    """A script with these faults, of which the first is answered."""
+    """A script with these faults, of which the first must be reported."""
     changes = [f"{it.line} {it.text}" for it in faults if it.line != LAST]
     last = "".join(f"{it.text} " for it in reversed(faults) if it.line == LAST)
     return change("configuration", faults[0].answer, [*changes, f"{LAST} {last}}}"])

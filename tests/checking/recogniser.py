@@ -1,4 +1,4 @@
-"""How far a text of the grammar of docs/PROFILE.md may go on: Earley's way, by the lines of the grammar themselves."""
+"""Recognises texts of the grammar of docs/PROFILE.md token by token: Earley's algorithm, with that page's rules."""
 from __future__ import annotations
 
 import re
@@ -12,21 +12,21 @@ PROFILE = ROOT / "docs" / "PROFILE.md"
 FIRST = "module"
 PIECES = re.compile(r'"[^"]*"|[a-z]+|[][{}()|=]')
 OF_A_PATTERN = re.compile(r'"[^][\\{}()|#+"]*"')
-LOOP_NAME = 4  # the name of a loop stands so many tokens behind its `for`
+LOOP_NAME = 4  # the name of a loop's variable comes this many tokens after its `for`
 
-# What may stand in a rule: a quoted token, a kind of token (KINDS), or the name of a rule.
+# The parts of a rule: a quoted token, a kind of token (KINDS), or the name of a rule.
 KINDS = ("name", "number", "text", "i")
 
 
 class Rule(NamedTuple):
-    """One way in which what it names is written."""
+    """One alternative of the rule `of`."""
 
     of: str
     parts: tuple[str, ...]
 
 
 class Item(NamedTuple):
-    """So many parts of the rule are passed, from this place on."""
+    """An alternative of which this many parts are passed, from the place `begin` on."""
 
     rule: Rule
     passed: int
@@ -40,7 +40,7 @@ class Item(NamedTuple):
 
 
 class GrammarReader:
-    """The rules of the lines `NAME = ..`, in which `[x]`, `{x}` and `(x | y)` become rules of their own."""
+    """Reads the lines `NAME = ..` into rules, in which `[x]`, `{x}` and `(x | y)` become rules of their own."""
 
     def __init__(self, text: str):
         self.pieces: list[str] = PIECES.findall(text)
@@ -95,17 +95,17 @@ def rules_of_the_profile() -> dict[str, list[Rule]]:
 
 @dataclass
 class Place:
-    """What may stand at a place of a text: the items with which the token before it was passed, and all that they come to,
-    by what they want next."""
+    """A place of a text: the items with which the token before it was passed, and all items that follow from these,
+    grouped by the part that they expect next."""
 
     passed: list[Item]
     wanting: dict[str, list[Item]] = field(default_factory=dict)
     items: set[Item] = field(default_factory=set)
-    empty: set[str] = field(default_factory=set)  # the rules that are written by nothing here
+    empty: set[str] = field(default_factory=set)  # the rules that spell nothing here
 
 
 class Recogniser:
-    """Reads tokens one after the other, as long as some text of the grammar goes on with them."""
+    """Reads tokens one after the other, as long as some text of the grammar continues with them."""
 
     def __init__(self, rules: dict[str, list[Rule]]):
         self.rules = rules
@@ -119,13 +119,13 @@ class Recogniser:
         return {it for ways in self.rules.values() for rule in ways for it in rule.parts if it.startswith('"')}
 
     def go_back(self, to: int) -> None:
-        """Takes back all but so many tokens."""
+        """Takes back all tokens after the first `to`."""
         if to < len(self.tokens):
             self.next = self.places[to].passed
             del self.places[to:], self.tokens[to:]
 
     def goes_on(self, token: Optional[str]) -> bool:
-        """Whether a text of the grammar goes on with the token, or ends there for None. If so it is passed."""
+        """Whether a text of the grammar continues with the token, which is then passed, or, for None, may end."""
         place = self.closed(token)
         if token is None:
             return any(it.rule.of == FIRST and it.wanted() is None for it in place.items)
@@ -139,7 +139,7 @@ class Recogniser:
         return bool(found)
 
     def is_it(self, wanted: str, token: str, item: Item) -> bool:
-        """Whether the token is what the item wants."""
+        """Whether the token is the part that the item expects."""
         if wanted.startswith('"'):
             return token == wanted[1:-1]
         if wanted == "number":
@@ -152,7 +152,7 @@ class Recogniser:
         return wanted == "name" or len(self.tokens) == first or token == self.tokens[first]
 
     def closed(self, token: Optional[str]) -> Place:
-        """All items of the place that comes next, before this token."""
+        """All items of the next place, before this token."""
         place, here, left = Place(self.next), len(self.places), list(self.next)
         while left:
             item = left.pop()
@@ -164,14 +164,14 @@ class Recogniser:
         return place
 
     def behind(self, item: Item, place: Place, here: int) -> Iterator[Item]:
-        """What goes on behind a rule that is written."""
+        """The items that continue after a rule that is complete."""
         if item.begin == here:
             place.empty.add(item.rule.of)
         before = place if item.begin == here else self.places[item.begin]
         yield from [it.advanced() for it in before.wanting.get(item.rule.of, [])]
 
     def begun(self, item: Item, wanted: str, place: Place, here: int, token: Optional[str]) -> Iterator[Item]:
-        """What begins where the item wants this."""
+        """The items that begin here because the item expects this part."""
         place.wanting.setdefault(wanted, []).append(item)
         for rule in self.rules.get(wanted, []):
             if rule.parts or wanted != "end" or token == "}":

@@ -1,4 +1,4 @@
-"""The rules of the table in crates/tp_syntax/specs/Grammar.antt, with what stands above each."""
+"""Reads the rules of the table in crates/tp_syntax/specs/Grammar.antt, with the comment above each."""
 from __future__ import annotations
 
 import re
@@ -16,7 +16,7 @@ Way = tuple[str, ...]
 
 
 class Alternative(NamedTuple):
-    """What may stand for a rule. It is taken before one of the guards; the last alternative of a rule has none."""
+    """One alternative of a rule. It is taken before one of the guards; the last alternative of a rule has no guards."""
 
     guards: Way
     items: Way
@@ -30,7 +30,7 @@ class TableRule(NamedTuple):
 
 
 def spellings() -> dict[str, str]:
-    """How the table names words and symbols, and how a text spells them."""
+    """The spelling of each word and symbol, by its name in the table."""
     words, symbols = ((SPECS / f"{it}.antt").read_text("utf-8") for it in ("Word", "Spelling"))
     found = re.findall(r'^word_spelling (w\.\w+) = codes "(.*)"', words, re.M)
     found += re.findall(r'^symbol_spelling s\.(\w+) = codes "(.*)"', symbols, re.M)

@@ -1,8 +1,8 @@
 """Writes what the proofs of tp_syntax check of each rule of the grammar's table: the tokens with which it begins, those
-that may follow it, and a short text of it. Nobody has to believe these tables: the prover rejects a wrong one.
+that may follow it, and a short text of it. These tables need no trust: the prover rejects a wrong one.
 
     table_sets.py write    writes FILES in crates/tp_syntax/proofs
-    table_sets.py          says whether they are as they would be written
+    table_sets.py          prints `passed NAME` for each file that is as it would be written, or `FAILED: ..`
 """
 from __future__ import annotations
 
@@ -25,7 +25,7 @@ Sets = dict[str, set[str]]
 
 
 class Computed:
-    """The sets, each as small as it can be."""
+    """The sets, each as small as possible."""
 
     def __init__(self, rules: dict[str, TableRule]):
         self.rules = rules
@@ -54,7 +54,7 @@ class Computed:
             found = more
 
     def find_rank(self, name: str) -> int:
-        """One more than that of each rule with which the rule may begin. A rule that begins with itself has none."""
+        """One more than the rank of each rule with which it may begin. A rule that begins with itself has none."""
         if name not in self.rank:
             inner = [self.find_rank(it) for way in self.ways[name] for it in self.leading(way)]
             self.rank[name] = 1 + max(inner, default=0)
@@ -101,7 +101,7 @@ class Computed:
         return grew
 
     def find_depths(self) -> None:
-        """How deep the rules nest in the shallowest text of each rule, and the place of that alternative."""
+        """How deep rules nest in the shallowest text of each rule, and the place of its alternative."""
         while len(self.depth) < len(self.rules):
             found = {}
             for name, ways in self.ways.items():
@@ -133,8 +133,8 @@ class Writing:
         return filled(begin, [*parts, "[]"])
 
     def table(self, about: str, word: str, sets: Sets) -> list[str]:
-        """A table whose equal sets of several tokens are named once. Its last line is for all other rules: those of the
-        most frequent set."""
+        """A table in which a set of several tokens that occurs more than once has one name. Its last line is for all
+        other rules: those with the most frequent set."""
         named: dict[frozenset[str], str] = {}
         shared: list[str] = []
         for name, kinds in sets.items():
@@ -214,8 +214,8 @@ class Writing:
 
 
 def computed_for_each(lemma: str) -> list[str]:
-    """A lemma that is computed for each rule: because the first has a line of its own, the second line is taken once for
-    each of the others."""
+    """A lemma that is computed for each rule. The first rule has a line of its own, so that the second line is taken
+    once for each of the others."""
     return [f"{lemma} r.{FIRST} = refl", f"{lemma} r = refl"]
 
 
@@ -224,7 +224,7 @@ def text_of(lines: list[str]) -> str:
 
 
 def head_of_tokens(common: str, lines: list[str]) -> list[str]:
-    """The imports of a file of tokens with these lines, which names no kind of token that they lack."""
+    """The imports of a file of tokens with these lines. Kinds of tokens that the lines don't use aren't imported."""
     words = set(re.findall(r"\w+", "\n".join(lines)))
     kinds = ", ".join(it for it in IMPORTED if it in words)
     return [
@@ -243,7 +243,7 @@ def head_of_rules() -> list[str]:
 
 
 def numbers(word: str, of_rules: dict[str, int], of_others: int) -> list[str]:
-    """A number for each rule, and one for those that the table leaves out."""
+    """A number for each rule in the table, and one for all other rules."""
     named = [f"{word} r.{name} = {number}" for name, number in of_rules.items() if number > of_others]
     return [f"abbrev pub {word} : Rule → ℕ", *named, f"{word} _ = {of_others}"]
 

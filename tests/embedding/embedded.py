@@ -29,7 +29,7 @@ ADDRESSES = ("-g", "-O1", "-fsanitize=address,undefined", "-fno-sanitize-recover
 THREADS = ("-g", "-O1", "-fsanitize=thread", "-pthread")
 VALGRIND = ("valgrind", "-q", "--leak-check=full", "--errors-for-leak-kinds=all", "--error-exitcode=9")
 WRAPPED = ("-Wl,--wrap=malloc", "-Wl,--wrap=realloc")
-# How the example of each header begins, what is before each of its lines, and the file that a program includes.
+# For each header: how its example begins, the prefix of its lines, and the file that a program includes.
 EXAMPLES = {
     "tp_port.h": ("tp_port port;", " *   ", "example_of_c.inc"),
     "tp_port.hpp": ("tp::Port<", "//     ", "example_of_cpp.inc"),
@@ -40,7 +40,7 @@ MOST_SECONDS = 120
 
 @dataclass(frozen=True)
 class Build:
-    """One way to build a program, and the words to run it with, also before its name."""
+    """One way to build a program, its arguments for each run, and the words before its name."""
 
     name: str
     source: str
@@ -66,7 +66,7 @@ OF_ADDRESSES = (
     Build("tp::Port, by ASan and UBSan", "owning.cpp", ADDRESSES),
     Build("calls by chance, by ASan and UBSan", "by_chance.cpp", ADDRESSES, SEEDS),
 )
-# The sanitizers see what the headers and the programs do, and valgrind what the library does too.
+# The sanitizers check the headers and the programs; valgrind checks the library too.
 OF_VALGRIND = (
     Build("each function, by valgrind", "calls.c", under=VALGRIND),
     Build("tp::Port, by valgrind", "owning.cpp", under=VALGRIND),
@@ -77,7 +77,7 @@ RACE = Build("TSan tells a message that is written after it arrived", "mutex.c",
 
 
 class Room:
-    """Where programs are built, with the library."""
+    """The folder where programs are built, and the library."""
 
     def __init__(self, port: Path, folder: Path):
         self.port, self.folder = port, folder
@@ -88,7 +88,7 @@ class Room:
         print(f"passed {name}" if wrong is None else f"FAILED: {name}: {wrong}", flush=True)
 
     def run(self, words: list[str], more: Optional[dict[str, str]] = None) -> tuple[int, str]:
-        """The status, and all that was printed and said."""
+        """The status, and the standard output and error together."""
         environment = {**os.environ, **(more or {})}
         try:
             ran = subprocess.run(
@@ -100,7 +100,7 @@ class Room:
         return ran.returncode, ran.stdout
 
     def compiled(self, compilers: tuple[str, str], build: Build) -> tuple[str, Optional[str]]:
-        """The program, and what is wrong with its compilation."""
+        """The program's name, and the compiler's messages if the compilation fails."""
         is_c = build.source.endswith(".c")
         made = re.sub(r"\W+", "_", f"{compilers[0]} {build.name}")
         words = [compilers[0], "-std=c11", "-D_GNU_SOURCE"] if is_c else [compilers[1], "-std=c++17"]
@@ -109,7 +109,7 @@ class Room:
         return made, said[:2000] if status else None
 
     def wrong(self, compilers: tuple[str, str], build: Build) -> Optional[str]:
-        """What is wrong with a program and its runs, one for each word."""
+        """Describes what is wrong with a program's compilation or its runs, one for each word."""
         made, wrong = self.compiled(compilers, build)
         for word in build.words or (None,):
             if wrong is not None:
@@ -127,7 +127,7 @@ class Room:
 
 
 def can_sanitize(room: Room, compilers: tuple[str, str], flags: tuple[str, ...]) -> bool:
-    """Whether the compiler has what it links for that."""
+    """Whether the compiler can link the sanitizer of these flags."""
     (room.folder / "empty.c").write_text("int main(void) { return 0; }\n", encoding="utf-8")
     return room.run([compilers[0], *flags, "empty.c", "-o", "empty"])[0] == 0 and room.run(["./empty"])[0] == 0
 
@@ -151,7 +151,7 @@ def try_compilers(room: Room, compilers: tuple[str, str]) -> None:
 
 
 def write_examples(room: Room) -> None:
-    """The example at the head of each header, for the program that has it within."""
+    """Writes the example at the head of each header into the file that a program includes."""
     for header, (start, prefix, name) in EXAMPLES.items():
         lines = (room.port / "include" / header).read_text(encoding="utf-8").splitlines()
         shown = [it[len(prefix) :] for it in lines if it.startswith(prefix)]
@@ -169,19 +169,19 @@ def links_into_a_shared_library(room: Room, compilers: tuple[str, str]) -> Optio
 
 
 def programs_of_page() -> list[tuple[str, str, str]]:
-    """The programs that docs/EMBEDDING.md shows, each with its language and what it must print. Each is a file."""
+    """The programs of docs/EMBEDDING.md, each with its language and its expected output. Each is also a file."""
     form = re.compile(r"^```(c|cpp)\n(.*?)^```\n\n(?:It prints `(.*?)`\.)?", re.M | re.S)
     return [it for it in form.findall(PAGE.read_text(encoding="utf-8")) if "int main" in it[1]]
 
 
 def commands_of_page() -> dict[str, str]:
-    """The lines by which the page compiles them, by the languages."""
+    """The page's lines that compile them, by language."""
     lines = re.findall(r"^    ((?:cc|c\+\+) .*)$", PAGE.read_text(encoding="utf-8"), re.M)
     return {"cpp" if line.startswith("c++") else "c": line for line in lines}
 
 
 def try_page(room: Room) -> None:
-    """The programs of the page, compiled by its own lines, as at the top of the repository."""
+    """Tries the programs of the page, compiled by its own lines, as at the top of the repository."""
     if not shutil.which("pkg-config"):
         print("left out the programs of docs/EMBEDDING.md, because there is no pkg-config", flush=True)
         return

@@ -1,9 +1,9 @@
-# The queue in programs of C and C++ (docs/EMBEDDING.md): the proofs of the exports are those of their template, the
-# header is that of the library, and the programs of `programs/` and of the page run, by gcc and clang, with sanitizers.
-# Eclipse Titan runs the examples with its own queue and with ours.
+# Tests the queue in programs in C and C++ (docs/EMBEDDING.md): the proofs of the exports are those of their template,
+# the header is that of the library, and the programs of `programs/` and of the page run, built by gcc and clang, with
+# sanitizers. Eclipse Titan runs the examples with its own queue and with ours.
 
-# The library in `port`: the folder that TP_PORT names, or what `embedding/build` makes of this tree. It proves the crates
-# below again, since rt takes no library of `rt ci`.
+# Provides the library in `port`: the folder that TP_PORT names, or the one that `embedding/build` makes of this tree.
+# That proves the crates below again, since rt doesn't use the libraries of `rt ci`.
 port_library() {
     set_up "the library for C and C++ can be built" build_port && count 0
 }

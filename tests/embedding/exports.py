@@ -9,7 +9,7 @@ ROOT = Path(__file__).resolve().parents[2]
 SOURCE = ROOT / "crates" / "tp_c" / "src" / "export.rt"
 
 _HEAD = re.compile(r'pub (?:unsafe )?extern "C" fn tp_port_(\w+)\((.*?)\)(?: -> (\w+))?\n?(.*?)\{\n', re.S)
-# The relation that an export's `ensures*` states of the queue before and after it.
+# The relation between the queue before and after a call that the `ensures*` of an export states.
 _RELATION = re.compile(r"⌜ (\w+) q .*? after ⌝")
 
 
@@ -38,5 +38,5 @@ def exports() -> list[Export]:
 
 
 def calls() -> list[Export]:
-    """The exports that lend the port's queue to a function of `port` of the same name: all that state a relation."""
+    """The exports that state a relation: they lend the port's queue to the function of `port` with the same name."""
     return [it for it in exports() if it.relation]

@@ -1,5 +1,5 @@
 #!/usr/bin/env python3
-"""Whether tp_port.h declares what `tp_c` exports, with the same parameters in the same order, and the same numbers.
+"""Tests that tp_port.h declares what `tp_c` exports, with the same parameters in the same order and the same numbers.
 
 It prints a line `passed NAME` or `FAILED: NAME: WHY` for each function and each number.
 """
@@ -15,7 +15,7 @@ from exports import ROOT, Export, exports
 HEADER = ROOT / "embedding" / "tp_port.h"
 SOURCE = ROOT / "crates" / "tp_c" / "src" / "port.rt"
 
-# Each type of an export as C has it. A `Global` takes no room: C passes nothing for it.
+# Each type of an export as C has it. A `Global` has no size, so C passes nothing for it.
 TYPES = {
     "bool": "bool",
     "u32": "uint32_t",
@@ -41,7 +41,7 @@ def text_of_header() -> str:
 
 
 def wrong_functions(text: str) -> dict[str, str]:
-    """What is wrong of each function, or nothing."""
+    """The fault of each function, or an empty text."""
     there = re.findall(r"(?m)^\w+ tp_port_\w+\(.*\);$", text)
     wanted = {f"tp_port_{it.name}": declared(it) for it in exports()}
     wrong = {name: "" if line in there else f"the header lacks `{line}`" for name, line in wanted.items()}

@@ -1,5 +1,5 @@
 #!/usr/bin/env python3
-"""What `tools/titan --port` writes and refuses, of headers as Titan's compiler writes them. No Titan is needed.
+"""Tests what `tools/titan --port` writes and refuses for headers as Titan's compiler writes them. It needs no Titan.
 
 It prints a line `passed NAME` or `FAILED: NAME: WHY` for each case.
 """
@@ -46,7 +46,7 @@ WRITTEN = (
 
 
 def asked(text: Optional[str], *words: str) -> tuple[int, str, str]:
-    """The status, what is printed and what is said of a header with this text, or where there is none."""
+    """The status and both outputs for a header with this text; with None, there is no header."""
     with tempfile.TemporaryDirectory() as room:
         if text is not None:
             (Path(room) / "Kitchen.hh").write_text(text, encoding="utf-8")

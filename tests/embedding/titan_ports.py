@@ -1,17 +1,18 @@
 #!/usr/bin/env python3
 """The port class of `tools/titan --port`: the scripts that Eclipse Titan compiles, run by it with its own queue and
-with that of libtp_port.a. With ours each verdict is one of the script's reports. With its own it is too, but where
-Titan departs from the standard. `titan/Ports.ttcn` has what the examples don't show, and is run in single mode too.
+with that of libtp_port.a. With ours each verdict is one of the script's reports. So it is with Titan's own queue,
+except where Titan departs from the standard. `titan/Ports.ttcn` tests what the examples don't show; it is run in single
+mode too.
 
-A component that has ended keeps its ports here. In the full language it does so if it was created `alive` (21.3.4,
-22.1), so each component is. The timer that guards a test case ends it with an error if it waits for ever, as a run here
-does.
+In this profile a component that has ended keeps its ports. In the full language it keeps them only if it was created
+`alive` (21.3.4, 22.1), so each component here is. If a test case waits forever, the timer that guards it ends it with
+an error, which is also the result of such a run here.
 
     tests/embedding/titan_ports.py PORT FOLDER [NAME..]
 
-PORT is a folder that `embedding/build` has made, all is built into the FOLDER, and NAME is a script to try in place of
-all. TTCN3_DIR names the folder of a Titan that isn't below /usr. It prints a line `passed NAME`, `left out NAME: WHY` or
-`FAILED: NAME: WHY` for each script.
+PORT is a folder that `embedding/build` has made. Everything is built in the FOLDER. Each NAME is a script to try;
+without one, all are tried. TTCN3_DIR names the folder of a Titan that isn't below /usr. It prints a line `passed NAME`,
+`left out NAME: WHY` or `FAILED: NAME: WHY` for each script.
 """
 from __future__ import annotations
 
@@ -44,19 +45,19 @@ SINGLE, PARALLEL = "single", "parallel"
 Verdicts = Dict[Tuple[str, str], str]
 
 PORTS = Path(__file__).resolve().with_name("titan") / "Ports.ttcn"
-# Where Titan's own queue departs from ES 201 873-1: the clause, what it does, and the verdict that it comes to.
+# The departures of Titan's own queue from ES 201 873-1: the clause, what the queue does, and the resulting verdict.
 DEPARTURES = {"stopped_port_queues": ("22.5.3", "its own queue refuses what comes to a stopped port", "error")}
 
 
 class Driver(NamedTuple):
-    """What the system does with a message of a mapped port, in place of `sut`, which the full language hasn't."""
+    """The system's reaction to a message of a mapped port. It replaces `sut`, which the full language doesn't have."""
 
     port_type: str
     message_type: str
     body: str
 
     def in_class(self, text: str) -> str:
-        """The class of the port type with this driver."""
+        """The class of the port type, with this driver in it."""
         operation = f"outgoing_send(const {self.message_type}& message) {{ {self.body} }}"
         return re.sub(rf"outgoing_send\(const {self.message_type}&\) \{{.*\}}", operation, text)
 
@@ -91,12 +92,12 @@ ConsoleMask := LOG_NOTHING
 
 
 class Script(NamedTuple):
-    """A script as a module of a name that no other has."""
+    """A script as a module with a unique name."""
 
     name: str
     module: str
     text: str
-    verdicts: frozenset[str]  # those of its reports
+    verdicts: frozenset[str]  # the verdicts of its reports
 
     def port_types(self) -> list[str]:
         return re.findall(r"type port (\w+) message", self.text)
@@ -106,7 +107,7 @@ class Script(NamedTuple):
 
 
 def script_of(file: Path, number: int) -> tuple[Optional[Script], str]:
-    """The script, or why it isn't tried."""
+    """The script, or the reason why it isn't tried."""
     reports = [it.read_text(encoding="utf-8") for it in sorted(file.parent.glob(f"{file.stem}.expected*"))]
     text = file.read_text(encoding="utf-8")
     if any(it.startswith(("refused", "fault")) for it in reports):
@@ -139,13 +140,13 @@ def write_class(folder: Path, port_type: str, text: str) -> None:
 
 
 class Room:
-    """Where the scripts are compiled, each in a folder of its own, and linked into one program for each queue."""
+    """Where each script is compiled in a folder of its own, and all are linked into one program for each queue."""
 
     def __init__(self, port: Path, folder: Path):
         self.port, self.folder = port, folder
 
     def compile(self, script: Script, which: str) -> str:
-        """What is wrong with the compilation; nothing where it succeeds."""
+        """Compiles a script. Returns an error message, which is empty if that succeeds."""
         folder = self.folder / which / script.module
         folder.mkdir(parents=True)
         text, driver = script.text, DRIVERS.get(script.name)
@@ -176,7 +177,7 @@ class Room:
         return "" if status == 0 else said[-1000:]
 
     def verdicts(self, scripts: list[Script], which: str, mode: str) -> Verdicts:
-        """The verdict of each test case, in one run of all."""
+        """The verdict of each test case, from one run of all."""
         controls = "\n".join(f"{it.module}.control" for it in scripts)
         configuration = CONFIGURATION.format(folder=self.folder, which=f"{which}.{mode}", controls=controls)
         (self.folder / f"{which}.cfg").write_text(configuration, encoding="utf-8")
@@ -199,14 +200,14 @@ def departure(script: Script, case: str) -> Optional[tuple[str, str, str]]:
 
 
 def wrong_with(found: Verdicts, script: Script, case: str, which: str) -> str:
-    """What is wrong with the verdict of a test case with this queue, if anything is."""
+    """Describes what is wrong with the verdict of a test case with this queue; empty if nothing is."""
     departs, verdict = departure(script, case), found.get((script.module, case))
     wanted = {departs[2]} if departs and which == OWN else script.verdicts
     return "" if verdict in wanted else f"with {which} queue it is {verdict}, and not {' or '.join(sorted(wanted))}"
 
 
 def scripts_of(names: list[str]) -> list[Script]:
-    """The scripts to try; tells those that are left out."""
+    """The scripts to try; prints a line for each one that is left out."""
     found = []
     files = [*sorted((ROOT / "examples").glob("*.ttcn")), *sorted((ROOT / "tests" / "golden").glob("*/*.ttcn"))]
     for number, file in enumerate(files, 1):
@@ -245,7 +246,7 @@ def try_scripts(room: Room, scripts: list[Script]) -> int:
 
 
 def wrong_page(room: Room) -> str:
-    """What is wrong with the commands of docs/EMBEDDING.md, which compile and link the script of the README."""
+    """Runs the commands of docs/EMBEDDING.md that compile and link the script of the README. Returns the fault."""
     folder = room.folder / "page"
     folder.mkdir()
     shutil.copyfile(KITCHEN, folder / "Kitchen.ttcn")
@@ -258,7 +259,7 @@ def wrong_page(room: Room) -> str:
 
 
 def try_page(room: Room) -> int:
-    """Carries out the commands of the page, tells what came of it, and returns how many cases failed."""
+    """Runs the commands of the page, prints the result, and returns how many cases failed."""
     if not shutil.which("pkg-config"):
         print("left out the commands of docs/EMBEDDING.md for Titan, because there is no pkg-config", flush=True)
         return 0
@@ -268,7 +269,7 @@ def try_page(room: Room) -> int:
 
 
 def tell(room: Room, scripts: list[Script], mode: str) -> int:
-    """Runs them with both queues, tells what came of each test case, and returns how many failed."""
+    """Runs the scripts with both queues, prints the result of each test case, and returns how many failed."""
     found = {which: room.verdicts(scripts, which, mode) for which in (OWN, OURS)}
     failed = 0
     for script, case in ((it, case) for it in scripts for case in it.cases()):

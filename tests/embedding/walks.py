@@ -1,8 +1,8 @@
 #!/usr/bin/env python3
-"""The proofs of the exports of `tp_c`: each lends the queue at an address to a function of `port`, so one template,
-walk.template, has the proof of them all.
+"""Writes the proofs of the exports of `tp_c`. Each export lends the queue at an address to a function of `port`, so one
+template, walk.template, has the proof of them all.
 
-    tests/embedding/walks.py          whether each is what this script writes
+    tests/embedding/walks.py          checks that each proof is as this script writes it
     tests/embedding/walks.py write    writes them
 
 It prints a line `passed NAME` or `FAILED: NAME: WHY` for each. `tp_port_init` and `tp_port_drop` move a whole queue,
@@ -24,7 +24,7 @@ from exports import ROOT, Export, calls
 PROOFS = ROOT / "crates" / "tp_c" / "proofs"
 TEMPLATE = Path(__file__).resolve().with_name("walk.template")
 
-# The words of the logic for each type that crosses: its value, its row, that a result of it can be landed.
+# The words of the logic for each type that crosses: its value, its row, and that a result of it can be landed.
 WIDTHS = {"u32": "w32", "u64": "w64"}
 DENOTED = {"bool": "Bool", "u32": "ℕ", "u64": "ℕ", "Answer": "Answer"}
 ROWS = {"Answer": "answer.the_row"}
@@ -34,7 +34,7 @@ LAWFUL = {
     "u64": "uint_Lawful 𝓛 w64",
     "Answer": "laws.the_row_laws.lawful 𝓛",
 }
-# The names of `Goes-dropped` at each type, by the bytes that it has.
+# The names of `Goes-dropped` at each type, by the size of the type in bytes.
 GOES = {"bool": "at_1", "u32": "at_4", "u64": "at_8"}
 OF_ANSWER = """\
 use Rattle.tp_c.specs.declared.port.Answer.{Answer}
@@ -44,13 +44,13 @@ use Rattle.tp_c.proofs.port.Answer.TheLaws as laws
 
 
 class _Walk(string.Template):
-    """The proofs use `$` for themselves."""
+    """A template whose mark is `@`, because the proofs use `$` themselves."""
 
     delimiter = "@"
 
 
 def walk_of(export: Export) -> str:
-    """The proof of an export, whole."""
+    """The whole proof of an export."""
     types = [kind for _, kind in export.beside_the_port()]
     filled = _Walk(TEMPLATE.read_text(encoding="utf-8"))
     words = {**words_of_parameters(types), **words_of_result(export)}
@@ -61,7 +61,7 @@ def walk_of(export: Export) -> str:
 
 
 def words_of_parameters(types: list[str]) -> dict[str, str]:
-    """What the template takes of the types of the parameters after the port."""
+    """The template's words that depend on the types of the parameters after the port."""
     numbered = list(enumerate(types))
     units = nested(["tt"] * (len(types) + 1))
     return {
@@ -83,7 +83,7 @@ def words_of_parameters(types: list[str]) -> dict[str, str]:
 
 
 def words_of_result(export: Export) -> dict[str, str]:
-    """What it takes of the result, and of what is stated of it."""
+    """The template's words that depend on the result and on the stated relation."""
     arguments = [argument(place) for place in range(len(export.beside_the_port()))]
     return {
         "result": DENOTED[export.result],
@@ -95,7 +95,7 @@ def words_of_result(export: Export) -> dict[str, str]:
 
 
 def nested(items: list[str]) -> str:
-    """A tuple as the logic has it: `(a, (b, tt))`."""
+    """A tuple in the notation of the logic: `(a, (b, tt))`."""
     return "".join(f"({it}, " for it in items) + "tt" + ")" * len(items)
 
 
@@ -109,7 +109,7 @@ def is_typed(place: int) -> str:
 
 
 def of_kind(word: str, kind: str) -> str:
-    """`uint_vals w32`, `bool_Tells`."""
+    """A word of the logic for a type: `uint_vals w32`, `bool_Tells`."""
     return f"uint_{word} {WIDTHS[kind]}" if kind in WIDTHS else f"{kind}_{word}"
 
 
@@ -132,7 +132,7 @@ def goes_line(kind: str) -> str:
 
 
 def steps_in(body: str) -> list[str]:
-    """The names of Steps.antt that a proof uses, in their order there."""
+    """The names of Steps.antt that a proof uses, in the order of that file."""
     words = set(re.findall(r"[^\s(){},;]+", body))
     return [name for name in steps() if is_used(name, words)]
 
@@ -143,7 +143,7 @@ def steps() -> list[str]:
 
 
 def is_used(name: str, words: Iterable[str]) -> bool:
-    """Whether it is one of the words, the operator of one, or that of which one names a member."""
+    """Whether a word is the name, the operator of that name, or one of its members."""
     core = name.replace("◌", "")
     return any(it in (name, core) or it.startswith(f"{name}.") for it in words)
 

@@ -1,9 +1,9 @@
-"""Compares the reports of a program that keeps orders with those of the model.
+"""Compares the reports of a program that forces orders with those of the model.
 
     compare.py PROGRAM SCRIPT..
 
-For each script all orders go to the program, `PROGRAM SCRIPT ORDERS`, and its answers must be those of the
-model, to the byte. It prints a line `passed ORDERS WAITING SCRIPT` for each script, WAITING of whose ORDERS end
+For each script all orders are passed to the program, `PROGRAM SCRIPT ORDERS`, and its answers must be those of the
+model, to the byte. It prints a line `passed ORDERS WAITING SCRIPT` for each script, where WAITING of the ORDERS end
 with a behaviour that waits; or lines that begin with `FAILED: SCRIPT`.
 """
 import argparse
@@ -44,7 +44,7 @@ def printed_by(program: str, script: str, orders: list[Ordered]) -> tuple[str, s
 
 
 def difference(end: str, printed: str, orders: list[Ordered]) -> str | None:
-    """The first order whose answer isn't the model's, with both answers; None where there is none."""
+    """Describes the first order whose answer isn't the model's, with both answers, or returns None."""
     if end == "status 0" and printed == "".join(it.answer() for it in orders):
         return None
     place = 0
@@ -58,11 +58,11 @@ def difference(end: str, printed: str, orders: list[Ordered]) -> str | None:
 
 
 def compared(program: str, script: str) -> str:
-    """The line, or lines, for one script."""
+    """The result of one script, in one or more lines."""
     try:
         orders = list(orders_of(Run(TestCase(read_script(script)))))
         found = difference(*printed_by(program, script, orders), orders)
-    except Exception as error:  # a script that can't be read is a failure, and not the end of the others
+    except Exception as error:  # a script that can't be read fails, and the others go on
         found = f"the model says {error!r}"
     if found is not None:
         return f"FAILED: {script}: {found}"

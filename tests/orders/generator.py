@@ -1,5 +1,5 @@
-"""Makes scripts by chance, which `tpr check` accepts: components with ports p and q, connections between
-them, now and then a system under test, and bodies of sends, looks, waits and port operations.
+"""Makes random scripts that `tpr check` accepts: components with ports p and q, connections between them, in some
+scripts a system under test, and bodies of sends, looks, waits and port operations.
 """
 import random
 from collections.abc import Callable
@@ -23,15 +23,15 @@ TEMPLATES = (
 )
 OPERATIONS = ("start", "start", "halt", "halt", "halt", "clear", "stop")
 IDLE = "for (var integer last := 0; last < 0; last := last + 1) { }"
-# How often a script has many components, and how many it creates then: with `mtc` they are 62 at most. Most of
-# these wait for what comes at one port at a time, and see nothing of when it came, or no order could be found.
+# How often a script has many components, and how many it creates then: with `mtc` they are 62 at most. Most of these
+# wait at one port at a time, and can't observe when a message arrived: otherwise no order could be found.
 OFTEN_MANY, LEAST_MANY, MOST_MANY, PATIENT = 0.1, 4, 61, 0.95
 
 
 @dataclass(frozen=True)
 class Place:
-    """Where a statement stands: whose it is, whether there are variables n and w, how many loops are
-    around it, and how many blocks."""
+    """The place of a statement: its component, whether there are variables n and w, and the number of loops and of
+    blocks around it."""
 
     who: str
     variables: bool
@@ -41,8 +41,8 @@ class Place:
 
 @dataclass
 class Maker:
-    """A script in the making. `waiting` is how often a receiving operation has no `[else]`, `turns` the most
-    turns of a loop. The `patient` operate on no port, and their receiving operations wait, each at one port."""
+    """Makes a script. `waiting` is how often a receiving operation has no `[else]`, `turns` the largest number of turns
+    of a loop. The `patient` components operate on no port, and their receiving operations wait, each at one port."""
 
     chance: random.Random
     waiting: float
@@ -59,7 +59,7 @@ class Maker:
     # The configuration
 
     def connect(self) -> None:
-        """Some pairs of ports that may be connected, and ports of the system mapped to what is left."""
+        """Connects some pairs of ports that may be connected, and maps ports of the system to remaining ones."""
         ends = [(name, port) for name in self.names if name != "system" for port in "pq"]
         joined: set[tuple[str, str, str]] = set()
         for _ in range(self.chance.randint(len(self.names) - 1, 2 * len(self.names))):
@@ -81,7 +81,7 @@ class Maker:
     # Bodies
 
     def body(self, who: str) -> list[str]:
-        """The statements of a component, the last of which does nothing."""
+        """The statements of a component. The last one has no effect."""
         place = Place(who, self.often(0.4))
         lines = ["var integer n; var C w;"] if place.variables else []
         for _ in range(self.chance.randint(1, 6)):
@@ -109,7 +109,7 @@ class Maker:
         return [f"{port}.send({message}){self.receiver(place, port)};"]
 
     def receiver(self, place: Place, port: str) -> str:
-        """What stands behind a send: a receiver where one is needed, and by chance another."""
+        """The text after a send: a receiver if one is needed, and at random another one."""
         routes = self.routes.get((place.who, port), [])
         if self.often(0.02):
             return f" to {self.chance.choice(self.speakable(place.who))}"
@@ -126,7 +126,7 @@ class Maker:
         return f" to {'self' if receiver == place.who else receiver}"
 
     def speakable(self, who: str) -> list[str]:
-        """The components that a body can name, x among them where it is a parameter."""
+        """The components that a body can name, including x if it is a parameter."""
         others = [name for name in self.names if name not in ("system", who)]
         return ["self", *others, *(["x"] if who in self.arguments else [])]
 
@@ -144,7 +144,7 @@ class Maker:
         return [f"for (var integer {name} := 0; {name} < {turns}; {name} := {name} + 1) {{", *block, "}"]
 
     def choice(self, place: Place) -> list[str]:
-        """An `alt`, or a receiving operation that stands alone."""
+        """An `alt`, or a receiving operation by itself."""
         patient = place.who in self.patient
         waits = patient or self.often(self.waiting)
         if waits and self.often(0.6):
@@ -162,7 +162,7 @@ class Maker:
         return self.statement(replace(place, blocks=place.blocks + 1))
 
     def guard(self, place: Place, port: str = "") -> str:
-        """A receiving operation, at this port if one is named."""
+        """A receiving operation, at this port if one is given."""
         template = ""
         if self.often(0.6):
             template = self.chance.choice(NUMBERS if self.often(0.7) else TEMPLATES)
@@ -180,7 +180,7 @@ class Maker:
 
 
 def indented(lines: list[str]) -> str:
-    """The lines of a block of a definition, each as deep as the brackets before it."""
+    """The lines of a block of a definition, each indented by the brackets before it."""
     text, depth = "", 2
     for line in lines:
         text += "    " * (depth - line.startswith("}")) + line + "\n"
@@ -189,14 +189,14 @@ def indented(lines: list[str]) -> str:
 
 
 def some_names(chance: random.Random) -> list[str]:
-    """The components that are created: few, and now and then many."""
+    """The components that are created: few, and in some scripts many."""
     if chance.random() < OFTEN_MANY:
         return [f"c{number}" for number in range(1, 1 + chance.randint(LEAST_MANY, MOST_MANY))]
     return list("abc"[: chance.randint(1, 3)])
 
 
 def some_script(chance: random.Random) -> str:
-    """A script, of which the same chances make the same."""
+    """A random script. The same state of `chance` makes the same script."""
     made = some_names(chance)
     system = ["system"] if chance.random() < 0.2 else []
     maker = Maker(chance, chance.choice((0, 0.1, 0.4)), chance.choice((2, 3, 8)), ["mtc", *made, *system])

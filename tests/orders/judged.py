@@ -2,10 +2,10 @@
 
     judged.py SCRIPT..
 
-For a small script all reports are found by trying every order of acts. Where there are files NAME.expected, or
-NAME.expected.1 and so on, beside NAME.ttcn, they must be these reports. Each of them must be allowed, and
-each that is altered a little must be refused, if it isn't one of them. It prints a line
-`passed ALLOWED REFUSED SCRIPT` for each script, or lines that begin with `FAILED: SCRIPT`.
+For a small script all reports are found by trying every order of acts. If files NAME.expected, or NAME.expected.1 and
+so on, are beside NAME.ttcn, they must be these reports. The judge must allow each of them, and must refuse each report
+that is altered a little, unless that is one of them. It prints a line `passed ALLOWED REFUSED SCRIPT` for each script,
+or lines that begin with `FAILED: SCRIPT`.
 """
 import argparse
 import glob
@@ -26,7 +26,7 @@ MOST_STATES, MOST_LINES, ALTERED = 20_000, 100, 40
 
 
 def reports_of(case: TestCase) -> set[str] | None:
-    """The reports of all orders of acts, None where these are too many or too long."""
+    """The reports of all orders of acts, or None if these are too many or too long."""
     seen, reports, open_runs = set(), set(), [Run(case)]
     while open_runs:
         run = open_runs.pop()
@@ -44,7 +44,7 @@ def reports_of(case: TestCase) -> set[str] | None:
 
 
 def expected_beside(script: str) -> set[str]:
-    """The reports that stand in files beside the script."""
+    """The reports in the files beside the script."""
     expected = set()
     for path in glob.glob(glob.escape(script.removesuffix(".ttcn")) + ".expected*"):
         with open(path, encoding="latin-1", newline="") as file:
@@ -53,8 +53,8 @@ def expected_beside(script: str) -> set[str]:
 
 
 def altered(reports: list[str], chance: random.Random) -> set[str]:
-    """Reports that lack a line, have two lines exchanged, or are put together from the components' parts
-    in several reports."""
+    """Reports in which a line is missing or two lines are exchanged, or that combine the components' parts of several
+    reports."""
     texts = set()
     for _ in range(ALTERED):
         lines = chance.choice(reports).splitlines(True)
@@ -67,7 +67,7 @@ def altered(reports: list[str], chance: random.Random) -> set[str]:
 
 
 def wrongly_judged(case: TestCase, reports: set[str], others: set[str]) -> str | None:
-    """The first of the reports that is refused, or of the others that is allowed."""
+    """Describes the first report that is refused, or other one that is allowed; None if there is none."""
     for report in sorted(reports | others):
         if is_allowed(case, report) is not (report in reports):
             return f"this is {'refused' if report in reports else 'allowed'}\n{report}"
@@ -75,7 +75,7 @@ def wrongly_judged(case: TestCase, reports: set[str], others: set[str]) -> str |
 
 
 def judged(script: str) -> str:
-    """The line, or lines, for one script."""
+    """The result of one script, in one or more lines."""
     case = TestCase(read_script(script))
     expected, reports = expected_beside(script), reports_of(case)
     if reports is None:

@@ -1,13 +1,13 @@
-"""Every order in which the steps of a script can be carried out, and the report of each.
+"""Computes every order in which the steps of a script can be carried out, and the report of each.
 
     orders.py SCRIPT [NAME..]
 
-prints what `tpr_ordered` must print of all orders of a script, or of the one that these names are.
+prints what `tpr_ordered` must print for all orders of a script, or for the one order with these names.
 
-An order is the names of components, one for each step. The gate of `tpr_ordered` hears of the end of a step
-only by the component's next one. So a component's last step stands in no order: it must be a `setverdict`,
-a loop without a turn, or a send that fails, which touch nothing of another component. Nor does a step stand
-there that waits for good.
+An order is the names of components, one for each step. The gate of `tpr_ordered` notices the end of a step only by
+the component's next step. So a component's last step isn't in the order: it must be a `setverdict`, a loop without a
+turn, or a send that fails, which have no effect on another component. A step that waits for good isn't in the order
+either.
 """
 import argparse
 import os
@@ -25,30 +25,30 @@ from tpr_tools.model.tree import Setverdict
 
 
 class Unordered(Exception):
-    """The report of the script isn't settled by the order of its steps."""
+    """The order of the script's steps doesn't determine its report."""
 
 
 @dataclass(frozen=True)
 class Ordered:
-    """An order, its report, and whether a behaviour waits in the end."""
+    """An order, its report, and whether a behaviour waits at the end."""
 
     names: tuple[str, ...]
     report: str
     waits: bool
 
     def answer(self) -> str:
-        """What the program must print for it."""
+        """The output that the program must print for it."""
         return f"order {' '.join(self.names)}\n{self.report}\n"
 
 
 def followers(run: Run) -> list[tuple[str, Run]]:
-    """The runs in which one component more has carried out a step of which a gate hears."""
+    """The runs after one more step that the gate notices, by the component that takes it."""
     found = ((name, follower(run, who)) for who, name in enumerate(run.case.names))
     return [(name, after) for name, after in found if after is not None]
 
 
 def follower(run: Run, who: int) -> Run | None:
-    """The run in which this component has carried out a step of which a gate hears, None where it can't."""
+    """The run after one more step of this component that the gate notices, or None if it has none."""
     if run.statement(who) is None:
         return None
     after = run.copy_of(run.reached(who))
@@ -56,7 +56,7 @@ def follower(run: Run, who: int) -> Run | None:
 
 
 def orders_of(run: Run, names: tuple[str, ...] = ()) -> Iterator[Ordered]:
-    """All orders of what is still to be done, behind the names that are done."""
+    """All orders of the remaining steps, after the names of those that are done."""
     following = followers(run)
     for name, after in following:
         yield from orders_of(after, (*names, name))
@@ -65,7 +65,7 @@ def orders_of(run: Run, names: tuple[str, ...] = ()) -> Iterator[Ordered]:
 
 
 def some_order_of(run: Run, chance: random.Random) -> Ordered:
-    """An order by chance."""
+    """A random order."""
     names: list[str] = []
     open_places = list(range(len(run.components)))
     while open_places:
@@ -77,7 +77,7 @@ def some_order_of(run: Run, chance: random.Random) -> Ordered:
 
 
 def this_order_of(run: Run, names: tuple[str, ...]) -> Ordered:
-    """The order that the names are."""
+    """The order with these names."""
     for at, name in enumerate(names):
         after = dict(followers(run))
         if name not in after:
@@ -89,18 +89,19 @@ def this_order_of(run: Run, names: tuple[str, ...]) -> Ordered:
 
 
 def ended(run: Run, names: tuple[str, ...]) -> Ordered:
-    """The end of a run of which only what stands in no order is still to be done."""
+    """The end of a run in which only steps remain that aren't in the order."""
     last = run.copy()
     waits = [who for who in range(len(run.components)) if last.statement(who) is not None and not finish(last, who)]
     return Ordered(names, last.report(), bool(waits))
 
 
 def finish(run: Run, who: int) -> bool:
-    """Carries out the component's last step. False where it waits."""
+    """Carries out the component's last step. Returns False if it waits."""
     statement, me = run.statement(who), run.components[who]
     lines = len(me.lines)
     if not run.step(who):
-        # Free behind its last name, it may look early. What it discards is in one order at one port alone.
+        # After its last name the component is free, and may look early. Its discards have a fixed order only at one
+        # port.
         if len({line.split()[1] for line in me.lines[lines:]}) > 1:
             raise Unordered(f"{run.case.names[who]} discards at two ports while it waits")
         return False

@@ -1,13 +1,13 @@
-# Every order of the steps of small scripts (tests/orders/*/*.ttcn): what tpr_ordered reports of each must be what
-# the model of runs says (tools/tpr_tools/model/). `built_by_gate` is that of ./test.
+# Tests every order of the steps of small scripts (tests/orders/*/*.ttcn): the report of tpr_ordered must be that of the
+# model of runs (tools/tpr_tools/model/). ./test defines `built_by_gate`.
 
-# How many scripts with a behaviour that waits in the end there are at least, and how many orders of all scripts.
+# The minimum numbers of scripts with a behaviour that waits at the end, and of orders of all scripts.
 least_waiting=10
 least_orders=31000
 
-# Builds tpr_ordered where TPR_ORDERED names none: rt runs what it has built, here on one order of one script. Not
-# where `rt ci` has built it in this run: it keeps nothing by which `rt run` would know, and every crate would be
-# proved once more. It is done once, before the first of the parts that need it.
+# Builds tpr_ordered if TPR_ORDERED names none: `rt run` runs what it has built, here on one order of one script. If
+# `rt ci` has built it in this run, it isn't built again: `rt ci` keeps nothing by which `rt run` would know that, so
+# every crate would be proved once more. This is called once, before the first of the parts that need it.
 build_ordered() {
     local script=$root/tests/orders/messages/all_wait_for_each_other.ttcn
     if [[ -z ${TPR_ORDERED-} ]] && ! built_by_gate "$ordered"; then
@@ -36,8 +36,8 @@ every_order() {
         "$(sum_of 3 "$room/orders") of them with a behaviour that waits in the end"
 }
 
-# The judge of tests/runs/soak: it allows what an example may print and all that a small script may report, and
-# refuses what is a little different. The reports of an open example are all that its script may have.
+# Tests the judge of tests/runs/soak: it allows what an example may print and all that a small script may report, and
+# refuses slightly different reports. The files of an open example are all the reports that its script may have.
 judge_of_each() {
     find_runnable
     told "$room/judged" tests/orders/judged.py "${runnable[@]}"

@@ -1,4 +1,4 @@
-"""The verdicts that a script can come to, over all orders of its acts, by the model in tools/tpr_tools/model/."""
+"""Computes the verdicts that a script can have, over all orders of its acts, by the model in tools/tpr_tools/model/."""
 from __future__ import annotations
 
 from collections.abc import Callable, Hashable, Iterator
@@ -11,11 +11,11 @@ MOST_STATES = 100_000
 
 
 class TooMany(Exception):
-    """There are more states than are looked at."""
+    """There are more states than the limit."""
 
 
 def verdicts_of(script: str) -> set[str]:
-    """All verdicts; `many` is among them where there are more states than are looked at."""
+    """All verdicts, with `many` among them if there are more states than the limit."""
     found: set[str] = set()
     try:
         for run in ends_of(Run(TestCase(read_script(script))), state_of, MOST_STATES):
@@ -26,7 +26,7 @@ def verdicts_of(script: str) -> set[str]:
 
 
 def ends_of(begun: Run, state: Callable[[Run], Hashable], most_states: int) -> Iterator[Run]:
-    """The runs that end, of all that go on from this one. Of those with the same state one is followed."""
+    """The runs that end, of all that continue this one. Only one run of each state is followed."""
     seen: set[Hashable] = set()
     waiting = [begun]
     while waiting:
@@ -43,7 +43,7 @@ def ends_of(begun: Run, state: Callable[[Run], Hashable], most_states: int) -> I
 
 
 def followers(run: Run) -> list[Run]:
-    """The runs in which one component more has done its next act."""
+    """The runs after the next act of one component."""
     found: list[Run] = []
     for who in range(len(run.components)):
         if run.statement(who) is None:
@@ -55,7 +55,7 @@ def followers(run: Run) -> list[Run]:
 
 
 def state_of(run: Run) -> str:
-    """All on which it hangs what follows."""
+    """Everything on which the rest of the run depends."""
     told = []
     for one in run.components:
         ports = {

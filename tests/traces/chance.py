@@ -1,4 +1,4 @@
-"""Made by chance: small traces, lawful, in which messages take their time; small graphs, ports and routes."""
+"""Random test data: small lawful traces, in which messages take their time; small graphs, ports and routes."""
 import random
 from dataclasses import dataclass, field
 
@@ -13,7 +13,7 @@ MOST_LINES, MOST_ACTS = 9, 30
 
 @dataclass
 class Port:
-    """A port of one component: what came and wasn't taken, and how much of it is ahead of the mark."""
+    """A port of one component: the messages that arrived and weren't taken, and how many are ahead of the mark."""
 
     queue: list[str] = field(default_factory=list)
     ahead: int | None = None
@@ -22,7 +22,7 @@ class Port:
 
 @dataclass
 class Play:
-    """A trace in the making: the lines of each component, its ports, and what is under way on each route."""
+    """Builds a trace: the lines of each component, its ports, and the messages under way on each route."""
 
     lines: dict[str, list[str]] = field(default_factory=lambda: {name: [] for name in NAMES})
     ports: dict[tuple[str, str], Port] = field(default_factory=lambda: {(n, p): Port() for n in NAMES for p in PORTS})
@@ -38,7 +38,7 @@ class Play:
         self.under_way.setdefault(route, []).append(f"{port} {sender} {number} m{number}")
 
     def add(self, name: str, line: str) -> None:
-        """A line that stands in the order of a run."""
+        """Adds a line that has a place in the order of a run."""
         self.lines[name].append(line)
         self.ordered += 1
 
@@ -53,7 +53,7 @@ class Play:
             self.arrive(chance.choice(routes))
 
     def look(self, name: str, port_name: str, chance: random.Random) -> None:
-        """A line that looks at a port."""
+        """Adds a line that looks at a port."""
         port = self.ports[name, port_name]
         reached = 0 if port.is_stopped else len(port.queue) if port.ahead is None else port.ahead
         if reached > 0 and chance.random() < 0.7:
@@ -74,7 +74,7 @@ class Play:
             port.ahead = None
 
     def text(self, chance: random.Random) -> bytes:
-        """The trace. Some components' logs stop before their queues are told."""
+        """The trace. The logs of some components stop before their queues are reported."""
         parts = []
         for name in chance.sample(NAMES, len(NAMES)):
             left = [f"left {message}" for port in PORTS for message in self.ports[name, port].queue]
@@ -84,7 +84,7 @@ class Play:
 
 
 def small_trace(chance: random.Random) -> bytes:
-    """A lawful trace of few enough lines that all their orders can be tried."""
+    """A lawful trace with so few lines that all their orders can be tried."""
     play, slow = Play(), chance.random() ** 0.4
     for _ in range(MOST_ACTS):
         if play.ordered >= MOST_LINES - len(NAMES):
@@ -105,7 +105,7 @@ def small_trace(chance: random.Random) -> bytes:
 
 
 def small_graph(chance: random.Random) -> dict[int, list[int]]:
-    """Some numbers, and of each which others come behind it."""
+    """Some numbers, each with the numbers that come after it."""
     numbers = range(1, chance.randrange(2, 10))
     return {number: [it for it in numbers if chance.random() < 0.15] for number in numbers}
 
@@ -129,7 +129,7 @@ def small_history(chance: random.Random) -> list[Line]:
 
 
 def small_route(chance: random.Random) -> Route:
-    """What was sent, and the same with a fault or two."""
+    """A route on which the arrivals differ from the sendings by up to two faults."""
     sent = [(number, chance.choice((b"x", b"y"))) for number in range(chance.randrange(5))]
     both = sent[:], sent[:]
     for _ in range(chance.randrange(3)):

@@ -1,20 +1,20 @@
-"""Which lines lie on a circle of "this one before that one"."""
+"""Finds the lines on circles of "this line comes before that one"."""
 from collections.abc import Iterator
 
 
 def firsts_of_circles(behind: dict[int, list[int]]) -> Iterator[int]:
-    """The first line of each circle, in their order: from it, by what must come behind, one comes back to it without
-    a line that stands before it. The first of these is the first line that lies on any circle.
+    """The first line of each circle, in their order: one can return to this line by going to what must come after,
+    without passing a line that is earlier in the text. The first of them is the first line that is on any circle.
 
-    What is left over where all lines are taken off that have none before them, and then those that have none behind
-    them, again and again, are the lines on circles and those between two circles.
+    If all lines without predecessors are removed, again and again, and then those without successors, the remaining
+    lines are those on circles and those between two circles.
     """
     left = without_firsts(without_firsts(set(behind), behind), turned(behind))
     return (line for line in sorted(left) if comes_back(line, behind, {it for it in left if it > line}))
 
 
 def turned(behind: dict[int, list[int]]) -> dict[int, list[int]]:
-    """The same the other way round."""
+    """The same graph with its edges reversed."""
     before: dict[int, list[int]] = {line: [] for line in behind}
     for line, others in behind.items():
         for other in others:
@@ -23,7 +23,7 @@ def turned(behind: dict[int, list[int]]) -> dict[int, list[int]]:
 
 
 def without_firsts(lines: set[int], behind: dict[int, list[int]]) -> set[int]:
-    """Those of the lines that are left where the ones without another before them are taken off, again and again."""
+    """The lines that remain if those without predecessors are removed, again and again."""
     left = set(lines)
     waits = {line: 0 for line in left}
     for line in left:
@@ -43,7 +43,7 @@ def without_firsts(lines: set[int], behind: dict[int, list[int]]) -> set[int]:
 
 
 def comes_back(line: int, behind: dict[int, list[int]], among: set[int]) -> bool:
-    """Whether a way leads from the line back to it."""
+    """Whether a path through `among` leads from the line back to it."""
     seen: set[int] = set()
     ahead = [line]
     while ahead:

@@ -1,16 +1,16 @@
 """Compares a program that judges traces with the judge in oracle.py, to the line.
 
     compare.py planted TRACE.. --judge COMMAND..    each trace, and each fault that planting.py plants in it
-    compare.py several TRACE.. --judge COMMAND..    each trace, in which two to four of these are planted, by chance
-    compare.py cuts TRACE.. --judge COMMAND..       each trace, cut off behind each of its bytes
+    compare.py several TRACE.. --judge COMMAND..    each trace, with two to four of these faults, chosen at random
+    compare.py cuts TRACE.. --judge COMMAND..       each trace, cut off after each of its bytes
     compare.py bytes TRACE.. --judge COMMAND..      each trace, with each of its bytes replaced by some others
-    compare.py played SCRIPT.. --judge COMMAND..    traces of each script, played in an order made by chance
-    compare.py chance SEED.. --judge COMMAND..      small traces made by chance, lawful and with a fault; and small
-                                                    ports and routes, in which mostly something is wrong
+    compare.py played SCRIPT.. --judge COMMAND..    traces of each script, played in a random order
+    compare.py chance SEED.. --judge COMMAND..      small random traces, lawful and with a fault; and small ports and
+                                                    routes, most of which have a fault
 
-COMMAND with a file behind it must print what the judge prints, and end with its status; where a trace has several
-circles, the first line of any of them may be told. A line `passed N WHAT` is printed for each trace, script or seed,
-or lines that begin with `FAILED: WHAT`. As many are gone through at once as there are processors.
+COMMAND, followed by a file, must print what the judge prints, and end with its status. If a trace has several circles,
+it may report the first line of any of them. It prints a line `passed N WHAT` for each trace, script or seed, or lines
+that begin with `FAILED: WHAT`. It compares as many at once as there are processors.
 """
 import argparse
 import os
@@ -42,7 +42,7 @@ class Judge:
         return run.stdout.decode("latin-1") + run.stderr.decode("latin-1"), run.returncode
 
     def difference(self, text: bytes) -> str | None:
-        """What differs, and the trace."""
+        """Describes how the two answers to the trace differ, or returns None."""
         allowed, found = answers_of(text), self.answer(text)
         if found in allowed:
             return None
@@ -51,7 +51,7 @@ class Judge:
 
 
 def compared(kind: str, what: str, command: list[str]) -> str:
-    """The line, or lines, for the texts of a trace, script or seed."""
+    """The result of the texts of a trace, script or seed."""
     count = 0
     with tempfile.TemporaryDirectory() as room:
         judge = Judge(command, os.path.join(room, "trace"))

@@ -1,9 +1,9 @@
-"""Cuts logs of Titan's off behind each of their bytes: what is read of it never says more than the whole log.
+"""Cuts off logs of Titan after each of their characters, and tests that no part says more than the whole log.
 
     cuts.py LOG..
 
-Each must be refused; or be told to be cut off or to end early, and its lines begin those of the whole log. It prints
-a line `passed LOG` for each log, or one that begins with `FAILED: LOG`.
+Each part must be refused; or it must be reported as cut off or as ending early, and its lines must be the first lines
+of the whole log. It prints a line `passed LOG` for each log, or one that begins with `FAILED: LOG`.
 """
 import argparse
 import os

@@ -1,7 +1,8 @@
-"""The form of a trace (docs/TRACES.md): its text as sections of lines, or the first line of another form.
+"""Reads the form of a trace (docs/TRACES.md): its text as sections of lines, or the first line of another form.
 
-A trace is any number of sections and then, perhaps, a line `result VERDICT`. Nothing is said here of what its lines
-mean to each other, but that a name has one section, and that lines `left` stand behind all others of theirs.
+A trace is any number of sections and then, perhaps, a line `result VERDICT`. The form says nothing about what the lines
+mean to each other, except that each name has one section, and that the lines `left` of a section follow its other
+lines.
 """
 import re
 from dataclasses import dataclass, field
@@ -28,7 +29,7 @@ LOOKING = (*TAKING, b"cleared", b"started", b"stopped", b"halted", b"else")
 
 
 class OfAnotherForm(Exception):
-    """The text is no trace: this is the first line that can't stand where it does."""
+    """The text isn't a trace: this is the first line that isn't allowed in its place."""
 
     def __init__(self, line: int):
         super().__init__(line)
@@ -41,8 +42,8 @@ class TooLong(Exception):
 
 @dataclass(frozen=True)
 class Line:
-    """A line of a section: its number in the text, from 1, and its word; then what the word asks for. `partner` is
-    the receiver of what was sent, else the sender; `port` is the receiver's; `number` also that of a failure."""
+    """A line of a section: its number in the text, from 1, its word, and what the word requires. `partner` is the
+    receiver of a sending, and otherwise the sender; `port` is the receiver's; `number` is also that of a failure."""
 
     place: int
     word: bytes
@@ -52,31 +53,31 @@ class Line:
     message: bytes = b""
 
     def envelope(self) -> tuple[bytes, int, bytes]:
-        """What tells a message at a port from another one."""
+        """The values that distinguish a message at a port from another one."""
         return self.partner, self.number, self.message
 
     def __bytes__(self) -> bytes:
-        """As it stands in a text, with the names that small ports and routes are given."""
+        """The line as a text has it, for the lines that small ports and routes have."""
         if not self.partner:
             return b"%s %s\n" % (self.word, self.port)
         place = self.partner + b"." + self.port if self.word == b"sent" else self.port + b" " + self.partner
         return b"%s %s %d %s\n" % (self.word, place, self.number, self.message)
 
     def parcel(self) -> tuple[int, bytes]:
-        """What tells a message on a route from another one."""
+        """The values that distinguish a message on a route from another one."""
         return self.number, self.message
 
 
 @dataclass
 class Section:
-    """What one component did, in its order."""
+    """The acts of one component, in their order."""
 
     name: bytes
     place: int
     lines: list[Line] = field(default_factory=list)
 
     def is_open(self) -> bool:
-        """Whether its log may have stopped before its queues were told."""
+        """Whether its log may have stopped before its queues were reported."""
         return all(line.word not in (b"left", b"end") for line in self.lines)
 
 
@@ -88,7 +89,7 @@ class Trace:
 
 
 def read_trace(text: bytes) -> Trace:
-    """The trace that the text is; OfAnotherForm or TooLong where it is none."""
+    """Reads the text as a trace. Raises OfAnotherForm or TooLong if it isn't one."""
     if len(text) > MOST_BYTES:
         raise TooLong
     texts = text.split(b"\n")
@@ -110,7 +111,7 @@ def read_trace(text: bytes) -> Trace:
 
 
 def section_of(trace: Trace, name: bytes, place: int) -> Section:
-    """A new section of the trace. A name has one."""
+    """Adds a section to the trace. A name can have only one."""
     if name in trace.sections:
         raise OfAnotherForm(place)
     trace.sections[name] = Section(name, place)
@@ -127,7 +128,7 @@ def line_of(section: Section, text: bytes, place: int) -> Line:
 
 
 def read_line(text: bytes, place: int) -> Line | None:
-    """The line by itself, None where it has another form."""
+    """The line by itself, or None if it has another form."""
     if found := _SENT.fullmatch(text):
         receiver, port, number, message = found.groups()
         return Line(place, b"sent", port, receiver, int(number), message)

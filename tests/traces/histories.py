@@ -1,5 +1,5 @@
-"""What a port's history says, word by word as docs/MODEL.md defines it ("What a history says"): the oracle for the
-ports of lawful.py, which keep a queue and a mark instead.
+"""Computes what a port's history says, word by word as docs/MODEL.md defines it ("What a history says"): the oracle for
+the ports of lawful.py, which keep a queue and a mark instead.
 
 A history is the list of the port's lines, the oldest first.
 """
@@ -14,12 +14,12 @@ def accepted(history: list[Line]) -> list[Envelope]:
 
 
 def behind_last(history: list[Line], *words: bytes) -> int:
-    """The place behind the last line with one of these words, 0 where there is none."""
+    """The place after the last line with one of these words, or 0 if there is none."""
     return max((place + 1 for place, line in enumerate(history) if line.word in words), default=0)
 
 
 def gone(history: list[Line]) -> int:
-    """How many of those accepted are no longer queued."""
+    """How many of the accepted messages are no longer queued."""
     emptied = behind_last(history, b"cleared", b"started")
     taken = [line for line in history[emptied:] if line.word in (b"took", b"dropped")]
     return len(accepted(history[:emptied])) + len(taken)
@@ -30,7 +30,7 @@ def queued(history: list[Line]) -> list[Envelope]:
 
 
 def status_of(history: list[Line]) -> str:
-    """Only what happened since the last `started` counts."""
+    """The status of the port, which depends only on the lines since the last `started`."""
     words = [line.word for line in history[behind_last(history, b"started") :]]
     return "stopped" if b"stopped" in words else "halted" if b"halted" in words else "started"
 
@@ -43,7 +43,7 @@ def mark(history: list[Line]) -> int:
 
 
 def limit(history: list[Line]) -> int:
-    """How many of those accepted may have been received by now."""
+    """How many of the accepted messages may have been received by now."""
     if status_of(history) == "stopped":
         return gone(history)
     return mark(history) if status_of(history) == "halted" else len(accepted(history))
@@ -55,6 +55,6 @@ def top(history: list[Line]) -> Envelope | None:
 
 
 def first_unlawful(history: list[Line]) -> int | None:
-    """The place of the first line that takes, finds or drops what isn't the top."""
+    """The place of the first line that takes, finds or drops another message than the top one."""
     places = (place for place, line in enumerate(history) if line.word in TAKING)
     return next((place for place in places if top(history[:place]) != history[place].envelope()), None)

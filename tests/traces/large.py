@@ -1,5 +1,5 @@
 #!/usr/bin/env python3
-"""Large traces: what `tpr judge` says of them on a stack of 256 KiB.
+"""Tests what `tpr judge` prints for large traces, on a stack of 256 KiB.
 
     tests/traces/large.py PROGRAM
 
@@ -43,7 +43,7 @@ class Judge:
         self.says(name, status, answer, str(self.file))
 
     def says_of_a_pipe(self, name: str, number: int, answer: bytes) -> None:
-        """Bytes behind a line, so many in all, which come through a pipe."""
+        """Judges a text of this many bytes, a long line after the first one, which comes through a pipe."""
         with printed_by(*BYTES, str(number - len(HEAD))) as pipe:
             self.says(f"{name}, through a pipe", 2, answer, stdin=pipe)
 
@@ -53,7 +53,7 @@ class Judge:
 
 
 class Many(NamedTuple):
-    """A trace of many lines, how it is judged, and what is said of it."""
+    """A trace of many lines, with its expected status and answer."""
 
     name: str
     status: int
@@ -79,7 +79,7 @@ def traces_of_many_lines() -> Iterator[Many]:
 
 
 def many_lines(judge: Judge) -> None:
-    """Many lines, sections, receivers, queues, and lines that are told."""
+    """Many lines, sections, receivers, queues, and lines that are reported."""
     for it in traces_of_many_lines():
         judge.write(it.texts)
         judge.says_of_the_file(it.name, it.status, it.answer)

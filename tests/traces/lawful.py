@@ -1,5 +1,5 @@
-"""The three rules on a trace (docs/TRACES.md): ports, delivery, no circle. Each finds its places: a RULE
-and a line. They are written from the definitions, one list or one comparison for each, and not for speed.
+"""Finds where a trace breaks the three rules (docs/TRACES.md): ports, delivery, no circle. Each place is a RULE and a
+line. The rules are written from the definitions, with one list or one comparison for each, and not for speed.
 """
 from collections.abc import Iterator
 from dataclasses import dataclass, field
@@ -8,7 +8,7 @@ from typing import NamedTuple
 from circles import firsts_of_circles
 from form import TAKING, Line, Section, Trace
 
-# In this order where several stand at one line.
+# The order of several rules at one line.
 RULES = (
     "Stopped",
     "Behind",
@@ -25,7 +25,7 @@ RULES = (
 
 
 class Place(NamedTuple):
-    """Where a trace isn't lawful: the number of a line, and the rule."""
+    """A place where a trace isn't lawful: the number of a line, and the rule."""
 
     line: int
     rule: str
@@ -35,8 +35,8 @@ class Place(NamedTuple):
 
 
 def places_of(trace: Trace) -> Iterator[list[Place]]:
-    """The places that may be told, by their lines: the first of each port, that of each route, and where delivery holds
-    the first line of a circle, of any where there are several."""
+    """The places that may be reported, by their lines: the first of each port, that of each route, and, if delivery
+    holds, the first line of a circle. If there are several circles, there is a list for each."""
     found = [place for section in trace.sections.values() for place in places_of_ports(section)]
     undelivered = [place for route in routes_of(trace) if (place := place_of_route(route)) is not None]
     circles = [] if undelivered else [Place(line, "Circle") for line in firsts_of_circles(happens_before(trace))]
@@ -49,14 +49,14 @@ def places_of(trace: Trace) -> Iterator[list[Place]]:
 
 @dataclass
 class Port:
-    """A port as its lines so far leave it: `ahead` is how many of a halted one's messages are ahead of the mark."""
+    """A port after its lines so far. If it is halted, `ahead` is the number of its messages ahead of the mark."""
 
     status: str = "started"
     queue: list[tuple[bytes, int, bytes]] = field(default_factory=list)
     ahead: int = 0
 
     def do(self, line: Line) -> None:
-        """What the line does to it."""
+        """Applies the effect of the line."""
         if line.word == b"came":
             self.queue.append(line.envelope())
         elif line.word in (b"took", b"dropped"):
@@ -70,7 +70,7 @@ class Port:
             self.status = line.word.decode()
 
     def refuses(self, line: Line) -> str | None:
-        """The rule that a line breaks which takes, finds or drops a message."""
+        """The rule that is broken by a line that takes, finds or drops a message, or None."""
         if self.status == "stopped":
             return "Stopped"
         reached = self.ahead if self.status == "halted" else len(self.queue)
@@ -89,7 +89,7 @@ def places_of_ports(section: Section) -> Iterator[Place]:
 
 
 def place_of_port(section: Section, lines: list[Line]) -> Place | None:
-    """The first place of a port, of which these are the lines."""
+    """The first place of a port with these lines, or None."""
     port = Port()
     for line in lines:
         if line.word in TAKING and (rule := port.refuses(line)) is not None:
@@ -100,8 +100,8 @@ def place_of_port(section: Section, lines: list[Line]) -> Place | None:
 
 
 def place_of_left(section: Section, port: Port, left: list[Line]) -> Place | None:
-    """The first line `left` that isn't what is queued; where one is missing, the section's `end`, and where it has
-    none, its last line."""
+    """The first line `left` that differs from the queue. If one is missing, it is the section's `end`, and without an
+    `end` the section's last line."""
     for place, line in enumerate(left):
         if port.queue[place : place + 1] != [line.envelope()]:
             return Place(line.place, "Left")
@@ -122,7 +122,7 @@ class Route:
     came: list[Line] = field(default_factory=list)
 
     def first_sendings(self) -> dict[int, int]:
-        """Of each number that was sent, the place of its first sending."""
+        """The place of the first sending of each number that was sent."""
         places: dict[int, int] = {}
         for place, line in enumerate(self.sent):
             places.setdefault(line.number, place)
@@ -142,8 +142,8 @@ def routes_of(trace: Trace) -> list[Route]:
 
 
 def place_of_route(route: Route) -> Place | None:
-    """What is told of the route: its first sending with a wrong number; else what is wrong at the first place of its
-    order at which what came isn't what was sent there."""
+    """The place to report for the route: its first sending with a wrong number; otherwise the fault at the first place
+    in its order where the arrival differs from the sending."""
     for place, line in enumerate(route.sent):
         if line.number != place:
             return Place(line.place, "Numbering")
@@ -155,8 +155,8 @@ def place_of_route(route: Route) -> Place | None:
 
 
 def place_told(route: Route, place: int) -> Place:
-    """What is told of this place, at which another message came than was sent, or none did: what is wrong with what
-    came; and where that is a message that was sent later, what became of the one that was sent there."""
+    """The place to report if another message arrived here than was sent here, or none did: the fault of the arrival. If
+    the arrival is a message that was sent later, it is the fault of the message that was sent here."""
     at = {told.line: told for told in places_of_route(route)}
     came = [line.place for line in route.came[place:]]
     if came and came[0] in at:
@@ -172,8 +172,8 @@ def places_of_route(route: Route) -> Iterator[Place]:
 
 
 def places_of_sendings(route: Route) -> Iterator[Place]:
-    """A number that isn't the next; or no arrival has it, and in its place in the order of the arrivals nothing came, or
-    a message that was sent later."""
+    """Each sending whose number isn't the next; and each one whose number no arrival has, if in its place in the order
+    of arrivals there is none, or a message that was sent later."""
     came = {line.number for line in route.came}
     last_that_came = max((place for place, line in enumerate(route.sent) if line.number in came), default=-1)
     behind = {(line.number, line.message): place for place, line in enumerate(route.sent)}
@@ -187,8 +187,8 @@ def places_of_sendings(route: Route) -> Iterator[Place]:
 
 
 def places_of_arrivals(route: Route) -> Iterator[Place]:
-    """The first rule that each arrival breaks: its number had come before; was never sent; was sent with another
-    message; was sent before that of an earlier arrival."""
+    """The first rule that each arrival breaks: its number had arrived before; was never sent; was sent with another
+    message; was sent before the number of an earlier arrival."""
     sent, messages = route.first_sendings(), {(line.number, line.message) for line in route.sent}
     before: set[int] = set()
     latest = -1
@@ -209,8 +209,8 @@ def places_of_arrivals(route: Route) -> Iterator[Place]:
 
 
 def happens_before(trace: Trace) -> dict[int, list[int]]:
-    """Of each line of a section, by its number: the next line of the section, and where it is a sending, what came
-    of it."""
+    """For each line of a section, by its number, the lines that it happens before: the next line of the section, and
+    the arrivals of a sending."""
     behind: dict[int, list[int]] = {line.place: [] for section in trace.sections.values() for line in section.lines}
     for section in trace.sections.values():
         for line, after in zip(section.lines, section.lines[1:]):

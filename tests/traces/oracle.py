@@ -1,4 +1,4 @@
-"""A judge of traces, written from docs/TRACES.md and not from the code: what `tpr judge` must print of a trace.
+"""A judge of traces, written from docs/TRACES.md and not from the code: it prints what `tpr judge` must print.
 
     oracle.py [FILE]
 
@@ -14,7 +14,7 @@ from one_run import delayed_lines
 
 
 def answers_of(text: bytes) -> list[tuple[str, int]]:
-    """What may be printed, with the status: several answers where there are several circles."""
+    """The allowed outputs, each with its status: several if there are several circles."""
     try:
         trace = read_trace(text)
     except TooLong:
@@ -33,7 +33,7 @@ def text_of_places(places: list[Place]) -> str:
 
 
 def answer_of(text: bytes) -> tuple[str, int]:
-    """What is printed, and the status; of several circles the one that begins first is told."""
+    """The output and the status. Of several circles, it reports the one that begins first."""
     return answers_of(text)[0]
 
 

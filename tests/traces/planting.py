@@ -7,7 +7,7 @@ _NUMBER = re.compile(rb"((?:sent|came|took|found|dropped|left)(?: [^ ]+){1,2} )(
 
 
 class Planted(NamedTuple):
-    """What was done to which line, from 1, and the text that is left."""
+    """The edit, the number of the line, from 1, and the new text."""
 
     edit: str
     line: int
@@ -15,7 +15,7 @@ class Planted(NamedTuple):
 
 
 def planted_in(text: bytes) -> Iterator[Planted]:
-    """All of them, line by line. What would change nothing is left out."""
+    """All faults, line by line, without those that change nothing."""
     lines = text.splitlines(True)
     for place in range(len(lines)):
         for edit in EDITS:
@@ -47,7 +47,7 @@ def _exchanged(lines: list[bytes], place: int) -> list[bytes] | None:
 
 
 def _numbered(lines: list[bytes], place: int, by: int) -> list[bytes] | None:
-    """The line with a number that is greater by so much."""
+    """The text with a line whose number is changed by this much."""
     found = _NUMBER.fullmatch(lines[place])
     if found is None or int(found[2]) + by < 0:
         return None
@@ -55,13 +55,13 @@ def _numbered(lines: list[bytes], place: int, by: int) -> list[bytes] | None:
 
 
 def _message(lines: list[bytes], place: int) -> list[bytes] | None:
-    """The line with a byte more in its message."""
+    """The text with a line whose message has one more byte."""
     if _NUMBER.fullmatch(lines[place]) is None:
         return None
     return [*lines[:place], lines[place].removesuffix(b"\n") + b"x\n", *lines[place + 1 :]]
 
 
-# By the words that the table uses.
+# The edits, by their words in the table.
 EDITS = {
     "without": _without,
     "twice": _twice,

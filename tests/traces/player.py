@@ -1,9 +1,9 @@
-"""Plays a script in an order made by chance, on the model of runs (tools/tpr_tools/model/), and prints the trace:
-the report, with a line `came` wherever a message came into a queue.
+"""Plays a script in a random order on the model of runs (tools/tpr_tools/model/), and prints the trace: the report,
+with a line `came` wherever a message arrives in a queue.
 
     player.py SCRIPT [SEED]
 
-In the model a message is in its queue at once when it is sent, so each of these traces is one run.
+In the model a message is in its queue as soon as it is sent, so each of these traces is one run.
 """
 import argparse
 import os
@@ -19,7 +19,7 @@ from tpr_tools.model.tree import Send
 
 
 class Traced(Run):
-    """A run that notes what comes, too."""
+    """A run that also notes the arrivals."""
 
     def send(self, who: int, send: Send) -> Act:
         act = super().send(who, send)

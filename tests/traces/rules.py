@@ -1,17 +1,17 @@
-"""Tests the judge of traces in oracle.py, and what it stands on.
+"""Tests the judge of traces in oracle.py, and the modules on which it depends.
 
     rules.py planted|forms|titan TABLE [--judge COMMAND..]
     rules.py document FILE [--judge COMMAND..]
-                                  each row of the table, each example of the document, has the answer that was worked
-                                  out by hand: by the judge in oracle.py, or by the command with a file behind it
+                                  each row of the table, or each example of the document, has the answer that was worked
+                                  out by hand: from the judge in oracle.py, or from the command followed by a file
     rules.py lines FILE           each text has the form of a trace, or its first line of another form is the one that
                                   was found by hand
     rules.py reports TRACE..      each trace of an example, without its arrivals, is a report that the example may have
-    rules.py played SCRIPT..      traces of these scripts, played in orders made by chance, are lawful and one run
-    rules.py tried NUMBER         of so many small traces, those are one run of which some order of their lines is a
-                                  run; of so many small graphs, the first line of each circle is found; and of so many
-                                  ports and routes, the places are found where docs/MODEL.md has them. A twentieth at
-                                  least must be of each of two kinds
+    rules.py played SCRIPT..      traces of these scripts, played in random orders, are lawful and one run
+    rules.py tried NUMBER         a small trace is judged to be one run if and only if some order of its lines is a run;
+                                  the first line of each circle of a small graph is found; and the places of ports and
+                                  routes are those of docs/MODEL.md. There are NUMBER random ones of each. At least a
+                                  twentieth must be of each of two kinds
 
 Each prints lines `passed ..`, or lines that begin with `FAILED: `.
 """
@@ -45,7 +45,7 @@ _EXAMPLE = re.compile(r"^```\n(.*?)^```\n\n((?:`[^`]+`(?:, )?)+)", re.DOTALL | r
 
 
 def rows(path: str) -> Iterator[tuple[str, str]]:
-    """The rows of a table, `WHAT => ANSWER; ANSWER`: what stands before the answers, and these as they are printed.
+    """The rows of a table, `WHAT => ANSWER; ANSWER`: the text before the answers, and the answers as they are printed.
     A line that begins with `#` is a comment."""
     with open(path, encoding="ascii") as file:
         for line in file:
@@ -75,13 +75,13 @@ def form(_: str, what: str) -> bytes:
 
 
 def titan(path: str, what: str) -> bytes:
-    """The trace beside the logs of a folder that a row names."""
+    """The trace beside the logs of the folder that a row names."""
     with open(os.path.join(os.path.dirname(path), what, "trace"), "rb") as file:
         return file.read()
 
 
 def rows_of_document(path: str) -> Iterator[tuple[str, str]]:
-    """The examples of a document: a trace in fences, and behind it a line of answers in backquotes."""
+    """The examples of a document: a fenced trace, followed by a line of answers in backquotes."""
     with open(path, encoding="utf-8") as file:
         for trace, answers in _EXAMPLE.findall(file.read()):
             yield trace, "".join(f"{answer}\n" for answer in re.findall("`([^`]+)`", answers))
@@ -100,7 +100,7 @@ TEXTS: dict[str, Callable[[str, str], bytes]] = {
 
 
 def answered(kind: str, path: str, answer: Callable[[bytes], tuple[str, int]]) -> Iterator[str]:
-    """A line for each row of the table, or example of the document."""
+    """The result of each row of the table, or of each example of the document."""
     for what, wanted in rows_of_document(path) if kind == "document" else rows(path):
         text = TEXTS[kind](path, what)
         found = answer(text)
@@ -111,7 +111,7 @@ def answered(kind: str, path: str, answer: Callable[[bytes], tuple[str, int]]) -
 
 
 def first_bad(text: bytes) -> str:
-    """The number of the first line of another form, `read` where there is none."""
+    """The number of the first line of another form, or `read` if there is none."""
     try:
         read_trace(text)
     except OfAnotherForm as bad:
@@ -120,7 +120,7 @@ def first_bad(text: bytes) -> str:
 
 
 def lines(path: str) -> Iterator[str]:
-    """A line for each text of the file: before it stands `read`, or the number of its first line of another form."""
+    """The result of each text of the file. Each follows `read`, or the number of its first line of another form."""
     with open(path, encoding="ascii") as file:
         for row in file:
             wanted, _, text = row.removesuffix("\n").partition(" ")
@@ -131,7 +131,7 @@ def lines(path: str) -> Iterator[str]:
 
 
 def reports(path: str) -> Iterator[str]:
-    """A line for a trace that has the name of an example, none for another."""
+    """The result of a trace that has the name of an example; other traces have none."""
     example, trace = f"{Path(path).stem}.ttcn", Path(path).read_text(encoding="latin-1")
     if not any((it / example).exists() for it in example_files.FOLDERS):
         return
@@ -149,8 +149,7 @@ def played(script: str) -> str:
 
 
 def of_two_kinds(one: int, number: int, what: str) -> str:
-    """The line of a test in which so many of this number were of one kind: with too few of either kind it shows
-    nothing."""
+    """The result of a test in which `one` of the number were of one kind. With too few of either kind it fails."""
     return f"FAILED: {what} of {number}" if min(one, number - one) < number // 20 else f"passed {what}"
 
 
@@ -169,7 +168,7 @@ def tried(number: int) -> str:
 
 
 def followed(behind: dict[int, list[int]], first: int) -> dict[int, set[int]]:
-    """What follows from each line in any number of steps, where there are only lines from the first one on."""
+    """The lines that follow each line in any number of steps, if only the lines from the first one on exist."""
     follows = {line: {it for it in others if it >= first} for line, others in behind.items() if line >= first}
     for _ in behind:
         follows = {line: others.union(*(follows[it] for it in others)) for line, others in follows.items()}
@@ -177,8 +176,7 @@ def followed(behind: dict[int, list[int]], first: int) -> dict[int, set[int]]:
 
 
 def graphs(number: int) -> str:
-    """The first line of each circle, beside what follows from each line; and the first of these, which is the first
-    line on any circle."""
+    """Compares the first lines of circles with what follows each line, and the first of all with lines on circles."""
     chance, with_several = random.Random(number), 0
     for _ in range(number):
         behind = small_graph(chance)
@@ -193,7 +191,7 @@ def graphs(number: int) -> str:
 
 
 def ports(number: int) -> str:
-    """The first unlawful line of a port and what is queued in the end, beside what the histories say."""
+    """Compares the first unlawful line of a port, and its queue at the end, with what the histories say."""
     chance, unlawful = random.Random(number), 0
     for _ in range(number):
         history = small_history(chance)
@@ -208,8 +206,8 @@ def ports(number: int) -> str:
 
 
 def routes(number: int) -> str:
-    """A route has a place exactly where what came isn't what was sent, or its numbers aren't 0, 1, 2 and so on; and the
-    place that is told is one of those that it has."""
+    """A route has a place if and only if the arrivals differ from the sendings, or its numbers aren't 0, 1, 2 and so
+    on; and the reported place is one of those that it has."""
     chance, lawful = random.Random(number), 0
     for _ in range(number):
         route = small_route(chance)
@@ -223,7 +221,7 @@ def routes(number: int) -> str:
 
 
 def judge_of(command: list[str], room: str) -> Callable[[bytes], tuple[str, int]]:
-    """The judge of which this is the command, else that of oracle.py."""
+    """The judge with this command, or that of oracle.py without one."""
     return Judge(command, os.path.join(room, "trace")).answer if command else answer_of
 
 

@@ -2,10 +2,10 @@
 
     runs.py PROGRAM SCRIPT.. --judge COMMAND..
 
-`PROGRAM trace SCRIPT` is called several times, a part of them on one processor. Each trace without its lines `came`
-must be a report that the script may have, and the trace lawful and one run: by the judge in oracle.py, and by the
-command with a file behind it. For each script and judge a line `passed N SCRIPT by JUDGE` is printed, or lines that
-begin with `FAILED: SCRIPT by JUDGE`.
+`PROGRAM trace SCRIPT` is called several times, some of them on one processor. Each trace must be lawful and one run, by
+the judge in oracle.py and by the command followed by a file; without its lines `came` it must be a report that the
+script may have. It prints a line `passed N SCRIPT by JUDGE` for each script and judge, or lines that begin with
+`FAILED: SCRIPT by JUDGE`.
 """
 import argparse
 import os
@@ -32,8 +32,8 @@ Answer = Callable[[bytes], tuple[str, int]]
 
 
 class Reports:
-    """The reports that a script may have: those in the files beside it, or, where there are none, those that the
-    judge of reports allows. Each is judged once."""
+    """The reports that a script may have: those in the files beside it, or without such files those that the judge of
+    reports allows. Each is judged once."""
 
     def __init__(self, script: str):
         self.case, self.known = TestCase(read_script(script)), {it: True for it in expected_beside(script)}
@@ -50,7 +50,7 @@ def without_arrivals(trace: str) -> str:
 
 
 def run(command: list[str], reports: Reports) -> tuple[bytes, str | None]:
-    """Runs the command. Its trace, and what is wrong with it as a report, if anything is."""
+    """Runs the command. Returns its trace, and what is wrong with it as a report, or None."""
     try:
         ended = subprocess.run(
             command, stdin=subprocess.DEVNULL, capture_output=True, timeout=SECONDS, check=False
@@ -66,14 +66,14 @@ def run(command: list[str], reports: Reports) -> tuple[bytes, str | None]:
 
 
 def fault_of(trace: bytes, answer: Answer) -> str | None:
-    """What the judge says against the trace, if anything."""
+    """Describes the judge's objection to the trace, or returns None."""
     if (found := answer(trace)) == ("lawful\none run\n", 0):
         return None
     return f"with status {found[1]} it is said\n{found[0]}of\n{trace.decode('latin-1')}"
 
 
 def judged(program: str, script: str, judges: dict[str, Answer]) -> list[str]:
-    """The line, or lines, for one script, by each of the judges."""
+    """The results of one script, one for each judge."""
     reports = Reports(script)
     faults: dict[str, str] = {}
     for turn in range(RUNS):

@@ -1,5 +1,5 @@
 #!/usr/bin/env python3
-"""What tools/titan makes of logs of Eclipse Titan: those of tests/titan/, and such as it refuses.
+"""Tests the traces that tools/titan makes of logs of Eclipse Titan, those of tests/titan/, and its refusals.
 
     tests/traces/titan_logs.py
 
@@ -21,7 +21,7 @@ from calling import Cases, Ended, call
 
 TITAN, LOGS, DOCUMENT = str(ROOT / "tools/titan"), ROOT / "tests/titan", ROOT / "docs/TRACES.md"
 REAL = ("kitchen", "closing", "clearing", "pairs", "mapped", "deep", "two", "lost")
-# What stands in a log of each sending, arrival and port operation, and the word of its line in the trace.
+# The text of each sending, arrival and port operation in a log, and the word of its line in the trace.
 LINES = {
     b"Sent on": "sent",
     b"Message enqueued": "came",
@@ -40,7 +40,7 @@ class Tool:
         self.folder, self.cases = folder, Cases()
 
     def must_be_refused(self, name: str, status: int, said: str, *words: str) -> None:
-        """It says one line that begins so, and prints nothing."""
+        """The tool prints one line on standard error, which begins so, and nothing else."""
         self.must_say_alone(name, status, said, call([TITAN, *words]))
 
     def must_say_alone(self, name: str, status: int, said: str, ended: Ended) -> None:
@@ -49,7 +49,7 @@ class Tool:
         self.cases.told(name, wrong)
 
     def file(self, text: bytes) -> str:
-        """A log with this text."""
+        """Writes a log with this text, and returns its path."""
         (self.folder / "titan.log").write_bytes(text)
         return str(self.folder / "titan.log")
 
@@ -63,7 +63,7 @@ def trace_of(folder: str) -> bytes:
 
 
 def must_be_as_kept(tool: Tool, folder: str, status: int, *words: str) -> None:
-    """The trace that stands beside the logs, and what is said of them."""
+    """The tool's output is the trace beside the logs, and its standard error is the file `said` there."""
     ended, said = call([TITAN, *words], cwd=LOGS / folder), LOGS / folder / "said"
     kept = said.read_bytes() if said.exists() else b""
     name = f"tests/titan/{folder}"
@@ -91,7 +91,7 @@ def traces(tool: Tool) -> None:
 
 
 def shown_logs(tool: Tool) -> None:
-    """What docs/TRACES.md says of logs, and that this is the answer."""
+    """docs/TRACES.md describes the logs as they are, with the answers of answers.table."""
     document, answers = DOCUMENT.read_text(encoding="utf-8"), (LOGS / "answers.table").read_text().splitlines()
     lost = "unlawful Lost line 7"
     line = trace_of("closing").decode().splitlines()[6]
@@ -110,7 +110,7 @@ def shown_logs(tool: Tool) -> None:
 
 
 def refused_logs(tool: Tool) -> None:
-    """What isn't the log of a component, or isn't the only one; and no log, or nowhere to print a trace."""
+    """Files that aren't the log of a component, or are a second one of it; no log at all; no place for the trace."""
     made, missing, refused = LOGS / "made", tool.folder / "missing", tool.must_be_refused
     log = (made / "5.log").read_bytes()
     refused("a log that is missing", 2, f"titan: {missing} can't be read: ", str(missing))
@@ -135,7 +135,7 @@ def refused_logs(tool: Tool) -> None:
 
 
 def cases_of_logs(tool: Tool) -> None:
-    """Of the logs of several test cases one is chosen."""
+    """One of several test cases in the logs is chosen."""
     logs, of_both = [str(it) for it in logs_of("several")], "titan: the logs are of greeting, leaving: "
     more = "titan: the logs are of more than one test case: name one of greeting, leaving with --case"
     tool.must_be_refused("several test cases", 2, more, *logs)

@@ -1,8 +1,8 @@
-# Traces (docs/TRACES.md): a judge of them in Python (tests/traces/oracle.py), against tables that were worked out by
-# hand and against all orders of small traces; `tpr judge`, or the command JUDGE, against that judge; tools/titan; and
-# the traces of `tpr trace`.
+# Tests traces (docs/TRACES.md): compares a judge in Python (tests/traces/oracle.py) with tables that were worked out by
+# hand and with all orders of small traces, and `tpr judge`, or the command JUDGE, with that judge. Tests tools/titan,
+# and the traces of `tpr trace`.
 
-# Runs a part of the tests in Python, which has so many cases at least.
+# Runs some of the tests in Python, which must have at least LEAST cases.
 told_by() { # LEAST NAME WORD..
     at_least "$1" told "$room/traces_told" "tests/traces/$2.py" "${@:3}"
 }
@@ -12,7 +12,7 @@ find_judge() {
     if [[ ${JUDGE-} ]]; then read -ra judge_of_traces <<<"--judge $JUDGE"; fi
 }
 
-# What was worked out by hand: by the judge in Python, or by the command.
+# Compares the answers that were worked out by hand with the judge in Python, or with the command.
 answered_tables() { # [--judge COMMAND..]
     told_by 189 rules planted tests/traces/planted.table "$@"
     told_by 79 rules forms tests/traces/forms.table "$@"
@@ -28,7 +28,7 @@ the_judge_of_traces() {
     told_by 5 rules reports tests/traces/lawful/*.trace
 }
 
-# What `tpr trace` prints of five examples.
+# Writes what `tpr trace` prints for five examples.
 make_traces() { # FOLDER
     local script
     mkdir -- "$1"
@@ -38,8 +38,9 @@ make_traces() { # FOLDER
     done
 }
 
-# Lawful traces: five of `tpr trace`, five of logs, and others. Each with every fault that can be planted by one edit,
-# and with several; two that are cut, or have other bytes; the tables; and traces that were played or made by chance.
+# Judges lawful traces: five of `tpr trace`, five of logs, and others, each with every fault that one edit can plant,
+# and with several faults; two that are cut, or have other bytes; the tables; and traces that were played or made at
+# random.
 judged_traces() {
     local traces=(tests/traces/lawful/*.trace tests/titan/{kitchen,clearing,pairs,mapped,made}/trace)
     local small=(tests/traces/lawful/{one_port,ask_and_answer}.trace)
@@ -64,8 +65,8 @@ traces() {
     judged_traces
 }
 
-# Free runs: each trace of `tpr trace` without its lines `came` is a report that the script may have, and it is lawful
-# and one run, by the judge in Python and by `tpr judge`.
+# Judges free runs: each trace of `tpr trace` must be lawful and one run, by the judge in Python and by `tpr judge`;
+# without its lines `came` it must be a report that the script may have.
 traces_of_runs() {
     local runnable judge_of_traces
     find_runnable

@@ -1,8 +1,8 @@
-"""Scripts made by chance in which some components are alike: clients of one body, and a server that may answer by
-sender, with a number or with the one that it took. So components can be exchanged, or just not: one has another body,
-`mtc` names some of them, or each sends a number of its own, which its receivers may tell apart, or waits for one, which
-the others may want too. In some scripts there are two servers, each with clients of its
-own, and the two groups have nothing to do with each other, unless `mtc` tells all of both."""
+"""Makes random scripts in which some components are alike: clients with one body, and a server that may answer by
+sender, with a number or with the one that it took. So components can be exchanged, or only almost: one has another
+body, `mtc` names some of them, or each sends a number of its own, which its receivers may distinguish, or waits for a
+number that the others may want too. In some scripts there are two servers, each with clients of its own. The two groups
+are independent, unless `mtc` sends to all clients of both."""
 from __future__ import annotations
 
 import random
@@ -30,14 +30,14 @@ ECHOES = """for (var integer i := 0; i < {clients}; i := i + 1) {{
 
 
 def taken(chance: random.Random, port: str, behind: str = "") -> str:
-    """A receiving operation, of any number or of one."""
+    """A receiving operation for any number or for one."""
     operation = chance.choice(("receive", "receive", "receive", "trigger"))
     wanted = chance.choice(("1", "1", "1", "2", "?", "?", "3"))
     return f"{port}.{operation}(integer:{wanted}){behind}"
 
 
 def chosen(chance: random.Random, port: str) -> str:
-    """An `alt` that tells numbers apart."""
+    """An `alt` that distinguishes numbers."""
     first, second = chance.choice(VERDICTS), chance.choice(VERDICTS)
     last = chance.choice(("", "", f"[] {port}.receive {{ setverdict({second}); }}", "[else] { }"))
     return f"alt {{ [] {port}.receive(integer:{chance.choice('1123')}) {{ setverdict({first}); }} {last} }}"
@@ -58,7 +58,7 @@ def own_act(chance: random.Random) -> str:
 
 
 def central_act(chance: random.Random, port: str, names: list[str]) -> str:
-    """A statement of one that is connected with all clients, which may name these, if it knows them."""
+    """A statement of a component that is connected with all clients, and may name them if it knows them."""
     number = chance.choice("112")
     kind = chance.randrange(9)
     if kind < 3:
@@ -76,7 +76,7 @@ def central_act(chance: random.Random, port: str, names: list[str]) -> str:
 
 
 def sending(number: str, body: str) -> str:
-    """The body that sends this number wherever it sent one."""
+    """The body, in which each send has this number."""
     return re.sub(r"send\(integer:\d\)", f"send(integer:{number})", body)
 
 
@@ -86,7 +86,7 @@ def numbered(number: int, body: str) -> str:
 
 
 def own_bodies(chance: random.Random, clients: list[str], asks: str) -> list[str]:
-    """What the clients carry out: the same, but for one of them, or for the numbers that they send, or also want."""
+    """The bodies of the clients: all the same, except for one of them, or for the numbers that they send or want."""
     client = " ".join([asks, *(own_act(chance) for _ in range(chance.randint(1, 3)))])
     other = " ".join([asks, *(own_act(chance) for _ in range(chance.randint(1, 3)))])
     kind = chance.random()
@@ -127,7 +127,7 @@ def of_one_group(chance: random.Random, name: str, clients: list[str], told: boo
 
 
 def some_groups_script(chance: random.Random) -> str:
-    """Two groups, which `mtc` may tell to begin."""
+    """A script with two groups, which `mtc` may tell to begin."""
     told = chance.random() < 0.4
     groups = {"a": ["a0", "a1"][: chance.randint(1, 2)], "b": ["b0"]}
     bodies: dict[str, str] = {}

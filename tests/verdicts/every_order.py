@@ -1,9 +1,9 @@
-"""All verdicts that a script can come to, over every order of its acts in the model of runs (tools/tpr_tools/model/). No
-order is left out.
+"""Computes all verdicts that a script can have, over every order of its acts in the model of runs
+(tools/tpr_tools/model/). No order is left out.
 
-What a component does next hangs on its own state alone, and what a message does to a receiver on the receiver's. So the
-model is asked once for each state of a component. These states are numbered. A state of all components is one integer,
-which has the number of each component at its own bits.
+The next act of a component depends only on its own state, and the effect of a message on a receiver only on the
+receiver's state. So the model is called once for each state of a component. These states are numbered. A state of all
+components is one integer, which has the number of each component at its own bits.
 """
 from __future__ import annotations
 
@@ -43,14 +43,14 @@ class States:
         return number if number in self.numbered else self.new(number, component)
 
     def new(self, number: int, component: Component) -> int:
-        """What it did is no part of its state."""
+        """Keeps a new state. The component's history is no part of it."""
         component.lines, component.numbers, component.looked = [], {}, ()
         self.numbered[number] = component
         return number
 
 
 class Sent(dict[int, int]):
-    """What is added to a state of all by the coming of a message, for each number of the receiver's state."""
+    """The change of the state of all when a message arrives, for each number of the receiver's state."""
 
     __slots__ = ("states", "mask", "port", "message")
 
@@ -66,14 +66,14 @@ class Sent(dict[int, int]):
 
 
 class Acted(NamedTuple):
-    """What is added to a state of all by an act, and what that sends."""
+    """The change of the state of all by an act, and the message that it sends."""
 
     change: int
     sent: Optional[Sent]
 
 
 class Acts(dict[int, Optional[Acted]]):
-    """What the next act comes to, for each number of a component's state. None where it waits or has ended."""
+    """The effect of the next act, for each number of a component's state; None if the component waits or has ended."""
 
     __slots__ = ("every", "states")
 
@@ -104,7 +104,7 @@ class EveryOrder:
         return self.sent.setdefault(key, Sent(self.states[receiver], port, message))
 
     def following(self, state: int) -> list[int]:
-        """The states behind one act more."""
+        """The states after one more act."""
         found = []
         for mask, acts in self.acts:
             acted = acts[state & mask]
@@ -114,12 +114,12 @@ class EveryOrder:
         return found
 
     def result(self, state: int) -> str:
-        """The overall verdict, where no component can go on."""
+        """The overall verdict, if no component can go on."""
         self.run.components = [it.numbered[state & it.mask] for it in self.states]
         return self.run.result()
 
     def verdicts(self, most_states: int) -> tuple[set[str], bool]:
-        """The verdicts of all ends that were come to, and whether there are no others."""
+        """The verdicts of all ends that were reached, and whether there are no others."""
         begin = sum(it.begin for it in self.states)
         seen, open_ones, found = {begin}, [begin], set()
         while open_ones and len(seen) <= most_states:
@@ -135,12 +135,12 @@ class EveryOrder:
 
 
 def verdicts_of(case: TestCase, most_states: int) -> tuple[set[str], bool]:
-    """The verdicts of all ends that were come to, and whether there are no others."""
+    """The verdicts of all ends that were reached, and whether there are no others."""
     return EveryOrder(case).verdicts(most_states)
 
 
 def all_that_counts(component: Component) -> Hashable:
-    """All of a component on which it hangs what follows. Numbers on routes and histories are left out."""
+    """Everything in a component on which its future depends. Numbers on routes and histories are left out."""
     ports = tuple(
         (it.status, it.ahead, tuple((message.type, message.value, message.sender) for message in it.queue))
         for it in component.ports.values()

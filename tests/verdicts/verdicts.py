@@ -1,4 +1,4 @@
-"""Compares what `tpr verdicts` says of scripts with every order of their acts in the model of runs.
+"""Compares what `tpr verdicts` prints for scripts with every order of their acts in the model of runs.
 
     verdicts.py each PROGRAM SCRIPT..
     verdicts.py random PROGRAM SEED NUMBER
@@ -6,16 +6,17 @@
     verdicts.py limit PROGRAM
     verdicts.py answers
 
-The verdicts must be exactly those of every order, where the model comes through all of them; where it doesn't, none
-that it came to may be missing. The status, the number of states and the order of the lines must be as the manual
-says, and by each order that is printed the model must come to its verdict, and to an end. `random` does so with scripts
-made by chance that have few components, and `alike` with such in which some are alike. `limit` has scripts whose states
-are counted by hand, up to the limit and beyond, scripts with too many templates times messages, and designs with the
-most states that they may have. `answers` looks whether answers that can't be are refused.
+If the model gets through every order, the verdicts must be exactly those of every order; otherwise none that it reached
+may be missing. The status, the number of states and the order of the lines must be as the manual says. By each order
+that is printed, the model must reach an end with its verdict. `random` tries random scripts with few components, and
+`alike` random scripts in which some components are alike. `limit` tries scripts whose states are counted by hand, up to
+the limit and beyond, scripts with too many templates times messages, and designs with a known largest number of states.
+`answers` tests that impossible answers are refused.
 
-Of each script it prints `passed 1 STATES SCRIPT`, `passed 0 STATES SCRIPT` where the model didn't come through all
-orders, or lines that begin with `FAILED: `, with the script. STATES is how many the program looked at. The last line
-names each script with more states in the model than it goes through: of what it didn't come to nothing is said.
+For each script it prints `passed 1 STATES SCRIPT`, `passed 0 STATES SCRIPT` if the model didn't get through every
+order, or lines that begin with `FAILED: `, with the script. STATES is the number of states that the program visited.
+The last line names each script with more states in the model than it visits: what the model didn't reach isn't
+compared.
 """
 from __future__ import annotations
 
@@ -44,14 +45,14 @@ from tpr_tools.explore.following import end_by
 from tpr_tools.model.bodies import TestCase
 from tpr_tools.model.reading import read_script
 
-SECONDS_OF_THE_PROGRAM = 1800  # it ends by the number of its states: this is for one that hangs
-MOST_COMPONENTS = 5  # of a script by chance
+SECONDS_OF_THE_PROGRAM = 1800  # the number of its states limits its time: this is for one that hangs
+MOST_COMPONENTS = 5  # of a random script
 MOST_STATES_OF_MODEL = 10_000
-AT_ONCE = 10  # scripts that a process is given together
+AT_ONCE = 10  # scripts that a process gets together
 
 
 class Compared(NamedTuple):
-    """A script: whether the model came through all orders, how many states the program looked at, and what is wrong."""
+    """A script: whether the model got through every order, how many states the program visited, and what is wrong."""
 
     path: Path
     whole: bool
@@ -65,7 +66,7 @@ class Compared(NamedTuple):
 
 
 def printed_of(program: str, path: Path) -> tuple[int, str]:
-    """The status and what is printed. What is said on standard error is behind it, and no answer has that."""
+    """The status and the output, followed by standard error, which no answer has."""
     done = subprocess.run(
         [program, "verdicts", str(path)],
         stdin=subprocess.DEVNULL,
@@ -78,14 +79,14 @@ def printed_of(program: str, path: Path) -> tuple[int, str]:
 
 
 def wrong_order(case: TestCase, answer: Answer) -> str | None:
-    """The first order by which the model doesn't come to its verdict."""
+    """Describes the first order by which the model doesn't reach the verdict, or returns None."""
     ends = ((verdict, names, end_by(case, names)) for verdict, names in answer.orders)
     wrong = ((verdict, names, end) for verdict, names, end in ends if end != verdict)
     return next((f"by {' '.join(names)} it comes to {end}, not to {verdict}" for verdict, names, end in wrong), None)
 
 
 def difference(said: set[str], decided: bool, found: set[str], whole: bool) -> str | None:
-    """In what the sets of verdicts differ."""
+    """Describes how the sets of verdicts differ, or returns None."""
     missed = found - said if decided else set()
     made_up = said - found if whole else set()
     if not missed and not made_up:
@@ -111,12 +112,12 @@ def compared(program: str, path: Path) -> Compared:
 def looked_at(program: str, path: Path) -> Compared:
     try:
         return compared(program, path)
-    except Exception as error:  # a script that can't be read is a failure, and not the end of the others
+    except Exception as error:  # a script that can't be read fails, and the others go on
         return Compared(path, False, 0, repr(error))
 
 
 def tell_each(program: str, paths: Iterable[Path]) -> None:
-    """A line, or lines, for each script. They are looked at while others are still made."""
+    """Prints the result of each script. Scripts are tried while others are still being made."""
     left_open = []
     with ProcessPoolExecutor(len(os.sched_getaffinity(0))) as pool:
         for done in pool.map(partial(looked_at, program), paths, chunksize=AT_ONCE):
@@ -127,7 +128,7 @@ def tell_each(program: str, paths: Iterable[Path]) -> None:
         print(f"more than {MOST_STATES_OF_MODEL} states, so that nothing is said of those behind:", *left_open)
 
 
-# Scripts by chance
+# Random scripts
 
 
 def is_small(text: str) -> bool:
@@ -135,7 +136,7 @@ def is_small(text: str) -> bool:
 
 
 def made_by_chance(what: str, seed: str, number: int, folder: str) -> Iterator[Path]:
-    """So many scripts of few components."""
+    """Makes this many random scripts of few components."""
     make = some_alike_script if what == "alike" else some_script
     texts = ((at, make(random.Random(f"{seed} {at}"))) for at in count())
     for at, text in islice((it for it in texts if is_small(it[1])), number):
@@ -146,10 +147,10 @@ def made_by_chance(what: str, seed: str, number: int, folder: str) -> Iterator[P
 
 # The limit
 
-# Two components look so often at a port to which the other still sends: each look may come before or behind each of the
-# other's. Each has so many places, and one more. When one has sent, the other's looks are taken at once, and so are two
-# sends behind all looks: one state more, the end, in place of that before the sends. One of them sets a verdict behind
-# its send, at once, so that they can't be exchanged.
+# Two components look several times at a port to which the other one still sends: each look may come before or after
+# each look of the other one. A component with N looks has N + 1 places. When one has sent, the looks of the other are
+# taken at once, and so are the two sends after all looks: so there is one more state, the end, instead of the state
+# before the sends. One component sets a verdict directly after its send, so that the two can't be exchanged.
 LOOKS = ((5, 5), (7, 3), (2047, 2047), (2047, 2048))
 LOOKING = """module Looking {{
     type port P message {{ inout integer; }}
@@ -170,7 +171,7 @@ def looks(turns: int) -> str:
 
 
 def limited(program: str, path: Path, first: int, second: int) -> str:
-    """The line for the script with so many looks."""
+    """The result of the script with this many looks."""
     path.write_text(LOOKING.format(looks(first), looks(second)), encoding="latin-1")
     states = (first + 1) * (second + 1)
     status, printed = printed_of(program, path)
@@ -182,8 +183,8 @@ def limited(program: str, path: Path, first: int, second: int) -> str:
     return f"FAILED: of {states} states: {wrong}" if wrong else f"passed of {states} states"
 
 
-# Templates times messages: 4,096 turns may have a message and a template each, and then there may be no other template.
-# Equal ones count once, so that more turns may have the same.
+# Templates times messages: 4,096 turns may have one message and one template each, and then no other template. Equal
+# ones count once, so that more turns may have the same.
 MOST_PAIRS = 16_777_216
 TURNING = """module Turning {{
     type port P message {{ inout integer; }}
@@ -199,7 +200,7 @@ PAIRS = (("i", 4096, 4096 * 4097), ("1", 4097, 2 * 2))
 
 
 def paired(program: str, path: Path, value: str, turns: int, pairs: int) -> str:
-    """The line for the script with so many turns, with so many pairs of a template and a message."""
+    """The result of the script with this many turns, and this many pairs of a template and a message."""
     path.write_text(TURNING.format(turns, value), encoding="latin-1")
     status, printed = printed_of(program, path)
     answer = read_answer(printed)
@@ -209,8 +210,8 @@ def paired(program: str, path: Path, value: str, turns: int, pairs: int) -> str:
     return f"passed of {pairs} pairs"
 
 
-# Clients that each ask with a number of their own, and wait for it. They are exchanged, with their numbers. So there is
-# a state for each number of clients that have asked.
+# Each client asks with a number of its own, and waits for it. The clients are exchanged together with their numbers, so
+# there is one state for each number of clients that have asked.
 CLIENTS = (3, 8)
 ASKING = """p.send(integer:{0});
         alt {{ [] p.receive(integer:{0}) {{ setverdict(pass); }} [] p.receive {{ setverdict(fail); }} }}"""
@@ -234,7 +235,7 @@ ASKED = """module Asked {{
 
 
 def numbered(program: str, path: Path, number: int) -> str:
-    """The line for the script with so many clients."""
+    """The result of the script with this many clients."""
     clients = range(number)
     script = ASKED.format(
         bodies=" ".join(f"function of_c{at}() runs on C {{ {ASKING.format(at)} }}" for at in clients),
@@ -251,9 +252,9 @@ def numbered(program: str, path: Path, number: int) -> str:
     return f"passed of {number} clients"
 
 
-# Designs whose states would be many more if each kept what nobody looks at again, each with the most that it may have:
-# eight clients, two questions each, of a server whose variable holds who asked last; four senders to a port that is
-# halted, and drained, by a receiver that once told their messages apart.
+# Designs whose states would be many more if each kept what nobody looks at again, each with its largest allowed number
+# of states: eight clients with two questions each to a server whose variable holds the last client that asked; and four
+# senders to a port that is halted, and drained, by a receiver that once distinguished their messages.
 SERVED = """p.send(integer:1);
         alt { [] p.receive(integer:2) { setverdict(pass); } [] p.receive { setverdict(fail); } }"""
 SERVING = "for (var integer i := 0; i < 16; i := i + 1) { p.receive(integer:1) -> sender w; p.send(integer:2) to w; }"
@@ -305,7 +306,7 @@ FORGETTING = (("8 clients", served(8), 50), ("4 senders to a halted port", drain
 
 
 def forgotten(program: str, path: Path, name: str, script: str, most: int) -> str:
-    """The line for a design of at most so many states."""
+    """The result of a design with at most this many states."""
     path.write_text(script, encoding="latin-1")
     status, printed = printed_of(program, path)
     answer = read_answer(printed)
@@ -314,7 +315,7 @@ def forgotten(program: str, path: Path, name: str, script: str, most: int) -> st
     return f"passed of {name}"
 
 
-# Answers that can't be
+# Impossible answers
 
 REFUSED = (
     "",
@@ -341,7 +342,8 @@ READ = (
     ("undecided\nstates 0\n", Answer((), False, 0, ())),
     ("undecided\nseen fail\nstates 4194304\nfail: a\n", Answer(("fail",), False, 4_194_304, (("fail", ("a",)),))),
 )
-# What the program says, whether it is decided, what the model finds, whether through all orders; and whether they fit.
+# The verdicts of the program, whether it is decided, the verdicts of the model, whether it got through every order; and
+# whether the two fit.
 FITTING = (
     ({"pass"}, True, {"pass"}, True, True),
     ({"pass"}, True, {"pass", "fail"}, True, False),
@@ -379,7 +381,7 @@ def arguments() -> argparse.Namespace:
 
 
 def tell_made(asked: argparse.Namespace, folder: str) -> None:
-    """What is told of the scripts that are written to the folder."""
+    """Prints the results of the scripts that are written to the folder."""
     if asked.what == "limit":
         for first, second in LOOKS:
             print(limited(asked.program, Path(folder, "looking.ttcn"), first, second), flush=True)

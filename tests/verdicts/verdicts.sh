@@ -1,6 +1,6 @@
-# What `tpr verdicts` says of scripts, beside every order of their acts in the model of runs (tests/verdicts/).
+# Compares what `tpr verdicts` prints with every order of the acts in the model of runs (tests/verdicts/).
 
-# Of how many scripts the model goes through every order at least, and how many scripts are made by chance.
+# The minimum numbers of scripts of which the model goes through every order, and the numbers of random scripts.
 least_whole=167
 verdicts_by_chance=10000
 least_whole_by_chance=8900
