@@ -1,4 +1,4 @@
-"""What the tests of tools/rewrite ask of it, and how they tell what they find."""
+"""Common functions of the tests of tools/rewrite: they run it, and report the cases."""
 from __future__ import annotations
 
 import os
@@ -50,7 +50,7 @@ def run(*words: str, data: bytes = b"") -> Ended:
 
 
 def carried(program: str, name: str, text: str, options: Options = Options()) -> Ended:
-    """What tools/rewrite would end with, asked in this process: a process for each script takes long."""
+    """The result that tools/rewrite would have. It runs in this process, because new processes take long."""
     found = rewrite([Source(name, text.encode())], options=options)
     if found.refused:
         return Ended(2, "", "".join(f"{one.text()}\n" for one in found.refused))

@@ -1,4 +1,4 @@
-"""tools/rewrite on its command line: its words, and files and programs that can't be used.
+"""Tests the command line of tools/rewrite: its words, and files and programs that can't be used.
 
     tests/rewrites/command_rules.py PROGRAM
 
@@ -15,12 +15,12 @@ sys.path.insert(0, os.path.dirname(os.path.realpath(__file__)))
 from asking import FOLDER, REWRITE, Ended, judged, run
 
 SCRIPT = f"{FOLDER}/natural/any_port.ttcn"
-# Its answer goes where nothing can be written.
+# Runs a command whose answer can't be written.
 ONTO_A_FULL_DEVICE = ("sh", "-c", 'exec "$0" "$@" >/dev/full')
 
 
 def says_alone(name: str, ended: Ended, status: int, said: str) -> None:
-    """It ends with this status, and says one line that begins so, and prints nothing."""
+    """The command must end with this status, and only write one line that begins like this on standard error."""
     is_so = ended.said.startswith(said) and ended.said.count("\n") == 1 and not ended.printed
     judged(name, ended.status == status and is_so, f"status {ended.status}, {ended.said[:300]}{ended.printed[:300]}")
 

@@ -1,4 +1,4 @@
-"""How soon tools/rewrite ends where a bound would be met, and how often it follows a script.
+"""Tests how early tools/rewrite ends if it would exceed a bound, and how often it follows a script.
 
     tests/rewrites/early_rules.py
 
@@ -21,7 +21,7 @@ from tpr_tools.rewrite.run import Options, Run
 from tpr_tools.rewrite.tokens import Source, Token
 from tpr_tools.rewrite.tree import TestCase
 
-# Three components send numbers, and a fourth adds them up, so that it goes on in another way for each sum.
+# Three components send numbers, and a fourth adds them up, so that it continues in a different way for each sum.
 SUMS = PRELUDE + """function f(integer n) runs on C { for (var integer i := 0; i < 6; i := i + 1) { p.send(n * 10 + i); } }
 testcase t() runs on C { var integer v, sum := 0; for (var integer i := 1; i < 4; i := i + 1) { var C c := C.create;
 connect(self:p, c:p); c.start(f(i)); } for (var integer i := 0; i < 18; i := i + 1) { p.receive(integer:?) -> value v;
@@ -29,14 +29,14 @@ sum := sum * 2 + v; } if (sum > 0) { setverdict(pass); } all component.done; }
 }
 """
 FOR = "for (var integer i := 0; i < 18; i := i + 1) { p.receive(integer:?) -> value v;\nsum := sum * 2 + v; }"
-# The same where nothing at the head says how many turns there are.
+# The same loop, but its head doesn't show the number of turns.
 OTHERS = {
     "while": "while (n < 18) { p.receive(integer:?) -> value v; sum := sum * 2 + v; n := n + 1; }",
     "do": "do { p.receive(integer:?) -> value v; sum := sum * 2 + v; n := n + 1; } while (n < 18);",
     "break": "while (true) { p.receive(integer:?) -> value v; sum := sum * 2 + v; n := n + 1; if (n == 18) { break; } }",
     "repeat": "alt { [] p.receive(integer:?) -> value v { sum := sum * 2 + v; n := n + 1; if (n < 18) { repeat; } } }",
 }
-# It sends to itself, and computes with what comes back.
+# A component sends to itself, and computes with the answer.
 TO_ITSELF = PRELUDE + """testcase t() runs on C { var integer v := 0; connect(self:p, self:q); for (var integer i := 0; i < TURNS; i := i + 1) {
 p.send(v); q.receive(integer:?) -> value v; v := (v + 1) mod 3; } }
 }
@@ -47,7 +47,8 @@ PLAIN = PRELUDE + """testcase t() runs on C { connect(self:p, self:q); for (var 
 
 
 def main() -> None:
-    """What is beyond a bound is refused before the bound is met, and nothing is followed more often than it takes."""
+    """A script that would exceed a bound must be refused before the bound is reached, and no script may be followed
+    more often than necessary."""
     found, stops, _ = counted(SUMS, Options(statements=8_000))
     reasons = [one.reason for one in found.refused]
     is_told = reasons == ["more than 8,000 statements would be written: --statements 61949 lets it write more"]
@@ -81,7 +82,8 @@ def main() -> None:
 
 
 def counted(text: str, options: Options) -> tuple[Rewritten, list[tuple[int, int]], int]:
-    """What comes of a script; what was written at each stop, and how often all was followed by then; and how often in all."""
+    """The result for a script; for each stop the number of statements written and of rounds until then; and the number
+    of all rounds."""
     stops: list[tuple[int, int]] = []
     rounds: list[str] = []
     stop, follow = Run._stop, following._follow_once

@@ -1,9 +1,9 @@
-"""What the other tools say of a script that tools/rewrite wrote: the lines of what that was given (mapped/).
+"""Tests that the other tools name the original lines of a script that tools/rewrite wrote (mapped/).
 
     tests/rewrites/map_rules.py PROGRAM
 
-`mapped/why` and what ends with `annotated` or `explored` there were worked out by hand. It prints a line `passed ..` or
-`FAILED: ..` for each case.
+`mapped/why` and the files there that end with `annotated` or `explored` were worked out by hand. It prints a line
+`passed ..` or `FAILED: ..` for each case.
 """
 from __future__ import annotations
 
@@ -33,7 +33,7 @@ def read(file: str) -> str:
 
 
 def tool(program: str, *words: str, beside: str = f"{FOLDER}/mapped", ordered: str = f"{FOLDER}/nowhere") -> str:
-    """What a tool prints and says, asked beside the modules."""
+    """The output of a tool, standard error included, run in the folder of the modules."""
     run = subprocess.run(
         [f"{ROOT}/tools/{words[0]}", *words[1:]], cwd=beside, check=False, text=True,
         stdout=subprocess.PIPE, stderr=subprocess.STDOUT,
@@ -82,7 +82,7 @@ def look_at_annotated(program: str, output: str) -> None:
 
 
 def parted(program: str, folder: str) -> None:
-    """A statement that was written several times is reached where one of them is, and in all as often as they were."""
+    """A statement with several copies is reached if one of them is, and its count is the sum of theirs."""
     module, output = f"{folder}/parted.ttcn", f"{folder}/out.ttcn"
     text = read(f"{FOLDER}/mapped/parted.ttcn")
     with open(module, "w", encoding="utf-8") as opened:
@@ -104,7 +104,7 @@ def look_at_chart(program: str, output: str, report: str) -> None:
 
 
 def look_at_explain(program: str, output: str) -> None:
-    """Something is wrong in the script that was written; its lines are where they were."""
+    """The written script is changed to have a fault; its lines stay at their places."""
     with open(output, encoding="utf-8") as opened:
         lines = opened.read().splitlines()
     place = next(number for number, line in enumerate(lines) if "setverdict(fail)" in line)
@@ -118,7 +118,7 @@ def look_at_explain(program: str, output: str) -> None:
 
 
 def look_at_another(program: str, output: str) -> None:
-    """A line more, so that the map is that of another script."""
+    """A line is inserted, so that the map doesn't belong to the script any more."""
     with open(output, encoding="utf-8") as opened:
         text = opened.read().replace("(fall)", "(fail)")
     with open(output, "w", encoding="utf-8") as opened:
@@ -133,7 +133,7 @@ def look_at_another(program: str, output: str) -> None:
 
 
 def one_module(program: str, output: str) -> None:
-    """Of one module the lines stand without its file, which is told before them."""
+    """For a single module the lines are shown without the file, which is named before them."""
     script = f"{FOLDER}/natural/login_with_templates.ttcn"
     tool(program, "rewrite", script, "-o", output)
     found = tool(program, "why", output).splitlines()
@@ -144,7 +144,7 @@ def one_module(program: str, output: str) -> None:
 
 
 def raced(program: str, output: str) -> None:
-    """Of two runs, where they part: in the text and as an object each line is the engineer's own."""
+    """Where two runs diverge: in the text and in JSON each line is the original one."""
     tool(program, "rewrite", "race.ttcn", "says.ttcn", "-o", output)
     found = tool(program, "explore", output)
     told = found[found.find("lines of ") : found.find("\nNo reports: ")]
@@ -169,7 +169,7 @@ def raced(program: str, output: str) -> None:
 
 
 def program_of_line(file: str, line: str) -> str:
-    """A program that refuses what it is given by this line."""
+    """A program that refuses every script with this line."""
     with open(file, "w", encoding="utf-8") as opened:
         opened.write(f"#!/bin/sh\necho '{line}'\nexit 2\n")
     os.chmod(file, 0o755)
@@ -177,7 +177,7 @@ def program_of_line(file: str, line: str) -> str:
 
 
 def look_at_forced_lines() -> None:
-    """A line of what is run in place of a script is told as the script's own."""
+    """A line of the script that is run for a forced order is reported as the original line."""
     text = "module T {\n\n\n  type component C { }\n  testcase t() runs on C {\n\n    setverdict(pass);\n  }\n}\n"
     script = forced_script(text.encode())
     found = [script.own_line(number) for number in range(1, script.text().count("\n") + 1)]
@@ -185,7 +185,7 @@ def look_at_forced_lines() -> None:
 
 
 def look_at_partings() -> None:
-    """What tools/explore says of where two runs part."""
+    """Where two runs diverge, as tools/explore prints it."""
     origins = Origins([Row(3, 9, 5, "a.ttcn"), Row(4, 9, 5, "a.ttcn"), Row(6, 2, 1, "b.ttcn")])
     parting = Parting("mtc", Deed(3, "sent"), Deed(7, "waits forever"), Unordered(4, 6))
     wanted = (

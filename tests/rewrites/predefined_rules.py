@@ -1,9 +1,9 @@
-"""All predefined functions of the standard (ES 201 873-1, Annex C): each is computed, or refused with a reason.
+"""Tests all predefined functions of the standard (ES 201 873-1, Annex C): each is computed, or refused with a reason.
 
     tests/rewrites/predefined_rules.py
 
-Each line of tests/rewrites/predefined has a function, what is true of it where it is computed at all, a use of it that is
-refused, and the reason. It prints a line `passed ..` or `FAILED: ..` for each case.
+Each line of tests/rewrites/predefined has a function, a true statement about it if it is computed at all, a use of it
+that is refused, and the reason. It prints a line `passed ..` or `FAILED: ..` for each case.
 """
 from __future__ import annotations
 
@@ -23,7 +23,7 @@ unichar2oct bit2int bit2hex bit2oct bit2str hex2int hex2bit hex2oct hex2str oct2
 str2int str2hex str2oct str2float enum2int any2unistr lengthof sizeof ispresent ischosen isvalue isbound istemplatekind regexp
 substr replace encvalue decvalue encvalue_unichar decvalue_unichar encvalue_o decvalue_o get_stringencoding remove_bom rnd
 testcasename hostid""".split()
-# What the uses speak of.
+# The definitions for these uses.
 DEFINITIONS = """type enumerated E { e_a, e_b(5), e_c(2) } type record R { integer a, integer b, integer c optional }
 type union U { integer a, integer b } const L c_list := {1, 2, 3}; const R c_record := {1, 2, omit}; const U c_union := {a := 1};
 template L mw_list := {1, *}; template integer mw_range := (1 .. 3); template charstring mw_pattern := pattern "?=([0-9]+);";

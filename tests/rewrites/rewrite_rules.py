@@ -1,10 +1,9 @@
-"""What tools/rewrite makes of scripts of the full language: the tables and scripts in tests/rewrites/.
+"""Tests tools/rewrite with the tables and scripts in tests/rewrites/.
 
     tests/rewrites/rewrite_rules.py PROGRAM PART
 
 PART is `table`, `natural`, `timed`, `same`, `broken`, `listed`, `lines`, `rows`, `faults` or `instead`. It prints a
-line `passed ..` or
-`FAILED: ..` for each case.
+line `passed ..` or `FAILED: ..` for each case.
 """
 from __future__ import annotations
 
@@ -34,7 +33,7 @@ from tpr_tools.rewrite.sorting import MOST_OF_TREE
 from tpr_tools.rewrite.tokens import Source
 
 SECONDS_OF_LARGE = 5.0
-# The options of an entry of the table, by its kind; the others have none.
+# The options for the kinds of entries in the table; other kinds have none.
 KINDS = {
     "encoded": Options(encodes=True),
     "not encoded": Options(encodes=True),
@@ -66,7 +65,7 @@ def cases() -> list[Case]:
 
 
 def table(program: str) -> None:
-    """Each entry becomes what stands there, or is refused for what stands there and nothing else."""
+    """Each entry becomes the expected script, or is refused for the expected reasons and no others."""
     seen: set[str] = set()
     with tempfile.TemporaryDirectory() as folder:
         for case in cases():
@@ -79,7 +78,7 @@ def table(program: str) -> None:
             with open(file, "w", encoding="utf-8") as opened:
                 opened.write(case.script)
             is_of_tool, options = case.kind == "checked", KINDS.get(case.kind, Options())
-            # Each is as large then as a script whose ways are sorted.
+            # Each script is then treated as a large one, so that its paths are sorted.
             least = 0 if case.kind == "sorted" else MOST_OF_TREE
             with patch("tpr_tools.rewrite.run.MOST_OF_TREE", least):
                 tool = run(REWRITE, "--tpr", program, file) if is_of_tool else carried(program, file, case.script, options)
@@ -104,21 +103,21 @@ def look_at(case: Case, file: str, ended: Ended) -> None:
 
 
 def body_of(text: str) -> list[str]:
-    """The functions and the test case, without what stands behind each line."""
+    """The functions and the test case, without the comments after the lines."""
     lines = [re.sub(r" *// [0-9]+$", "", line).strip() for line in text.splitlines()]
     begin = next((number for number, line in enumerate(lines) if line.startswith(("function", "testcase"))), 0)
     return lines[begin:-1]
 
 
 def types_of(text: str) -> list[str]:
-    """The types of messages that aren't the prelude's."""
+    """The types of messages that don't belong to the prelude."""
     lines = [re.sub(r" *// [0-9]+$", "", line).strip() for line in text.splitlines()]
     found = [line for line in lines if line.startswith("type record")]
     return [line for line in found if line.split()[2] != "Order" and not line.endswith(" L;")]
 
 
 def natural(program: str) -> None:
-    """Scripts as engineers write them: each is carried over, accepted, and comes to `pass`, as its author means."""
+    """Scripts as engineers write them: each is carried over and accepted, and has the verdict `pass` of its author."""
     for script in sorted(glob.glob(f"{FOLDER}/natural/*.ttcn") + glob.glob(f"{FOLDER}/encoded/*.ttcn")):
         name = os.path.basename(script)
         option = ["--encode"] if script.startswith(f"{FOLDER}/encoded/") else []
@@ -147,7 +146,7 @@ def held_back(program: str) -> None:
 
 
 def timed(program: str) -> None:
-    """Scripts with timers, in both readings: the first line of each has the verdicts."""
+    """Scripts with timers, in both readings: the first line of each has the expected verdicts."""
     for script in sorted(glob.glob(f"{FOLDER}/timed/*.ttcn")):
         name = os.path.basename(script)
         with open(script, encoding="utf-8") as opened:
@@ -167,7 +166,7 @@ def timed(program: str) -> None:
 
 
 def one_reading(program: str) -> None:
-    """A script that one reading refuses: the other is written, and the line tells both."""
+    """A script that only one reading refuses: the other script is written, and the line names both."""
     text = PRELUDE + """testcase t() runs on C { timer t_guard := 1.0; connect(self:p, self:q); t_guard.start; p.send(1);
 alt { [] q.receive(integer:1) { if (t_guard.running) { setverdict(pass); } } [] t_guard.timeout { setverdict(fail); } } }
 }
@@ -188,7 +187,7 @@ alt { [] q.receive(integer:1) { if (t_guard.running) { setverdict(pass); } } [] 
 
 
 def told_besides(program: str) -> None:
-    """What is carried over and worth a word: a backslash, once, and a send to what may have ended."""
+    """Notes about scripts that are carried over: a backslash, once, and each send to a possibly ended component."""
     text = PRELUDE + """function f() runs on C { p.receive(charstring:"x"); }
 testcase t() runs on C { var C a := C.create; connect(self:p, a:p); a.start(f()); p.send("x"); p.send("a\\b"); p.send("c\\d"); a.done; }
 }
@@ -208,7 +207,7 @@ testcase t() runs on C { var C a := C.create; connect(self:p, a:p); a.start(f())
 
 
 def reasons_in_sources() -> list[str]:
-    """All reasons in the sources of the tool, as they stand there."""
+    """All reasons for refusals in the sources of the tool, as they are written there."""
     found: list[str] = []
     for file in sorted(glob.glob(f"{TOOLS}/tpr_tools/rewrite/*.py")):
         with open(file, encoding="utf-8") as opened:
@@ -226,7 +225,7 @@ def text_of(node: ast.expr) -> str:
     return node.value if isinstance(node, ast.Constant) and isinstance(node.value, str) else ""
 
 
-# Reasons with a word of another row too, and how what to do about each begins.
+# Reasons that also contain a word of another row, and the beginning of the advice for each.
 ADVICE = {
     "this call within an expression does more than compute a value": "call the function before this",
     "the call that computes this value does more than compute it": "call the function before this",
@@ -237,7 +236,8 @@ ADVICE = {
 
 
 def instead(_program: str) -> None:
-    """Each reason in the sources has a row in the table of what to do, but for what a compiler refuses too."""
+    """Each reason in the sources has a row in the table of advice, except reasons for which a compiler refuses the
+    script too."""
     from tpr_tools.rewrite.instead import instead_of
 
     with open(f"{FOLDER}/of_a_compiler", encoding="utf-8") as opened:
@@ -252,7 +252,7 @@ def instead(_program: str) -> None:
 
 
 def is_map(script: str, output: str) -> bool:
-    """Each line of the map names a line of the output, and a place in the script that isn't empty."""
+    """Whether each line of the map names a line of the output, and a place in the script that isn't empty."""
     with open(script, encoding="utf-8") as opened:
         lines = opened.read().splitlines()
     with open(output, encoding="utf-8") as opened:
@@ -270,7 +270,7 @@ def is_map(script: str, output: str) -> bool:
 
 
 def several_modules(program: str) -> None:
-    """Modules that are given together are one program; a parameter has the value that it is given."""
+    """Modules that are given together are one program, and a parameter has its given value."""
     files = [f"{FOLDER}/modules/{name}.ttcn" for name in ("tests", "types")]
     one = run(REWRITE, "--tpr", program, *files, "--case", "TC_second")
     has = "setverdict(pass)" in one.printed and "types.ttcn:" in one.printed
@@ -290,7 +290,7 @@ def examples() -> list[str]:
 
 
 def same(program: str) -> None:
-    """A script of the profile that has one report keeps it."""
+    """A script of the profile with a single report keeps it."""
     for script in sorted(examples()):
         name, wanted = os.path.basename(script), f"{script.removesuffix('.ttcn')}.expected"
         if not os.path.exists(wanted) or run(program, "check", script).status != 0:
@@ -298,17 +298,17 @@ def same(program: str) -> None:
         with open(script, encoding="utf-8") as opened:
             ended = carried(program, script, opened.read(), Options(queues_ended=True))
         with open(wanted, encoding="utf-8") as opened:
-            # Of an `[else]` that stands alone nothing hangs on the look, so it isn't written.
+            # A single `[else]` doesn't depend on the look, so it isn't written.
             told = opened.read().replace("\nelse\n", "\n")
         if ended.status == 0:
             printed = run(program, "run", data=ended.printed.encode()).printed
             judged(name, printed.replace("\nelse\n", "\n") == told, printed)
         else:
-            # Without a value it is a fault, which the full language refuses too.
+            # Using a variable without a value is a fault, which the full language refuses too.
             judged(name, "no value yet" in ended.said or "component is meant" in ended.said, ended.said)
 
 
-# What is broken: scripts, whether they need --encode, and how many tokens they have from the module's last bracket on.
+# The scripts to break, whether they need --encode, and the number of tokens from the module's last bracket on.
 BROKEN = (
     ("natural/login_with_templates", False, 8),
     ("encoded/registration_with_a_union", True, 1),
@@ -318,7 +318,7 @@ BROKEN = (
 
 
 def broken(program: str) -> None:
-    """Cut behind each token, or with bytes by chance: an answer with a line, and never a traceback."""
+    """Scripts that are cut after each token, or have random bytes: the answer has a line, and is never a traceback."""
     for name, encodes, behind in BROKEN:
         with open(f"{FOLDER}/{name}.ttcn", "rb") as opened:
             cut_and_changed(os.path.basename(name), opened.read(), encodes, behind)
@@ -335,7 +335,7 @@ def broken(program: str) -> None:
 
 
 def cut_and_changed(name: str, whole: bytes, encodes: bool, behind: int) -> None:
-    """What is cut before the module's last bracket is refused. Of what has other bytes that isn't known."""
+    """A script that is cut before the module's last bracket is refused. With changed bytes it may be refused or not."""
     chance = random.Random(53)
     ends = [found.end() for found in re.finditer(rb"[A-Za-z0-9_]+|[^\sA-Za-z0-9_]", whole)]
     answers = [answer_to(whole[:end], encodes) for end in ends[:-behind]]
@@ -354,14 +354,14 @@ def cut_and_changed(name: str, whole: bytes, encodes: bool, behind: int) -> None
 
 
 def answer_to(data: bytes, encodes: bool) -> str:
-    """`written`; `refused`, with places in the text and reasons; or what is wrong with the answer. `explain --every`
-    has an answer too, and its places are in the text."""
+    """`written`; `refused`, with reasons and places in the text; or what is wrong with the answer. Also checks that the
+    places of `explain --every` are in the text."""
     from tpr_tools.rewrite.listing import constructs_of
 
     try:
         found = rewrite([Source("x", data)], options=Options(encodes=encodes))
         listed, faults = constructs_of("x", data)
-    except Exception as error:  # A traceback of whatever kind is what this looks for.
+    except Exception as error:  # Any traceback is what this test looks for.
         return f"{type(error).__name__}: {error}"
     lines = len(data.split(b"\n"))
     places = [(one.at.line, one.at.column) for one in listed] + [(one.line, one.column) for one in faults]
@@ -374,13 +374,13 @@ def answer_to(data: bytes, encodes: bool) -> str:
 
 
 def seconds_of_others() -> float:
-    """The processor time that was used by what this process has run: how busy the machine is isn't in it."""
+    """The processor time of the programs that this process has run, which doesn't depend on the load of the machine."""
     used = resource.getrusage(resource.RUSAGE_CHILDREN)
     return used.ru_utime + used.ru_stime
 
 
 def large(program: str) -> None:
-    """A script of 10,000 lines."""
+    """Tests a script of 10,000 lines."""
     lines = ["module Large {", "type port P message { inout integer }", "type component C { port P p, q; }"]
     for number in range(900):
         lines += [f"const integer c_{number} := {number};", f"template integer m_{number} := (c_{number}, 0);"]
@@ -401,8 +401,8 @@ def large(program: str) -> None:
 
 
 def listed(program: str) -> None:
-    """`explain --every` names nothing in a script of the profile, and in another what `explain` names among the rest.
-    `explain --all` names nothing of what tools/rewrite carries over, and of another script what that refuses."""
+    """`explain --every` lists nothing in a script of the profile, and in another script among others what `explain`
+    names. `explain --all` lists nothing that tools/rewrite carries over, and in another script what that refuses."""
     accepted = [file for file in sorted(examples()) if run(program, "check", file).status == 0]
     for option in ("--every", "--all"):
         ended = run(EXPLAIN, option, *accepted)
@@ -433,7 +433,8 @@ def lines(program: str) -> None:
 
 
 def all_of_lines(script: str) -> None:
-    """Behind each line of the script stands all that is listed there, and behind the others nothing."""
+    """The comments after each line must be exactly the constructs that are listed there; for a line without comments
+    nothing may be listed."""
     with open(script, encoding="utf-8") as opened:
         wanted = {number: line.rstrip("\n").split(" // ")[1:] for number, line in enumerate(opened, 1)}
     found: dict[int, list[tuple[int, str]]] = {number: [] for number in wanted}
@@ -469,14 +470,15 @@ TITLES = {"another base type, as `verdicttype`": "the type {word}", "`match`, `v
 
 
 def titles_in(script: str) -> list[str]:
-    """Those of the constructs that `explain --every` lists, in the order of the text."""
+    """The constructs that `explain --every` lists, in the order of the text."""
     from tpr_tools.rewrite.listing import constructs_of
 
     return [one.construct.title for one in constructs_of("row", script.encode())[0]]
 
 
 def wrongly_listed(name: str, script: str) -> str:
-    """`explain --every` lists the construct of a row; of a row that has none of its own it lists something."""
+    """Empty if `explain --every` lists the construct of a row, or, for a row that has no construct of its own,
+    something; otherwise what is wrong."""
     from tpr_tools.script.constructs import Construct
 
     listed, before, title = titles_in(script), titles_in(f"{PRELUDE}}}"), TITLES.get(name, name)
@@ -485,8 +487,7 @@ def wrongly_listed(name: str, script: str) -> str:
 
 
 def faults(program: str) -> None:
-    """Each rewrite, with a fault planted in it: the entry of the table that is there for it tells it, or the script in
-    listed/."""
+    """For each rewrite a fault is planted, which its entry of the table, or the script in listed/, must detect."""
     with open(f"{FOLDER}/faults", encoding="utf-8") as opened:
         planted = [line.rstrip("\n").split(" | ") for line in opened]
     with ThreadPoolExecutor(os.cpu_count()) as pool:
@@ -496,7 +497,7 @@ def faults(program: str) -> None:
 
 
 def fault_is_told(program: str, file: str, old: str, new: str, entry: str) -> str:
-    """Empty where it is told, else why not."""
+    """Empty if the fault is detected, otherwise why not."""
     with tempfile.TemporaryDirectory() as folder:
         shutil.copytree(f"{ROOT}/tools", f"{folder}/tools")
         place = f"{folder}/tools/tpr_tools/rewrite/{file}"
@@ -515,7 +516,7 @@ def fault_is_told(program: str, file: str, old: str, new: str, entry: str) -> st
 
 
 def row_script(script: str) -> str:
-    """What a row shows, in a module with types and ports; some rows are about the module itself."""
+    """The script of a row, in a module with types and ports; some rows are about the module itself."""
     if script.startswith("module M "):
         head, _, body = script.partition("{")
         return PRELUDE.replace("module T ", head.replace("module M", "module T")) + body

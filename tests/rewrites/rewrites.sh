@@ -1,6 +1,6 @@
-# What tools/rewrite makes of scripts of the full language, and what it refuses (tests/rewrites/): worked out by hand.
-# What is looked at stands in tests/rewrites/rewrite_rules.py. `tpr` and `room` are those of ./test, `told` and `at_least` are
-# those of their files.
+# Tests tools/rewrite: what scripts of the full language become, and which are refused, worked out by hand
+# (tests/rewrites/). The tests are in tests/rewrites/*_rules.py. `tpr` and `room` are defined by ./test, `told` and
+# `at_least` in their own files.
 rewrites() {
     local part least
     while read -r part least; do
@@ -26,7 +26,7 @@ PARTS
     at_least 102 told "$room/rewrites_predefined" tests/rewrites/predefined_rules.py
 }
 
-# A second interpreter of the full language, what tools/rewrite makes of random programs, and what Titan makes of them.
+# Compares a second interpreter of the full language with tools/rewrite on random programs, and with Titan.
 oracle() {
     at_least 150 told "$room/oracle" tests/rewrites/oracle/oracle_rules.py "$tpr"
     told "$room/oracle_on_titan" tests/rewrites/oracle/on_titan.py "$tpr" 2001 60

@@ -1,9 +1,9 @@
-"""All that the reader of tools/rewrite passes without a use: what comes of it, and why.
+"""Tests everything that the reader of tools/rewrite skips: what becomes of it, and why.
 
     tests/rewrites/skipped_rules.py PROGRAM
 
-Each line of tests/rewrites/skipped has the file and the function that passes something, a script with it, `carried` or the
-reason of the refusal, and why. Each function that passes something has a line. It prints a line `passed ..` or
+Each line of tests/rewrites/skipped has the file and the function that skips something, a script with it, `carried` or
+the reason of the refusal, and why. Each function that skips something has a line. It prints a line `passed ..` or
 `FAILED: ..` for each case.
 """
 from __future__ import annotations
@@ -18,12 +18,12 @@ sys.path.insert(0, os.path.dirname(os.path.realpath(__file__)))
 from asking import FOLDER, TOOLS, carried, judged
 from rewrite_rules import row_script
 
-# Calls that read something; where their answer isn't used, that is passed.
+# Calls that read something. If their result isn't used, it is skipped.
 _READING = ("skip_brackets", "known_modifier", "modifiers", "type_name", "name", "expression", "_redirect")
 
 
 def passing() -> set[tuple[str, str]]:
-    """The functions of the reader that pass something."""
+    """The functions of the reader that skip something."""
     found: set[tuple[str, str]] = set()
     for file in [*glob.glob(f"{TOOLS}/tpr_tools/rewrite/reading_*.py"), f"{TOOLS}/tpr_tools/rewrite/cursor.py"]:
         with open(file, encoding="utf-8") as opened:

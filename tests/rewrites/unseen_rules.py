@@ -1,11 +1,11 @@
-"""Scripts by an author who had not seen tools/rewrite (tests/rewrites/unseen/): those that are carried over have the
-verdicts that their heads tell.
+"""Tests scripts by an author who had not seen tools/rewrite (tests/rewrites/unseen/): those that are carried over have
+the verdicts that their first lines state.
 
     tests/rewrites/unseen_rules.py PROGRAM
 
-Each line of tests/rewrites/unseen_answers has a script, the options, and the first line of what `tpr verdicts` prints of
-what becomes of it. The `error` is that of a wait which only a timeout ends. It prints a line `passed ..` or `FAILED: ..`
-for each case.
+Each line of tests/rewrites/unseen_answers has a script, the options, and the first line that `tpr verdicts` prints for
+the rewritten script. The `error` comes from a wait that only a timeout ends. It prints a line `passed ..` or
+`FAILED: ..` for each case.
 """
 from __future__ import annotations
 

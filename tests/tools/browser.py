@@ -1,6 +1,6 @@
-"""A headless Chromium, told what to do through a pipe (the DevTools protocol), with nothing else in between.
+"""Controls a headless Chromium through a pipe (the DevTools protocol), without a library.
 
-Keys and clicks are those that a user's would be. What the console says is kept.
+Keys and clicks are the same as a user's. Messages on the console are kept.
 """
 from __future__ import annotations
 
@@ -39,7 +39,7 @@ class Browser:
         quiet = subprocess.DEVNULL
 
         def take_pipes() -> None:
-            # The browser reads from 3 and writes to 4.
+            # The browser reads from file 3 and writes to file 4.
             kept_in, kept_out = os.dup(theirs_in), os.dup(theirs_out)
             os.dup2(kept_in, 3)
             os.dup2(kept_out, 4)
@@ -57,7 +57,7 @@ class Browser:
             self.ask(f"{domain}.enable")
 
     def ask(self, method: str, **words: Any) -> Any:
-        """Sends a command, and answers what comes back."""
+        """Sends a command, and returns its result."""
         self.number += 1
         command = {"id": self.number, "method": method, "params": words}
         if self.session:
@@ -97,18 +97,18 @@ class Browser:
         self.wait(f"document.readyState === 'complete' && document.querySelector({json.dumps(shows)}) !== null")
 
     def look(self, width: int, height: int, scheme: str = "light") -> None:
-        """The size of what is seen, and whether the user likes it dark."""
+        """Sets the size of the visible part, and whether the user prefers a dark page."""
         self.ask("Emulation.setDeviceMetricsOverride", width=width, height=height, deviceScaleFactor=1, mobile=False)
         self.ask("Emulation.setEmulatedMedia", features=[{"name": "prefers-color-scheme", "value": scheme}])
         self.drawn()
 
     def picture(self, file: str) -> None:
-        """Writes what is seen as PNG."""
+        """Writes the visible part as PNG."""
         with open(file, "wb") as opened:
             opened.write(base64.b64decode(self.ask("Page.captureScreenshot", format="png")["data"]))
 
     def value(self, code: str) -> Any:
-        """What the code comes to, in the page."""
+        """The value of the code, evaluated in the page."""
         result = self.ask("Runtime.evaluate", expression=code, returnByValue=True, awaitPromise=True)
         if "exceptionDetails" in result:
             raise RuntimeError(f"{code}: {result['exceptionDetails']}")
@@ -122,7 +122,7 @@ class Browser:
             time.sleep(0.02)
 
     def drawn(self) -> None:
-        """Once what was asked for is drawn."""
+        """Waits until everything requested is drawn."""
         self.value("new Promise((done) => requestAnimationFrame(() => requestAnimationFrame(done)))")
 
     def click(self, x: float, y: float) -> None:

@@ -1,5 +1,5 @@
 #!/usr/bin/env python3
-"""Each command of docs/CI.md, as its build server runs it: on scripts that are as expected, and on others.
+"""Tests each command of docs/CI.md as its build server runs it: on scripts with expected results, and on others.
 
     tests/tools/build_servers.py PROGRAM
 """
@@ -27,8 +27,8 @@ AS_EXPECTED, NOT_SO = 0, 5
 
 
 class Server(NamedTuple):
-    """The heading of its section, the form of a line with a command, whether the fragment is YAML, and whether it goes
-    on after a command that fails."""
+    """The heading of its section, the form of a line with a command, whether the fragment is YAML, and whether it
+    continues after a command that fails."""
 
     heading: str
     command: str
@@ -44,7 +44,7 @@ SERVERS = (
 
 
 class Suite(NamedTuple):
-    """Scripts, what the suite ends with, how many faults there are, and how the one case of the JUnit XML ended."""
+    """The script of a suite, the suite's status, the number of faults, and how the one case of the JUnit XML ended."""
 
     name: str
     script: str
@@ -62,7 +62,7 @@ SUITES = (
 
 
 def fragment_of(server: Server) -> str:
-    """The text in fences below its heading."""
+    """The fenced text below its heading."""
     page = (ROOT / "docs" / "CI.md").read_text(encoding="utf-8")
     found = re.search(rf"^## {server.heading}\n.*?^```\w+\n(.*?)^```$", page, re.DOTALL | re.MULTILINE)
     must(found, f"docs/CI.md has no fragment for {server.heading}")
@@ -112,7 +112,7 @@ def try_commands(server: Server, suite: Suite, folder: Path) -> None:
 
 
 def faults_in(explained: Ended, folder: Path) -> int:
-    """How many the file has that the server reads, or the lines that it printed."""
+    """The number of faults in the file for the server, or in the printed lines."""
     written = [*folder.glob("*.json"), *folder.glob("*.sarif")]
     if not written:
         return len(re.findall("(?m)^::error file=scripts/one.ttcn,", explained.text))

@@ -3,7 +3,7 @@
 
     tests/tools/charts.py FOLDER
 
-All is written into the FOLDER. What a chart's text doesn't tell, tool_rules.py looks at.
+All files are written into FOLDER. tool_rules.py tests what the text of a chart doesn't show.
 """
 from __future__ import annotations
 
@@ -25,7 +25,7 @@ PRINTED = texts_in("printed.texts")
 
 
 def charts_of_examples(folder: Path) -> None:
-    """Each is drawn, and the rules hold of all."""
+    """Each is drawn, and all of them must satisfy the rules."""
     both: list[Path] = []
     for report in example_reports.all_of_them():
         chart = folder / f"{report.name}.svg"
@@ -72,7 +72,7 @@ def charts_in_other_ways(folder: Path) -> None:
 
 
 def chart_of_long_names(folder: Path) -> None:
-    """Names that differ at their ends: of each arrow from afar the label tells whose it is."""
+    """Names that differ at their ends: the label of each distant arrow must show its component."""
     names = [f"component_with_quite_a_long_name_{number}" for number in range(LONG_NAMES)]
     lines = ["component mtc", *(f"took p {name} 0 integer:1" for name in names), "end done", "verdict none"]
     for name in names:
@@ -99,7 +99,7 @@ def charts_that_cannot_be(folder: Path) -> None:
         run("sh", "-c", 'exec "$0" "$1" >&-', CHART, LOGIN).must_say(unwritten, 3)
 
 
-# Which of two emptyings discards a message, and what can only have come behind one
+# Which of two emptyings discards a message, and which messages can only have come after one
 
 END = "end done|verdict none|"
 FIRST = (
@@ -113,7 +113,7 @@ BEHIND = (
 
 
 def without_width(text: str) -> str:
-    """But for how wide the spaces are."""
+    """The text without differences in the width of spaces."""
     return re.sub("^ ", "", re.sub(" +", " ", text), flags=re.MULTILINE)
 
 
@@ -141,7 +141,7 @@ PART = (
     f"component a|took p mtc 0 integer:1|sent b.p 0 integer:1|{END}"
     f"component b|took p a 0 integer:1|sent mtc.p 0 integer:5|{END}result pass|"
 )
-# Ten round trips, of which the sixth has another message.
+# Ten round trips; the sixth has another message.
 TRIPS = [f"integer:{int(number == 5)}" for number in range(10)]
 REPEATS = (
     f"component mtc|{''.join(f'sent a.p {at} {it}|took p a {at} {it}|' for at, it in enumerate(TRIPS))}{END}"

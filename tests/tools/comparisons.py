@@ -3,7 +3,7 @@
 
     tests/tools/comparisons.py FOLDER
 
-Reports are written into the FOLDER.
+Reports are written into FOLDER.
 """
 from __future__ import annotations
 
@@ -25,7 +25,7 @@ def compared(name: str, status: int, printed: str, one: Path, other: Path) -> No
         run(COMPARE, one, other).must_print(printed, status)
 
 
-# What it says of a report that differs
+# The output for reports that differ
 
 
 def printed(name: str, status: int, one: Path, other: Path) -> None:
@@ -79,7 +79,7 @@ def report_of_two_senders(name: str) -> list[str]:
 OPEN, OWN_ORDER = "mtc, open: which came first", "mtc, the order of what it did"
 A, B, FAIL, SECOND_OF_A = "took p a 0 integer:1", "took p b 0 integer:1", "set fail", "took p a 1 integer:1"
 TO_A, TO_B = "sent a.p 0 integer:2", "sent b.p 0 integer:2"
-# The name, the two reports, and where they differ: what it is, the line, and what stands there in each.
+# The name, the two reports, and the difference: its kind, the line, and the text there in each report.
 Place = tuple[str, int, str, str]
 OF_TWO_SENDERS: tuple[tuple[str, str, str, tuple[Place, ...]], ...] = (
     ("two senders", "a_then_b", "b_then_a", ((OPEN, 2, A, B),)),
@@ -126,7 +126,7 @@ def comparisons_of_examples(folder: Path) -> None:
 
 
 def pairs_of_examples() -> list[Path]:
-    """The second of the reports that an example may have."""
+    """The second report of each example that may have two."""
     found = [it for script in example_files.texts("ttcn") for it in example_files.answers(script)]
     return [it for it in found if it.suffix == ".2"]
 

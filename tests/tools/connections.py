@@ -1,5 +1,6 @@
 #!/usr/bin/env python3
-"""tools/chart --connections: each component, port and connection of a script is drawn, and no line crosses a component.
+"""Tests tools/chart --connections: each component, port and connection of a script is drawn, and no line crosses a
+component.
 
     tests/tools/connections.py
 """
@@ -18,10 +19,10 @@ from tool_rules import SVG, check_inside, number_of
 
 CHART = ROOT / "tools" / "chart"
 LOGIN = EXAMPLES / "login_is_answered.ttcn"
-PARTS = 40  # of a line, at whose ends it is looked at
+PARTS = 40  # of a line; the ends of the parts are tested
 
-# Two components at each side of a third, one that is connected to itself, one to nothing, two to each other alone, and
-# the system.
+# Two components on each side of a third, one that is connected to itself, one without connections, two that are only
+# connected to each other, and the system.
 NET = """module Net {
     type port P message { inout integer; }
     type component C { port P left, right, up; }
@@ -59,7 +60,7 @@ def connections_of_scripts(_: Path) -> None:
 
 
 def must_be_drawn(root: xml.Element, script: str) -> None:
-    """What the script's text has stands in the picture."""
+    """Everything in the script's text must be in the picture."""
     check_inside(root)
     text = re.sub(r"//[^\n]*", "", script)
     created = re.findall(r"\bvar\s+(\w+)\s+(\w+)\s*:=\s*\w+\.create", text)
@@ -82,7 +83,7 @@ def lines_of(root: xml.Element) -> list[xml.Element]:
 
 
 def must_run_beside(root: xml.Element) -> None:
-    """A line touches components at its ends alone."""
+    """A line may touch components only at its ends."""
     boxes = []
     for box in root.iter(f"{SVG}rect"):
         if box.get("class") == "box":
@@ -95,7 +96,7 @@ def must_run_beside(root: xml.Element) -> None:
 
 
 def points_of(way: str) -> Iterator[tuple[float, float]]:
-    """Points of a line of four."""
+    """Points on a curve that is given by four points."""
     numbers = [float(it) for it in re.findall(r"-?[0-9.]+", way)]
     if len(numbers) != 8:
         raise Wrong(f"no such line is known: {way}")

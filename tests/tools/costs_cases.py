@@ -1,6 +1,6 @@
 #!/usr/bin/env python3
-"""tools/costs.py, on modules that are as old as the test says; tests/gate/gate_times.py; and what ./test says of its
-parts while they are at work (tests/gate/side_by_side.sh).
+"""Tests tools/costs.py on modules with given times, tests/gate/gate_times.py, and the messages of ./test about running
+parts (tests/gate/side_by_side.sh).
 
     tests/tools/costs_cases.py
 """
@@ -45,8 +45,8 @@ ALL = """\
 """
 DEAREST = "".join(ALL.splitlines(keepends=True)[:2])
 
-# What rt ci took: the part of each process is told by its words and its folder. Each goes on until the table
-# says that it took time of both kinds, however seldom a busy machine lets it be looked at.
+# Stands in for rt ci. The arguments and the folder of each process show to which part it belongs. Each process runs
+# until the table has time of both kinds for it, however rarely a busy machine lets the table be updated.
 CI = r"""#!/usr/bin/env bash
 took() { # CRATE COLUMN
     awk -v crate="$1" -v column="$2" \
@@ -77,7 +77,7 @@ AT_WORK_IN_CI = r"test: [01] of [0-9]+ crates proved; at work: .*"
 PROOF_OF_LOW = r"test: 0 of [0-9]+ crates proved; at work: proof of low \([0-9]+ s the last time\)"
 PROOF_OF_HIGH = r"test: 1 of [0-9]+ crates proved; at work: proof of high \([0-9]+ s the last time\)"
 
-# Two parts beside each other, as ./test runs them: `slow` ends last.
+# Two parts in parallel, as ./test runs them: `slow` ends last.
 PARTS = r"""
 source tests/gate/side_by_side.sh
 is_tried() { return 0; }
@@ -94,7 +94,7 @@ AT_WORK = [f"test: 0 of 2 done; at work: quick (41 s the last time){it}" for it 
 
 
 def costs() -> None:
-    """What each function cost, in a crate that was checked and in one that wasn't."""
+    """The costs of functions, in a crate that was checked and in one that wasn't."""
     text = ast.get_docstring(ast.parse(COSTS.read_text(encoding="utf-8")), clean=False)
     unchecked = "costs.py: no check has left a module in none/out/incremental\n"
     with room() as folder:
@@ -123,7 +123,7 @@ def costs() -> None:
 
 
 def times() -> None:
-    """What each crate took of a gate, which is run twice, and what is said of it meanwhile."""
+    """The times of crates in a gate, which is run twice, and the messages meanwhile."""
     with room() as folder:
         for name in ("low", "high", "rt-edit-1"):
             (folder / name).mkdir()
@@ -147,7 +147,7 @@ def times() -> None:
 
 
 def parts_at_work() -> None:
-    """Parts that run beside each other, after a run in which one of them took 41 seconds."""
+    """Parts that run in parallel, after a run in which one of them took 41 seconds."""
     with case("which parts are at work, and how long they took the last time"):
         must_be(said(*pty.openpty())[0].splitlines(), AT_WORK)
     with case("nothing is said of parts at work if standard error is no terminal"):
@@ -158,7 +158,7 @@ def parts_at_work() -> None:
 
 
 def said(ours: int, theirs: int) -> tuple[str, str]:
-    """What they say on standard error, of which these are the two ends, and the times that they leave."""
+    """The messages on standard error, whose two ends are given, and the times that are kept."""
     with room() as folder:
         last = file_of(folder / "times", "other 7\nquick 41\n")
         _, told = said_to(ours, theirs, "bash", "-c", PARTS, "parts", last, folder=ROOT)
@@ -166,8 +166,8 @@ def said(ours: int, theirs: int) -> tuple[str, str]:
 
 
 def said_to(ours: int, theirs: int, *words: Word, folder: Path) -> tuple[Ended, str]:
-    """How a command ends, and what it says on standard error, of which these are the two ends. It is read as it comes,
-    because a terminal holds only 4,096 bytes of it."""
+    """How a command ends, and its messages on standard error, whose two ends are given. They are read during the run,
+    because a terminal buffers only 4,096 bytes."""
     with ThreadPoolExecutor(1) as pool, open(ours, "rb", buffering=0) as end:
         told = pool.submit(text_to, end)
         try:
@@ -178,7 +178,7 @@ def said_to(ours: int, theirs: int, *words: Word, folder: Path) -> tuple[Ended, 
 
 
 def text_to(end: FileIO) -> str:
-    """What comes to this end until there is no other one."""
+    """The text that arrives at this end until the other one is closed."""
     printed = b""
     with contextlib.suppress(OSError):  # how Linux tells the end of a terminal
         while more := end.read(4096):

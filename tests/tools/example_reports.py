@@ -1,4 +1,4 @@
-"""Reports of examples: what mode run prints of a script that it runs."""
+"""Reports of examples: the expected output of `tpr run`."""
 from __future__ import annotations
 
 from pathlib import Path
@@ -10,7 +10,7 @@ NAMED = {
     "halt": "halt_holds_back_what_comes_later.expected",
     "stop": "everyone_is_told_to_stop.expected.1",
 }
-# Those that are cut behind each byte.
+# The reports that are cut after each byte.
 SMALL = (
     "login_is_answered.expected",
     "halt_holds_back_what_comes_later.expected",

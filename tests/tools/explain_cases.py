@@ -4,7 +4,7 @@ words were worked out by reading (data/explained.texts, explained/), and keep th
 
     tests/tools/explain_cases.py PROGRAM TEXTS
 
-TEXTS says how many texts the tables of tests/checking/ have that grammar.py and changes.py write.
+TEXTS is the number of texts that grammar.py and changes.py write from the tables of tests/checking/.
 """
 from __future__ import annotations
 
@@ -28,7 +28,7 @@ from tool_calls import (
 EXAMPLE = "examples/closed_counter_serves_no_order.ttcn"
 BROKEN_LINE = 26  # of the example, as README.md says
 RIGHT = "tests/checking/every_line.ttcn"
-LAST_OF_SCRIPTS = 28  # the last number by which a script is refused
+LAST_OF_SCRIPTS = 28  # the last number of a refused script
 MEBIBYTE = 1 << 20
 
 WITH_A_SET = "module M {\n  type set S { }\n}\n"
@@ -44,7 +44,7 @@ LISTED = (
 
 
 class Explained(NamedTuple):
-    """A number or a script, in few words, and what is said of it."""
+    """The name of a case, its number or script, and the expected output."""
 
     name: str
     asked: str
@@ -61,14 +61,14 @@ def explained(kind: str) -> list[Explained]:
 
 
 class Explaining:
-    """The tool with the program that it asks, how many texts the tables have, and a folder for scripts."""
+    """The tool with the program that it calls, the number of texts in the tables, and a folder for scripts."""
 
     def __init__(self, program: str, texts: int, room: Path):
         self.program, self.texts, self.room = program, texts, room
         self.tool, self.script = Tool("explain", ("--tpr", program)), room / "script"
 
     def of_script(self, *options: str, program: str = "") -> Ended:
-        """What is said of the script, whose file is told as FILE; or by another program."""
+        """The output for the script, with the file name replaced by FILE; optionally for another program."""
         tool = Tool("explain", ("--tpr", program)) if program else self.tool
         ended = tool.run(*options, self.script)
         return ended._replace(printed=re.sub(b"(?m)^" + re.escape(bytes(self.script)), b"FILE", ended.printed))
@@ -78,12 +78,12 @@ class Explaining:
         return self.of_script(*options)
 
     def by_another(self, name: str, status: int, answer: str, told: str) -> None:
-        """What is said by a program that answers this, whatever the script is."""
+        """The output for a program that always gives this answer."""
         program = program_of(self.room / "program", "cat >/dev/null", f"echo {shlex.quote(answer)}")
         judged(name, self.of_script(program=program), status, prints(told))
 
     def otherwise(self, name: str, answer: str, sentence: str, reading: str, *rules: str) -> None:
-        """The own reading comes to something else than the answer: the rules of its number are told, all of them and no
+        """The program's answer differs from explain's own reading: all rules of the answer's number are printed, no
         others, and no column."""
         _, number, word, *line = answer.split()
         place = f"{line[1]}:" if line else ""
@@ -100,7 +100,7 @@ class Explaining:
 
 
 def keeps(rule: Callable[..., None], *asked: object) -> Test:
-    """It says nothing, and the rule holds of what it told of each script."""
+    """The tool writes nothing on standard error, and its output for each script satisfies the rule."""
 
     def holds(ended: Ended) -> bool:
         rule(explain_rules.told_in(ended.text), *asked)
@@ -133,7 +133,7 @@ def tables(asked: Explaining) -> None:
 
 
 def scripts_of_refusals(folder: Path) -> Path:
-    """The script below the heading of each number by which scripts are refused, in a file with its name."""
+    """For each number of refused scripts, the script below its heading, in a file with the number as its name."""
     folder.mkdir()
     for part in (ROOT / "docs" / "REFUSALS.md").read_text(encoding="utf-8").split("\n### ")[1:]:
         found = re.match(r"(\d\d) .*?^```\n(.*?)^```$", part, re.M | re.S)
@@ -146,7 +146,7 @@ def scripts_of_refusals(folder: Path) -> Path:
 
 
 def example(asked: Explaining) -> None:
-    """Line 26 of the first example of README.md is changed, as it says there."""
+    """Changes line 26 of the first example of README.md in the way that is described there."""
     case = asked.tool.case
     lines = (ROOT / EXAMPLE).read_text(encoding="utf-8").splitlines(keepends=True)
     lines[BROKEN_LINE - 1] = lines[BROKEN_LINE - 1].replace("counter", "bell", 1)
@@ -166,7 +166,7 @@ def example(asked: Explaining) -> None:
 
 
 def numbers(asked: Explaining) -> None:
-    """Two by which scripts are refused or end, and those by which none is."""
+    """Two numbers of refused or ended scripts, and the numbers that don't belong to a script."""
     for it in explained("number"):
         asked.tool.case(it.name, ["--number", it.asked.strip()], 0, prints(it.told))
 
@@ -177,7 +177,7 @@ def places(asked: Explaining) -> None:
 
 
 def words(asked: Explaining) -> None:
-    """What is said in the first line, and what is to be written instead."""
+    """The words of the first line, and the advice what to write instead."""
     for it in explained("sentence"):
         ended = asked.of_text(f"{TEXTS['beginning']}{it.asked}".encode())
         first, *others = ended.text.splitlines() or [""]
@@ -187,13 +187,13 @@ def words(asked: Explaining) -> None:
 
 
 def has_words(line: str, told: str) -> bool:
-    """Whether it is the sentence, or a line of a kind that is told."""
+    """Whether it is the sentence, or a line of one of the expected kinds."""
     kinds = {one.partition(":")[0] for one in told.splitlines() if one.startswith("  ")}
     return not line.startswith(" ") and "|" not in line or line.partition(":")[0] in kinds
 
 
 def warnings(asked: Explaining) -> None:
-    """Of scripts that are accepted: no warning changes the status."""
+    """Warnings about accepted scripts: they don't change the status."""
     warnings = explained("warning")
     for it in warnings:
         judged(it.name, asked.of_text(it.asked.encode()), 0, prints(f"FILE: accepted\n{it.told}"))
@@ -203,13 +203,13 @@ def warnings(asked: Explaining) -> None:
     sentences = [it["sentence"] for it in told["warnings"]]
     wanted = re.findall("warning: (.*)", warnings[0].told)
     ruled("warnings in JSON", must, sentences == wanted != [], f"{sentences}")
-    # One more than a warning for each of so many.
+    # One more warning than are listed.
     last = next(it for it in warnings if it.name == "a receiver that receives nothing")
     many = asked.of_text(last.asked.replace("p.send(integer:2);", 25 * "p.send(integer:2); ").encode())
     judged("many warnings are counted", many, 0, lambda ended: ended.text.endswith("FILE: 5 more warnings\n"))
 
 
-# Input that isn't as usual
+# Unusual input
 
 
 def texts_that_are_none(asked: Explaining) -> None:
@@ -232,7 +232,7 @@ def texts_that_are_none(asked: Explaining) -> None:
 
 
 def calls(asked: Explaining) -> None:
-    """Command lines that are wrong, a full device, no program, and the help."""
+    """Wrong command lines, a full device, a missing program, and the help."""
     tool, missing = asked.tool, asked.room / "missing"
     tool.case("nothing to explain", [], 4, says_usage("explain"))
     listed = "isn't one of 1, 2, 10, 11"
@@ -245,11 +245,11 @@ def calls(asked: Explaining) -> None:
     tool.case("the help", ["--help"], 0, prints_line("  2  a script is refused, or can't be read\n"))
 
 
-# Answers of other programs
+# Other programs' answers
 
 
 def other_answers(asked: Explaining) -> None:
-    """Where the answer isn't what the own reading comes to, less is told."""
+    """If the answer differs from explain's own reading, less is printed."""
     case, by_another, set_is_none = asked.otherwise, asked.by_another, "refused 10 Syntax line 2"
     no_token = ("a byte that begins no token", "a token that isn't allowed at its place")
     file_of(asked.script, WITH_A_SET)
@@ -274,7 +274,7 @@ def other_answers(asked: Explaining) -> None:
 
 
 def at_length(asked: Explaining) -> None:
-    """A script of 1 MiB, in which one line is wrong. How long it takes, bench/explaining/run says."""
+    """A script of 1 MiB with one wrong line. bench/explaining/run measures how long it takes."""
     made = run("bash", "-c", ". bench/explaining/script.sh && script_of_a_mebibyte", folder=ROOT)
     must(len(made.text) > MEBIBYTE - 1000, "the script is long")
     line = made.text.count("\n") - 2

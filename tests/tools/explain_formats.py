@@ -1,6 +1,6 @@
 #!/usr/bin/env python3
-"""What `tools/explain --format` writes: all faults of several files, in each form, and as others read it: vim's
-quickfix, and the schema of SARIF.
+"""Tests `tools/explain --format`: all faults of several files, in each form, as vim's quickfix and the schema of SARIF
+read them.
 
     tests/tools/explain_formats.py PROGRAM
 """
@@ -29,7 +29,7 @@ PROGRAM = sys.argv[1]
 EXPLAIN = ROOT / "tools" / "explain"
 FORMS = ("text", "json", "gcc", "github", "sarif", "codeclimate")
 KITCHEN = example("closed_counter_serves_no_order.ttcn").read_text(encoding="utf-8")
-# A name with each sign that a form has to escape.
+# A name with every character that a form must escape.
 NAMED = "a,b #1%é:.ttcn"
 BROKEN = (
     KITCHEN.replace("chef:bell", "chef:bel")
@@ -53,7 +53,7 @@ IN_VAIN = """module M {
 
 
 class Wanted(NamedTuple):
-    """A fault: its file, the text at its place, what is before it on its line, its code, how its sentence begins."""
+    """A fault: its file, the text at its place and before it on its line, its code, and how its sentence begins."""
 
     file: str
     line: int
@@ -97,7 +97,8 @@ class Room(NamedTuple):
         return run(EXPLAIN, "--tpr", program, *words, folder=self.folder)
 
     def all(self, form: str) -> Ended:
-        """What is written of a script with three faults, one of the full language, no script, and no file."""
+        """The output for a script with three faults, a script of the full language, a file that isn't a script, and a
+        missing file."""
         right = self.write("right.ttcn", KITCHEN)
         self.write(NAMED, BROKEN)
         self.write("full.ttcn", FULL)
@@ -106,7 +107,7 @@ class Room(NamedTuple):
 
 
 def must_be_sentences(found: Iterable[str]) -> None:
-    """They begin as is wanted."""
+    """The sentences must have the expected beginnings."""
     must_be([one[: len(it.sentence)] for it, one in zip(WANTED, found)], [it.sentence for it in WANTED])
 
 
@@ -273,7 +274,7 @@ def judged_by(room: Room, told: str, file: Path) -> None:
             must(old in log and [*judge.iter_errors(json.loads(log.replace(old, new)))], f"{new} is accepted")
 
 
-# Which faults are told together
+# Faults that are reported together
 
 
 TYPES = """module M {
@@ -283,7 +284,7 @@ TYPES = """module M {
 
 
 def marked_in(text: str) -> list[tuple[int, int]]:
-    """The numbers that comments give of the faults in their lines, with these lines. That of the program is `first`."""
+    """The numbers of faults in the comments, each with its line. The program's own fault is `first`."""
     lines = enumerate(text.splitlines(), 1)
     marks = [(mark, line) for line, it in lines for mark in it.partition(" // ")[2].split(", ") if mark]
     marks.sort(key=lambda it: (not it[0].endswith(" first"), it[1]))
@@ -291,7 +292,7 @@ def marked_in(text: str) -> list[tuple[int, int]]:
 
 
 def together(room: Room) -> None:
-    """Scripts that have their faults as comments."""
+    """Scripts with their faults in comments."""
     for script in sorted((ROOT / "tests" / "tools" / "data" / "together").iterdir()):
         with case(f"told at once: {script.stem.replace('_', ' ')}"):
             found = json.loads(room.explain("--format", "json", str(script)).must_say_nothing(1).text)

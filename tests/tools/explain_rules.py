@@ -1,4 +1,4 @@
-"""The rules on what tools/explain says of many scripts, and on its words. explain_cases.py tries them."""
+"""Rules for the output of tools/explain for many scripts, and for its words. explain_cases.py uses them."""
 from __future__ import annotations
 
 import json
@@ -14,18 +14,18 @@ from tpr_tools.script.constructs import Construct
 from tpr_tools.script.refusal_rules import BEYOND_SCRIPTS, RULES_OF, Rule, clauses_of
 from tpr_tools.words import RESERVED, RESERVED_ELSEWHERE
 
-Told = dict[str, dict[str, Any]]  # what is told of each script, by its name without folder and ending
+Told = dict[str, dict[str, Any]]  # the output for each script, by its name without folder and ending
 
 
 def told_in(printed: str) -> Told:
-    """What `explain --json` printed."""
+    """The output of `explain --json`."""
     told = json.loads(printed)
     must(told, "nothing is told")
     return {os.path.basename(one["file"]).removesuffix(".ttcn"): one for one in told}
 
 
 def check_answers(told: Told, folder: str) -> None:
-    """Each script of the folder is told as NAME.answer has it."""
+    """The answer for each script of the folder is the one in NAME.answer."""
     names = [name.removesuffix(".answer") for name in sorted(os.listdir(folder)) if name.endswith(".answer")]
     must(len(names) == len(told), f"{len(told)} scripts are told of, and there are {len(names)}")
     for name in names:
@@ -40,7 +40,7 @@ def check_answers(told: Told, folder: str) -> None:
 
 
 def check_places(file: str, one: dict[str, Any]) -> None:
-    """The column is one of its line, and each line is shown as it is."""
+    """The column is in its line, and each line is shown unchanged."""
     with open(file, "rb") as opened:
         lines = opened.read().decode("utf-8", "replace").split("\n")
     must(one["sentence"] and len(one["can_stand"]) <= 6, f"{file}: {one}")
@@ -58,7 +58,7 @@ def check_places(file: str, one: dict[str, Any]) -> None:
 
 
 def check_planted(folder: str) -> None:
-    """Of refusals that aren't those of the scripts the rules are told alone: other numbers, names and lines."""
+    """For an answer that differs from explain's own reading (in number, name or line), only the rules are printed."""
     numbers = [it for it in RULES_OF if it is not Refusal.READ]
     names = [name.removesuffix(".answer") for name in sorted(os.listdir(folder)) if name.endswith(".answer")]
     must(len(names) >= 1000, f"there are {len(names)} texts alone")
@@ -74,7 +74,7 @@ def check_planted(folder: str) -> None:
 
 
 def check_planted_one(name: str, told: Explanation, said: str, own: str) -> None:
-    """The number and the line are those that were said, the rules all those of the number."""
+    """The number and the line are those of the answer, and the rules are all those of the number."""
     _, number, word, _, line = said.split()
     rules = list(RULES_OF[Refusal(int(number))])
     must([told.number, told.name, told.line] == [int(number), word, int(line)], f"{name}, {said}: {told}")
@@ -87,7 +87,7 @@ def check_planted_one(name: str, told: Explanation, said: str, own: str) -> None
 
 
 def check_columns(told: Told) -> None:
-    """Nine of ten that are refused at a line have a column."""
+    """At least nine of ten scripts that are refused at a line have a column."""
     refused = [one for one in told.values() if one["answer"] == "refused" and one["line"]]
     have = sum(one["column"] is not None for one in refused)
     must(len(refused) >= 600, f"{len(refused)} scripts alone are refused")
@@ -95,8 +95,8 @@ def check_columns(told: Told) -> None:
 
 
 def check_table(told: Told, table: str, least: int) -> None:
-    """Each script of a table is told so: `NAME|NUMBER|LINE|WHAT STANDS AT THE COLUMN|CONSTRUCT|CLAUSE`, or
-    `NUMBER|LINE|..|SENTENCE`."""
+    """The output for each script agrees with its row of a table:
+    `NAME|NUMBER|LINE|TEXT AT THE COLUMN|CONSTRUCT|CLAUSE`, or `NUMBER|LINE|..|SENTENCE`."""
     rows = [line.split("|") for line in read(table).splitlines() if not line.startswith("#")]
     must(len(rows) >= least, f"{table} has {len(rows)} rows, and {least} at least are wanted")
     for row in rows:
@@ -116,7 +116,7 @@ def check_table(told: Told, table: str, least: int) -> None:
 
 
 def check_words() -> None:
-    """Each rule stands in a document, each construct has its row with the same words."""
+    """Each rule is in a document, and each construct has a row with the same words."""
     refusals, profile = read(f"{ROOT}/docs/REFUSALS.md"), read(f"{ROOT}/docs/PROFILE.md")
     beyond = [it.rule for it in BEYOND_SCRIPTS.values()]
     for rule in (rule for rules in (*RULES_OF.values(), beyond) for rule in rules):
@@ -139,7 +139,7 @@ def check_words() -> None:
 
 
 def check_clauses() -> None:
-    """Those of a rule are in the heading of docs/REFUSALS.md below which it is, if any are."""
+    """The clauses of a rule are those in the heading of its section of docs/REFUSALS.md, if there are any."""
     checks = read(f"{ROOT}/docs/REFUSALS.md").partition("\n## The checks of a test case\n")[2].partition("\n## ")[0]
     found = 0
     for part in checks.split("\n### ")[1:]:
@@ -153,8 +153,8 @@ def check_clauses() -> None:
 
 
 def check_numbers() -> None:
-    """The numbers and names are those of the document's table, and of the one by which the program prints; each that is
-    ever printed has rules, in one place; the faults of a send stand in their order."""
+    """The numbers and names are those of the document's table, and of the program's own table; each number that is ever
+    printed has rules, in one place; and the faults of a send are in their order."""
     table = [(str(it.value), it.word) for it in Refusal]
     page = read(f"{ROOT}/docs/REFUSALS.md").partition("\n## Numbers and names\n")[2].partition("\n## ")[0]
     rows = "\n".join(line for line in page.splitlines() if line.startswith("|"))

@@ -1,5 +1,5 @@
-"""A release as whoever gets it has it: the package installed into an empty root, the archive unpacked, and both used
-there, with what the manual page says."""
+"""Tests a release as a user gets it: the package is installed into an empty root, the archive is unpacked, and both are
+used there and compared with the manual page."""
 from __future__ import annotations
 
 import gzip
@@ -26,7 +26,7 @@ def must_be_same(wanted: Path, found: Path) -> None:
 
 
 def install(tree: Tree, root: Path) -> None:
-    """The package in a root in which there is nothing else: by dpkg where somebody may do so, and else unpacked."""
+    """Installs the package into an otherwise empty root: by dpkg if the user may do that; otherwise it is unpacked."""
     (root / "var/lib/dpkg/info").mkdir(parents=True)
     (root / "var/lib/dpkg/updates").mkdir()
     (root / "var/lib/dpkg/status").touch()
@@ -38,7 +38,7 @@ def install(tree: Tree, root: Path) -> None:
 
 
 class Installed:
-    """The commands of the package, each run in the room with no other on PATH."""
+    """The commands of the package. Each is run in the room, with no others on PATH."""
 
     def __init__(self, tree: Tree):
         self.room, self.root = tree.room, tree.room / "empty"
@@ -107,7 +107,8 @@ def uses_runners_of_scripts(it: Installed) -> None:
 
 
 def lines_without_a_package(tree: Tree) -> list[str]:
-    """The libraries that the program is linked with for which the package names none, and python3."""
+    """The libraries that the program is linked with and that no dependency of the package provides; and python3, if it
+    is missing."""
     named = [it.split()[0] for it in depended_on(tree)]
     found = [] if "python3" in named else ["python3 isn't named"]
     linked = [it.split()[0] for it in run("ldd", tree.program).must_end(0).text.splitlines() if "=>" in it]
@@ -119,13 +120,13 @@ def lines_without_a_package(tree: Tree) -> list[str]:
 
 
 def depended_on(tree: Tree) -> list[str]:
-    """The packages that are named, each with `>=` and its least version behind it, if it has one."""
+    """The dependencies, each with `>=` and its least version, if it has one."""
     said = run("dpkg-deb", "-f", tree.made("made").package, "Depends").must_end(0).text
     return [re.sub("[()]", "", it).strip() for it in said.split(",")]
 
 
 def too_old(tree: Tree) -> list[str]:
-    """This machine has what the package depends on, since the program runs on it."""
+    """Dependencies that are newer than on this machine, on which the program runs."""
     found = []
     for name, _, least in (it.partition(" >= ") for it in depended_on(tree)):
         there = run("dpkg-query", "-f", "${Version}\\n", "-W", name).must_end(0).text.splitlines()[0]
@@ -139,7 +140,7 @@ def sorted_lines(names: Iterable[str]) -> str:
 
 
 def names_of_the_repository(folder: Path, tools: list[str]) -> list[str]:
-    """The commands that the documents below the folder name as only the repository has them."""
+    """Commands that the documents below the folder name as in the repository."""
     named = rf"(?<![\w/])(?:\./tpr|tools/(?:{'|'.join(tools)}))(?![\w/])"
     documents = {it: it.read_text(encoding="utf-8") for it in folder.rglob("*.md")}
     must(any("tpr-explain" in text for text in documents.values()), "no document names tpr-explain")
@@ -147,7 +148,7 @@ def names_of_the_repository(folder: Path, tools: list[str]) -> list[str]:
 
 
 def says_its_names(it: Installed, tools: list[str], version: str) -> None:
-    """A tool calls itself, and the others, as they are installed."""
+    """A tool names itself and the others as they are installed."""
     with case("the version that each command says, installed"):
         for tool in tools:
             it.run(f"tpr-{tool}", "--version").must_print(f"tpr-{tool} (tpr) {version}\n")
@@ -159,7 +160,7 @@ def says_its_names(it: Installed, tools: list[str], version: str) -> None:
 
 
 def installed_as_it_must(tree: Tree, it: Installed) -> None:
-    """What is there, once all was used."""
+    """The installed files, after everything was used."""
     with case("the program that is installed"):
         must_be_same(tree.program, it.root / "usr/lib/tpr/tpr")
         must_be_same(tree.ordered, it.root / "usr/lib/tpr/tpr_ordered")
@@ -218,7 +219,7 @@ def package_by_lintian(tree: Tree) -> None:
 
 
 def must_be_unpacked(tree: Tree, folder: Path) -> None:
-    """The folder has the tree's files, but for those of whoever changes tpr, and besides GATE and the program alone."""
+    """The folder has the tree's files, except those for developers, and additionally only GATE and the program."""
     shutil.unpack_archive(tree.made("made").archive, folder.parent, "gztar")
     others = ["-x", ".*", "-x", "crates", "-x", "embedding", "-x", "out", "-x", "releas*", "-x", "costs.py"]
     name = folder.relative_to(tree.room)
@@ -246,7 +247,7 @@ def archive_is_used(tree: Tree) -> None:
 
 
 def uses_library(tree: Tree, name: str, example: Path, *words: str, more: Optional[dict[str, str]] = None) -> None:
-    """The example in C is linked with the library by these words, or those that pkg-config gives, and runs."""
+    """Links the C example with the library by these words, or by those of pkg-config, and runs it."""
     with case(name):
         ran = run("sh", "-c", f"{' '.join(words)} -o soup && ./soup", example, folder=tree.room, more=more)
         ran.must_print("soup of the day\n")
@@ -275,7 +276,7 @@ def library_is_used(tree: Tree) -> None:
 
 
 def options_of(tree: Tree, tool: str) -> list[str]:
-    """The options that the tool's help has, but for those that all have."""
+    """The options in the help of the tool, except those that all tools have."""
     said = run(tree.folder / "tools" / tool, "--help").must_end(0).text
     named = re.findall(r"^ +(-{1,2}[a-z-]+)", said.partition("\noptions:\n")[2], re.MULTILINE)
     must(len(named) > 1, f"its help has no options{shown(said)}")
@@ -283,7 +284,7 @@ def options_of(tree: Tree, tool: str) -> list[str]:
 
 
 def options_in(lines: list[str], tool: str) -> list[str]:
-    """The options that the page's synopsis has for the tool, as they are typed."""
+    """The options for the tool in the synopsis of the page, as they are typed."""
     synopsis = lines[lines.index(".Sh SYNOPSIS") : lines.index(".Sh DESCRIPTION")]
     found, is_of_it = [], False
     for line in synopsis:

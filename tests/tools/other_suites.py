@@ -1,5 +1,5 @@
-"""Suites of a program that isn't tpr: what is no report, what hangs, what differs from run to run; and that nothing is
-lost of what a suite knows."""
+"""Suites of programs other than tpr: output that isn't a report, programs that hang, results that differ between runs;
+and that no known result is lost."""
 from __future__ import annotations
 
 import os
@@ -20,11 +20,11 @@ END = "end done|verdict none|"
 SCRIPTS = ("a.ttcn", "a.1.ttcn", "a")
 
 
-# What is no report
+# Output that isn't a report
 
 
 def write_told(it: Suites) -> None:
-    """Scripts that hang, are killed, and print what is no report."""
+    """Scripts that hang, are killed, or print something that isn't a report."""
     it.write("told/hangs.ttcn", f"sleep 1000 & echo $! >{shlex.quote(str(it.file('sleeper')))}\nwait\n")
     it.write("told/is_killed.ttcn", "kill -9 $$\n")
     it.write("told/is_cut.ttcn", "echo component mtc\n")
@@ -48,7 +48,7 @@ def has_begun(file: Path) -> bool:
 
 
 def is_gone(process: int) -> bool:
-    """Whether it has ended, be it that nobody has asked how."""
+    """Whether it has ended, even if no process has asked for its status yet."""
     try:
         return b") Z " in Path(f"/proc/{process}/stat").read_bytes()
     except (FileNotFoundError, ProcessLookupError):
@@ -56,7 +56,7 @@ def is_gone(process: int) -> bool:
 
 
 def must_be_gone(sleeper: Path) -> None:
-    """The process whose number stands in the file ends at once."""
+    """The process whose number is in the file must end at once."""
     process = int(sleeper.read_text(encoding="ascii"))
     must(holds_soon(lambda: is_gone(process), 5), "what it has started is still there")
 
@@ -91,7 +91,7 @@ def of_another_program(room: Path, tpr: str) -> None:
 
 
 def suite_that_is_ended(it: Suites) -> None:
-    """Whoever ends a suite ends its runs too."""
+    """Ending a suite ends its runs too."""
     sleeper = it.file("sleeper")
     sleeper.unlink(missing_ok=True)
     with case("a suite that is ended"):
@@ -121,7 +121,7 @@ def suites_of_two_reports(it: Suites) -> None:
         must_be_table(ended, 5, f"fails_once.ttcn  fail * T  {told}", "1 script: 1 fail; 1 not as expected (*)")
 
 
-# Nothing is lost of what a suite knows, and what isn't the report's own isn't mixed into it
+# No known result is lost, and other output isn't mixed into a report
 
 
 def that_lose_nothing(room: Path, tpr: str) -> None:
@@ -227,7 +227,7 @@ def suite_that_prints_at_once(it: Suites) -> None:
 
 
 def suites_on_a_terminal(it: Suites) -> None:
-    """A terminal shows the beginning of a long entry, and never cuts a count or a line's number."""
+    """A terminal shows the beginning of a long entry, and always the whole counts and line numbers."""
     long = "x" * 90
     report = (
         f'component mtc|sent a.p 0 charstring:"{long}"|end waiting|verdict none|component a|{END}'

@@ -47,12 +47,12 @@ def text_in(element: Element) -> str:
 
 
 def each(element: Element, tag: str, of: str = "") -> list[Element]:
-    """Those in it of this tag, and of this class."""
+    """The elements in it with this tag and this class."""
     return [it for it in element.iter(tag) if not of or of in it.get("class", "").split()]
 
 
 def cell(row: Element, of: str) -> str:
-    """The text of the row's cell; nothing if there is none."""
+    """The text of the row's cell; empty if there is none."""
     return "".join(map(text_in, each(row, "span", of)))
 
 
@@ -66,7 +66,7 @@ def row_of(page: Element, script: str) -> Element:
 
 
 def links_must_hold(page: Element, folder: Path) -> None:
-    """Each leads to a place of the page or to a file beside it, and nothing is loaded from elsewhere."""
+    """Each link leads to a place of the page or to a file beside it, and nothing is loaded from elsewhere."""
     names = [it.get("id", "") for it in page.iter() if "id" in it.keys()]
     must(len(names) == len(set(names)), "two places have one name")
     must(not any(any(letter.isspace() for letter in name) for name in names), f"{names} have spaces")

@@ -1,5 +1,5 @@
-"""Suites with a page: what it says of each kind of outcome, of many scripts, and of signs in names and texts. What it
-does in a browser is looked at by pages.py, which is handed these pages."""
+"""Suites with a page: its contents for each kind of result, for many scripts, and for special characters in names and
+texts. pages.py tests these pages in a browser."""
 from __future__ import annotations
 
 import base64
@@ -15,9 +15,9 @@ from tool_calls import ROOT, case, example, must, must_be, run
 from tool_rules import interrupted
 
 MANY = 400
-MOST_BYTES = 1_500_000  # of the page of so many scripts
+MOST_BYTES = 1_500_000  # of the page for many scripts
 
-# Does what tpr does, but for some scripts. Of a race one run is always the same.
+# Acts like tpr, except for some scripts. One run of a race is always the same.
 PROGRAM = """case "$1 $2" in
     run*race*) exec cat {race} ;;
     run*hangs*) touch hangs; exec sleep 100 ;;
@@ -35,8 +35,8 @@ def script(name: str) -> str:
 
 
 WAITS = script("waits").replace("SIGNS", SIGNS)
-EITHER = script("either")  # Its one line with branches is reached in part by each run.
-SOURCE = script("source")  # In the full language.
+EITHER = script("either")  # Each run reaches only a part of its one line with branches.
+SOURCE = script("source")  # in the full language
 LONG = WAITS.replace(SIGNS, 5_000 * "x").replace("setverdict(pass);", 300 * "setverdict(pass);\n")
 SCRIPTS = {
     "passes": "login_is_answered",
@@ -49,7 +49,8 @@ SCRIPTS = {
     "hangs": "login_is_answered",
     "breaks": "login_is_answered",
 }
-# By what needs attention first, and then by name: the state, the script, its result and verdicts.
+# The rows that need attention come first, and then the order is by name: the state, the script, its result and
+# verdicts.
 ROWS = [
     ("unexpected", NAME_OF_SIGNS, "error", "always error"),
     ("unexpected", "breaks.ttcn", "broken", "always pass"),
@@ -67,7 +68,7 @@ TAGS = set(
     """html head meta link title style body header h1 p code form div label input output main details summary span wbr
     a h2 pre figure img table tr th td script""".split()
 )
-# Of some rows the pictures, and a part of their texts.
+# The pictures of some rows, and a part of their texts.
 PICTURES = {
     "passes": ["run1.pass.svg", "connections.svg"],
     "races": ["diverging.svg", "run1.fail.svg", "connections.svg"],
@@ -134,7 +135,7 @@ def page_of_each_outcome(it: Suites) -> None:
         must_have_policy(page)
     if shutil.which("tidy"):
         with case("tidy has nothing to say of the page"):
-            # It calls `loading` of an image proprietary, which is HTML's by now.
+            # It still calls the attribute `loading` of an image proprietary, although HTML has it now.
             words = ("-q", "-e", "--warn-proprietary-attributes", "no")
             run("tidy", *words, it.file("page/index.html")).must_say_nothing()
 
@@ -144,7 +145,7 @@ def pictures_of(row: xml.Element) -> list[str]:
 
 
 def must_have_parts(page: xml.Element) -> None:
-    """Charts, connections and why."""
+    """There must be charts, connections and reasons."""
     for name, pictures in PICTURES.items():
         must_be(pictures_of(row_of(page, f"each/{name}.ttcn")), pictures)
     for name, text in TEXTS.items():

@@ -4,7 +4,7 @@
 
     tests/tools/pages.py FOLDER SUITES
 
-The first folder is for the pages of charts, the second has those of suites (page_suites.py).
+FOLDER is for the pages of charts, and SUITES has those of suites (page_suites.py).
 """
 import os
 import subprocess
@@ -34,7 +34,7 @@ def report_of_signs() -> str:
 
 
 def report_of_many(components: int, rounds: int) -> str:
-    """All send to mtc, which takes the messages in turn, and the last waits for good."""
+    """All components send to mtc, which takes the messages in turn, and the last component waits forever."""
     names = [f"c{number}" for number in range(1, components)]
     lines = ["component mtc"]
     for turn in range(rounds):
@@ -46,14 +46,14 @@ def report_of_many(components: int, rounds: int) -> str:
     return "\n".join([*lines, "result error", ""])
 
 
-# The least contrast of a text of the page and what it stands on (WCAG 2.1, 1.4.3, level AA).
+# The least contrast between a text of the page and its background (WCAG 2.1, 1.4.3, level AA).
 LEAST_CONTRAST = 4.5
 LOOKS = (Path(__file__).parent / "data" / "looks.js").read_text(encoding="utf-8")
 RACES = "each/races.ttcn"
 
 
 class Pages:
-    """The cases, each on a page that was opened for it."""
+    """The cases, each on a newly opened page."""
 
     def __init__(self, folder: str, suites: str) -> None:
         self.folder = folder
@@ -61,7 +61,7 @@ class Pages:
         self.browser = Browser()
 
     def page(self, name: str, report: str) -> str:
-        """The file of a page of a report, which is a file or a text."""
+        """The file of the page for a report, which is given as a file or a text."""
         file = os.path.join(self.folder, f"{name}.html")
         if "\n" not in report:
             report = example(report).read_text(encoding="utf-8")
@@ -86,7 +86,7 @@ class Pages:
             must_be(seen, wanted)
 
     def is_quiet(self, name: str, file: str) -> None:
-        """Nothing on the console, and nothing asked for but the page itself."""
+        """The console must be empty, and only the page itself may be requested."""
         self.browser.drawn()
         self.case(f"{name}: the console is empty", self.browser.console, [])
         requests = [it for it in self.browser.requests if it != "about:blank"]
@@ -152,7 +152,7 @@ class Pages:
         self.is_quiet("choosing", file)
 
     def script_lines(self) -> None:
-        """Whoever knows the lines of the script has them shown beside those of the report."""
+        """If the lines of the script are known, they are shown beside those of the report."""
         report = example("login_is_answered.expected").read_bytes()
         sequence = sequence_of(read_report(report), "script")
         file = os.path.join(self.folder, "script.html")
@@ -240,7 +240,7 @@ class Pages:
             self.case(f"{place}: the console is empty", browser.console, [])
 
     def is_seen(self, scheme: str) -> None:
-        """At two widths: nothing is cut off at the right, and each text can be read."""
+        """At two widths: nothing is cut off on the right, and each text is readable."""
         ask, browser = self.browser.value, self.browser
         for width in (1280, 400):
             ask("rows.forEach((row) => { row.open = true; })")
@@ -274,7 +274,7 @@ class Pages:
         self.case("opened rows: the console is empty", browser.console, [])
 
     def without_code(self) -> None:
-        """A browser opens the row that a link names by itself."""
+        """Without scripts, the browser itself opens the row that a link names."""
         ask, browser = self.browser.value, self.browser
         browser.ask("Emulation.setScriptExecutionDisabled", value=True)
         self.open_suite("page", f"#{RACES}")

@@ -1,7 +1,7 @@
-"""Reports of test cases that never were: components that send, receive and operate on ports at random.
+"""Makes random reports without scripts: components that send, receive and operate on ports at random.
 
-The ports are those of docs/MODEL.md, told once more and apart from tools/, of which the table of numbers alone is
-used: a queue, a status, and how many messages are ahead of the mark. So each report is one that tpr may print.
+The ports follow docs/MODEL.md, and are written again, independently of tools/, of which only the table of numbers is
+used: a queue, a status, and how many messages are ahead of the mark. So tpr may print each of these reports.
 """
 import random
 from collections.abc import Callable, Iterable

@@ -3,7 +3,7 @@
 
     tests/tools/refused_reports.py FOLDER
 
-They are written into the FOLDER.
+They are written into FOLDER.
 """
 from __future__ import annotations
 
@@ -25,7 +25,7 @@ ROWS = [(kind, int(line), text) for kind, line, text in (it.split(" ", 2) for it
 
 
 class Texts:
-    """The texts that are tried, of which no two have one name or are the same, each in a file of the folder."""
+    """The texts that are tried, each in a file of the folder. No two have the same name or contents."""
 
     def __init__(self, folder: Path):
         self.folder = folder
@@ -40,7 +40,7 @@ class Texts:
         return self.folder / "text"
 
     def must_be_refused(self, file: Path, line: int) -> None:
-        """tools/chart refuses it at this line, or draws it where this is 0, since tpr may print it."""
+        """tools/chart must refuse it at this line; for line 0 it must draw it, because tpr may print it."""
         ended = run(CHART, file)
         if line:
             ended.must_say(f"chart: {file}, line {line}: ", 2)
@@ -51,7 +51,7 @@ class Texts:
 
 
 def cut_reports(texts: Texts) -> None:
-    """A report that is cut behind any of its lines is refused at the next."""
+    """A report that is cut after any of its lines is refused at the next."""
     for name in NAMED:
         cut_report(texts, name, "chart")
     cut_report(texts, "halt", "compare", named("login"))
@@ -67,7 +67,7 @@ def cut_report(texts: Texts, name: str, tool: str, *words: Path) -> None:
 
 
 def changed_reports(texts: Texts) -> None:
-    """Each change is a script of `sed`."""
+    """Each change is a script for `sed`."""
     for name, line, change in (it for it in ROWS if it[0] in NAMED):
         with case(f"the report {name} with the change {change}"):
             changed = run("sed", "-e", change, named(name)).must_say_nothing().printed
@@ -76,7 +76,7 @@ def changed_reports(texts: Texts) -> None:
 
 
 def traces_in_place_of_reports(texts: Texts) -> None:
-    """A trace, which `tpr judge` reads, is called one."""
+    """A trace, which `tpr judge` reads, is recognised as one."""
     took = "took table other 0 integer:0\n"
     report = (EXAMPLES / "ping_pong.expected").read_text(encoding="ascii")
     must(took in report, "the report has another line")
@@ -88,7 +88,7 @@ def traces_in_place_of_reports(texts: Texts) -> None:
 
 
 def scripts_in_place_of_reports(texts: Texts) -> None:
-    """A script, of which `tpr run` prints a report, isn't taken for a broken one."""
+    """A script isn't taken for a broken report."""
     for tool, *words in (("chart",), ("compare", str(EXAMPLES / "ping_pong.expected")), ("why", PING_PONG)):
         with case(f"{tool} of a script"):
             said = f"{tool}: {PING_PONG}, line 1: this isn't a report of `tpr run`, which begins with `component mtc`: "
@@ -96,7 +96,7 @@ def scripts_in_place_of_reports(texts: Texts) -> None:
 
 
 def charts_of_refusals(texts: Texts) -> None:
-    """What is printed of a script that is refused is no report."""
+    """The output for a refused script isn't a report."""
     for file in sorted(GOLDEN.glob("*/*refused.expected")):
         with case(f"the chart of {file.name}"):
             texts.must_be_refused(file, 1)
@@ -119,7 +119,7 @@ def texts_of_many() -> tuple[tuple[int, str], ...]:
 
 
 def refusals_of_texts(texts: Texts) -> None:
-    """In each a `|` stands for the end of a line."""
+    """A `|` stands for the end of a line."""
     for line, text in (*((line, text) for name, line, text in ROWS if name not in NAMED), *texts_of_many()):
         with case(f"the text {text[:60]}"):
             texts.must_be_refused(texts.write(text, text.replace("|", "\n").encode()), line)

@@ -1,4 +1,4 @@
-"""What the archive and the packages of a release hold, whose it is, and of which time: beside what they must hold."""
+"""Compares the archive and the packages of a release, with owners and times, with what they must contain."""
 from __future__ import annotations
 
 import re
@@ -13,29 +13,29 @@ RIGHTS = {"f": "-rw-r--r--", "x": "-rwxr-xr-x", "d": "drwxr-xr-x", "l": "lrwxrwx
 
 
 def with_folders(items: Iterable[Item]) -> set[Item]:
-    """Them, and the folders in which they are."""
+    """The items, and the folders that contain them."""
     files = set(items)
     parents = {str(parent) for it in files for parent in PurePosixPath(it.path).parents}
     return files | {Item("d", it) for it in parents - {"."}}
 
 
 def line_of(item: Item, beginning: str) -> str:
-    """What tar tells of it, its path behind this beginning."""
+    """The line of tar for an item, with its path after this beginning."""
     ending = {"d": "/", "l": f" -> {item.target}"}.get(item.kind, "")
     rights = RIGHTS[item.kind]
     return f"{rights} 0/0 {rights} root/root {COMMITTED} {beginning}{item.path}{ending}"
 
 
 def lines_to_be(items: Iterable[Item], beginning: str) -> str:
-    """What tar is to tell of them, with the folder in which all is."""
+    """The expected lines of tar for these items, and for the folder that contains all."""
     head = f"{RIGHTS['d']} 0/0 {RIGHTS['d']} root/root {COMMITTED} {beginning}"
     lines = {head, *(line_of(it, beginning) for it in with_folders(items))}
     return "".join(f"{line}\n" for line in sorted(lines))
 
 
 def lines_of(archive: bytes) -> str:
-    """What tar tells of an archive, a line for each file: what it is and who may do what, its owner by number and by
-    name, its time, its name, and where a link goes."""
+    """The lines of tar for the files of an archive: type and permissions, owner by number and by name, time, name, and
+    the target of a link."""
     words, utc = ("tar", "--full-time", "-tvf", "-"), {"TZ": "UTC"}
     numbers = run(*words, "--numeric-owner", input=archive, more=utc).must_end(0).text.splitlines()
     names = run(*words, input=archive, more=utc).must_end(0).text.splitlines()
@@ -62,7 +62,7 @@ def wrong_package(tree: Tree, made: Made) -> str:
 
 
 def wrong_library(tree: Tree, made: Made) -> str:
-    """How the package of the library differs from what it must be, and the library in both from what was built."""
+    """How the package of the library differs from the expected one, and its library from the one that was built."""
     files = run("dpkg-deb", "--fsys-tarfile", made.library).must_end(0).printed
     found = difference(lines_to_be(in_the_library_package(), "./"), lines_of(files))
     if found:
@@ -80,8 +80,8 @@ def wrong_library(tree: Tree, made: Made) -> str:
 
 
 def wrong_with(tree: Tree, made: Made) -> str:
-    """How both differ from what they must be, whose and of when, and which version they say; nothing where they
-    don't. Without dpkg-deb the archive alone is looked at."""
+    """How the archive and the packages differ from the expected ones in contents, owners, times and versions; empty if
+    they don't. Without dpkg-deb only the archive is compared."""
     found = wrong_archive(tree, made)
     if found or not shutil.which("dpkg-deb"):
         return found

@@ -1,4 +1,4 @@
-"""A repository of what is handed out, with the program that is tested, of which tools/release makes releases."""
+"""A repository with the files of a release and the tested program, from which tools/release makes releases."""
 from __future__ import annotations
 
 import os
@@ -11,19 +11,20 @@ from typing import NamedTuple, Optional
 from tool_calls import ROOT, Ended, must, run
 
 OF_THE_LIBRARY = tuple(f"embedding/{it}" for it in ("tp_port.h", "tp_port.hpp", "soup.c", "soup.cpp"))
-# The library where none is given: the releases are looked at, and no program is linked with it.
+# Stands in for the library if none is given: the releases are inspected, but no program is linked with it.
 STAND_IN = b"!<arch>\n"
 PLACES = ("CHANGELOG.md", "LICENSE", "README.md", "VERSION", "docs", "examples", "tools")
 UNRELEASED = "## [Unreleased]\n"
 # The time of the commit in the tests, as tar prints it.
 COMMITTED = "2026-01-02 03:04:05"
 WHO = ("-c", "user.name=A Tester", "-c", "user.email=tester@tpr.example", "-c", "commit.gpgsign=false")
-# Where git runs ./test, as in a hook, it may say where its repository is: what is committed here is another.
+# If git runs ./test, for example in a hook, these variables may name its repository, but the tests commit to another
+# one.
 OF_ANOTHER = ("GIT_DIR", "GIT_WORK_TREE", "GIT_INDEX_FILE", "GIT_OBJECT_DIRECTORY", "GIT_COMMON_DIR", "GIT_PREFIX")
 
 
 class Made(NamedTuple):
-    """What tools/release makes into a folder of the room."""
+    """The files that tools/release makes in a folder of the room."""
 
     archive: Path
     package: Path
@@ -63,13 +64,13 @@ class Tree:
             shutil.copy2(ROOT / file, self.folder / file)
 
     def release_changes(self) -> None:
-        """As in the commit of a release, CHANGELOG.md has no changes that are not released."""
+        """CHANGELOG.md gets no unreleased changes, as in the commit of a release."""
         path = self.folder / "CHANGELOG.md"
         before, _, rest = path.read_text(encoding="utf-8").partition(UNRELEASED)
         path.write_text(before + rest[rest.index(f"## [{self.version}]") :] if rest else before, encoding="utf-8")
 
     def build(self) -> None:
-        """The programs are those that are tested, and the library is the one that is given."""
+        """Puts in the tested programs, and the given library."""
         for program, built in ((self.program, self.built), (self.ordered, self.built_ordered)):
             shutil.copyfile(program, built)
             built.chmod(0o755)
@@ -85,11 +86,11 @@ class Tree:
         run("git", "-C", self.folder, *WHO, "commit", "-q", "-m", "tree", more=times).must_end(0)
 
     def restore(self) -> None:
-        """What is tracked is as it was committed."""
+        """Restores the tracked files as they were committed."""
         self.git("checkout", "-q", ".")
 
     def change(self, file: str, form: str, other: str) -> None:
-        """Puts something else where each line has the form first."""
+        """Replaces the first match of the form in each line."""
         path = self.folder / file
         lines = path.read_text(encoding="utf-8").splitlines(keepends=True)
         changed = [re.sub(form, other, line, count=1) for line in lines]
@@ -101,25 +102,25 @@ class Tree:
             opened.write(text)
 
     def release(self, *words: str) -> Ended:
-        """What tools/release does with these words, in the room."""
+        """Runs tools/release with these words, in the room."""
         return run(self.folder / "tools" / "release", *words, folder=self.room)
 
     def made(self, folder: str) -> Made:
-        """The three that it makes into the folder."""
+        """The three files that it makes in the folder."""
         return Made(*(self.room / folder / it for it in names_of_all(self.version)))
 
     def said_in(self, made: Made, file: str) -> Ended:
-        """What stands in a file of the archive."""
+        """The contents of a file in the archive."""
         return run("tar", "-xzOf", made.archive, f"tpr-{self.version}/{file}")
 
 
 def names_of_all(version: str) -> tuple[str, str, str]:
-    """Those of the archive, of the package, and of the package with the library."""
+    """The names of the archive, of the package, and of the package with the library."""
     return f"tpr-{version}-amd64.tar.gz", f"tpr_{version}_amd64.deb", f"libtp-port-dev_{version}_amd64.deb"
 
 
 class Item(NamedTuple):
-    """What is handed out: a folder `d`, a file `f`, one that can be run `x`, or a link `l`, with where it goes."""
+    """An item of a release: a folder `d`, a file `f`, an executable `x`, or a link `l` with its target."""
 
     kind: str
     path: str
@@ -127,13 +128,13 @@ class Item(NamedTuple):
 
 
 def paths_below(folder: Path) -> Iterator[Path]:
-    """The folder, and all that is in it."""
+    """The folder, and everything in it."""
     yield folder
     yield from sorted(folder.rglob("*") if folder.is_dir() else ())
 
 
 def is_kept_back(path: str) -> bool:
-    """Whether it is for whoever changes tpr."""
+    """Whether only developers of tpr need it."""
     name = path.rpartition("/")[2]
     return path == "tools/costs.py" or path.startswith(("tools/release", "tools/tpr_tools/release")) or name[0] == "."
 
@@ -145,7 +146,7 @@ def item_of(file: Path, path: str) -> Item:
 
 
 def in_the_tree(tree: Tree) -> list[Item]:
-    """What is handed out of the repository, by where it stands there."""
+    """The items that come from the repository, by their places there."""
     items = [Item("x", "tpr"), Item("x", "tpr_ordered"), Item("f", "GATE")]
     for place in PLACES:
         found = [(it, str(it.relative_to(tree.folder))) for it in paths_below(tree.folder / place)]
@@ -165,7 +166,7 @@ LIBRARY_PLACES = {
 
 
 def in_the_archive(tree: Tree) -> list[Item]:
-    """What is handed out of the repository, and the library."""
+    """The items from the repository, and the library."""
     return [*in_the_tree(tree), *(Item("f", it) for it in LIBRARY_PLACES)]
 
 
@@ -189,7 +190,7 @@ def place_in_package(path: str, kind: str) -> str:
 
 
 def in_the_package(tree: Tree) -> list[Item]:
-    """What is handed out, by where the package has it, with what only a package has."""
+    """The items by their places in the package, and those that only a package has."""
     items = [Item(it.kind, place_in_package(it.path, it.kind)) for it in in_the_tree(tree) if it.kind != "d"]
     items += [Item("f", f"usr/share/doc/tpr/{it}") for it in ("changelog.gz", "copyright")]
     items.append(Item("f", "usr/share/lintian/overrides/tpr"))

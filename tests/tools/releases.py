@@ -3,8 +3,8 @@
 
     tests/tools/releases.py PROGRAM TPR_ORDERED FOLDER [LIBRARY]
 
-They are looked at, made of trees in which there is a fault, refused, installed into an empty root, and used there. All
-is written into the FOLDER.
+The tests inspect them, plant faults in the tools that make them, check when they are refused, install them into an
+empty root, and use them there. All files are written into FOLDER.
 """
 from __future__ import annotations
 
@@ -32,7 +32,7 @@ def files_in(folder: Path) -> dict[str, bytes]:
 
 
 def must_be_whole(tree: Tree, folder: str) -> None:
-    """What was made into the folder holds what it must."""
+    """The files that were made in the folder must have the expected contents."""
     wrong = wrong_with(tree, tree.made(folder))
     must(not wrong, f"{folder} differs{shown(wrong)}")
 
@@ -60,7 +60,7 @@ def makes_both(tree: Tree) -> None:
 
 
 class Fault(NamedTuple):
-    """What is wrong, in which file of tools/, where which form stands there, what is put there, and what is told."""
+    """A fault: its name, the file in tools/, the form to replace, the replacement, and the text to be reported."""
 
     name: str
     file: str
@@ -94,7 +94,7 @@ def of_packages(version: str) -> tuple[Fault, ...]:
 
 
 def tells_planted(tree: Tree, faults: tuple[Fault, ...]) -> None:
-    """Whoever looks at what was made tells the fault."""
+    """The inspection must report each planted fault."""
     for it in faults:
         with case(f"planted: {it.name}"):
             try:
@@ -112,7 +112,7 @@ def tells_planted(tree: Tree, faults: tuple[Fault, ...]) -> None:
 
 
 def gate(tree: Tree, script: str, toolchain: str = "echo a toolchain") -> Ended:
-    """What the functions of tests/gate/kept_gate.sh do in the tree, with a toolchain that does so."""
+    """Runs functions of tests/gate/kept_gate.sh in the tree, with this script as the toolchain."""
     kept = ROOT / "tests" / "gate" / "kept_gate.sh"
     words = f'source "$0"; rt() {{ {toolchain}; }}; {script}'
     return run("bash", "-c", words, kept, folder=tree.folder)
@@ -123,7 +123,7 @@ def leaves_nothing(tree: Tree) -> None:
 
 
 def keeps_gate(tree: Tree) -> None:
-    """A gate leaves out/gate where it passed on one commit, and a release of it is made."""
+    """A gate that passed on one commit leaves out/gate, and a release can be made from it."""
     (tree.room / "last_lines").write_text(LAST_LINES, encoding="utf-8")
     kept, whole = tree.folder / "out" / "gate", "begin_gate && keep_gate ../last_lines"
     with case("a gate beside which a file is edited leaves nothing"):
@@ -153,11 +153,11 @@ def keeps_gate(tree: Tree) -> None:
     kept.write_bytes(said)
 
 
-# What no release is made of
+# Refusals of releases
 
 
 def refuses(tree: Tree, name: str, said: str, *words: str) -> None:
-    """No release is made, and nothing is left of one."""
+    """No release may be made, and nothing may be left of one."""
     with case(name):
         tree.release("refused", *words).must_say(f"release: {said}", 2)
         must(not (tree.room / "refused").exists(), "something is made")
@@ -165,7 +165,7 @@ def refuses(tree: Tree, name: str, said: str, *words: str) -> None:
 
 
 def refusals_of_gates(tree: Tree) -> None:
-    """What isn't just what the gate passed on."""
+    """States that the gate didn't pass on."""
     commit = tree.git("rev-parse", "HEAD")
     refuses(tree, "no gate", "no gate has passed here")
     keeps_gate(tree)
@@ -214,7 +214,7 @@ def refusals_of_versions(tree: Tree) -> None:
 
 
 def between_releases(tree: Tree) -> None:
-    """While CHANGELOG.md has changes that are not released, the day and the commit follow the number."""
+    """While CHANGELOG.md has unreleased changes, the day and the commit follow the number."""
     number = re.escape(tree.version)
     for changes, is_between in (("\n", False), ("\n### Fixed\n\n- **More.**\n\n", True)):
         tree.change("CHANGELOG.md", rf"^## \[{number}\]", f"{UNRELEASED}{changes}\\g<0>".replace("\n", r"\n"))
@@ -250,7 +250,7 @@ def refusals_of_releases(tree: Tree) -> None:
         tree.release("--unchecked", "a_file").must_say(said, 3)
 
 
-# What this machine can try
+# What this machine can test
 
 
 def groups(tree: Tree) -> list[Group]:

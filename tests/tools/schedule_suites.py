@@ -1,5 +1,4 @@
-"""Suites that ask whether a verdict depends on the schedule, and what a build server reads of a result that isn't
-expected."""
+"""Suites that ask whether a verdict depends on the schedule, and what a build server shows for an unexpected result."""
 from __future__ import annotations
 
 import xml.etree.ElementTree as xml
@@ -9,7 +8,7 @@ from suite_runs import Suites, answer, must_be_table
 from tool_calls import case, example, must, ruled
 from tool_rules import check_junit
 
-# Answers as `tpr verdicts` does, by the first word of the script's comment.
+# Answers like `tpr verdicts`, by the first word of the script's comment.
 PROGRAM = """if [ "$1" = queue ]; then exit 0; fi
 if [ "$1" = run ]; then exec cat {report}; fi
 case $(head -n 1 "${{2:-/dev/stdin}}") in
@@ -38,7 +37,7 @@ def of_the_schedule(room: Path, tpr: str) -> None:
 
 
 def text_of(file: Path, kind: str, name: str) -> str:
-    """What stands in the failure, or the error, of the case."""
+    """The text of the failure, or the error, of the case."""
     must(file.stat().st_size, f"{file.name} is empty")
     found = [it.find(kind) for it in xml.parse(file).iter("testcase") if it.get("name") == name]
     (element,) = [it for it in found if it is not None]
@@ -83,7 +82,7 @@ def suites_of_verdicts(it: Suites, program: str) -> None:
 
 
 def suites_of_expected_answers(it: Suites, program: str) -> None:
-    """A known answer can stand beside a script."""
+    """A file beside a script may have the expected answer."""
     it.write("races.wanted", "pass or fail\n")
     with case("a verdict that depends on the schedule, as expected"):
         ended = it.run(program, "races.ttcn", "--verdicts")
@@ -110,7 +109,7 @@ def suites_that_get_no_answer(it: Suites, program: str) -> None:
         )
     ruled("its JUnit file, in which this is an error", check_junit, it.file("broken.xml"), 1, 0, 1)
     with case("a suite for which tools/explore breaks off"):
-        # The program accepts what is no script, so that the tool can't read it.
+        # The program accepts a text that isn't a script, so the tool can't read it.
         ended = it.run(program, "steady.ttcn", "--explore", "--junit", "explored.xml")
         ended.must_show("failed \\* T  tools/explore failed: ended with status 1, .*Unreadable: ", 1)
     ruled("its JUnit file, in which this is an error too", check_junit, it.file("explored.xml"), 1, 0, 1)

@@ -1,4 +1,4 @@
-"""Runs of tools/suite: with `tpr`, or with a program in its place that does what its script says."""
+"""Runs tools/suite: with `tpr`, or with a program in its place that executes its script."""
 from __future__ import annotations
 
 import os
@@ -15,7 +15,7 @@ SUITE = ROOT / "tools" / "suite"
 TIMES = "the runs took T, judging them T"
 ONE_PASS = "1 script: 1 pass; all as expected"
 
-# On no text it does nothing, and a script tells it what to do.
+# With an empty text it does nothing; otherwise it executes the script.
 ANOTHER = """#!/usr/bin/env bash
 if [[ $1 == queue ]]; then exit 0; fi
 source "$2"
@@ -23,7 +23,7 @@ source "$2"
 
 
 def answer(name: str) -> str:
-    """The file of what is expected of an example, as a word of the shell."""
+    """The file with the expected output of an example, quoted for the shell."""
     return shlex.quote(str(example(name)))
 
 
@@ -40,50 +40,50 @@ class Suites:
         return self.folder / name
 
     def write(self, name: str, text: str) -> None:
-        """A script, or what is wanted of one."""
+        """Writes a script, or its expected results."""
         self.file(name).parent.mkdir(parents=True, exist_ok=True)
         self.file(name).write_text(text, encoding="utf-8")
 
     def program(self, name: str, text: str) -> None:
-        """A program for sh."""
+        """Writes a program for sh."""
         program_of(self.file(name), text)
 
     def copy(self, name: str, place: str) -> None:
-        """An example, into a place in the folder."""
+        """Copies an example to a place in the folder."""
         self.file(place).parent.mkdir(parents=True, exist_ok=True)
         shutil.copyfile(example(name), self.file(place))
 
     def run(self, program: str, *words: str) -> Ended:
-        """Runs tools/suite with a program. The times of its table are left out."""
+        """Runs tools/suite with a program, and removes the times from its table."""
         ended = run(SUITE, *words, folder=self.folder, more={"TPR": program})
         lines = [timeless(line) for line in ended.text.split("\n")]
         return ended._replace(printed="\n".join(lines).encode("utf-8", "surrogateescape"))
 
     def start(self, *words: str, printed: int) -> subprocess.Popen[bytes]:
-        """Starts tools/suite with the other program. Whatever it says is lost."""
+        """Starts tools/suite with the other program. Its standard error is discarded."""
         no, variables = subprocess.DEVNULL, {**os.environ, "TPR": self.another}
         return subprocess.Popen(
             [str(SUITE), *words], cwd=self.folder, env=variables, stdin=no, stdout=printed, stderr=no
         )
 
     def watched(self, way: Callable[..., Ended], *words: Word, program: str) -> Ended:
-        """What comes of a command with this program, which is called in a way of tool_rules.py."""
+        """The result of a command with this program, run by a function of tool_rules.py."""
         return way(*words, cwd=self.folder, env={**os.environ, "TPR": program})
 
     def files_in(self, name: str) -> list[str]:
-        """All files in a folder of it, by their paths there."""
+        """All files in a folder, by their paths there."""
         folder = self.file(name)
         return sorted(str(it.relative_to(folder)) for it in folder.rglob("*") if it.is_file())
 
 
 def timeless(line: str) -> str:
-    """A line of the table without the time that it tells first, and its last line without both."""
+    """A line of the table without its first time; the last line but one without both times."""
     times = 0 if line.startswith("the runs took ") else 1
     return re.sub(r" +[0-9]+\.[0-9]{3}s(?=[ ,]|$)", " T", line, count=times).rstrip(" ")
 
 
 def must_be_table(ended: Ended, status: int, *lines: str, columns: tuple[str, ...] = ("result",)) -> None:
-    """What was printed is the head, a line for each script, in whichever order they were done, and the last."""
+    """The output must be the head, a line for each script, in any order, and the last lines."""
     ended.must_say_nothing(status)
     head, *found = ended.text.removesuffix("\n").split("\n")
     wanted = ["script", *columns, "run time", "reason"]
@@ -94,5 +94,5 @@ def must_be_table(ended: Ended, status: int, *lines: str, columns: tuple[str, ..
 
 
 def kept(name: str, result: str, ending: str = "report", folder: str = "kept") -> str:
-    """Where the reason says that a report is kept."""
+    """The part of the reason that says where a report is kept."""
     return f"; kept: {folder}/{name}.ttcn/run1.{result}.{ending}"

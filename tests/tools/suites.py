@@ -4,8 +4,8 @@ of a program that isn't tpr (other_suites.py).
 
     tests/tools/suites.py PROGRAM CALLED FOLDER
 
-CALLED is what is called on command lines. All is written into the FOLDER. It prints a line `passed NAME` for each case,
-or lines that begin with `FAILED: NAME`.
+CALLED is the program for command lines. All files are written into FOLDER. It prints a line `passed NAME` for each
+case, or lines that begin with `FAILED: NAME`.
 """
 from __future__ import annotations
 
@@ -70,7 +70,7 @@ def suites_of_scripts(room: Path, tpr: str, called: str) -> None:
 
 
 def suites_that_keep(it: Suites) -> None:
-    """What the suite with every result has kept."""
+    """The files that the suite with every result has kept."""
     passed = it.file("kept/login_is_answered.ttcn/run1.pass.report")
     none = it.file("kept/inner/none.ttcn/run1.none.report")
     with case("what is kept of every result"):
@@ -146,7 +146,7 @@ def suites_that_are_asked_wrongly(it: Suites, file: str) -> None:
             it.run(it.tpr, file, *words.split(" ")).must_complain("^usage: suite", 4)
 
 
-# Scripts beside which stands what they should come to
+# Scripts with a file of expected results beside them
 
 BESIDE = ("login_is_answered.ttcn", "script_cut_inside_an_alt.ttcn", "system_under_test_answers.ttcn")
 

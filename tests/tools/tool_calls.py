@@ -1,4 +1,4 @@
-"""Commands that a test runs, what must come of each, and what is told of each case.
+"""Runs commands in tests, checks their results, and reports each case.
 
 A case is a block `with case(NAME):`, or a call of `judged` or `ruled`. At its end a line `passed NAME` is printed, or
 lines that begin with `FAILED: NAME: ` if it raises.
@@ -29,8 +29,8 @@ from example_files import example as example
 
 EXAMPLES = ROOT / "examples"
 MOST_SECONDS = 900
-MOST_LINES = 40  # of what is shown where it is wrong
-SHOWN = 2000  # characters of what breaks a rule
+MOST_LINES = 40  # of a text that is shown for a wrong result
+SHOWN = 2000  # characters of the message about a broken rule
 
 Asked = TypeVar("Asked")
 Text = Union[str, bytes]
@@ -38,7 +38,7 @@ Word = Union[str, bytes, "os.PathLike[str]"]
 
 
 class Wrong(Exception):
-    """A rule is broken."""
+    """An expectation is broken."""
 
 
 def must(holds: object, text: str) -> None:
@@ -55,13 +55,13 @@ def bytes_of(text: Text) -> bytes:
 
 
 def shown(text: Text) -> str:
-    """The first lines, behind spaces, so that nobody counts one as that of a case."""
+    """The first lines, indented, so that none is counted as the line of a case."""
     lines = bytes_of(text).decode("utf-8", "backslashreplace").splitlines()
     return "".join(f"\n    {line[:400]}" for line in lines[:MOST_LINES])
 
 
 def difference(wanted: Text, found: Text) -> str:
-    """The lines in which they differ; nothing where they don't."""
+    """The lines that differ; empty if none does."""
     if bytes_of(wanted) == bytes_of(found):
         return ""
     left, right = (bytes_of(it).decode("utf-8", "backslashreplace").splitlines() for it in (wanted, found))
@@ -75,7 +75,7 @@ def must_be(found: Any, wanted: Any) -> None:
 
 
 class Ended(NamedTuple):
-    """How a command ended, what it printed, and what it said on standard error."""
+    """The status of a command, its standard output, and its standard error."""
 
     status: int
     printed: bytes
@@ -83,12 +83,12 @@ class Ended(NamedTuple):
 
     @property
     def text(self) -> str:
-        """What it printed."""
+        """The standard output."""
         return self.printed.decode("utf-8", "surrogateescape")
 
     @property
     def told(self) -> str:
-        """What it said."""
+        """The standard error."""
         return self.said.decode("utf-8", "surrogateescape")
 
     def must(self, holds: object, what: str) -> Ended:
@@ -99,7 +99,7 @@ class Ended(NamedTuple):
         return self.must(self.status == status, f"status {status} is wanted")
 
     def must_hold(self, status: int, *tests: Test) -> Ended:
-        """It ended with the status, and each of the tests holds of it."""
+        """The status must be this one, and each test must hold."""
         self.must_end(status)
         for test in tests:
             self.must(test(self), "it is otherwise than wanted")
@@ -109,23 +109,23 @@ class Ended(NamedTuple):
         return self.must_end(status).must(not self.said, "nothing is to be said")
 
     def must_print(self, text: Text, status: int = 0) -> Ended:
-        """This, and nothing on standard error."""
+        """It must print this text, and nothing on standard error."""
         self.must_say_nothing(status)
         wrong = difference(text, self.printed)
         return self.must(self.printed == bytes_of(text), f"another text is wanted{shown(wrong)}")
 
     def must_say(self, beginning: str, status: int) -> Ended:
-        """One line that begins so, on standard error, and nothing else."""
+        """It must write one line that begins like this on standard error, and nothing else."""
         line = self.said.startswith(bytes_of(beginning)) and self.said.endswith(b"\n") and self.said.count(b"\n") == 1
         return self.must_end(status).must(line and not self.printed, f"{beginning!r} alone is to be said")
 
     def must_show(self, form: str, status: int = 0) -> Ended:
-        """A line that was printed has this form somewhere in it."""
+        """A line of standard output must match this form."""
         has = re.search(form, self.text, re.MULTILINE)
         return self.must_end(status).must(has, f"no line has the form {form!r}")
 
     def must_complain(self, form: str, status: int) -> Ended:
-        """A line on standard error has this form somewhere in it."""
+        """A line of standard error must match this form."""
         has = re.search(form, self.told, re.MULTILINE)
         return self.must_end(status).must(has, f"no line that was said has the form {form!r}")
 
@@ -138,8 +138,8 @@ def run(
     most_seconds: int = MOST_SECONDS,
     **files: Any,
 ) -> Ended:
-    """Runs a command in the folder, with further variables, or with these only. `files` are its standard input and so
-    on; without them its input is empty, and what it prints and says is kept."""
+    """Runs a command in the folder, with further variables, or with only these. `files` are its standard input and so
+    on; without them its input is empty, and its standard output and standard error are captured."""
     given: dict[str, Any] = {"stdout": subprocess.PIPE, "stderr": subprocess.PIPE, **files}
     if "input" not in files:
         given.setdefault("stdin", subprocess.DEVNULL)
@@ -152,14 +152,14 @@ def run(
 
 
 def onto_a_full_device(*words: Word, **more: Any) -> Ended:
-    """Runs a command whose answer can't be written."""
+    """Runs a command that can't write its answer."""
     with open("/dev/full", "wb") as full:
         return run(*words, stdout=full, **more)
 
 
 @dataclass(frozen=True)
 class Tool:
-    """A tool, the words that stand before all others, its variables, and how long it may take. It runs at the root."""
+    """A tool, its first arguments, its variables, and its time limit. It runs at the root."""
 
     name: str
     first: tuple[str, ...] = ()
@@ -171,43 +171,43 @@ class Tool:
         return run(*command, folder=ROOT, more=self.variables, most_seconds=self.most_seconds, **files)
 
     def case(self, name: str, words: Iterable[Word], status: int, *tests: Test) -> None:
-        """A run with these words ends with this status, and each of the tests holds of it."""
+        """A run with these arguments must end with this status, and each test must hold."""
         with case(name):
             self.run(*words).must_hold(status, *tests)
 
     def full_device(self, name: str, *words: Word) -> None:
-        """An answer that can't be written is told."""
+        """The tool must report that its answer can't be written."""
         with open("/dev/full", "wb") as full:
             judged(name, self.run(*words, stdout=full), 3, says_alone(f"{self.name}: the answer can't be written"))
 
 
-# What holds of a run
+# Tests for the result of a run
 
 Test = Callable[[Ended], object]
 
 
 def prints(text: str) -> Test:
-    """This and nothing else, and it says nothing."""
+    """It prints this text, and nothing on standard error."""
     return lambda ended: ended.must_print(text, ended.status)
 
 
 def prints_line(beginning: str) -> Test:
-    """A line that begins so, and it says nothing."""
+    """It prints a line that begins like this, and nothing on standard error."""
     return lambda ended: f"\n{beginning}" in f"\n{ended.text}" and says_nothing(ended)
 
 
 def says(text: str) -> Test:
-    """This and nothing else, and it prints nothing."""
+    """It writes this text on standard error, and prints nothing."""
     return lambda ended: ended.told == text and prints_nothing(ended)
 
 
 def says_alone(beginning: str) -> Test:
-    """It says one line that begins so, and prints nothing."""
+    """It writes one line that begins like this on standard error, and prints nothing."""
     return lambda ended: ended.must_say(beginning, ended.status)
 
 
 def says_usage(tool: str, why: str = "") -> Test:
-    """How the tool is called, and this, and it prints nothing."""
+    """It writes the usage and this text on standard error, and prints nothing."""
     return lambda ended: ended.told.startswith(f"usage: {tool}") and why in ended.told and prints_nothing(ended)
 
 
@@ -221,7 +221,7 @@ def prints_nothing(ended: Ended) -> bool:
 
 # Cases
 
-_TOLD: list[bool] = []  # of each case, whether it passed
+_TOLD: list[bool] = []  # whether each case passed
 
 
 def _tell(name: str, wrong: Optional[str]) -> None:
@@ -232,31 +232,31 @@ def _tell(name: str, wrong: Optional[str]) -> None:
 
 @contextmanager
 def case(name: str) -> Iterator[None]:
-    """Tells how the block ended."""
+    """Reports the result of the block."""
     try:
         yield
     except Wrong as wrong:
         _tell(name, str(wrong))
-    except Exception as broken:  # as where what was printed can't be read
+    except Exception as broken:  # for example if the output can't be read
         _tell(name, f"{type(broken).__name__}: {broken}"[:SHOWN])
     else:
         _tell(name, None)
 
 
 def judged(name: str, ended: Ended, status: int, *tests: Test) -> None:
-    """The run ended with the status, and each of the tests holds of it."""
+    """Reports a case: the run must have this status, and each test must hold."""
     with case(name):
         ended.must_hold(status, *tests)
 
 
 def ruled(name: str, rule: Callable[..., None], *asked: object) -> None:
-    """The rule isn't broken, of what it is asked."""
+    """Reports a case: the rule must hold for these arguments."""
     with case(name):
         rule(*asked)
 
 
 class Group(NamedTuple):
-    """Cases that belong together, and how many there are at least."""
+    """Cases that belong together, and their least number."""
 
     attempt: Callable[[], None]
     least: int
@@ -264,8 +264,8 @@ class Group(NamedTuple):
 
 
 def try_groups(groups: Iterable[Group]) -> int:
-    """Tries them one behind the other. What breaks one off is a failure, and not the end of the others. The status: 1
-    where a case failed, or a group has too few."""
+    """Runs the groups one after the other. An exception in one counts as a failure, and the others still run. Returns
+    the status: 1 if a case failed, or if a group has too few."""
     for group in groups:
         before = len(_TOLD)
         try:
@@ -280,12 +280,12 @@ def try_groups(groups: Iterable[Group]) -> int:
 
 
 def try_groups_of(asked: Asked, groups: Iterable[tuple[Callable[[Asked], None], int]]) -> int:
-    """The same, of groups that are all tried with this."""
+    """The same for groups whose functions all get the same argument."""
     return try_groups(Group(partial(attempt, asked), least, attempt.__name__) for attempt, least in groups)
 
 
 def words_of(described: Optional[str], *names: str) -> list[str]:
-    """The words of the command line, by their names. One in square brackets may be missing: it is empty then."""
+    """The arguments of the command line, by name. One in square brackets is optional: it is empty if it is missing."""
     words = argparse.ArgumentParser(description=(described or "").partition("\n\n")[0])
     for name in names:
         optional: dict[str, Any] = {"nargs": "?", "default": ""} if name.startswith("[") else {}
@@ -298,13 +298,13 @@ def words_of(described: Optional[str], *names: str) -> list[str]:
 
 @contextmanager
 def room() -> Iterator[Path]:
-    """A folder that goes with the block."""
+    """A folder that exists during the block."""
     with tempfile.TemporaryDirectory() as folder:
         yield Path(folder)
 
 
 def file_of(path: Path, text: str) -> Path:
-    """The file, in which this stands now."""
+    """Writes the text into the file, and returns the file."""
     path.write_bytes(text.encode())
     return path
 
@@ -316,13 +316,13 @@ def texts_in(name: str) -> dict[str, str]:
 
 
 def program_of(path: Path, *lines: str) -> str:
-    """A program of these lines, for sh."""
+    """Writes a program for sh with these lines."""
     file_of(path, "".join(f"{line}\n" for line in ("#!/bin/sh", *lines))).chmod(0o755)
     return str(path)
 
 
 def block_of(document: str, beginning: str) -> str:
-    """The indented block of a document with a line that begins so, from that line on."""
+    """The indented block of a document from the line that begins like this."""
     _, beginning, behind = (ROOT / document).read_text(encoding="utf-8").partition(f"\n    {beginning}")
     must(beginning, f"{document} has no such block")
     block = takewhile(lambda line: not line or line.startswith("    "), f"{beginning[1:]}{behind}".split("\n"))

@@ -1,7 +1,7 @@
-"""The rules on what tools/ prints, told apart from its own code: charts are well-formed and show what their reports
-say, rows are an order that the ports allow, cut reports are refused, JUnit files are valid. Each raises what is wrong.
+"""Rules for the output of tools/, independent of its code: charts are well-formed and show what their reports say, rows
+are an order that the ports allow, cut reports are refused, JUnit files are valid. A broken rule raises an exception.
 
-Of commands that are interrupted, or run on a terminal, it tells what they print.
+It also runs commands that are interrupted, or on a terminal.
 """
 from __future__ import annotations
 
@@ -46,7 +46,7 @@ def check_charts(*files: Path) -> None:
 
 
 def check_drawing(report: str, svg: str) -> None:
-    """A chart of a report: both are texts."""
+    """The chart of a report; both are texts."""
     root = xml.fromstring(svg.encode())
     must(root.tag == f"{SVG}svg" and root.get("role") == "img", "it is no picture")
     for part in ("title", "desc"):
@@ -66,14 +66,14 @@ def check_drawing(report: str, svg: str) -> None:
 
 
 def number_of(element: xml.Element, name: str) -> float:
-    """What this attribute says."""
+    """The value of this attribute."""
     found = element.get(name)
     must(found is not None, f"{element.tag} has no {name}")
     return float(found or "")
 
 
 def check_inside(root: xml.Element) -> None:
-    """No text leaves the picture."""
+    """No text may extend beyond the picture."""
     width, height = number_of(root, "width"), number_of(root, "height")
     for text in root.iter(f"{SVG}text"):
         must(0 < number_of(text, "y") < height, f"{text.text!r} stands outside")
@@ -81,7 +81,7 @@ def check_inside(root: xml.Element) -> None:
 
 
 def check_texts(root: xml.Element, lines: list[str]) -> None:
-    """The texts are there, none leaves the picture, and each row that shows something tells it."""
+    """The texts are there and within the picture, and each row that shows an entry has its line."""
     check_inside(root)
     texts = list(root.iter(f"{SVG}text"))
     shown = [text.text or "" for text in texts]
@@ -97,7 +97,7 @@ def check_texts(root: xml.Element, lines: list[str]) -> None:
 
 
 def is_shown(word: str, text: str) -> bool:
-    """Whole, or with its end or middle left out. Behind a number its name may stand."""
+    """Whether the word is shown, whole or with its end or middle left out. Other words may follow it."""
     before, cut, behind = text.partition("…")
     return text.startswith(word) or (cut != "" and word.startswith(before) and word.endswith(behind))
 
@@ -113,8 +113,7 @@ def check_width(text: xml.Element, width: float) -> None:
 
 
 def check_strokes(root: xml.Element) -> None:
-    """No arrow that goes over several rows strikes through a text or a badge: where it is as high as its middle, it is
-    beside it."""
+    """No arrow over several rows may cross a text or a badge: it must be beside the middle of each."""
     middles = [middle_of(text) for text in root.iter(f"{SVG}text") if "halo" in (text.get("class") or "")]
     for badge in root.iter(f"{SVG}rect"):
         if badge.get("rx") == "9":
@@ -128,7 +127,7 @@ def check_strokes(root: xml.Element) -> None:
 
 
 def middle_of(text: xml.Element) -> tuple[float, float, float, str]:
-    """Where it begins and ends, how high its middle is, and what it says."""
+    """Where it begins and ends, the height of its middle, and its text."""
     classes = (text.get("class") or "").split()
     long = len(text.text or "") * (6.65 if "small" in classes else 7.25)
     x = number_of(text, "x") - (long if "end" in classes else long / 2 if "middle" in classes else 0)
@@ -136,7 +135,7 @@ def middle_of(text: xml.Element) -> tuple[float, float, float, str]:
 
 
 def place_at(way: str, y: float) -> Optional[float]:
-    """Where an arrow is at this height, if it goes down there."""
+    """The place of an arrow at this height, if it goes down there."""
     if found := re.fullmatch(r"M([-0-9.]+) ([-0-9.]+)L([-0-9.]+) ([-0-9.]+)", way):
         x, top, to_x, foot = map(float, found.groups())
         return x + (to_x - x) * (y - top) / (foot - top) if top < y < foot else None
@@ -147,7 +146,7 @@ def place_at(way: str, y: float) -> Optional[float]:
 
 
 def check_legend(root: xml.Element) -> None:
-    """What a sign means stands below a chart in which it occurs, and in no other."""
+    """A sign is explained below each chart in which it occurs, and in no other."""
     classes = [path.get("class") or "" for path in root.iter(f"{SVG}path")]
     arrows = [path.get("d") or "" for path in root.iter(f"{SVG}path") if path.get("class") in (*ENDS, "discarded")]
     texts = [text.text or "" for text in root.iter(f"{SVG}text")]
@@ -165,8 +164,7 @@ def check_orders(*files: Path) -> None:
 
 
 def check_order(data: bytes, file: object) -> None:
-    """The rows are an order of all entries that the ports allow, and each message is discarded where it is
-    told to be."""
+    """The rows are an order of all entries that the ports allow, and each message is discarded where the tool says."""
     deliveries = deliveries_of(read_report(data))
     rows = rows_of(deliveries)
     places = [(place.component, place.entry) for row in rows for place in (row.first, row.second) if place]
@@ -186,7 +184,7 @@ def check_played(number: int) -> None:
 
 
 def check_tried(number: int) -> None:
-    """Each report of a small run, and three that differ from it in a line or two."""
+    """Tests the report of each small run, and three that differ from it in a line or two."""
     counts = {True: 0, False: 0, None: 0}
     for seed in range(number):
         lines = Small(seed).lines()
@@ -239,7 +237,7 @@ def check_random(number: int) -> None:
 
 
 def check_parts(number: int) -> None:
-    """A part of a chart is drawn within its picture, and tells each entry of its components and rows."""
+    """A part of a chart is drawn within its picture, and shows each entry of its components and rows."""
     for seed in range(number):
         report = read_report(Run(seed).report().encode())
         whole = sequence_of(report, f"seed {seed}")
@@ -270,7 +268,7 @@ def check_part(part: Sequence, whole: Sequence, asked: Asked) -> None:
 
 
 def check_missing_lines(text: str, seed: int) -> int:
-    """Where no port is emptied, a report without one of its messages' lines is refused."""
+    """If no port is emptied, a report without one of its messages' lines must be refused."""
     lines = text.splitlines(keepends=True)
     tried = 0
     for number, line in enumerate(lines):
@@ -281,8 +279,8 @@ def check_missing_lines(text: str, seed: int) -> int:
     return tried
 
 
-# The usual schema, as build servers read it. Of each element: the attributes that it must have, those
-# that it may have, and the elements that may stand in it.
+# The usual schema, as build servers read it. For each element: the attributes that it must have, those that it may
+# have, and the elements that it may contain.
 COUNTS = {"tests", "failures", "errors", "skipped"}
 ELEMENTS: dict[str, tuple[set[str], set[str], set[str]]] = {
     "testsuites": ({"tests", "failures", "errors"}, {"name", "time", "disabled"}, {"testsuite"}),
@@ -345,7 +343,7 @@ def check_element(element: xml.Element) -> None:
 
 
 def check_counts(element: xml.Element, cases: Iterable[xml.Element]) -> None:
-    """The counts of a suite, or of all, are those of its cases."""
+    """The counts of a suite, or of all suites, are those of its cases."""
     tags = [[child.tag for child in case] for case in cases]
     counts = [len(tags), sum("failure" in tag for tag in tags), sum("error" in tag for tag in tags)]
     told = [number_of(element, name) for name in ("tests", "failures", "errors")]
@@ -353,7 +351,7 @@ def check_counts(element: xml.Element, cases: Iterable[xml.Element]) -> None:
 
 
 def on_a_terminal(*command: Word, **how: Any) -> Ended:
-    """Its standard output and error are a terminal. What is said there, and at the end its status."""
+    """Runs a command with a terminal as its standard output and error. Returns the output and the status."""
     ours, theirs = pty.openpty()
     said = b""
     with subprocess.Popen(command, stdin=subprocess.DEVNULL, stdout=theirs, stderr=theirs, **how) as process:
@@ -365,7 +363,8 @@ def on_a_terminal(*command: Word, **how: Any) -> Ended:
 
 
 def interrupted(file: Path, *command: Word, **how: Any) -> Ended:
-    """As Ctrl-C does it, once the file is there. Ours is ignored, since a part of the gate runs so."""
+    """Interrupts a command like Ctrl-C does, once the file exists. The command gets the default action of the signal,
+    because a part of the gate runs with the signal ignored."""
     default = functools.partial(signal.signal, signal.SIGINT, signal.SIG_DFL)
     pipe = subprocess.PIPE
     with subprocess.Popen(command, stdout=pipe, stderr=pipe, preexec_fn=default, **how) as process:

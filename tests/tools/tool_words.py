@@ -1,5 +1,5 @@
 #!/usr/bin/env python3
-"""What all tools have in common: what they do where nobody gets their words, and where memory is refused.
+"""Tests what all tools have in common: their behaviour if their output can't be written, and if memory runs out.
 
     tests/tools/tool_words.py
 """
@@ -59,7 +59,7 @@ def what_tools_import() -> None:
 
 
 def imported_by(file: Path) -> Iterator[str]:
-    """The packages, without those that are named from the place of the file."""
+    """The imported packages, without relative imports."""
     for node in ast.walk(ast.parse(file.read_text(encoding="utf-8"))):
         if isinstance(node, ast.Import):
             yield from (it.name.split(".")[0] for it in node.names)
@@ -82,6 +82,6 @@ def memory_that_is_refused() -> None:
 
 
 if __name__ == "__main__":
-    # Without it what can't be written stays, and is tried again at the very end.
+    # Without it, output that couldn't be written stays in the buffer, and is written again at the very end.
     os.environ.pop("PYTHONUNBUFFERED", None)
     sys.exit(try_groups([Group(words_that_nobody_gets, 41, "words that nobody gets")]))

@@ -1,6 +1,6 @@
-# The tools of the test engineer: tools/chart and what it draws of a script (connections.py), tools/compare, tools/suite, the
-# commands of docs/CI.md (build_servers.py), what they all refuse, or have in common (tool_words.py), and pages of charts
-# and suites in a real browser, where there is one (pages.py).
+# Tests the tools for test engineers: tools/chart, also with connections (connections.py), tools/compare, tools/suite,
+# the commands of docs/CI.md (build_servers.py), the common behaviour of all tools (tool_words.py), and pages of charts
+# and suites in a real browser, if there is one (pages.py).
 
 tools() {
     mkdir -- "$room/charts" "$room/comparisons"
@@ -15,37 +15,37 @@ tools() {
     at_least 41 told "$room/told_of_words" tests/tools/tool_words.py
 }
 
-# What says how long something takes: tools/costs.py, tests/gate/gate_times.py, and ./test while its parts are at work.
+# Tests the commands that report times: tools/costs.py, tests/gate/gate_times.py, and ./test while its parts run.
 costs() {
     at_least 17 told "$room/costs" tests/tools/costs_cases.py
 }
 
-# Reports that are cut, and texts that are no reports: the tools refuse each, with its line.
+# Tests that the tools refuse cut reports, and texts that aren't reports, with the line.
 refused_reports() {
     mkdir -- "$room/refused_reports"
     told "$room/told_of_refused_reports" tests/tools/refused_reports.py "$room/refused_reports"
 }
 
-# tools/suite: what it says of scripts with each result, of a program that isn't tpr, and of words that it can't do.
+# Tests tools/suite: its lines for scripts with each result, for a program that isn't tpr, and for wrong command lines.
 suites() {
     mkdir -- "$room/suites"
     told "$room/told_of_suites" tests/tools/suites.py "$tpr" "$called" "$room/suites"
 }
 
-# What tools/explain says of scripts that are refused, and of what an accepted one does in vain; and all faults at once,
-# in each form.
+# Tests the output of tools/explain for refused scripts, its warnings about accepted ones, and all faults at once in
+# each form.
 explains() {
     at_least 82 told "$room/explained" tests/tools/explain_cases.py "$tpr" $((grammar_texts + 103 + changed_scripts))
     at_least 55 told "$room/formats" tests/tools/explain_formats.py "$tpr"
 }
 
-# What tools/why says of reports.
+# Tests the output of tools/why for reports.
 whys() {
     at_least $((reports_of_examples + 91)) told "$room/whys" tests/tools/why_cases.py "$tpr"
 }
 
-# What is handed out: what a gate leaves for tools/release where it passes, and the archive and the packages that
-# tools/release makes (releases.py).
+# Tests releases: what a passed gate leaves for tools/release, and the archive and the packages that tools/release makes
+# (releases.py).
 release() {
     mkdir -- "$room/release"
     local library=${port:+$port/lib/libtp_port.a}

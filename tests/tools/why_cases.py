@@ -3,8 +3,8 @@
 
     tests/tools/why_cases.py PROGRAM
 
-The lines are held against a table worked out by hand, and against the model of runs (why_rules.py); the reasons and the
-annotated scripts against files worked out by hand, in whys/.
+The lines are compared with a table worked out by hand, and with the model of runs (why_rules.py); the reasons and the
+annotated scripts with files worked out by hand, in whys/.
 """
 from __future__ import annotations
 
@@ -41,7 +41,7 @@ SUMMARY = f"""\
 
 
 class Reasoning:
-    """The tool with the program that it asks, and a folder for scripts and reports."""
+    """The tool with the program that it calls, and a folder for scripts and reports."""
 
     def __init__(self, program: str, room: Path):
         self.program, self.room = program, room
@@ -59,7 +59,7 @@ class Reasoning:
 
 
 def lines_of_reports(_: Reasoning) -> None:
-    """Beside the model, and beside what was worked out by hand."""
+    """Compared with the model, and with the table that was worked out by hand."""
     own = [str(it) for it in sorted((ROOT / WHYS).glob("*.expected"))]
     reports = [str(it) for it in example_reports.all_of_them()]
     for it in (*reports, *own):
@@ -77,11 +77,11 @@ def causes_of_results(asked: Reasoning) -> None:
         ruled(name, why_rules.cause_rule, asked.program, str(script))
 
 
-# What is printed of one script, and of several
+# The output for one script, and for several
 
 
 def has(part: str) -> Test:
-    """It prints this somewhere."""
+    """It prints a text that contains this part."""
     return lambda ended: part in ended.text
 
 
@@ -106,7 +106,7 @@ def one_script(asked: Reasoning) -> None:
 
 
 def several_scripts(asked: Reasoning) -> None:
-    """How often each statement was reached, beside NAME.annotated, and how many were."""
+    """How often each statement was reached, compared with NAME.annotated, and how many were reached."""
     for annotated in sorted((ROOT / WHYS).rglob("*.annotated")):
         script = annotated.with_suffix(".ttcn").relative_to(ROOT)
         wanted = prints(annotated.read_text(encoding="utf-8"))
@@ -118,7 +118,7 @@ def several_scripts(asked: Reasoning) -> None:
 
 
 class Misfit(NamedTuple):
-    """A report in which each of these texts is replaced: the line of it that doesn't fit, and what is said."""
+    """A report in which each of these texts is replaced: the line that doesn't fit, and the message."""
 
     name: str
     report: str
@@ -145,7 +145,7 @@ def misfits(asked: Reasoning) -> None:
 
 
 def bad_input(asked: Reasoning) -> None:
-    """Files that aren't there, or aren't what they are to be."""
+    """Files that are missing, or have other contents than they should."""
     script, missing, case = f"{KITCHEN}.ttcn", asked.missing, asked.tool.case
     unread = says_alone(f"why: {missing} can't be read")
     case("a missing script", [missing], 2, unread)
@@ -160,7 +160,7 @@ def bad_input(asked: Reasoning) -> None:
 
 
 def calls(asked: Reasoning) -> None:
-    """Command lines that are wrong, a full device, no program, and the help."""
+    """Wrong command lines, a full device, a missing program, and the help."""
     script, case = f"{KITCHEN}.ttcn", asked.tool.case
     no_program = says_alone(f"why: {asked.missing} can't be run")
     asked.nowhere.case("a program that isn't there", [script], 1, no_program)
@@ -175,7 +175,7 @@ def calls(asked: Reasoning) -> None:
 
 
 def is_drawn(ended: Ended) -> bool:
-    """The chart in letters, but for how wide its spaces are."""
+    """Whether this is the chart in letters, except for the widths of its spaces."""
     return in_letters(ended.text) == in_letters(PRINTED["a chart beside another script"])
 
 
@@ -184,7 +184,7 @@ def in_letters(chart: str) -> str:
 
 
 def charts(_: Reasoning) -> None:
-    """With the lines of the script."""
+    """Charts with the lines of the script."""
     report, chart = f"{HALT}.expected", Tool("chart", variables={"COLUMNS": COLUMNS})
     lined = ["--script", f"{HALT}.ttcn", report]
     chart.case("a chart with the lines of the script", ["--text", *lined], 0, says_nothing, is_drawn)
@@ -198,7 +198,7 @@ def charts(_: Reasoning) -> None:
 
 
 def at_length(asked: Reasoning) -> None:
-    """Two loops of 1,000 turns. How long it takes, bench/why/run says."""
+    """Two loops of 1,000 turns. bench/why/run measures how long it takes."""
     made = run("bash", "-c", ". bench/why/script.sh && script_of_60000_entries", folder=ROOT)
     script = file_of(asked.room / "script", made.text)
     report = asked.report_of(str(script))

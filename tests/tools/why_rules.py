@@ -1,5 +1,5 @@
-"""What tools/why says of reports, beside the model of runs in tools/tpr_tools/model, which shares with it what reads
-scripts, and beside what was worked out by hand. why_cases.py tries these rules."""
+"""Rules for the output of tools/why for reports, compared with the model of runs in tools/tpr_tools/model, which shares
+only the reader of scripts with it, and with files worked out by hand. why_cases.py uses these rules."""
 from __future__ import annotations
 
 import os
@@ -30,14 +30,14 @@ from tpr_tools.why.ways import Ways
 RECEIVED = ("took", "found", "dropped", "left")
 
 
-# The lines of statements, receiving operations and `[else]`, by what they are in the model.
+# The lines of statements, receiving operations and `[else]`, by their objects in the model.
 Lines = dict[object, int]
 # A message by its receiver, its port, its sender and its number.
 Key = tuple[str, str, str, int]
 
 
 class ModelRow(NamedTuple):
-    """Of an entry of the model's report its line in the script, and that of the message's other end."""
+    """For an entry of the model's report: its line in the script, and that of the message's other end."""
 
     text: str
     line: Optional[int]
@@ -45,7 +45,7 @@ class ModelRow(NamedTuple):
 
 
 class ToolRow(NamedTuple):
-    """The same as the tool says it, with its arrow. The other end may be one of several lines."""
+    """The same from the tool, with its arrow. The other end may be one of several lines."""
 
     text: str
     line: Optional[int]
@@ -54,7 +54,7 @@ class ToolRow(NamedTuple):
 
 
 class LinedRun(Run):
-    """A run of the model, each line of which knows its line in the script."""
+    """A run of the model in which each line of the report knows its line in the script."""
 
     def __init__(self, case: TestCase, lines: Lines):
         self.lines = lines
@@ -106,7 +106,7 @@ def lined_case(text: str) -> tuple[TestCase, Lines]:
 
 
 def run_by_chance(run: LinedRun, chance: random.Random) -> LinedRun:
-    """Acts by chance, to the end."""
+    """Random acts to the end."""
     while True:
         living = [who for who in range(len(run.components)) if run.statement(who) is not None]
         chance.shuffle(living)
@@ -138,7 +138,7 @@ def rows_of_model(run: LinedRun) -> list[ModelRow]:
 
 
 def line_in_script(line: str) -> int:
-    """That of a line of a history, which a run gave it."""
+    """The line in the script that the run stored for a line of a history."""
     assert isinstance(line, Placed), line
     return line.line
 
@@ -153,7 +153,7 @@ def other_end(name: str, line: str, sent: dict[Key, int], gone: dict[Key, int]) 
     return ""
 
 
-# What the tool says
+# The tool's lines
 
 
 def ways_of(script: bytes, report: bytes) -> Ways:
@@ -162,7 +162,7 @@ def ways_of(script: bytes, report: bytes) -> Ways:
 
 
 def rows_of_tool(script: bytes, report: bytes) -> list[ToolRow]:
-    """For each line of the report its line in the script, and what stands for the message's other end."""
+    """For each line of the report its line in the script, and the text for the message's other end."""
     listed = listing_of(ways_of(script, report)).splitlines()[1:]
     lines = report.decode("latin-1").splitlines()
     must(len(listed) == len(lines), "there isn't a line for each of the report")
@@ -176,7 +176,7 @@ def rows_of_tool(script: bytes, report: bytes) -> list[ToolRow]:
 
 
 def same_rows(told: Sequence[ToolRow], modelled: Sequence[ModelRow]) -> None:
-    """The lines are the same. Of several lines by one of which a message was discarded, one is the model's."""
+    """The lines must be the same. If several lines may have discarded a message, one of them must be the model's."""
     told = [row for row in told if is_modelled(row)]
     must(len(told) == len(modelled), "the entries aren't those of the model")
     for (text, line, arrow, other), (model_text, model_line, model_other) in zip(told, modelled):
@@ -195,7 +195,7 @@ def is_modelled(row: ToolRow) -> bool:
 
 
 def example_rule(file: str) -> None:
-    """The lines of the report are those of some run of the model that has this report."""
+    """The lines of the report are those of some run of the model with this report."""
     with open(script_of(file), "rb") as opened:
         script = opened.read()
     with open(file, "rb") as opened:
@@ -212,8 +212,8 @@ def script_of(report: str) -> str:
 
 
 def random_rule(number: int, seed: int = 1) -> None:
-    """So are those of reports of so many scripts made by chance; and none of these fits its script any more, if that
-    lacks a statement by which something was done."""
+    """The same for the reports of this many random scripts. No report may fit its script any more if the script lacks a
+    statement that did something."""
     chance = random.Random(seed)
     entries = discarded = lacking = 0
     for turn in range(number):
@@ -235,7 +235,7 @@ DOES = re.compile(r" *([pq]\.send\(.*|([pq]|all port)\.(start|stop|halt|clear);|
 
 
 def without_a_statement(text: str, report: str, rows: Iterable[ModelRow], chance: random.Random) -> bool:
-    """Whether there was a statement to leave out by which something was done."""
+    """Whether there was a statement to leave out that did something."""
     lines = text.split("\n")
     done = {it.line for it in rows if it.line and not it.text.startswith("failed ")}
     done = {line for line in done if DOES.fullmatch(lines[line - 1])}
@@ -273,7 +273,7 @@ EMPTIES = ("p.clear;", "p.clear;", "p.start;", "p.halt;", "q.send(integer:1);", 
 ANSWERS = ("p.send(integer:1) to a;", "q.receive;", "q.send(integer:3);")
 TO_A = ("p.send(integer:1) to a;", "p.send(integer:2) to a;")
 SENDS = (*TO_A, "q.receive;", "q.send(integer:3);", "p.send(integer:4) to b;")
-# What is known by another message that was taken, and by one that tells of the sending.
+# Known because of another message that was taken, and because of one that depends on the send.
 KNOWN = (
     (f"p.clear; {LOOKS[0]} p.clear;", "q.receive; p.send(integer:1) to a;", f"{SENDS[1]} {SENDS[4]}"),
     ("q.receive; p.clear; p.clear;", "", f"{SENDS[0]} {SENDS[3]}"),
@@ -281,10 +281,10 @@ KNOWN = (
 
 
 def discarded_rule(number: int) -> None:
-    """Of so many small scripts with clears and starts all runs are tried: of each message that one discards, the lines
-    are those by which it is discarded in some run that has the same report."""
+    """For this many small scripts with clears and starts, all runs are tried: the lines for each discarded message must
+    be those that discard it in some run with the same report."""
     chance = random.Random(7)
-    told = [0, 0]  # where it is known by which one it was discarded, and where that is open
+    told = [0, 0]  # those with a known emptying, and those for which it is open
     for turn in range(number):
         picked = [chance.choices(kinds, k=count) for kinds, count in ((EMPTIES, 4), (ANSWERS, 2), (SENDS, 3))]
         blocks = KNOWN[turn] if turn < len(KNOWN) else map(" ".join, picked)
@@ -301,7 +301,7 @@ def discarded_rule(number: int) -> None:
 
 
 def discarded_in_runs(case: TestCase, lines: Lines) -> dict[str, dict[Key, set[int]]]:
-    """For each report the lines by which each message is discarded in some run that has it."""
+    """For each report, the lines that discard each message in some run with this report."""
     seen: set[object] = set()
     found: dict[str, dict[Key, set[int]]] = {}
     open_runs = [LinedRun(case, lines)]
@@ -321,8 +321,8 @@ def discarded_in_runs(case: TestCase, lines: Lines) -> dict[str, dict[Key, set[i
 
 
 def table_rule(table: str, *reports: str) -> None:
-    """The lines of each report are those of the table: it has a name of a report in each odd line, and what is told of
-    its lines in the next one."""
+    """The lines of each report are those of the table, which has the name of a report in each odd line, and the text
+    for its lines in the next one."""
     with open(table, encoding="ascii") as opened:
         rows = [line for line in opened.read().splitlines() if line and not line.startswith("#")]
     files = {os.path.basename(file): file for file in reports}
@@ -334,14 +334,15 @@ def table_rule(table: str, *reports: str) -> None:
 
 
 def in_short(row: ToolRow) -> str:
-    """`24>9`, `9<24`, `<26`, `10`, or `-` for a line of which nothing is told."""
+    """`24>9`, `9<24`, `<26`, `10`, or `-` for a line without a number."""
     _, line, arrow, other = row
     sign = {"->": ">", "<-": "<", "": ""}[arrow]
     return f"{line or ''}{sign}{other.replace(' or ', '|')}" or "-"
 
 
 def cause_rule(program: str, script: str) -> None:
-    """Why the result isn't pass is what NAME.why says: of the report in NAME.expected, or of a run if there is none."""
+    """The reasons why the result isn't pass are those in NAME.why: for the report in NAME.expected, or for a run if
+    there is none."""
     base = script.removesuffix(".ttcn")
     with open(script, "rb") as opened, open(f"{base}.why", encoding="ascii") as why:
         text, wanted = opened.read(), why.read()

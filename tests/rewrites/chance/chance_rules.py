@@ -1,10 +1,11 @@
-"""Programs of the full language made by chance, and what tools/rewrite makes of them: both come to the same.
+"""Tests tools/rewrite with random programs of the full language: each program and its rewritten script have the same
+results.
 
     tests/rewrites/chance/chance_rules.py [FIRST [COUNT]]
 
-Each program is followed in every order of its acts by an interpreter of its own (full_runs.py), and what is carried
-over of it by the model of runs of tools/. The verdicts are the same, and component by component the messages
-that were sent and that left a queue. It prints a line `passed ..` or `FAILED: ..` for each case.
+An interpreter of its own (full_runs.py) follows each program in every order of its acts, and the model of runs of
+tools/ follows the rewritten script. The verdicts must be the same, and for each component the messages that were sent
+and those that left a queue. It prints a line `passed ..` or `FAILED: ..` for each case.
 """
 from __future__ import annotations
 
@@ -27,7 +28,7 @@ from tpr_tools.rewrite.run import Options
 from tpr_tools.rewrite.tokens import Source
 
 FIRST, COUNT = 1, 600
-# From this number on the programs compute with what they receive.
+# From this number on, the programs compute with the messages that they receive.
 FIRST_COMPUTING, COUNT_COMPUTING = 100_001, 600
 
 

@@ -1,5 +1,5 @@
-"""Expressions and templates of the full language, for an interpreter that shares nothing with tools/rewrite but its
-reader (ES 201 873-1, 6, 7, 15 and 16)."""
+"""Expressions and templates of the full language, for an interpreter that shares only the reader with tools/rewrite (ES
+201 873-1, 6, 7, 15 and 16)."""
 from __future__ import annotations
 
 from typing import Any, Optional
@@ -14,7 +14,7 @@ from tpr_tools.rewrite.tokens import Source
 
 
 class Fault(Exception):
-    """Something that isn't interpreted, or that a run of the full language ends at: the program is left out."""
+    """Something that the interpreter can't handle, or that ends a run of the full language: the program is left out."""
 
 
 class Cell:
@@ -40,7 +40,7 @@ class Scope:
 
 
 class Program:
-    """The definitions of one module, by their names."""
+    """The definitions of one module, by name."""
 
     def __init__(self, text: str):
         reader = ModuleReader(Source("chance", text.encode()))
@@ -62,7 +62,7 @@ class Program:
         return [it for it in self.body_of(type).members if it.kind is not tree.Declared.PORT]
 
     def port_names(self, type: str) -> dict[str, Any]:
-        """The ports of a component type by their names; of an array the list of its own."""
+        """The ports of a component type by their names; an array has the list of its ports."""
         found: dict[str, Any] = {}
         for member in self.body_of(type).members:
             for variable in member.variables if member.kind is tree.Declared.PORT else []:
@@ -82,7 +82,7 @@ class Program:
 
 
 class Evaluator:
-    """The expressions of one behaviour."""
+    """Evaluates the expressions of one behaviour."""
 
     def __init__(self, program: Program, me: int):
         self.program = program
@@ -119,7 +119,7 @@ class Evaluator:
                 inner.cells[parameter.name] = cell
 
     def type_of(self, node: Any, scope: Scope) -> Optional[str]:
-        """The type that it is declared with."""
+        """The declared type."""
         if isinstance(node, tree.Typed):
             return node.type.word
         if isinstance(node, tree.Modified):
@@ -137,7 +137,7 @@ class Evaluator:
         return found.result.word if isinstance(found, tree.Function) and found.result else None
 
     def message_type(self, node: Any, scope: Scope) -> str:
-        """The random programs name it, or what is sent has one of its own."""
+        """The type of a message. The random programs name it, or the sent value has a type of its own."""
         if isinstance(node, tree.Literal):
             return {bool: "boolean", int: "integer", str: "charstring", float: "float"}[type(node.value)]
         if isinstance(node, (tree.Binary, tree.OneOf)):

@@ -1,8 +1,8 @@
-"""What one behaviour of a script of the full language does: a plain interpreter of the reader's tree.
+"""The behaviour of one component in a script of the full language: a plain interpreter of the reader's tree.
 
-A behaviour is a generator. It yields its acts, and is sent what comes of each: for a look at branches which of them was
-chosen and the message, for `create` the component. So all that it does follows from what it was sent. What the random
-programs don't have isn't here (ES 201 873-1, 16, 19 and 20).
+A behaviour is a generator. It yields its acts, and is sent the result of each: for a look at branches the chosen branch
+and the message, for `create` the component. So all its acts follow from the results before. Constructs that the random
+programs don't have are left out (ES 201 873-1, 16, 19 and 20).
 """
 from __future__ import annotations
 
@@ -30,7 +30,7 @@ class Leaves(Exception):
 
 @dataclass
 class Option:
-    """A branch: what is looked for, where its message goes, and what is done then."""
+    """A branch: what it waits for, where its message is stored, and what is done then."""
 
     test: Act
     event: Any
@@ -89,7 +89,7 @@ class Behaviour(Evaluator):
         self.store(statement.target, value, scope)
 
     def value(self, node: tree.Expression, scope: Scope, type: Optional[str]) -> Acts:
-        """A value that may take acts: that of a call, or a component that is created."""
+        """The value of an expression that may take acts: a call, or the creation of a component."""
         if isinstance(node, tree.Create):
             assert isinstance(node.type, tree.Name)
             number = yield ("create", node.type.word)
@@ -256,8 +256,8 @@ class Behaviour(Evaluator):
         yield from self.choose([tree.Branch(statement.at, None, False, statement, None)], scope)
 
     def choose(self, branches: list[tree.Branch], scope: Scope) -> Acts:
-        """One branch is chosen, with those of the defaults behind its own, the last first. It says which; None where
-        `break` leaves it, or a default's was chosen."""
+        """Chooses one branch. Those of the defaults are tried after the `alt`'s own, the last default first. Returns
+        the branch; None if a `break` leaves it, or a default's branch was chosen."""
         for _ in range(MOST_TURNS):
             options = self.options(branches, scope)
             index, message, sender = yield ("look", tuple(option.test for option in options))
@@ -313,7 +313,7 @@ class Behaviour(Evaluator):
         return [option for branch in altstep.branches for option in self._of_branch(branch, scope, outer)]
 
     def _tests(self, event: tree.Receive, scope: Scope) -> list[Act]:
-        """One for each port and sender: the port, the type, the template, the sender."""
+        """The tests of a receive, one for each port and sender: the port, the type, the template, the sender."""
         ports = self.ports if event.port is None else [self.evaluate(event.port, scope, None).name]
         type = template = None
         if event.template is not None:
@@ -324,7 +324,7 @@ class Behaviour(Evaluator):
         return [(how, port, type, template, sender) for port in ports for sender in senders]
 
     def _asked(self, event: tree.Find, scope: Scope) -> Optional[int]:
-        """The component whose end is asked for; None of all."""
+        """The component whose end is waited for; None for all."""
         if event.is_timer or event.how is not tree.Finding.DONE or event.target is tree.Any.ANY:
             raise Fault("an end")
         if event.target is tree.Any.ALL:

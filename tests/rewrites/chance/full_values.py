@@ -1,4 +1,4 @@
-"""Values and templates of the full language, as an interpreter has them that shares nothing with tools/rewrite."""
+"""Values and templates of the full language, for an interpreter that shares only the reader with tools/rewrite."""
 from __future__ import annotations
 
 import fnmatch
@@ -85,7 +85,7 @@ def is_same(one: Any, other: Any) -> bool:
 
 
 def matches(value: Any, template: Any) -> bool:
-    """ES 201 873-1, Annex B. A field that is left out is `omit`."""
+    """Whether a value matches a template (ES 201 873-1, Annex B). An omitted field is `omit`."""
     if template is ANY_OR_NONE:
         return True
     if isinstance(template, IfPresent):

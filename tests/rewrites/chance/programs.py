@@ -1,4 +1,4 @@
-"""Small programs of the full language, made by chance: a test case with one or two components that answer it."""
+"""Makes small random programs of the full language: a test case with one or two components that answer it."""
 from __future__ import annotations
 
 from collections import Counter
@@ -26,8 +26,8 @@ HEAD = """module Chance {
 
 
 class Maker:
-    """Statements of a body. `known` are integers that are known without a run. What is waited for at a port is seldom
-    more than what `comes` there; `sent` counts what is sent on all ways."""
+    """Makes the statements of a body. `known` are integers that are known without a run. At a port it rarely waits for
+    more messages than `comes` says; `sent` counts the sends on every path."""
 
     def __init__(self, chance: Random, encodes: bool, ports: tuple[str, ...], comes: dict[str, int]):
         self.chance = chance
@@ -35,9 +35,9 @@ class Maker:
         self.ports = ports
         self.comes = comes
         self.sent: Counter[str] = Counter()
-        # Whether `p` leads to both components, so that a send says to whom.
+        # Whether `p` leads to both components, so that a send must name the receiver.
         self.is_shared = False
-        # Whether it computes with what it receives.
+        # Whether it computes with received messages.
         self.computes = False
         self.known = ["c_one", "c_three"]
         self.names = 0
@@ -98,11 +98,11 @@ class Maker:
         return self.pick("red", "green")
 
     def port(self) -> str:
-        """One to send at."""
+        """A port for a send."""
         return self.pick(*self.ports)
 
     def coming(self) -> str:
-        """One at which something may have come by now; empty where all that comes is waited for already."""
+        """A port at which a message may have arrived by now; empty if all messages are already waited for."""
         open_ones = [port for port, count in self.comes.items() if count > 0]
         if not open_ones:
             return self.port() if self.is_so(0.05) else ""
@@ -136,7 +136,7 @@ class Maker:
         return self.pick("", "", " from v_0", " from v_1", " from (v_0, v_1)", " from any component")
 
     def sends(self) -> list[str]:
-        """On all ways."""
+        """A send on every path."""
         found = self.send()
         self.sent[found.partition(".send")[0]] += 1
         return [found]
@@ -154,7 +154,7 @@ class Maker:
         return [self.pick(*named, f"any port.receive{self.wide()};")]
 
     def _answered(self, port: str) -> list[str]:
-        """An answer goes to whom the message came from."""
+        """An answer is sent to the sender of the message."""
         name = self.name("v_sender")
         asked = [f"if ({name} == v_0) {{ {self.verdict()} }} else {{ {self.verdict()} }}"] if self.is_so(0.4) else []
         answer = [f"{port}.send({self.message()}) to {name};"] if self.is_so(0.7) else []
@@ -215,7 +215,7 @@ class Maker:
         return found
 
     def _told_apart(self) -> list[str]:
-        """What was received decides how it goes on."""
+        """The received message decides how the body continues."""
         name, port = self.name("x"), self.coming()
         if not port:
             return self.sends()
@@ -235,7 +235,7 @@ class Maker:
         ]
 
     def _computed(self) -> list[str]:
-        """What was received is computed with."""
+        """Computes with the received message."""
         name, port = self.name("x"), self.coming()
         if not port or port == "e":
             return self.sends()
@@ -271,7 +271,7 @@ class Maker:
         ]
 
     def _union_apart(self, name: str) -> list[str]:
-        """Each alternative goes on in its own way, and is looked into there."""
+        """Each alternative continues in its own way, and its contents are used there."""
         number = [f"if ({name}.number < {self.integer()}) {{", *self.statements(0, 1), "} else {", self.verdict(), "}"]
         colour = [f"if ({name}.colour == red) {{", *self.statements(0, 1), "}"]
         of_number, of_colour = ["case (number) {", *number, "}"], ["case (colour) {", *colour, "}"]
@@ -392,7 +392,7 @@ def _altsteps(make: Maker) -> list[str]:
 
 
 def _case(make: Maker, count: int, starts: list[str]) -> list[str]:
-    """The first component is at `p` and `e`, the second at the first of the array `a`."""
+    """The test case. The first component is at `p` and `e`, the second at the first port of the array `a`."""
     lines = ["testcase t() runs on C {"]
     for number in range(count):
         lines.append(f"var C v_{number} := C.create;")

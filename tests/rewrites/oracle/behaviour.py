@@ -1,8 +1,8 @@
-"""What one component does, as a generator: it yields its acts, and is sent what comes of each.
+"""The behaviour of one component, as a generator: it yields its acts, and is sent the result of each.
 
-The acts: `send` with a port, a message and a component or None; `alt` with tests, which is sent the place of the test that
-was chosen, the message and its sender; `verdict`, `create`, `connect`, `start`, `timer`, and `operate` for a port. All else that it
-does follows from what it was sent.
+The acts: `send` with a port, a message and a component or None; `alt` with tests, which is sent the place of the chosen
+test, the message and its sender; `verdict`, `create`, `connect`, `start`, `timer`, and `operate` for a port. Everything
+else that it does follows from these results.
 """
 from __future__ import annotations
 
@@ -18,7 +18,7 @@ MOST_TURNS = 2_000
 
 
 class Endless(Exception):
-    """A behaviour takes more turns than are followed."""
+    """A behaviour takes more turns than the oracle follows."""
 
 
 class Leaves(Exception):
@@ -152,7 +152,7 @@ class Behaviour:
             try:
                 chosen = yield from self.choose((yield from self.choices(branches, scope)))
                 if chosen is None:
-                    # Another branch of its `interleave` has gone on.
+                    # Another branch of its `interleave` has continued.
                     continue
                 yield from self.take(*chosen)
                 return
@@ -163,8 +163,8 @@ class Behaviour:
                     raise
 
     def do_interleave(self, scope: Scope, branches: tuple[Tree, ...]) -> Acts:
-        """20.4: each branch goes on where it waits, whichever of the others has gone on before. It is as nested `alt`s with all
-        that is still waited for, so that guards are asked anew for each."""
+        """20.4: each branch continues from its own wait, whichever of the others has continued before. This is the same
+        as nested `alt`s with everything that is still waited for, so that guards are evaluated again for each."""
         begun = [self.do_alt(scope, (branch,)) for branch in branches]
         while begun:
             waiting: list[tuple[tuple[Choice, ...], Acts]] = []
@@ -181,7 +181,7 @@ class Behaviour:
                 begun.remove(taken)
 
     def until_it_waits(self, begun: Acts, answer: Any) -> Acts:
-        """The choices for which a branch waits then, and None if it has ended. Other acts are handed on."""
+        """The choices for which a branch waits next, or None if it has ended. Other acts are passed on."""
         is_within = self.is_interleaved
         try:
             while True:
@@ -281,7 +281,7 @@ class Behaviour:
         return found
 
     def choices_of(self, routine: Routine, inner: Scope, then: Any) -> Acts:
-        """The branches of an altstep."""
+        """The choices in the branches of an altstep."""
         for declared in routine.variables:
             yield from self.do(declared, inner)
         found = yield from self.choices(routine.body, inner)
@@ -370,7 +370,7 @@ class Behaviour:
         return found
 
     def evaluate(self, tree: Tree, scope: Scope, type_name: Optional[str] = None, is_place: bool = False) -> Acts:
-        """`type_name` is the type that `{..}` has there. A place may be without a value."""
+        """`type_name` is the type of a `{..}` at this place. A place may have no value yet."""
         if tree[0] in ("any", "any_or_none", "omit", "skip"):
             return Mark[tree[0].upper()]
         return (yield from getattr(self, f"of_{tree[0]}")(scope, type_name, is_place, *tree[1:]))

@@ -1,7 +1,7 @@
 """A reader of the subset of TTCN-3 that oracle.py follows. It shares nothing with tools/.
 
-A statement, an expression or a template becomes a tuple: its kind and its parts. Whether a script is valid is left to a
-compiler. A script with what the grammar of the subset doesn't have is `Unread`.
+A statement, an expression or a template becomes a tuple: its kind and its parts. The reader assumes a valid script. A
+script with constructs that aren't in the subset raises `Unread`.
 """
 from __future__ import annotations
 
@@ -14,7 +14,7 @@ _TOKENS = re.compile(
     r"""|(?P<token>"(?:[^"]|"")*"|\d+\.\d+|\d+|[A-Za-z]\w*|:=|\.\.|->|==|!=|<=|>=|[-+*/&<>=(){}\[\],;:.?])""",
     re.DOTALL,
 )
-# The operators, those that bind loosest first (7.1)
+# The operators, from the lowest precedence up (7.1)
 _LEVELS = (
     ("or",), ("xor",), ("and",), ("not",), ("==", "!="), ("<", ">", "<=", ">="), ("+", "-", "&"), ("*", "/", "mod", "rem"),
 )
@@ -23,7 +23,7 @@ _ATOMS = {"?": "any", "*": "any_or_none", "omit": "omit", "infinity": "infinity"
 
 
 class Unread(Exception):
-    """The script isn't of the subset."""
+    """The script isn't in the subset."""
 
 
 class Parameter(NamedTuple):
@@ -101,7 +101,7 @@ class Reader:
         return self.take()
 
     def several(self, one: Callable[[], Any], end: str) -> tuple[Any, ...]:
-        """What stands with commas between, up to the token `end`, which is taken."""
+        """Reads items separated by commas, and the token `end` after them."""
         found = []
         while not self.has(end):
             found.append(one())
@@ -399,7 +399,7 @@ class Reader:
         return self.reference()
 
     def bracket(self) -> Tree:
-        """What stands after `(`: an expression in brackets, a range, or a list of templates."""
+        """Reads the rest after `(`: an expression in brackets, a range, or a list of templates."""
         first = self.expression()
         if self.has(".."):
             last = self.expression()

@@ -1,15 +1,16 @@
 #!/usr/bin/env python3
-"""Random programs on Eclipse Titan, beside what tools/rewrite makes of them and the oracle.
+"""Compares random programs on Eclipse Titan with their rewritten scripts and with the oracle.
 
     tests/rewrites/oracle/on_titan.py TPR FIRST COUNT [RUNS]
 
-COUNT programs that tools/rewrite carries over are taken, from the seed FIRST on. What `tpr verdicts` prints of what is
-written must be what the oracle finds of the program, and each verdict of Titan's RUNS must be among these. Titan also gives
-the oracle's own tests of `interleave`, of which no program has a nested one, the verdicts that they have there. It needs
-ttcn3_compiler, mctr_cli and g++; TTCN3_DIR names a Titan that isn't below /usr. Many programs become one module, and
-each module an executable. A test case that waits for good is ended by Titan after ten seconds, with the verdict error.
-Two kinds of programs are left out, where Titan isn't as the standard: those that stop or halt ports
-(docs/EMBEDDING.md), and those in which both operands ask for something, since Titan may ask for the right one first (7.1).
+It takes COUNT programs that tools/rewrite carries over, from the seed FIRST on. `tpr verdicts` must print for the
+rewritten script the verdicts that the oracle finds for the program, and each verdict of Titan's RUNS must be among
+these. Titan must also give the oracle's own tests of `interleave` their expected verdicts, because no random program
+has a nested `interleave`. It needs ttcn3_compiler, mctr_cli and g++; TTCN3_DIR names a Titan that isn't below /usr.
+Many programs become one module, and each module an executable. Titan ends a test case that waits forever after ten
+seconds, with the verdict error. Two kinds of programs are left out, because Titan deviates from the standard: those
+that stop or halt ports (docs/EMBEDDING.md), and those in which both operands call a function that asks a server,
+because Titan may evaluate the right one first (7.1).
 """
 from __future__ import annotations
 
@@ -35,7 +36,7 @@ from oracle_rules import PRELUDE, look_at, verdicts_of_carried
 from random_themes import program_of
 from tpr_tools.rewrite.run import Options, Reading
 
-# So many programs are one module: g++ takes longer for a program of a larger one.
+# The number of programs in one module: g++ takes longer for a program of a larger module.
 MOST_IN_MODULE = 25
 _ASKS_ON_BOTH_SIDES = re.compile(r"f_ask\([^;]*\) - f_ask\(")
 _OWN = r"\b(C|c_k|mw_\w+|f_\w+|as_\w+|TC_random)\b"
@@ -44,7 +45,7 @@ _LIBRARIES = (f"-L{TITAN}/lib/titan", "-lttcn3-parallel", "-lcrypto", "-lxml2", 
 
 
 class Look(NamedTuple):
-    """A program: `same`, `wrong`, or why it isn't compared; and the verdicts of what is written."""
+    """The result for a program: `same`, `wrong`, or why it isn't compared; and the verdicts of the rewritten script."""
 
     seed: int
     kind: str
@@ -58,13 +59,13 @@ def looked_at(tpr: str, seed: int) -> Look:
         return Look(seed, kind, why, frozenset())
     told, refusal = verdicts_of_carried(tpr, program_of(seed), Options(encodes=seed % 3 == 0))
     if refusal:
-        # Looked at again, it took too long.
+        # It took too long the second time.
         return Look(seed, "refused", refusal, frozenset())
     return Look(seed, kind, why, frozenset(told.removeprefix("always ").split(" or ")))
 
 
 def carried(tpr: str, first: int, count: int) -> list[Look]:
-    """So many looks at programs that are carried over, and those at the others that were met on the way."""
+    """The results for `count` programs that are carried over, and for the others that were met on the way."""
     found: list[Look] = []
     seeds = (seed for seed in itertools.count(first) if seed % 7 and not _ASKS_ON_BOTH_SIDES.search(program_of(seed)))
     with ProcessPoolExecutor() as pool:
@@ -108,7 +109,7 @@ def module_of_interleaves() -> str:
 
 
 def look_at_interleaves() -> bool:
-    """Whether Titan says of each what the oracle's tests say."""
+    """Whether Titan gives each the verdict that the oracle's tests expect."""
     with tempfile.TemporaryDirectory() as room:
         built(Path(room, "Interleaves"), "Interleaves", module_of_interleaves())
         found = verdicts(Path(room, "Interleaves"))
@@ -120,7 +121,7 @@ def look_at_interleaves() -> bool:
 
 
 def built(folder: Path, name: str, text: str) -> None:
-    """The executable of a module, and its configuration, in a folder of its own."""
+    """Builds the executable of a module, and its configuration, in a folder of its own."""
     folder.mkdir()
     (folder / f"{name}.ttcn").write_text(text)
     told = subprocess.run(["ttcn3_compiler", f"{name}.ttcn"], cwd=folder, capture_output=True, text=True, check=False)

@@ -1,9 +1,10 @@
 #!/usr/bin/env python3
-"""The verdicts that a script of a subset of the full language can have: a second interpreter, beside tools/rewrite.
+"""Finds the verdicts that a script of a subset of the full language can have. It is a second interpreter, independent
+of tools/rewrite.
 
     tests/rewrites/oracle/oracle.py [--orders N] [--seed N] [--states N] FILE
 
-It prints `always pass`, `pass or fail` and so on; with --orders what it saw in as many orders made by chance.
+It prints `always pass`, `pass or fail` and so on; with --orders the verdicts in this many random orders.
 """
 from __future__ import annotations
 

@@ -1,11 +1,12 @@
 #!/usr/bin/env python3
-"""Random programs: what tools/rewrite writes has the verdicts that a second interpreter finds of the original.
+"""Tests tools/rewrite with random programs: the script that it writes has the verdicts that a second interpreter finds
+for the original.
 
     tests/rewrites/oracle/oracle_rules.py TPR [FIRST [COUNT]]
 
-The interpreter (oracle.py) and tools/rewrite share nothing, so that neither reads a program as the other does. It prints
-a line `passed ..` or `FAILED: ..` for each program that is carried over. With a COUNT it says how many there were of
-each kind, and why the others are refused.
+The interpreter (oracle.py) and tools/rewrite share nothing, so that neither reads a program as the other does. It
+prints a line `passed ..` or `FAILED: ..` for each program that is carried over. With a COUNT it also prints how many
+programs had each result, and why programs were refused.
 """
 from __future__ import annotations
 
@@ -44,7 +45,7 @@ function f_one_and_two() runs on C { p.send(1); p.send(2); }
 
 
 def look_at(program: str, seed: int, reading: Reading) -> tuple[str, str]:
-    """`same`, `refused`, `large` or `wrong`, and why. A program with timers, if they are read."""
+    """`same`, `refused`, `large` or `wrong`, and why. The program has timers if the reading allows them."""
     text = (program_of if reading is Reading.REFUSED else timed_program_of)(seed)
     try:
         explorer = Explorer(Reader(text).read(), reading is Reading.ANY)
@@ -60,7 +61,7 @@ def look_at(program: str, seed: int, reading: Reading) -> tuple[str, str]:
 
 
 def verdicts_of_carried(program: str, text: str, options: Options) -> tuple[str, str]:
-    """What `tpr verdicts` prints of what tools/rewrite writes, or why it is refused."""
+    """The output of `tpr verdicts` for the rewritten script, or why it is refused."""
     found = rewrite([Source("random", text.encode())], options=options)
     if found.refused:
         return "", found.refused[0].text().split("\n")[0].split(": ", 1)[-1]
@@ -73,7 +74,8 @@ def verdicts_of(program: str, script: str) -> str:
 
 
 def sorted_at_once(program: str, seeds: range) -> int:
-    """Random programs as if each got large: ways that go on alike are written once. How many become another script by it."""
+    """Tests random programs as if each became large, so that equivalent paths are written once. Returns how many become
+    another script."""
     count = 0
     for seed in seeds:
         sources, options = [Source("random", program_of(seed).encode())], Options(encodes=seed % 3 == 0)
@@ -90,7 +92,7 @@ def sorted_at_once(program: str, seeds: range) -> int:
 
 
 def cases(program: str) -> None:
-    """The oracle itself, and what is carried over of its scripts."""
+    """Tests the oracle itself, and the rewritten scripts of its cases."""
     with open(f"{HERE}/cases", encoding="utf-8") as opened:
         entries = opened.read().split("=== ")[1:]
     for entry in entries:
@@ -105,7 +107,7 @@ def cases(program: str) -> None:
 
 
 def unseen() -> None:
-    """The scripts of tests/rewrites/unseen that are of the subset have the verdicts that their author expects."""
+    """Tests that the scripts of tests/rewrites/unseen in the subset have the verdicts that their author expects."""
     for file in sorted(glob.glob(f"{os.path.dirname(HERE)}/unseen/*.ttcn")):
         name = os.path.basename(file)
         with open(file, encoding="utf-8") as opened:

@@ -1,7 +1,7 @@
-"""Programs by chance: a test case and one or two servers that compute with what they receive.
+"""Makes random programs: a test case and one or two servers that compute with the messages that they receive.
 
-The same seed gives the same program. Every third one has enumerated types and optional fields, and is carried over
-with `--encode`. Every seventh one may stop and halt ports. A few of them wait for good, divide by zero, or send to a
+The same seed gives the same program. Every third one has enumerated types and optional fields, and is carried over with
+`--encode`. Every seventh one may stop and halt ports. A few of them wait forever, divide by zero, or send to a
 component that has ended.
 """
 from __future__ import annotations
@@ -47,7 +47,7 @@ TOPOLOGIES = ("one", "two_ports", "shared", "chain", "triangle")
 
 
 class Form(NamedTuple):
-    """What a server is asked and what it answers."""
+    """The types of a server's questions and answers."""
 
     asked: str
     answered: str
@@ -111,7 +111,7 @@ class Maker:
     # Statements that don't communicate
 
     def calculate(self, known: list[str], own: list[str]) -> None:
-        """Changes variables of its own."""
+        """Changes the body's own variables."""
         changed = self.chance.choice(own)
         match self.chance.randint(0, 5):
             case 0:
@@ -147,12 +147,12 @@ class Maker:
                 self.close()
 
     def judge(self, known: list[str]) -> None:
-        """Seldom bad: the last look at what was computed tells more."""
+        """Sets a verdict, rarely a bad one: the verdict at the end shows more about the computed values."""
         bad = self.chance.choice(["inconc", "fail"])
         self.line(f"if ({self.condition(known)} and {self.condition(known)}) {{ setverdict({bad}); }} else {{ setverdict(pass); }}")
 
     def judge_all(self, known: list[str]) -> None:
-        """The verdict follows from a sum of all that is known."""
+        """The verdict follows from a sum of all known values."""
         total = " + ".join(f"{self.chance.randint(1, 7)} * {one}" for one in known)
         verdicts = self.chance.sample(["pass", "inconc", "fail", "none"], 4)
         self.open(f"select (({total}) mod 4)")
@@ -176,7 +176,7 @@ class Maker:
         return f"Ask:{{ {self.number(known, 1)}, {amount}, {last} }}"
 
     def template(self, form: str, known: list[str]) -> str:
-        """Seldom one that may not match."""
+        """A template, rarely one that may not match."""
         if self.often(0.75):
             return f"{form}:?"
         one = self.template_of_number(known)
@@ -187,7 +187,7 @@ class Maker:
         return (one if one.startswith("mw_") else f"integer:{one}") if form == "integer" else f"Numbers:{{ *, {one} }}"
 
     def parts(self, form: str, name: str) -> list[str]:
-        """Integers of a received message, that are there for certain."""
+        """Integers in a received message that are certainly there."""
         if form == "integer":
             return [name]
         if form == "Numbers":
@@ -197,7 +197,7 @@ class Maker:
         return [f"{name}.id", f"enum2int({name}.kind)"] if self.encodes else [f"{name}.id", f"{name}.amount", f"lengthof({name}.text)"]
 
     def unfold(self, form: str, name: str, known: list[str], own: str) -> None:
-        """Looks at what may be absent."""
+        """Uses parts that may be absent."""
         if not self.encodes or form not in ("Ask", "Reply"):
             return
         optional = f"{name}.{'amount' if form == 'Ask' else 'result'}"
@@ -208,7 +208,7 @@ class Maker:
     # Behaviours
 
     def server(self, name: str, form: Form, rounds: int, way: str, behind: bool) -> None:
-        """`way` is how it ends: after `rounds` questions, or by "stop". `behind`: it asks another one at `q`."""
+        """`way` is how it ends: after `rounds` questions, or by "stop". `behind`: it asks another server at `q`."""
         self.open(f"function {name}(integer p_first) runs on C")
         asked, whom = self.fresh("asked"), self.fresh("whom")
         self.line(f"var {form.asked} {asked};")
@@ -278,7 +278,7 @@ class Maker:
             self.line(f"p.send({self.message(form.answered, known)}) to {whom};")
 
     def client(self, topology: str, forms: dict[str, Form], rounds: int, way: str) -> None:
-        """The test case's part, after the starts. What it asks follows from what was answered."""
+        """The test case's part after the starts. Its questions depend on the answers."""
         self.line("var integer v_seen := 0;")
         for at, form in enumerate(forms.values()):
             self.line(f"var {form.answered} v_answer{at};")
@@ -325,7 +325,7 @@ class Maker:
         return [*now, "v_seen"]
 
     def race(self, port: str) -> None:
-        """An answer may have come by now, or not."""
+        """An answer may have arrived by now, or not."""
         if self.often(0.7):
             self.open("alt")
             self.line(f"[] {port}.check(receive) {{ v_seen := v_seen + {self.chance.randint(1, 3)}; }}")
@@ -358,7 +358,7 @@ class Maker:
         if not is_interleave:
             self.close()
         self.close()
-        # Which of them came is certain after an interleave alone
+        # Only after an `interleave` it is certain which of them arrived
         certain = lines if is_interleave else []
         return ["v_seen", *(part for _, _, at in certain for part in self.parts(forms[at].answered, f"v_answer{at}"))]
 

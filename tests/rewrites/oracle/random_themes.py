@@ -1,4 +1,4 @@
-"""More programs by chance: answers that wait, streams, functions that ask, tokens that go round."""
+"""Makes more random programs: delayed answers, streams, functions that ask, tokens that go round."""
 from __future__ import annotations
 
 import re
@@ -129,7 +129,7 @@ class Themes(Maker):
         self.finish(["v_seen", "v_last"])
 
     def calls(self) -> None:
-        """Functions that ask stand in conditions, so that it depends on an answer whether another one is asked."""
+        """Functions that ask a server are used in conditions, so that an answer decides whether to ask again."""
         self.open("function f_oracle(integer p_first) runs on C")
         self.line("var integer v_it, v_count := p_first;")
         self.open("alt")
@@ -162,7 +162,7 @@ class Themes(Maker):
         self.finish(known)
 
     def ring(self) -> None:
-        """A token goes round three components, as often as it says, and changes."""
+        """A token goes round three components, as often as it says, and is changed on the way."""
         hops = self.chance.randint(2, 6)
         result = "v_token.result" if self.encodes else self.number(["v_token.result", "v_token.id", "v_turns"], 1)
         self.open("function f_station(integer p_add) runs on C")
@@ -189,12 +189,12 @@ class Themes(Maker):
         self.line("v_turns := v_turns + 1;")
         self.close()
         if self.often(0.7):
-            # Otherwise a station may wait for good
+            # Otherwise a station may wait forever
             self.line("alt { [v_token.id > 100] p.receive { } [else] { q.send(v_token); } }")
         self.finish(["v_seen", "v_turns", "v_token.id"])
 
     def echo(self) -> None:
-        """What came is changed in a part, and sent back."""
+        """A part of the message is changed, and the message is sent back."""
         form = self.chance.choice(["Ask", "Numbers"])
         self.open("function f_change(integer p_add) runs on C")
         self.line(f"var {form} v_it;")
@@ -233,7 +233,7 @@ def program_of(seed: int) -> str:
 
 
 def with_jumps(text: str) -> str:
-    """Each `while` that nothing leaves or shortens as an `if` whose last statement jumps back to it."""
+    """Each `while` that nothing leaves or shortens becomes an `if` whose last statement jumps back to it."""
     lines = text.split("\n")
     for at in range(len(lines) - 1, -1, -1):
         loop = re.fullmatch(r"( *)while (\(.*\)) \{", lines[at])

@@ -1,4 +1,4 @@
-"""Programs by chance with timers that guard waits, ask again, or are waited for alone."""
+"""Makes random programs with timers that guard waits, cause a repeated question, or are waited for alone."""
 from __future__ import annotations
 
 from random_themes import Themes

@@ -8,7 +8,7 @@ from typing import Any, Callable, NamedTuple, Optional
 
 
 class Fault(Exception):
-    """What the full language calls an error of the test case."""
+    """An error of the test case in the full language."""
 
 
 class Mark(Enum):
@@ -50,7 +50,7 @@ class Range(NamedTuple):
 
 
 class Among(NamedTuple):
-    """One of some templates, or none of them."""
+    """One of several templates, or none of them."""
 
     is_one: bool
     templates: tuple[Any, ...]
@@ -79,7 +79,7 @@ def matches(template: Any, value: Any) -> bool:
 
 
 def items_match(templates: tuple[Any, ...], items: tuple[Any, ...]) -> bool:
-    """`*` stands for any number of elements, none too."""
+    """`*` matches any number of elements, including none."""
     if not templates:
         return not items
     if templates[0] is Mark.ANY_OR_NONE:
@@ -88,7 +88,7 @@ def items_match(templates: tuple[Any, ...], items: tuple[Any, ...]) -> bool:
 
 
 def type_of(it: Any) -> str:
-    """The type of a value, or of a template that tells it."""
+    """The type of a value, or of a template that shows it."""
     if isinstance(it, (Word, Record, Series)):
         return it.type
     if isinstance(it, Among):
@@ -97,7 +97,7 @@ def type_of(it: Any) -> str:
 
 
 def value_of(it: Any) -> Any:
-    """It, if it is a value all of which is set."""
+    """The value, if all its parts are set."""
     if isinstance(it, (Record, Series)):
         for part in it[1]:
             if part is not Mark.OMIT or isinstance(it, Series):
@@ -108,7 +108,7 @@ def value_of(it: Any) -> Any:
 
 
 def divided(left: int, right: int) -> int:
-    """7.1.1: towards zero."""
+    """7.1.1: rounds towards zero."""
     if right == 0:
         raise Fault("division by zero")
     whole = abs(left) // abs(right)
@@ -131,7 +131,7 @@ _FUNCTIONS: dict[str, Callable[[Any], Any]] = {
 
 
 def calculated(sign: str, left: Any, right: Any) -> Any:
-    """An operator with two operands (7.1). What may be absent can be compared with `omit`."""
+    """The result of an operator with two operands (7.1). An absent value can be compared with `omit`."""
     if sign in ("==", "!="):
         both = (it if it is Mark.OMIT else value_of(it) for it in (left, right))
         return (sign == "==") == (next(both) == next(both))
