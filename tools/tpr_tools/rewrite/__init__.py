@@ -1,1 +1,1 @@
-"""Carries scripts of the full language over to the profile: what `tools/rewrite` does."""
+"""Carries scripts of the full language over to the profile: the modules of `tools/rewrite`."""

@@ -13,7 +13,7 @@ ORDERED = ("<", ">", "<=", ">=")
 
 
 def computed(sign: str, left: Form, right: Form, at: Token) -> Form:
-    """What an operator makes of two values."""
+    """The result of an operator on two values."""
     if sign in ("==", "!="):
         return same(left, right) == (sign == "==")
     if sign in ("and", "or", "xor") and isinstance(left, bool) and isinstance(right, bool):
@@ -67,7 +67,7 @@ def _of_floats(sign: str, left: float, right: float, at: Token) -> Form:
 
 
 def inverted(sign: str, value: Form, at: Token) -> Form:
-    """`not`, `-` or `+` of a value."""
+    """The result of `not`, `-` or `+` on a value."""
     if sign == "not" and isinstance(value, bool):
         return not value
     if sign in ("-", "+") and isinstance(value, (int, float)) and not isinstance(value, bool):
@@ -77,7 +77,7 @@ def inverted(sign: str, value: Form, at: Token) -> Form:
 
 
 def length_of(value: Form) -> Optional[int]:
-    """Of a string or a list; that of octets is half of their digits'."""
+    """The length of a string or a list; for octets half the number of digits."""
     if isinstance(value, str):
         return len(value)
     if isinstance(value, Digits):
@@ -100,12 +100,12 @@ def _number_of_text(values: list[Form]) -> Optional[Form]:
 
 
 def _size(values: list[Form]) -> Optional[Form]:
-    """Of a record, its fields that aren't left out."""
+    """The size of a value; for a record the number of fields that aren't left out."""
     value = values[0]
     return len(value.items) - value.items.count(Mark.OMIT) if isinstance(value, Fields) else length_of(value)
 
 
-# Each has an example in tests/rewrites/. What isn't listed isn't evaluated.
+# Each has an example in tests/rewrites/. Functions that aren't listed aren't evaluated.
 PREDEFINED: dict[str, tuple[int, Callable[[list[Form]], Optional[Form]]]] = {
     "lengthof": (1, _length),
     "sizeof": (1, _size),

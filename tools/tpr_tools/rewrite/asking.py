@@ -1,4 +1,4 @@
-"""What is asked of a value, a template or a variable, whatever it holds (ES 201 873-1, 15.10, 16.1.2 and Annex C.3)."""
+"""Functions that ask about values, templates or variables of any contents (ES 201 873-1, 15.10, 16.1.2, C.3)."""
 from __future__ import annotations
 
 from typing import Optional
@@ -16,7 +16,7 @@ from .values import (
     Wild, is_template, is_value, matches,
 )
 
-# They are asked of what a variable holds, whatever it is.
+# These functions take a variable with any contents, even without a value.
 ASKING = ("isbound", "isvalue", "ispresent", "ischosen", "match", "valueof", "istemplatekind", "enum2int")
 _OF_TWO = ("match", "istemplatekind")
 _KINDS = (
@@ -26,7 +26,7 @@ _KINDS = (
 
 
 class Asker(BracesReader):
-    # These are the evaluator's, which this is a part of.
+    # The methods below belong to the evaluator, of which this class is a part.
 
     def asked(
         self, node: Expression, path: Path, scope: Optional[Scope], type: Optional[Type], may_be_open: bool
@@ -73,7 +73,7 @@ class Asker(BracesReader):
         return is_value(value) and value is not Mark.OMIT
 
     def _is_present(self, form: Form, at: Token) -> bool:
-        """Of a template, whether it doesn't match what is left out."""
+        """For a template: whether it doesn't match an omitted field."""
         if form in (Mark.OMIT, Wild.ANY_OR_NONE) or isinstance(form, IfPresent):
             return False
         if not is_value(form) and form is not Wild.ANY and not isinstance(form, (Fields, Elements, Chosen, Bounds)):
@@ -94,7 +94,7 @@ class Asker(BracesReader):
         return type.root.numbers[value.word]
 
     def of_number(self, number: Form, type: Optional[Type], at: Token) -> Form:
-        """What `int2enum` makes of a number."""
+        """The result of `int2enum` for a number."""
         self.look_at_value(number, at)
         numbers = type.root.numbers if type is not None and type.kind is Kind.ENUM else {}
         for word, of in numbers.items():
@@ -103,8 +103,8 @@ class Asker(BracesReader):
         refuse(at, "`int2enum` isn't computed of this")
 
     def _is_of_kind(self, form: Form, kind: Form, at: Token) -> bool:
-        """What kind of template it is, where it is kept as it was written: a length, a permutation and a pattern are told
-        by lists and texts here."""
+        """Whether a template is of this kind, if it is kept as it was written. A length, a permutation and a pattern
+        aren't: they become lists and texts here."""
         found = _kinds_of(form)
         is_kept = not isinstance(form, (Options, Elements, TextPattern, str)) or not any(
             self.program.has_word(word) for word in ("length", "permutation", "pattern")
@@ -120,7 +120,7 @@ class Asker(BracesReader):
         return not isinstance(whole, Wild) and self.has_chosen(whole, node.word, node.at)
 
     def has_chosen(self, whole: Form, name: str, at: Token) -> bool:
-        """Whether a union has this alternative; where that is open of what was received, its branch is split."""
+        """Whether a union has this alternative. If that is open for a received message, its branch is split."""
         if whole is Mark.LOST:
             raise Refusal(at, "")
         if isinstance(whole, Received) and whole.steps != SENDER:
@@ -140,7 +140,7 @@ class Asker(BracesReader):
 
 
 def _kinds_of(form: Form) -> set[str]:
-    """The kinds of a template in table C.1; none where that is open."""
+    """The kinds of a template in table C.1; none if the kind is open."""
     if isinstance(form, IfPresent):
         return {"ifpresent", *_kinds_of(form.form)}
     simple: dict[Form, str] = {Wild.ANY: "AnyValue", Wild.ANY_OR_NONE: "AnyValueOrNone", Mark.OMIT: "omit"}

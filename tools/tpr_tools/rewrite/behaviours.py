@@ -1,4 +1,4 @@
-"""Follows the statements of one behaviour, and writes those that the profile has (ES 201 873-1, 19)."""
+"""Follows the statements of one behaviour, and writes the statements of the profile for them (ES 201 873-1, 19)."""
 from __future__ import annotations
 
 from dataclasses import replace
@@ -38,7 +38,7 @@ class Follower(Looper):
         return self.follow_operation(statement, path, scope)
 
     def follow_operation(self, statement: Statement, path: Path, scope: Scope) -> list[Path]:
-        """A statement on ports or components."""
+        """Follows a statement on ports or components."""
         raise NotImplementedError
 
     def block(self, block: tree.Block, path: Path, scope: Scope) -> list[Path]:
@@ -109,7 +109,7 @@ class Follower(Looper):
     def values_of(
         self, node: Expression, path: Path, scope: Scope, type: Optional[Type]
     ) -> list[tuple[Path, Form]]:
-        """The value on each way; a call of a function may fork."""
+        """The value on each path; a call of a function may fork."""
         if not self._is_call(node):
             return [(path, self.evaluate(node, path, scope, type))]
         assert isinstance(node, tree.Call)
@@ -143,7 +143,7 @@ class Follower(Looper):
         return [one for one, _ in found]
 
     def _kept(self, key: Key, steps: tuple[int, ...], value: Form, path: Path) -> Form:
-        """Fields that the assigned value leaves open keep what they had."""
+        """The value, with the old contents of the fields that it leaves open."""
         if not isinstance(value, Fields) or not {Mark.UNSET, Mark.NOT_USED} & set(value.items):
             return value
         old = self.part(path.state.variables[key].value, steps)
@@ -205,7 +205,7 @@ class Follower(Looper):
         return [path]
 
     def _set_enumerated(self, node: tree.Call, path: Path, scope: Scope) -> None:
-        """`int2enum` has its result in its second argument (16.1.2)."""
+        """Stores the result of `int2enum`, which is in its second argument (16.1.2)."""
         if len(node.arguments) != 2 or any(item.name is not None for item in node.arguments):
             refuse(node.at, "`int2enum` has another number of arguments")
         number, target = (item.value for item in node.arguments)
@@ -217,7 +217,7 @@ class Follower(Looper):
         raise NotImplementedError
 
     def call(self, node: tree.Call, path: Path, scope: Optional[Scope]) -> list[Path]:
-        """The statements of a function, with its parameters in a scope of their own."""
+        """Follows the statements of a function, with its parameters in a scope of their own."""
         assert isinstance(node.called, (tree.Name, tree.FieldOf))
         function = self.program.functions[node.called.word]
         if function.body is None:
@@ -250,8 +250,8 @@ class Follower(Looper):
         return paths
 
     def called_value(self, node: tree.Call, path: Path, scope: Optional[Scope]) -> Form:
-        """A call within an expression: it may write nothing, since that has no place there. Where it may, it is followed
-        before the statement."""
+        """The value of a call within an expression. The call may not write statements, because they have no place
+        there. Calls that do are followed before the statement, if that is possible."""
         kept = path.state.variables.get(key_of(node))
         if kept is not None:
             return kept.value if kept.value is not Mark.LOST else refuse_silently(node.at)
@@ -275,14 +275,14 @@ class Follower(Looper):
         return value if value is not None else Mark.LOST
 
     def _look_at_arguments(self, node: tree.Call, path: Path, scope: Optional[Scope]) -> None:
-        """What communicates in the arguments is followed before the call."""
+        """Calls in the arguments that communicate are followed before this call."""
         for item in node.arguments:
             open_calls = [call for call in calls_in(item.value) if key_of(call) not in path.state.variables]
             if any(self.program.communicates(tree.word_called(call)) for call in open_calls):
                 self.evaluate(item.value, path, scope)
 
     def _look_at_return(self, name: str, at: Token) -> None:
-        """A function that came to no value: it has none, or its `return` is refused, which is told there."""
+        """Refuses a function without a result: it returns no value, or its `return` is refused and reported there."""
         if self.program.functions[name].result is None:
             refuse(at, "this function returns nothing")
         if self.run.refused or self.run.lost is not None:
@@ -290,14 +290,14 @@ class Follower(Looper):
         refuse(at, "this function may end without a `return`")
 
     def _quietly(self, node: tree.Call, path: Path, scope: Optional[Scope]) -> list[Path]:
-        """A call that may come within a look at branches."""
+        """Follows a call that may be evaluated at each look at the branches."""
         is_looking, self.is_looking = self.is_looking, False
         paths = self.call(node, path, scope)
         self.is_looking = is_looking
         return paths
 
     def look_at_runs_on(self, word: Optional[str], at: Token) -> None:
-        """A function or an altstep finds its ports here, each of its own type."""
+        """Checks that a function or an altstep finds its ports here, each with its own type."""
         if word is None or word == self.type.name:
             return
         members = members_of(self.types, self.types.named(word, at), at, self.size_of)
@@ -307,7 +307,7 @@ class Follower(Looper):
                 refuse(at, f"this runs on `{word}`, which has ports that `{self.type.name}` hasn't")
 
     def look_at_value_of(self, value: Form, type: Optional[Type], at: Token) -> None:
-        """A variable of a subtype has none but its values."""
+        """Checks that a variable of a subtype gets only values of the subtype."""
 
     def _return(self, statement: tree.Return, path: Path, scope: Scope) -> list[Path]:
         if statement.value is None:
@@ -325,7 +325,7 @@ class Follower(Looper):
         return self.block(block, path, scope) if block is not None else [path]
 
     def chosen_block(self, statement: Statement, path: Path, scope: Scope) -> Optional[tree.Block]:
-        """The block of an `if` or a `select` that is done, if one is."""
+        """The block of an `if` or a `select` that is executed, if there is one."""
         if isinstance(statement, tree.Select):
             return (self._select_union if statement.is_union else self._select)(statement, path, scope)
         if isinstance(statement, tree.Block):
@@ -345,8 +345,8 @@ class Follower(Looper):
         return None
 
     def _select_union(self, statement: tree.Select, path: Path, scope: Scope) -> Optional[tree.Block]:
-        """The first case that names the chosen alternative (19.3.2). Of what was received it may be open: each
-        alternative that a case names gets a branch."""
+        """The block of the first case that names the chosen alternative (19.3.2). If the alternative of a received
+        message is open, each alternative that a case names gets a branch."""
         type = self.type_of(statement.value, path, scope)
         value = self.evaluate(statement.value, path, scope, type)
         if type is None or type.kind is not Kind.UNION:
@@ -377,7 +377,7 @@ class Follower(Looper):
         path.exit, path.label = Exit.JUMP, statement.name
 
     def _pass(self, statement: tree.Label, path: Path, scope: Scope) -> None:
-        """A label alone does nothing."""
+        """Follows a label, which itself does nothing."""
 
     def _leave(self, statement: tree.Leave, path: Path, scope: Scope) -> None:
         path.exit = _EXITS[statement.how]
@@ -388,7 +388,8 @@ class Follower(Looper):
     def _look_at_calls(
         self, statement: Statement, nodes: list[Expression], path: Path, scope: Scope
     ) -> None:
-        """What is only printed is left out; where a function is called in it, that may do something."""
+        """Evaluates expressions that are only printed, if they call a function, because the call may have an effect.
+        They are left out of the written script."""
         if self.program.names_in(statement) & set(self.program.functions):
             for node in nodes:
                 self.evaluate(node, path, scope)

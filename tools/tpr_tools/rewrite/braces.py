@@ -1,4 +1,5 @@
-"""What is written in braces: a record's fields, a list's elements, a union's alternative (ES 201 873-1, 6.2)."""
+"""Values and templates in braces: the fields of a record, the elements of a list, the alternative of a union (ES 201
+873-1, 6.2)."""
 from __future__ import annotations
 
 from typing import Optional

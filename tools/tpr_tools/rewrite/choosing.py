@@ -26,9 +26,9 @@ from .values import (
 )
 
 MOST_TURNS = 30
-# Where it is known what comes.
+# The limit if the messages that can come are known.
 MOST_KNOWN_TURNS = 5_000
-# Each `alt` in a branch of another one opens two brackets more, and a script of the profile has 32 at most.
+# Each `alt` in a branch of another one opens two more brackets, and a script of the profile may have 32 open.
 MOST_DEPTH = 14
 
 
@@ -37,14 +37,14 @@ class Chooser(Expander):
         return self._turn(statement, self.opened_by(statement, scope), path, scope, 0)
 
     def receive(self, statement: tree.Receive | tree.Find, path: Path, scope: Scope) -> list[Path]:
-        """A receiving operation that stands alone is an `alt` with it as its branch (20.2, 22.2.2)."""
+        """Follows a receiving operation outside an `alt`, which is an `alt` with a single branch (20.2, 22.2.2)."""
         branch = tree.Branch(statement.at, None, False, statement, None)
         return self.choose(tree.Alt(statement.at, [branch], False, statement.span), path, scope)
 
     def _turn(
         self, statement: tree.Alt, branches: list[Opened], path: Path, scope: Scope, count: int
     ) -> list[Path]:
-        """All that comes of an `alt`, turn by turn where ways are sorted; `count` says how often it was repeated."""
+        """The paths after an `alt`, turn by turn if paths are sorted; `count` says how often it was repeated."""
         if not self.run.sorts:
             return self._waited(statement, branches, path, scope, count)
         above, finished, again = path.fork, list[Path](), [path]
@@ -66,7 +66,7 @@ class Chooser(Expander):
     def _turned_again(
         self, statement: tree.Alt, branches: list[Opened], path: Path, scope: Scope, count: int, finished: list[Path]
     ) -> list[Path]:
-        """The ways of one turn that repeat the `alt`."""
+        """The paths of one turn that repeat the `alt`."""
         turned = self._apart(statement, branches, path, scope, count)
         finished += [one for one in turned if one.exit is not Exit.REPEAT]
         again = [one for one in turned if one.exit is Exit.REPEAT]
@@ -77,7 +77,7 @@ class Chooser(Expander):
     def _apart(
         self, statement: tree.Alt, branches: list[Opened], path: Path, scope: Scope, count: int
     ) -> list[Path]:
-        """One turn on one way, anew where a message of this turn must be told apart."""
+        """Follows one turn on one path, and follows it again if a message of this turn must be distinguished."""
         begun, open_now = self.counted, (len(self.frames), len(self.results), self.depth)
         point = checkpoint(0, begun, self.run.written, [path])
         while True:
@@ -90,7 +90,7 @@ class Chooser(Expander):
     def _waited(
         self, statement: tree.Alt, branches: list[Opened], path: Path, scope: Scope, count: int
     ) -> list[Path]:
-        """One waiting of an `alt`, and what comes of it where ways aren't sorted."""
+        """Follows an `alt` once, with its repetitions if paths aren't sorted."""
         most = MOST_TURNS if self.flows is None else MOST_KNOWN_TURNS
         if count > most:
             refuse_open(statement.at, f"this is repeated more than {most} times")
@@ -105,7 +105,7 @@ class Chooser(Expander):
         for leaf, one in self._written(statement, leaves, path):
             found += self._follow_leaf(statement, branches, leaf, one, scope, count)
         if not found:
-            # Nothing can come to any branch: it waits for good.
+            # No message can reach any branch: the `alt` waits forever.
             path.exit = Exit.STUCK
             found = [path]
         self.frames.pop()
@@ -114,14 +114,14 @@ class Chooser(Expander):
         return found
 
     def _add_end(self, statement: tree.Alt, leaves: list[Leaf]) -> None:
-        """A component that still waits when the test case ends is ended by that, where it matters."""
+        """Adds a branch for the end of the test case, which ends a component that still waits, if that matters."""
         if self.own in self.run.ending and leaves and not leaves[-1].guard.is_always:
             leaves.append(Leaf(Guard(statement.at, None, [], is_end=True), {}, None, None))
 
     def _written(
         self, statement: tree.Alt, leaves: list[Leaf], path: Path
     ) -> list[tuple[Leaf, Path]]:
-        """Writes the branches, and says of each where its way goes on."""
+        """Writes the branches, and returns the path in each of them."""
         if not leaves or all(leaf.is_discarding or leaf.guard.is_end for leaf in leaves):
             refuse(statement.at, "no branch of this ever ends it")
         if leaves[0].guard.is_always:
@@ -140,7 +140,7 @@ class Chooser(Expander):
             refuse_open(statement.at, "what follows from the branches would be nested too deep")
         ways = Ways(statement.at, [])
         self.emit(path, ways)
-        # Where it is known what comes, what goes on in one branch alone goes on behind the `alt`.
+        # If the messages that can come are known, and only one branch continues, its path continues after the `alt`.
         is_only = len(going_on) == 1 and self.flows is not None
         fork = path.fork if is_only else Fork(path.code, path.fork, len(going_on), depth)
         found: list[tuple[Leaf, Path]] = []
@@ -155,11 +155,11 @@ class Chooser(Expander):
         return found
 
     def ends_idle(self, statement: tree.Alt, path: Path) -> bool:
-        """Where nothing can come any more: whether the behaviour ends there as well."""
+        """Called if no message can come any more: whether the behaviour ends there."""
         return False
 
     def _triggered(self, leaves: list[Leaf]) -> list[Leaf]:
-        """`[] p.receive(x) {..} [] p.receive { repeat; }` is `p.trigger(x)`."""
+        """`[] p.receive(x) {..} [] p.receive { repeat; }` becomes `p.trigger(x)`."""
         if len(leaves) != 2 or not leaves[1].is_discarding or leaves[0].is_never:
             return leaves
         first = leaves[0]
@@ -187,7 +187,7 @@ class Chooser(Expander):
     # Leaves
 
     def _told_apart(self, guards: list[Guard], path: Path, count: int) -> list[Leaf]:
-        """The leaves. Where ways are sorted, what is split at once is split before anything behind it is followed."""
+        """The leaves. If paths are sorted, messages are split before anything after them is followed."""
         while True:
             leaves = self._leaves(guards, path, count)
             splits = [split for leaf in leaves if self.run.sorts for split in self._splits_of(leaf)]
@@ -197,7 +197,8 @@ class Chooser(Expander):
             self.plan([split for split in splits if split.symbol.number == splits[0].symbol.number])
 
     def _splits_of(self, leaf: Leaf) -> list[Split]:
-        """By the senders, so that it is certain how much was taken of each; behind that by the values that are kept."""
+        """Splits by the senders, so that the number of messages from each is certain; then by the values that are
+        kept."""
         message, redirect = leaf.message, leaf.guard.redirect
         senders = list(dict.fromkeys(one.sender.component for one in leaf.coming or ()))
         if len(senders) > 1 and -1 not in senders and leaf.how is not Receiving.CHECK:
@@ -220,7 +221,7 @@ class Chooser(Expander):
                 continue
             planned = self._planned(guard, self.plans.get(guard.number), {}, guard.message, guard.sender)
             for leaf in planned[:-1]:
-                # A `trigger` would discard what only the branches behind this one want.
+                # A `trigger` would discard messages that only later branches accept.
                 leaf.how = Receiving.RECEIVE if leaf.how is Receiving.TRIGGER else leaf.how
             found += planned
         if self.flows is not None:
@@ -229,8 +230,9 @@ class Chooser(Expander):
         return self._counted(found, path) if count else found
 
     def _bar(self, leaves: list[Leaf], guards: list[Guard], path: Path) -> None:
-        """What can come to each branch: of what can be next at its port what it wants, and none before it takes."""
-        # A `trigger` discards for the branches before it too.
+        """Sets the messages that can reach each branch: those that can be next at its port, that it accepts, and that
+        no earlier branch takes."""
+        # A `trigger` also discards for the branches before it.
         discarded = {leaf.guard.port for leaf in leaves if leaf.is_discarding or leaf.guard.how is Receiving.TRIGGER}
         for leaf in leaves:
             guard = leaf.guard
@@ -266,7 +268,7 @@ class Chooser(Expander):
         return first + self._planned(guard, no, missed, message, sender)
 
     def _is_discarding(self, guard: Guard, before: list[Guard]) -> bool:
-        """Whether it takes all that comes to its place, and then only begins the `alt` anew."""
+        """Whether the branch takes all messages that reach it, and then only repeats the `alt`."""
         if guard.how is not Receiving.RECEIVE or guard.sender is not None or guard.redirect is not None:
             return False
         if not is_repeat_alone(guard.bodies):
@@ -284,7 +286,7 @@ class Chooser(Expander):
         return leaf
 
     def _counted(self, leaves: list[Leaf], path: Path) -> list[Leaf]:
-        """Of a repeated `alt`: a branch that repeats it is open no more once all has come that can."""
+        """For a repeated `alt`: a branch that repeats it is closed once all messages that can come have been taken."""
         taken = dict(path.state.taken)
         going_on: list[Leaf] = []
         for leaf in leaves:
@@ -298,7 +300,7 @@ class Chooser(Expander):
                 going_on.append(leaf)
         return going_on if any(not leaf.is_discarding for leaf in going_on) else leaves
 
-    # Behind the operation
+    # After the operation
 
     def _follow_leaf(
         self, statement: tree.Alt, branches: list[Opened], leaf: Leaf, path: Path, scope: Scope, count: int
@@ -392,12 +394,13 @@ class Chooser(Expander):
             self._store_message(target, self.part(value, steps), type, path, scope)
 
     def _split_at_once(self, received: Received, at: Token) -> None:
-        """Where ways are sorted, each value has a branch: ways with the same value agree, and with the same template don't."""
+        """If paths are sorted, splits the message into a branch for each value: paths with the same value agree, but
+        those with the same template don't."""
         if self.run.sorts and 0 < len({one.form for one in received.symbol.coming}) <= self.most_values:
             self.split(received, at)
 
     def _steps(self, part: tree.Expression, type: Type) -> tuple[tuple[int, ...], Type]:
-        """A field of the received value, by its name or a way of names."""
+        """The steps to a part of the received value, given by a field name or a chain of names, and its type."""
         if isinstance(part, tree.FieldOf):
             steps, type = self._steps(part.value, type)
         else:

@@ -1,4 +1,4 @@
-"""The components that let timers expire at any moment: each answers the starts of one timer, one after the other."""
+"""The components by which timers expire at any moment: each answers the starts of one timer, one after the other."""
 from __future__ import annotations
 
 from collections import Counter
@@ -10,7 +10,7 @@ from .layout import Names
 
 
 def count_starts(code: Code) -> Counter[str]:
-    """How often each timer is started, which is the same on all ways then: what a way lacks is told at its end."""
+    """How often each timer is started. Paths with fewer starts get an `Unstarted`, so that all have the same number."""
     found: Counter[str] = Counter()
     for statement in code:
         if isinstance(statement, Ticked) and statement.act is Ticking.START:
@@ -29,7 +29,7 @@ def count_starts(code: Code) -> Counter[str]:
 
 
 def without_unasked(code: Code) -> None:
-    """A timer whose timeout nothing waits for does nothing."""
+    """Removes timers whose timeout nothing waits for, because they have no effect."""
     _keep(code, _asked(code))
 
 
@@ -53,7 +53,7 @@ def _keep(code: Code, asked: set[str]) -> None:
 
 @dataclass(frozen=True)
 class Clock:
-    """The component of a timer: its own port and the timer's, and how often the timer is started."""
+    """The component of a timer: its own port, the timer's port, and how often the timer is started."""
 
     name: str
     owner: str
@@ -62,7 +62,7 @@ class Clock:
 
 
 class ClockWriter:
-    """Writes them: their type, a function for each number of starts, and what the test case does with them."""
+    """Writes the clocks: their type, a function for each number of starts, and their statements in the test case."""
 
     def __init__(self, names: Names, add: Callable[[str], None]):
         self.names = names
@@ -73,7 +73,7 @@ class ClockWriter:
         self.port = ""
 
     def new_port(self, owner: str, timer: str, starts: int) -> str:
-        """The port of a timer at its owner."""
+        """The port of a timer at the component that owns it."""
         word = timer.replace("[", "_").replace("]", "")
         port = self.names.free(f"{word}_timer")
         self.clocks.append(Clock(self.names.free(f"{owner}_{word}"), owner, port, starts))

@@ -1,4 +1,4 @@
-"""Which messages of a closed test case can come to a branch, and what is known behind it of those that were taken."""
+"""Which messages of a closed test case can reach a branch, and what is known about those that were taken."""
 from __future__ import annotations
 
 from dataclasses import dataclass
@@ -25,8 +25,8 @@ class Wanting(Protocol):
 
 @dataclass(frozen=True)
 class Awaited:
-    """A branch, what was asked of its message besides, the branches that are tried before it at its port, and whether
-    what it doesn't want is discarded."""
+    """A branch, the facts about its message, the earlier branches at its port, and whether messages that it doesn't
+    accept are discarded."""
 
     branch: Wanting
     facts: Facts
@@ -47,7 +47,7 @@ class Closed(Messages):
         return found
 
     def _span(self, flows: Flows, awaited: Awaited, end: End, path: Path) -> Span:
-        """The numbers of those on the route that can be next."""
+        """The numbers of the messages on the route that can be next."""
         port = awaited.branch.port
         low, high = path.state.got.get((port, end), (0, 0))
         if not awaited.is_dropping:
@@ -56,7 +56,7 @@ class Closed(Messages):
         return low, last[1]
 
     def note_got(self, awaited: Awaited, coming: list[Coming], path: Path) -> None:
-        """Behind a branch: how many messages were taken on each route."""
+        """After a branch: updates how many messages were taken on each route."""
         flows, port, got = self.flows, awaited.branch.port, path.state.got
         assert flows is not None
         if awaited.branch.how is Receiving.CHECK and not awaited.is_dropping:
@@ -73,7 +73,7 @@ class Closed(Messages):
             got[port, end] = (low + 1 if len(ends) == 1 else low, high + 1)
 
     def note_discarded(self, ports: Iterable[str], path: Path) -> None:
-        """A queue was emptied: how many were in it isn't known."""
+        """Handles the emptying of a queue: the number of discarded messages isn't known."""
         for port in ports:
             for end in self.peers_of(port, path):
                 low, _ = path.state.got.get((port, end), (0, 0))
@@ -81,7 +81,8 @@ class Closed(Messages):
 
 
 def wants(branch: Wanting, facts: Facts, one: Coming) -> bool:
-    """Whether a message is one for the branch, and is as the facts say. Of many values the last that was asked for tells most."""
+    """Whether the branch accepts a message, and the facts hold for it. The latest fact, which excludes most, comes
+    first."""
     if isinstance(branch.sender, int) and branch.sender != one.sender.component:
         return False
     message = branch.message
@@ -99,7 +100,7 @@ def wants(branch: Wanting, facts: Facts, one: Coming) -> bool:
 
 
 def takes(before: list[Wanting], one: Coming) -> bool:
-    """Whether a branch that is tried before takes it, or discards it."""
+    """Whether an earlier branch takes or discards it."""
     for branch in before:
         if branch.how is Receiving.TRIGGER:
             return True

@@ -1,4 +1,5 @@
-"""Finds where a value of one type is given to a variable of another that has the same structure (ES 201 873-1, 6.3)."""
+"""Finds the places where a value of one type is assigned to a variable of another type with the same structure (ES 201
+873-1, 6.3)."""
 from __future__ import annotations
 
 from typing import Iterator, Optional, get_args
@@ -8,7 +9,7 @@ from .refusing import Refusal
 from .tokens import Token
 from .types import Kind, Type, Types
 
-# What each name is known as in a place: none where its type can't be told.
+# The type of each name at a place; None if its type isn't known.
 Known = dict[str, Optional[Type]]
 _STRUCTURED = (Kind.RECORD, Kind.LIST, Kind.UNION)
 _FOLLOWED = (*get_args(tree.Statement), tree.Branch, tree.Case)
@@ -71,7 +72,7 @@ class _Places:
             known[variable.name] = None if variable.sizes else self.type_named(declaration.type)
 
     def _follow(self, nodes: list[tree.Node], known: Known) -> None:
-        """In the order of the text; what is declared in a block is known there alone."""
+        """Follows the nodes in the order of the text. A name that is declared in a block is known only there."""
         waiting = [(node, known) for node in reversed(nodes)]
         while waiting:
             node, known = waiting.pop()
@@ -99,7 +100,7 @@ class _Places:
             self.places.append(given.at)
 
     def _type_of(self, node: Optional[tree.Expression], known: Known) -> Optional[Type]:
-        """Of what is a name, has its type before it, or is a template with parameters."""
+        """The type of a name, of a value with its type before it, or of a template with parameters."""
         if isinstance(node, tree.Typed):
             return self.type_named(node.type)
         called = node.called if isinstance(node, tree.Call) else node
@@ -107,7 +108,7 @@ class _Places:
 
 
 def _below(node: tree.Node) -> Iterator[tree.Node]:
-    """The statements, branches and blocks that stand in a statement."""
+    """The statements, branches and blocks inside a statement."""
     for value in vars(node).values():
         for item in value if isinstance(value, list) else [value]:
             if isinstance(item, _FOLLOWED):
@@ -115,7 +116,7 @@ def _below(node: tree.Node) -> Iterator[tree.Node]:
 
 
 def are_compatible(one: Type, other: Type) -> bool:
-    """By their structure; types that are met again within themselves are taken as so."""
+    """Whether two types have the same structure. Types that contain themselves are assumed to be compatible there."""
     seen: set[tuple[int, int]] = set()
     waiting = [(one.root, other.root)]
     while waiting:
@@ -131,7 +132,7 @@ def are_compatible(one: Type, other: Type) -> bool:
 
 
 def _inner_pairs(one: Type, other: Type) -> Optional[list[tuple[Type, Type]]]:
-    """The parts of two types that must be compatible; none where they aren't whatever these are."""
+    """The pairs of inner types that must be compatible; None if the two types aren't compatible in any case."""
     if one.kind is not other.kind or one.kind not in _STRUCTURED or one.is_set != other.is_set:
         return None
     if one.kind is Kind.LIST:

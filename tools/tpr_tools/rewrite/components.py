@@ -1,4 +1,4 @@
-"""Follows what concerns components and ports: sends, port operations, set-up, starts (ES 201 873-1, 21 and 22)."""
+"""Follows operations on components and ports: sends, port operations, set-up, starts (ES 201 873-1, 21 and 22)."""
 from __future__ import annotations
 
 from typing import Optional
@@ -19,12 +19,12 @@ from .values import (
 
 SYSTEM = -1
 MOST_COMPONENTS = 64
-# What `checkstate` asks for, and whether that is a mapping, a connection or either.
+# The words of `checkstate`, and whether each means a mapping, a connection or either.
 _JOINED = {"Mapped": (True,), "Connected": (False,), "Linked": (True, False)}
 
 
 class Behaviour(Chooser):
-    """All statements of a behaviour. `waits_for` gathers the components whose end it asks for by a message."""
+    """Follows all statements of a behaviour. `waits_for` collects the components whose end it asks for by a message."""
 
     can_set_up = False
 
@@ -32,7 +32,7 @@ class Behaviour(Chooser):
         super().__init__(run, own, type, at)
         self.waits_for: dict[int, Token] = {}
         self.system: Optional[str] = None
-        # What it knows of the others where it can't set them up.
+        # What it knows about the other components if it can't set them up.
         self.known_started: frozenset[int] = frozenset()
         self.known_joins: tuple[Joined, ...] = ()
 
@@ -41,7 +41,8 @@ class Behaviour(Chooser):
         return peers(joins, End(self.own, port))
 
     def has_state(self, node: tree.Call, port: Expression, path: Path, scope: Optional[Scope]) -> bool:
-        """`p.checkstate("Mapped")` of an own port (22.5.5). What is joined with it is known, what it was told isn't kept."""
+        """The value of `p.checkstate("Mapped")` for an own port (22.5.5). The connections of the port are known;
+        operations such as `stop` aren't kept."""
         word = self.evaluate(node.arguments[0].value, path, scope) if len(node.arguments) == 1 else None
         value = self.evaluate(port, path, scope)
         if not isinstance(value, PortValue) or not isinstance(word, str) or word not in _JOINED:
@@ -68,7 +69,7 @@ class Behaviour(Chooser):
         return [path]
 
     def _note_sent(self, sent: Sent, flows: Flows, path: Path) -> None:
-        """What can come by it, at each place on its routes that it may have."""
+        """Notes the message as one that can come, at each place that it may have on its routes."""
         own = End(self.own, sent.port)
         ends = list(dict.fromkeys(self.peers_of(sent.port, path)))
         if isinstance(sent.to, Symbol):
@@ -130,7 +131,7 @@ class Behaviour(Chooser):
         return value
 
     def _stop(self, statement: tree.Operate, path: Path) -> list[Path]:
-        """A behaviour that stops itself has come to its end."""
+        """Follows a behaviour that stops itself, which is its end."""
         assert statement.target is not None
         value = self.evaluate(statement.target, path, None)
         if value != ComponentValue(self.own):
@@ -155,8 +156,9 @@ class Behaviour(Chooser):
         refuse(node.at, f"`{node.word}` asks for something that is known only in a run")
 
     def _is_running(self, started: list[int], node: tree.Asked, path: Path) -> bool:
-        """Of components that were started: not if all of them surely have ended. Else one must surely run, so that nothing comes
-        to the other case; that is looked at when all is followed. What is asked at each look at branches may end while these wait."""
+        """Whether one of the started components runs: not if all of them have surely ended. Otherwise one must surely
+        run, so that the other case is never reached; that is checked after everything is followed. If the question is
+        asked at each look at branches, they may end while these wait."""
         left = frozenset(started) - path.state.done - path.state.awaited
         if self.can_set_up and not left:
             return False
@@ -253,7 +255,8 @@ class Behaviour(Chooser):
         refuse(node.at, "which port is meant isn't known here")
 
     def _part_ways(self, statement: tree.Join, path: Path, scope: Scope) -> list[Path]:
-        """Ports that are used no more may be parted: nothing that is seen follows from it."""
+        """Follows `disconnect` or `unmap`. Ports that aren't used any more may be disconnected, because that has no
+        visible effect."""
         if len(statement.places) != 2 or statement.has_parameters:
             refuse(statement.at, "which ports are meant isn't known here")
         ends = [self._end(place, path, scope) for place in statement.places]

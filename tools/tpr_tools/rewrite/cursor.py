@@ -1,4 +1,4 @@
-"""A place in the tokens of a file, and what each reader asks there."""
+"""A place in the tokens of a file, with the functions that all readers need there."""
 from __future__ import annotations
 
 from typing import Callable, NoReturn, TypeVar
@@ -14,7 +14,7 @@ MOST_NESTED = 80
 
 
 class ReadFault(Exception):
-    """The text doesn't go on as the notation does."""
+    """The text doesn't follow the notation."""
 
     def __init__(self, token: Token, reason: str):
         super().__init__(reason)
@@ -31,9 +31,9 @@ class Cursor:
         self.noted: list[tuple[Construct, Token]] = [(Construct.NAME_BEGIN, name) for name in source.begun]
         # The variables that hold components.
         self.created: set[str] = set()
-        # What is sent or wanted, and whether it is sent: its type may stand before it.
+        # The messages that are sent or received, and whether each is sent: the type may be missing before it.
         self.messages: list[tuple[Expression, bool]] = []
-        # What is called within an expression: a function, or a template with parameters.
+        # The names that are called within an expression: functions, or templates with parameters.
         self.called: list[Token] = []
         self.module_names: set[str] = set()
 
@@ -48,7 +48,7 @@ class Cursor:
         return self.tokens[self.place].kind is Kind.END
 
     def note(self, construct: Construct, token: Token) -> None:
-        """A construct that isn't in the profile is found here."""
+        """Notes a construct that isn't in the profile."""
         self.noted.append((construct, token))
 
     def is_at(self, *words: str) -> bool:
@@ -73,7 +73,7 @@ class Cursor:
         return self.take()
 
     def listed(self, read: Callable[[], Read], end: str) -> list[Read]:
-        """What stands before the `end`, with commas between, and the `end`."""
+        """Reads items separated by commas, and the `end` after them."""
         found: list[Read] = []
         while not self.is_at(end):
             found.append(read())
@@ -83,7 +83,7 @@ class Cursor:
         return found
 
     def up_to_brace(self, read: Callable[[], Read]) -> list[Read]:
-        """What stands before a `}`, with `;` between or not, and the `}`."""
+        """Reads items up to a `}`, with or without `;` between them, and the `}`."""
         found: list[Read] = []
         while not self.is_at("}"):
             if self.token.kind is Kind.END:
@@ -104,20 +104,21 @@ class Cursor:
         raise ReadFault(token, f"{reason}; {found}" if token.text else f"{found}, and {reason}")
 
     def modifiers(self) -> None:
-        """Of a variable or a parameter: what is evaluated later, or anew at each use, isn't the same."""
+        """Reads the modifiers of a variable or a parameter. A value that is evaluated later, or again at each use, has
+        another meaning."""
         while self.token.kind is Kind.MODIFIER:
             if self.is_at("@lazy", "@fuzzy"):
                 self.fail(f"`{self.token.text}` isn't carried over: a value is evaluated where it is given")
             self.known_modifier(())
 
     def known_modifier(self, words: tuple[str, ...]) -> None:
-        """A modifier that changes nothing here is passed; any other is refused."""
+        """Skips a modifier that changes nothing here; refuses any other."""
         if self.token.text not in words:
             self.fail(f"the modifier `{self.token.text}` isn't carried over here")
         self.note(Construct.MODIFIER, self.take())
 
     def template_restriction(self) -> str:
-        """`value`, `omit` or `present` in brackets behind `template`, or nothing (15.8)."""
+        """Reads `value`, `omit` or `present` in brackets after `template`, or nothing (15.8)."""
         if not self.accept("("):
             return ""
         if self.token.text not in ("value", "omit", "present"):
@@ -138,7 +139,7 @@ class Cursor:
         self.faults.append(refused_at(fault.token, fault.reason))
 
     def end(self) -> None:
-        """A `;`, which may be missing before a `}` and behind one."""
+        """Reads a `;`, which is optional before and after a `}`."""
         if self.accept(";"):
             return
         before = self.tokens[self.place - 1].text if self.place else ""
@@ -146,7 +147,7 @@ class Cursor:
             self.fail("`;` is expected here")
 
     def skip_brackets(self) -> None:
-        """Passes what stands in these brackets, whatever it is."""
+        """Skips these brackets with all their contents."""
         depth = 0
         while self.token.kind is not Kind.END:
             text, kind = self.token.text, self.token.kind

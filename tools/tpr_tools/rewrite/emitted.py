@@ -1,4 +1,4 @@
-"""The statements that a rewrite writes, each with the place in the engineer's own text that it comes from."""
+"""The statements that a rewrite writes, each with its place in the original text."""
 from __future__ import annotations
 
 from dataclasses import dataclass
@@ -32,7 +32,7 @@ class Sent:
 
 @dataclass
 class Got:
-    """A receiving operation, or a branch's."""
+    """A receiving operation, alone or in a branch."""
 
     at: Token
     how: str
@@ -45,7 +45,7 @@ class Got:
 
 @dataclass
 class GotDone:
-    """A component's last message is waited for."""
+    """A wait for a component's last message."""
 
     at: Token
     component: int
@@ -53,7 +53,7 @@ class GotDone:
 
 @dataclass
 class Told:
-    """A component is told to begin."""
+    """A component gets the message to begin."""
 
     at: Token
     component: int
@@ -61,21 +61,22 @@ class Told:
 
 @dataclass
 class Failed:
-    """What the script never comes to, by all that is known of it: a send that fails, so that a run would be an `error`."""
+    """Something that the script never reaches, by everything that is known of it. It is written as a send that fails,
+    so that a run that does reach it is an `error`."""
 
     at: Token
 
 
 @dataclass
 class GotEnd:
-    """The test case has ended, which ends what still waits."""
+    """The test case has ended, which ends every component that still waits."""
 
     at: Token
 
 
 @dataclass
 class EndTold:
-    """A component is told that the test case has ended."""
+    """A component gets the message that the test case has ended."""
 
     at: Token
     component: int
@@ -98,7 +99,7 @@ class Ticked:
 
 @dataclass
 class Unstarted:
-    """On this way a timer is started so many times less than on another."""
+    """On this path a timer is started `number` times less than on another."""
 
     at: Token
     timer: str
@@ -107,7 +108,7 @@ class Unstarted:
 
 @dataclass
 class Went:
-    """A way tells which one it is, by a number that the component sends to itself."""
+    """A path sends its number to its own component."""
 
     at: Token
     number: int
@@ -115,7 +116,7 @@ class Went:
 
 @dataclass
 class Came:
-    """The ways with this number go on here."""
+    """The paths with this number continue here."""
 
     at: Token
     number: int
@@ -123,7 +124,7 @@ class Came:
 
 @dataclass
 class Way:
-    """A branch; without an operation `[else]`."""
+    """A branch; without an operation it is `[else]`."""
 
     at: Token
     operation: Optional[Union[Got, GotDone, GotEnd, Ticked, Came]]
@@ -152,7 +153,8 @@ class Verdict:
 
 @dataclass
 class StillRuns:
-    """It was asked whether one of these components runs, and said that it does: that must be sure. Nothing is written."""
+    """The question whether one of these components runs was answered with yes, which must be certain. Nothing is
+    written."""
 
     at: Token
     components: frozenset[int]

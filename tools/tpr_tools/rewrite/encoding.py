@@ -1,8 +1,8 @@
 """Encodes types that aren't in the profile by types that are (`--encode`), so that each value matches as before.
 
-An enumerated type becomes a record of its value's name. A union becomes a record with a list for each alternative: the
-chosen one's has an element, and the others have none. An optional field becomes such a list, which is empty where the
-field is left out. A string of bits, hex digits or octets becomes a charstring of its digits.
+An enumerated type becomes a record with the name of its value. A union becomes a record with a list for each
+alternative: the chosen one has an element, and the others have none. An optional field becomes such a list, which is
+empty if the field is left out. A string of bits, hex digits or octets becomes a charstring of its digits.
 
 Each value has one form here, no two values share a form, and only such forms are sent. Therefore a template matches as
 before if each of its matching mechanisms is replaced by one that means the same for these forms. If there is none, or
@@ -25,7 +25,7 @@ _NAME = "name"
 
 
 class Encoder:
-    """`free` gives a type's name that nothing has. Where it is off each type and form stays what it is."""
+    """`free` returns an unused name for a type. If encoding is off, each type and form stays as it is."""
 
     def __init__(self, types: Types, free: Callable[[str], str], is_on: bool):
         self.types = types
@@ -36,7 +36,7 @@ class Encoder:
     # Types
 
     def type_of(self, type: Type) -> Type:
-        """The type as the profile has it: the same where it and all that it is made of are there."""
+        """The type in the profile: the same type if the profile has it and all types inside it."""
         root = type.root
         if not self.is_on or not _is_encoded(root, []):
             return root
@@ -47,7 +47,7 @@ class Encoder:
         return known
 
     def _begun(self, root: Type) -> Type:
-        """The type without what it is made of, since that may be of the type itself."""
+        """The new type without its inner types, because it may contain itself."""
         if root.kind is Kind.BITS:
             return self.types.base("charstring")
         kind = Kind.LIST if root.kind is Kind.LIST else Kind.RECORD
@@ -72,7 +72,7 @@ class Encoder:
     # Values and templates
 
     def form_of(self, form: Form, type: Type, at: Token) -> Form:
-        """A value or a template of the type, as the profile has it."""
+        """A value or a template of the type, in the profile."""
         root = type.root
         if not self.is_on or not _is_encoded(root, []) or isinstance(form, Wild):
             return form
@@ -109,7 +109,7 @@ class Encoder:
 
 
 def _is_encoded(root: Type, above: list[Type]) -> bool:
-    """Whether the type, or a type that it is made of, isn't in the profile."""
+    """Whether the type, or a type inside it, isn't in the profile."""
     if root in above:
         return False
     if root.kind in (Kind.ENUM, Kind.UNION, Kind.BITS):
@@ -120,7 +120,7 @@ def _is_encoded(root: Type, above: list[Type]) -> bool:
 
 
 def _pattern_of(form: DigitsPattern, at: Token) -> Form:
-    """`?` of octets is two digits; two `*` of them could match at half an octet."""
+    """The pattern as characters. `?` in octets is two digits; two `*` could match half an octet."""
     if form.letter != "O":
         return TextPattern(form.digits)
     if any(len(digits) % 2 for digits in re.split("[?*]", form.digits)):

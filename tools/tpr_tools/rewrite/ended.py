@@ -1,5 +1,6 @@
-"""A send to a component that has ended: an error in the full language (ES 201 873-1, 21.3.4, 22.1), and a message that
-stays queued in the profile. It is carried over where the receiver still waits for something that comes after it.
+"""Finds sends to a component that has ended: they are errors in the full language (ES 201 873-1, 21.3.4, 22.1), but in
+the profile the message stays queued. A send is carried over if the receiver still waits for something that comes after
+it.
 """
 from __future__ import annotations
 
@@ -17,13 +18,13 @@ from .values import Wild
 
 
 
-# How often it is asked what all components can have done.
+# How often Reach is asked what all components can have done.
 MOST_ASKED = 300
 
 
 @dataclass(frozen=True)
 class LateSend:
-    """A send that comes after the end of its receiver, for sure or maybe."""
+    """A send that comes after the end of its receiver, certainly or possibly."""
 
     at: Token
     receiver: str
@@ -37,8 +38,8 @@ class LateSend:
 
 @dataclass
 class _Ended:
-    """What is known of the ways of a component: the least that it takes at each port, of all, of each type and of each template, and
-    whose end it waits for."""
+    """What all paths of a component have in common: the least number of messages that it takes at each port, in total,
+    of each type and of each template; and the components whose end it waits for."""
 
     takes: Counter[tuple[str, What]]
     awaited: frozenset[int]
@@ -49,18 +50,18 @@ class _Walk:
     part: Part
     sent: Sends = field(default_factory=Counter)
     done: frozenset[int] = frozenset()
-    # What is known at the end of each way with a number.
+    # The state at the end of each path with a number.
     went: dict[int, list[_Walk]] = field(default_factory=dict)
 
     def inner(self, way: Way) -> _Walk:
-        """What is known where a branch begins."""
+        """The state at the beginning of a branch."""
         if isinstance(way.operation, Came):
             return self.all_of(self.went[way.operation.number])
         done = self.done | ({way.operation.component} if isinstance(way.operation, GotDone) else set())
         return _Walk(self.part, Counter(self.sent), done, self.went)
 
     def all_of(self, several: list[_Walk]) -> _Walk:
-        """What is known on each of several ways."""
+        """What holds on each of several paths."""
         sent: Sends = Counter()
         for one in several:
             sent |= one.sent
@@ -74,7 +75,7 @@ class EndedFinder:
         self.ends = {number: _ended(part.code, _Ended(Counter(), frozenset()), {}) for number, part in self.parts.items()}
         self.most = {number: _most_of(followed, number, part.code, Counter(), {}) for number, part in self.parts.items()}
         self.found: dict[tuple[Token, str], LateSend] = {}
-        # Where it was said that a component runs, which may have ended.
+        # The places that say a component runs although it may have ended.
         self.unsure: set[Token] = set()
         self.asked = 0
 
@@ -84,7 +85,7 @@ class EndedFinder:
         return list(self.found.values())
 
     def _walk(self, walk: _Walk, code: Code) -> bool:
-        """Whether it goes on behind this."""
+        """Follows the code. Returns whether a path continues after it."""
         for statement in code:
             if isinstance(statement, Sent):
                 self._look_at(walk, statement)
@@ -119,7 +120,7 @@ class EndedFinder:
                 self.found.setdefault((statement.at, part.hint), late)
 
     def _may_have_ended(self, walk: _Walk, component: int) -> bool:
-        """By what all components can have done by then."""
+        """Whether it may have ended, by what all components can have done until then."""
         if self._is_before_end(walk, component, frozenset()):
             return False
         self.asked += 1
@@ -131,19 +132,20 @@ class EndedFinder:
             return True
 
     def _is_before_end(self, walk: _Walk, receiver: int, seen: frozenset[int]) -> bool:
-        """Whether the receiver, on each of its ways, still waits for what only comes after this."""
+        """Whether the receiver, on each of its paths, still waits for something that only comes after this."""
         if receiver == walk.part.number:
             return True
         ended = self.ends.get(receiver)
         if ended is None or receiver in seen:
-            # It never ends, or this is asked already.
+            # None: it never ends. Otherwise this is being asked already.
             return ended is None
         if any(self._needs(walk, End(receiver, port), what, count) for (port, what), count in ended.takes.items()):
             return True
         return any(self._is_before_end(walk, other, seen | {receiver}) for other in ended.awaited)
 
     def _needs(self, walk: _Walk, end: End, what: What, count: int) -> bool:
-        """Whether all such messages that others send there, and what was sent by now, are less than it takes."""
+        """Whether it takes more such messages than the others send there in total, together with those that were sent
+        until now."""
         came = 0
         is_sender = False
         for other in set(peers(self.followed.joins, end)):
@@ -156,7 +158,7 @@ class EndedFinder:
 
 
 def _most_of(followed: Followed, sender: int, code: Code, behind: Sends, came: dict[int, Sends]) -> Sends:
-    """The most that is sent on a way from here on, with what is sent behind it, and for each way with a number."""
+    """The most messages that are sent from here to the end of a path; also for each path with a number."""
     found = Counter(behind)
     for statement in reversed(code):
         if isinstance(statement, Sent):
@@ -178,7 +180,7 @@ _Came = dict[int, Optional[_Ended]]
 
 
 def _ended(code: Code, behind: Optional[_Ended], came: _Came) -> Optional[_Ended]:
-    """Of all ways from here on that come to an end, with what is behind; None where none does."""
+    """What all paths have in common that reach an end from here on, including what follows; None if no path does."""
     found = behind
     for statement in reversed(code):
         if isinstance(statement, Failed):
@@ -195,7 +197,7 @@ def _ended(code: Code, behind: Optional[_Ended], came: _Came) -> Optional[_Ended
 
 
 def _ended_way(way: Way, behind: Optional[_Ended], came: _Came) -> Optional[_Ended]:
-    # Behind the end of the test case nothing is sent to it.
+    # After the end of the test case no message is sent to it.
     found = _ended(way.code, behind, came) if not isinstance(way.operation, GotEnd) else None
     if isinstance(way.operation, Came):
         came[way.operation.number] = found

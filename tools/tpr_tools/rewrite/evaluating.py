@@ -1,4 +1,4 @@
-"""Evaluates expressions and templates as far as they are known without a run."""
+"""Evaluates expressions and templates, as far as they are known before a run."""
 from __future__ import annotations
 
 from typing import Optional, Union
@@ -26,13 +26,13 @@ _MOST_NESTED = 60
 
 
 class Evaluator(Asker):
-    """The expressions of one behaviour. `own` is the number of its component."""
+    """Evaluates the expressions of one behaviour. `own` is the number of its component."""
 
     def __init__(self, program: Program, own: int):
         super().__init__(program)
         self.own = own
         self.depth = 0
-        # What is evaluated to look at an `alt` is evaluated at each look: it may change nothing (16.1.4).
+        # Expressions in the branches of an `alt` are evaluated at each look, and may change nothing (16.1.4).
         self.is_looking = False
 
     # Names
@@ -46,7 +46,7 @@ class Evaluator(Asker):
         return None
 
     def slot(self, key: Key, path: Path) -> Slot:
-        """The variable, or the one that it stands for."""
+        """The variable, or the one that it refers to."""
         found = path.state.variables[key]
         if isinstance(found.value, Reference):
             behind = self.slot((found.value.scope, found.value.name), path)
@@ -70,7 +70,7 @@ class Evaluator(Asker):
         return known if is_value(known) else part
 
     def said_of(self, form: Received) -> Form:
-        """What the template says of a part of what was received."""
+        """What the template says about a part of a received message."""
         type = form.symbol.type
         return template_at(form.symbol.template, type if isinstance(type, Type) else None, form.steps)
 
@@ -205,7 +205,7 @@ class Evaluator(Asker):
     def asked(
         self, node: Expression, path: Path, scope: Optional[Scope], type: Optional[Type], may_be_open: bool
     ) -> Form:
-        """What may be left out where it is only asked whether it is there, or whether it is the same."""
+        """The value of a node that may be omitted, if only its presence or an equality is asked for."""
         if may_be_open and isinstance(node, tree.FieldOf):
             return self._part(node, path, scope, may_be_open)
         return self.evaluate(node, path, scope, type)
@@ -237,7 +237,7 @@ class Evaluator(Asker):
         return found
 
     def _look_at_length(self, whole: Received, index: int, at: Token) -> None:
-        """An element that was received is one for sure only where the template names all before it."""
+        """A received element surely exists only if the template names all elements before it."""
         template = self.said_of(whole)
         items = template.items if isinstance(template, Elements) else ()
         if index >= len(items) or Wild.ANY_OR_NONE in items[: index + 1]:
@@ -260,7 +260,7 @@ class Evaluator(Asker):
         return self.part(whole, (number,))
 
     def _look_at_chosen(self, node: tree.FieldOf, whole: Form, of: Type) -> None:
-        """What was received has this alternative for sure: its template names it, or all others were asked for."""
+        """Checks that a received value surely has this alternative: its template names it, or no other is possible."""
         template = self.said_of(whole) if isinstance(whole, Received) else None
         if isinstance(whole, Received) and not isinstance(template, Chosen):
             if open_alternatives(whole.symbol.facts, whole.steps, of) != [node.word]:
@@ -325,7 +325,7 @@ class Evaluator(Asker):
             refuse(at, "this is no value")
 
     def _compared(self, node: tree.Binary, left: Form, right: Form) -> Form:
-        """Of a part of what was received, with what is known: the template that says the same."""
+        """The result for a part of a received message and a known value: the template that has the same meaning."""
         sign = node.sign
         if not isinstance(left, Received):
             left, right = right, left
@@ -348,7 +348,7 @@ class Evaluator(Asker):
         return self.fits(left, bounds[sign], node.at)
 
     def fits(self, received: Received, template: Form, at: Token) -> bool:
-        """Whether what was received matches; where that is open, its branch is split."""
+        """Whether a received message matches; if that is open, its branch is split."""
         symbol, steps = received.symbol, received.steps
         if steps == SENDER and not isinstance(template, ComponentValue):
             if template in (Wild.ANY, Mark.NULL):
@@ -413,7 +413,7 @@ class Evaluator(Asker):
         refuse(node.at, f"the function `{word}` isn't evaluated")
 
     def _group(self, node: tree.Call, path: Path, scope: Optional[Scope]) -> Form:
-        """`regexp`: what of a text matches a group of a pattern (C.4.1), where that is open in no other way."""
+        """`regexp`: the part of a text that matches a group of a pattern (C.4.1), if there is only one possibility."""
         if len(node.arguments) != 3:
             refuse(node.at, "`regexp` has another number of arguments")
         text, pattern, number = (item.value for item in node.arguments)
@@ -432,7 +432,7 @@ class Evaluator(Asker):
     def _by_template(
         self, word: str, arguments: list[tree.Argument], at: Token, path: Path, scope: Optional[Scope]
     ) -> Form:
-        """A template by its name: its parameters are values or templates, and nothing else is seen in it."""
+        """A template by its name: its parameters are values or templates, and it sees nothing else."""
         definition = self.program.templates[word]
         type = self.types.of(definition.type, definition.name)
         bound = self.bind(definition.parameters, arguments, at, path, scope)
@@ -466,7 +466,7 @@ class Evaluator(Asker):
     def _modify(
         self, base: Form, body: Expression, path: Path, scope: Optional[Scope], type: Optional[Type]
     ) -> Form:
-        """The base, with those fields that the body has in place of its own."""
+        """The base, with the fields of the body replacing its own."""
         if not isinstance(body, tree.Braces) or not isinstance(base, (Fields, Chosen)):
             if isinstance(body, tree.Braces) and type is not None and type.kind is Kind.RECORD and base is Wild.ANY:
                 base = opened(type)

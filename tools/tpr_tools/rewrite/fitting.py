@@ -1,4 +1,4 @@
-"""Whether a value or a template is one of a type, as the profile has it (ES 201 873-1, 6 and Annex B)."""
+"""Whether a value or a template fits a type of the profile (ES 201 873-1, 6 and Annex B)."""
 from __future__ import annotations
 
 from typing import Iterable, Optional
@@ -73,7 +73,7 @@ def _fits_chosen(form: Chosen, root: Type) -> bool:
 
 
 def nothing_said(field: FieldOfType) -> Form:
-    """What a template that says nothing of a record says of its field."""
+    """The template for a field if the template of its record says nothing about it."""
     return Wild.ANY_OR_NONE if field.is_optional else Wild.ANY
 
 
@@ -83,7 +83,7 @@ def opened(type: Type) -> Fields:
 
 
 def template_at(form: Form, type: Optional[Type], steps: Iterable[int]) -> Form:
-    """What a template of the type says of a part of what it matches, as far as it says anything."""
+    """What a template of the type says about a part of a matching value, as far as it says anything."""
     for step in steps:
         if type is None:
             return Wild.ANY
@@ -92,7 +92,7 @@ def template_at(form: Form, type: Optional[Type], steps: Iterable[int]) -> Form:
 
 
 def type_at(type: Optional[Type], steps: Iterable[int]) -> Optional[Type]:
-    """The type of a part of what has the type."""
+    """The type of a part of a value of the type."""
     for step in steps:
         if type is None:
             return None
@@ -101,7 +101,7 @@ def type_at(type: Optional[Type], steps: Iterable[int]) -> Optional[Type]:
 
 
 def open_alternatives(facts: Facts, steps: tuple[int, ...], union: Type) -> list[str]:
-    """Those of a union that was received which no branch before has asked for in vain."""
+    """The alternatives of a received union that no earlier branch has asked for in vain."""
     names = [field.name for field in union.root.fields]
     return [name for name in names if facts.get((steps, Chosen(name, Wild.ANY))) is not False]
 

@@ -1,9 +1,9 @@
-"""What can come to each port of a closed test case: what is sent there, place by place on each route.
+"""What can come to each port of a closed test case: the messages that are sent there, place by place on each route.
 
-A test case is closed where nothing but its own behaviours sends: it has no `system`, or `sut` plays it. Then the messages
-that flow are a least fixed point: from the constants on that are sent without a wait, each round follows all behaviours
-as far as what is known to come lets them, and what they send is added at once. A receive knows how many messages its component took
-on a route before, so that it looks at those alone that can be next.
+A test case is closed if only its own behaviours send: it has no `system`, or `sut` plays it. Then the messages that
+flow are a least fixed point. It starts with constants that are sent without a wait. Each round follows all behaviours
+as far as the known messages let them, and adds what they send at once. A receive knows how many messages its component
+took on a route before, so it considers only those that can be next.
 """
 from __future__ import annotations
 
@@ -20,10 +20,10 @@ ENDLESS = 1 << 30
 
 @dataclass
 class Flows:
-    """Of each route, by the number of the message on it, what that can be."""
+    """For each route, what each message can be, by its number on the route."""
 
     routes: dict[Route, list[dict[Coming, None]]] = field(default_factory=dict)
-    # The places at which anything was added in this round.
+    # The places that got new messages in this round.
     grown: set[tuple[Route, int]] = field(default_factory=set)
 
     def add(self, route: Route, span: Span, coming: Iterable[Coming]) -> None:
@@ -41,7 +41,7 @@ class Flows:
         return list(dict.fromkeys(one for place in places for one in place))
 
     def first(self, route: Route, span: Span, is_wanted: Callable[[Coming], bool]) -> Span:
-        """The places at which the first wanted one can be, for who discards all before it."""
+        """The places that the first wanted message can have, for a receiver that discards all before it."""
         places = self.routes.get(route, [])
         low = next((number for number in range(span[0], len(places)) if any(map(is_wanted, places[number]))), len(places))
         for number in range(min(span[1], len(places)), len(places)):
@@ -51,8 +51,7 @@ class Flows:
 
 
 def part_at(form: Form, type: Optional[Type], steps: tuple[int, ...]) -> Form:
-    """The part of a value at these steps; of an alternative that isn't the chosen one, and behind what is left out,
-    `omit`."""
+    """The part of a value at these steps. `omit` for an alternative that isn't chosen, and inside an omitted field."""
     for place, step in enumerate(steps):
         if isinstance(form, Chosen):
             of = type_at(type, steps[:place])

@@ -1,4 +1,4 @@
-"""Follows all behaviours of a test case, from the test case's own to those of the components that it starts."""
+"""Follows all behaviours of a test case: its own, and those of the components that it starts."""
 from __future__ import annotations
 
 from collections import Counter
@@ -19,18 +19,18 @@ from .values import VERDICTS
 
 MOST_ROUNDS = 8
 MOST_KNOWN_ROUNDS = 2_000
-# Where ways are sorted a round takes long.
+# A round takes long if paths are sorted.
 MOST_SORTED_ROUNDS = 5
 _Counts = Counter[tuple[int, str]]
 
 
 class NotClosed(Exception):
-    """What can come isn't known: the system sends too."""
+    """The messages that can come aren't known, because the system sends too."""
 
 
 @dataclass
 class Part:
-    """A component: its type, and what its behaviour was written as."""
+    """A component: its type, and the code written for its behaviour."""
 
     number: int
     type: Type
@@ -39,7 +39,7 @@ class Part:
     behaviour: Behaviour
     code: Code
     started: Optional[Started] = None
-    # It is there when its behaviour has ended.
+    # It still exists after its behaviour has ended.
     is_alive: bool = False
 
 
@@ -49,9 +49,9 @@ class Followed:
     parts: list[Part]
     joins: tuple[Joined, ...]
     system: Optional[Type]
-    # Components whose end every way of the test case waits for.
+    # Components whose end is awaited on every path of the test case.
     done: frozenset[int] = frozenset()
-    # For each component, the least that the test case's own verdict is where it ends without a wait for that component.
+    # For each component, the least local verdict of the test case on paths that end without waiting for that component.
     least: dict[int, str] = field(default_factory=dict)
 
 
@@ -60,7 +60,7 @@ class CaseBehaviour(Behaviour):
 
 
 class SystemBehaviour(Behaviour):
-    """The function `sut`: it sends what its ports list as received, and the other way round."""
+    """The function `sut`: it sends the messages that its ports list as received, and receives those listed as sent."""
 
     def sent_types(self, port: str) -> list[Type]:
         return super().received_types(port)
@@ -70,7 +70,7 @@ class SystemBehaviour(Behaviour):
 
 
 def follow(run: Run, case: tree.TestCase) -> Followed:
-    """All behaviours. Where a `repeat` counts what can come it is done anew until the counts hold."""
+    """Follows all behaviours. If a `repeat` counts the messages that can come, does it again until the counts hold."""
     if run.flows is not None:
         return _follow_flows(run, case, run.flows)
     for _ in range(MOST_ROUNDS):
@@ -87,7 +87,7 @@ def follow(run: Run, case: tree.TestCase) -> Followed:
 
 
 def _follow_flows(run: Run, case: tree.TestCase, flows: Flows) -> Followed:
-    """All behaviours, anew until they send nothing more that isn't known to come; they may compute it in a circle."""
+    """Follows all behaviours, again and again until they send nothing new. They may compute messages in a cycle."""
     growing: Counter[tuple[Route, int]] = Counter()
     while max(growing.values(), default=0) < (MOST_SORTED_ROUNDS if run.sorts else MOST_KNOWN_ROUNDS):
         run.begin(case.at)
@@ -119,7 +119,7 @@ def _follow_once(run: Run, case: tree.TestCase) -> Followed:
     ways = _from_the_start(behaviour, path, case)
     state = ways[0].state
     if system is None and any(SYSTEM in (join.one.component, join.other.component) for join in state.joins):
-        # Without a clause the test system interface is of the test case's own type (9.2).
+        # Without a `system` clause the test system interface has the test case's own type (9.2).
         system = own
     parts = [Part(0, own, "mtc", case.at, behaviour, path.code)]
     started = dict(state.started)
@@ -127,7 +127,7 @@ def _follow_once(run: Run, case: tree.TestCase) -> Followed:
         parts.append(_part(run, number, state, started))
     if system is not None:
         parts += _system_part(run, system, state)
-    # A way that waits for good doesn't end the test case.
+    # A path that waits forever doesn't end the test case.
     ending = [way for way in ways if way.exit is not Exit.STUCK]
     for way in ending:
         _tell_ends(behaviour, way, case.at)
@@ -159,7 +159,8 @@ def _from_the_start(behaviour: Behaviour, path: Path, case: tree.TestCase) -> li
 
 
 def _tell_ends(behaviour: Behaviour, way: Path, at: Token) -> None:
-    """Behind all that a way of the test case waits for, those that it doesn't wait for are told that it has ended."""
+    """After everything that a path of the test case waits for, tells the components that it doesn't wait for that it
+    has ended."""
     started = {number for number, _ in way.state.started}
     told = sorted(behaviour.run.ending & started - way.state.done - way.state.awaited)
     if told:
@@ -168,7 +169,7 @@ def _tell_ends(behaviour: Behaviour, way: Path, at: Token) -> None:
 
 
 def _arguments_of(run: Run, case: tree.TestCase) -> list[tree.Argument]:
-    """What the test case is given by its `execute`, and what the command line gives in place of that."""
+    """The arguments of the test case from its `execute`; values from the command line replace them."""
     calls = run.program.calls_of(case.name)
     names = [parameter.name for parameter in case.parameters]
     known = {name: run.parameters[name] for name in names if name in run.parameters}
@@ -262,7 +263,7 @@ def _most(followed: Followed) -> _Counts:
 
 
 def _sends(code: Code) -> Counter[str]:
-    """At most so many sends at each port, on whatever way."""
+    """The most sends at each port on any path."""
     found: Counter[str] = Counter()
     for statement in code:
         if isinstance(statement, Sent):
@@ -281,7 +282,7 @@ def waits(code: Code) -> bool:
         if isinstance(statement, (Got, GotDone)):
             return True
         if isinstance(statement, Ways):
-            # A timeout and the end of the test case come for sure.
+            # A timeout and the end of the test case are sure to come.
             sure = (type(None), Ticked, GotEnd, Came)
             goes_on = any(isinstance(way.operation, sure) for way in statement.branches)
             if not goes_on or any(waits(way.code) for way in statement.branches):
@@ -296,7 +297,7 @@ def ports_used(code: Code) -> set[str]:
 
 
 def with_ends(run: Run, case: tree.TestCase) -> Followed:
-    """All behaviours. Those that may still wait when the test case ends have a branch for that wherever they wait."""
+    """Follows all behaviours. Components that may still wait when the test case ends get a branch for that."""
     followed = follow(run, case)
     while not run.refused and run.lost is None:
         waiting = {part.number for part in followed.parts if _is_left(followed, part) and waits(part.code)}
@@ -308,12 +309,12 @@ def with_ends(run: Run, case: tree.TestCase) -> Followed:
 
 
 def _is_left(followed: Followed, part: Part) -> bool:
-    """Whether the test case may end without a wait for its end."""
+    """Whether the test case may end without waiting for the end of the component."""
     return part.started is not None and part.number > 0 and part.number not in followed.done
 
 
 def look_at_ends(run: Run, followed: Followed) -> None:
-    """What hangs on when a component begins or ends, where the profile's order is another."""
+    """Refuses what depends on the moment when a component begins or ends, if the order in the profile differs."""
     by_number = {part.number: part for part in followed.parts}
     for part in followed.parts:
         if part.started and _is_left(followed, part):
@@ -328,7 +329,7 @@ def look_at_ends(run: Run, followed: Followed) -> None:
 
 
 def _reason_to_wait(followed: Followed, part: Part) -> str:
-    """Why it isn't the same whether the end of the test case ends this component; empty where it is."""
+    """Why it matters whether the end of the test case ends this component; empty if it doesn't matter."""
     if waits(part.code):
         return "the test case may end while this component still waits: that would end it, but here it is an error"
     words = [one.word for one in statements_of(part.code) if isinstance(one, Verdict)]
@@ -340,7 +341,8 @@ def _reason_to_wait(followed: Followed, part: Part) -> str:
 
 
 def _may_fail(followed: Followed, part: Part, statement: Emitted) -> bool:
-    """A send from a port that was stopped, or that leads to nobody, or to several without saying to whom."""
+    """A send may fail from a port that was stopped, that leads nowhere, or that leads to several receivers without
+    naming one."""
     if isinstance(statement, Operated):
         return statement.act in ("stop", "halt")
     if not isinstance(statement, Sent) or statement.to_all:

@@ -1,4 +1,4 @@
-"""The branches of an `alt`, one by one: those of its altsteps and of the active defaults too (ES 201 873-1, 20)."""
+"""The branches of an `alt`, one by one, also those of its altsteps and of active defaults (ES 201 873-1, 20)."""
 from __future__ import annotations
 
 from dataclasses import dataclass, field
@@ -22,7 +22,7 @@ MOST_GUARDS = 500
 
 @dataclass
 class Body:
-    """A block behind a branch's operation, in its scope; of an altstep's own branch `is_of_altstep`."""
+    """The block after a branch's operation, in its scope; `is_of_altstep` for an altstep's own branch."""
 
     block: tree.Block
     scope: Scope
@@ -31,7 +31,7 @@ class Body:
 
 @dataclass
 class Guard:
-    """A branch with one operation at one port. Without an operation it is open whenever it is come to."""
+    """A branch with one operation at one port. Without an operation it is open whenever it is reached."""
 
     at: Token
     how: Optional[Receiving]
@@ -42,13 +42,13 @@ class Guard:
     redirect: Optional[tree.Redirect] = None
     redirect_scope: Optional[Scope] = None
     component: Optional[int] = None
-    # The timer whose timeout it waits for, and whether that is sure to come.
+    # The timer whose timeout it waits for, and whether the timeout is sure to come.
     timer: Optional[tuple[Place, TimerValue]] = None
     is_sure: bool = False
     # It waits for the end of the test case.
     is_end: bool = False
     index: Optional[Form] = None
-    # Its number among the branches that aren't of defaults.
+    # Its number among the branches that don't come from defaults.
     source: Optional[int] = None
     number: int = 0
 
@@ -60,7 +60,7 @@ class Guard:
 
 @dataclass
 class Expansion:
-    """The branches so far, and whether one of them is open whenever it is come to."""
+    """The branches so far, and whether one of them is open whenever it is reached."""
 
     guards: list[Guard] = field(default_factory=list)
     scopes: list[Scope] = field(default_factory=list)
@@ -77,7 +77,7 @@ class Expansion:
 
 class Expander(Closed):
     def expand(self, branches: list[Opened], path: Path) -> Expansion:
-        """All branches in the order in which they are tried; behind one that is always open none is."""
+        """All branches in the order in which they are tried. Branches after one that is always open are left out."""
         found = Expansion()
         self.is_looking = True
         for number, opened in enumerate(branches):
@@ -117,7 +117,7 @@ class Expander(Closed):
             refuse(event.at, "this isn't an operation that a branch can wait for")
 
     def altstep_of(self, call: Expression, at: Token) -> tuple[tree.Altstep, list[tree.Argument]]:
-        """The altstep that is called, and with what."""
+        """The altstep that is called, and its arguments."""
         word = tree.word_called(call)
         altstep = self.program.altsteps.get(word)
         if altstep is None:
@@ -133,7 +133,7 @@ class Expander(Closed):
         inner = self.new_scope(self.root if altstep.runs_on else None)
         for name, slot in bound:
             path.state.variables[inner.number, name] = slot
-        # An empty block of its own keeps the altstep's branches apart from those of the `alt`.
+        # An empty block separates the altstep's branches from those of the `alt`.
         outer = bodies or [Body(tree.Block(call.at, []), scope, False)]
         self._add_branches(altstep, path, inner, outer, found)
 
@@ -190,8 +190,8 @@ class Expander(Closed):
         return [self._sender(node, path, scope) for node in event.senders]
 
     def _sender(self, node: Expression, path: Path, scope: Scope) -> Who:
-        """Where it is the sender of an earlier message, that message gets a branch for each sender: behind `from` the
-        profile has no such variable."""
+        """The component after `from`. If it is the sender of an earlier message, that message gets a branch for each
+        sender, because the profile has no such variable after `from`."""
         value = self.evaluate(node, path, scope)
         if not isinstance(value, Received) or not value.symbol.is_sender:
             return self.who(node, path, scope)
@@ -215,7 +215,7 @@ class Expander(Closed):
         return self.wanted(event.template, port, path, scope)
 
     def _can_come(self, node: Expression, port: str, path: Path, scope: Scope) -> bool:
-        """Of `any port`, whether this one receives the type at all."""
+        """For `any port`: whether this port receives the type at all."""
         type = self.type_of(node, path, scope)
         return type is None or type.root in [one.root for one in self.received_types(port)]
 
@@ -236,7 +236,7 @@ class Expander(Closed):
             self.flush(path, event.at)
             found.add(Guard(event.at, None, bodies))
         else:
-            # Of several the first is waited for, and then the `alt` begins anew: the rest is asked for behind it.
+            # If there are several, the `alt` waits for the first and then repeats, to wait for the others.
             is_last = len(open_ones) == 1
             self.ask_done(open_ones[0], event.at, path)
             again = [Body(tree.Block(event.at, [tree.Leave(event.at, Leaving.REPEAT)]), scope, False)]
@@ -250,8 +250,8 @@ class Expander(Closed):
 
 
 def without_timeouts(guards: list[Guard]) -> list[Guard]:
-    """No timer expires while the `alt` waits for something else; one that it alone waits for does, as soon as no default has
-    something to take."""
+    """No timer expires while the `alt` waits for something else. If the `alt` waits only for one timer, the timer
+    expires when no default has a message to take."""
     others = [guard for guard in guards if guard.timer is None]
     sure = [guard for guard in guards if guard.timer is not None and guard.source is not None]
     if not sure or any(guard.source is not None for guard in others):
@@ -263,7 +263,7 @@ def without_timeouts(guards: list[Guard]) -> list[Guard]:
 
 
 def _ports_in(value: Form, steps: tuple[int, ...]) -> list[tuple[tuple[int, ...], str]]:
-    """The ports of an array, or of arrays in one, each with its indices."""
+    """The ports of a possibly nested array, each with its indices."""
     if isinstance(value, PortValue):
         return [(steps, value.name)]
     items = value.items if isinstance(value, Elements) else ()
@@ -275,7 +275,7 @@ def _index(steps: tuple[int, ...]) -> Form:
 
 
 def is_repeat_alone(bodies: list[Body]) -> bool:
-    """Whether nothing is done but to begin the `alt` anew."""
+    """Whether the only effect is to repeat the `alt`."""
     statements = [statement for body in bodies for statement in body.block.statements]
     if not statements or any(isinstance(item, tree.Dropped) and item.arguments for item in statements[:-1]):
         statements = [item for item in statements if not _is_plain_log(item)]
@@ -291,7 +291,7 @@ def _is_plain_log(statement: tree.Statement) -> bool:
 
 
 def may_repeat(block: tree.Block) -> bool:
-    """Whether a `repeat` of the `alt` around it stands in the block."""
+    """Whether the block contains a `repeat` of the `alt` around it."""
     inner = [one for one in block.statements if not isinstance(one, tree.Alt)]
     is_there = any(isinstance(one, tree.Leave) and one.how is Leaving.REPEAT for one in inner)
     return is_there or any(may_repeat(found) for one in inner for found in tree.blocks_of(one))

@@ -1,7 +1,7 @@
-"""Calls within an expression that do more than to compute a value: they are followed before its statement.
+"""Calls within an expression that do more than compute a value: they are followed before the statement.
 
-That is the same where nothing else in the expression is changed by the call: an operand before it is evaluated first in
-the full language.
+This has the same meaning if the call changes nothing else in the expression. In the full language the operands before
+it are evaluated first.
 """
 from __future__ import annotations
 
@@ -19,7 +19,7 @@ _MORE = "this call within an expression does more than compute a value"
 
 
 class Communicates(Refusal):
-    """A call that sends, receives, or does something else that is written."""
+    """A call that sends, receives, or does something else for which a statement is written."""
 
     def __init__(self, call: tree.Call):
         super().__init__(call.at, _MORE)
@@ -27,12 +27,12 @@ class Communicates(Refusal):
 
 
 def key_of(call: tree.Call) -> Key:
-    """Where the value of a call that was followed before is kept: no variable has such a name."""
+    """The key for the value of a call that was followed before its statement: no variable has such a name."""
     return (0, f"@{id(call)}")
 
 
 def expressions_of(statement: Statement) -> Optional[list[Expression]]:
-    """What is evaluated once, before the statement does anything; None where it isn't so."""
+    """The expressions that are evaluated once, before the statement has any effect; None if there are others."""
     if isinstance(statement, tree.If):
         return [statement.condition]
     if isinstance(statement, tree.SetVerdict):
@@ -53,7 +53,7 @@ def expressions_of(statement: Statement) -> Optional[list[Expression]]:
 
 
 def names_beside(node: object, call: tree.Call) -> Iterator[str]:
-    """The names that stand in an expression, but for those of a call in it."""
+    """The names in an expression, except those inside the given call."""
     if node is call:
         return
     if isinstance(node, tree.Name):
@@ -67,7 +67,7 @@ def names_beside(node: object, call: tree.Call) -> Iterator[str]:
 
 
 def calls_in(node: object) -> Iterator[tree.Call]:
-    """All calls that stand in an expression."""
+    """All calls in an expression."""
     if isinstance(node, tree.Call):
         yield node
     if isinstance(node, (list, tuple)):
@@ -79,7 +79,7 @@ def calls_in(node: object) -> Iterator[tree.Call]:
 
 
 class Hoister:
-    """What of a behaviour's follower is needed for it; it is a part of that."""
+    """The methods of a behaviour's follower that are needed here; this class is a part of it."""
 
     def call(self, node: tree.Call, path: Path, scope: Optional[Scope]) -> list[Path]:
         raise NotImplementedError
@@ -94,7 +94,7 @@ class Hoister:
         self, met: Communicates, listed: list[Expression], path: Path, scope: Scope,
         go_on: Callable[[Path], list[Answer]], leave: Callable[[Path], Answer],
     ) -> list[Answer]:
-        """Follows the call, and then goes on, on each way behind it."""
+        """Follows the call, and then continues with `go_on` on each path after it."""
         if not self.is_apart(met.call, listed, path):
             raise Refusal(met.at, met.reason)
         key = key_of(met.call)

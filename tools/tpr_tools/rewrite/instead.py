@@ -1,4 +1,4 @@
-"""What to do about each reason for which something isn't carried over: one table, in the order in which it is looked up."""
+"""What to do about each reason for a refusal: one table, searched in its order."""
 from __future__ import annotations
 
 import re
@@ -13,7 +13,7 @@ _SETUP = "create, connect and start all components at the head of the test case,
 _CALLED = "call the function before this, in a statement of its own, and use a variable with its value"
 _TYPES = "write the type before the value, as `T:1`, or another type in the port's list"
 
-# A word of the reason, as a regular expression, and what to do.
+# A regular expression for the reason, and what to do.
 _TABLE = (
     (r"--values|--statements|--seconds", "give the option the number that is named, or split the test case"),
     (r"comes? after the end of|may come after the end", f"{_ORDER}; or give --ended=queued"),

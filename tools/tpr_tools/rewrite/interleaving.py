@@ -1,6 +1,7 @@
-"""The branches of an `interleave`: each goes on to its own next wait, and all these are waited for at once (ES 201 873-1, 20.4).
+"""The branches of an `interleave`: each continues to its own next wait, and the script waits for all these at once (ES
+201 873-1, 20.4).
 
-Nothing in a branch leaves it but a `break`, no loop and no function in it waits, and no `alt` in it has an `[else]` or an altstep.
+Only a `break` leaves a branch, no loop and no function in it waits, and no `alt` in it has an `[else]` or an altstep.
 """
 from __future__ import annotations
 
@@ -19,21 +20,22 @@ _WAITING = (tree.Receive, tree.Find)
 
 @dataclass(frozen=True)
 class Rest:
-    """What a branch still does: the lists that it is in with the place in each, the innermost last, and the branches of an
-    `interleave` in it that it stands at."""
+    """The remaining part of a branch: the lists of statements that it is in, with the place in each, the innermost
+    last; and the branches of an inner `interleave` that it has reached."""
 
     lists: tuple[tuple[list[Statement], int, Scope], ...]
     inner: tuple[Rest, ...] = ()
 
     def behind(self, block: Optional[tree.Block], scope: Scope) -> Rest:
-        """Behind the statement that it stands at, or in a block of that."""
+        """The remaining part after the current statement, or from the beginning of a block in it."""
         listed, at, own = self.lists[-1]
         inside = ((block.statements, 0, scope),) if block is not None else ()
         return Rest((*self.lists[:-1], (listed, at + 1, own), *inside))
 
 
 class Opened(NamedTuple):
-    """A branch that is waited for, in its scope. Of an `interleave` it has no block, and what all branches do behind it."""
+    """A branch that is waited for, in its scope. A branch of an `interleave` has no block, but the remaining parts of
+    all branches."""
 
     branch: tree.Branch
     scope: Scope
@@ -41,7 +43,7 @@ class Opened(NamedTuple):
 
 
 class Interleaving:
-    """What of a behaviour's follower is needed for it; it is a part of that."""
+    """The methods of a behaviour's follower that are needed here; this class is a part of it."""
 
     program: Program
     _slices: dict[tuple[int, int, int], list[Statement]]
@@ -75,7 +77,7 @@ class Interleaving:
         return tuple(Rest((([one], 0, self.new_scope(scope)),)) for one in alone)
 
     def opened(self, rests: tuple[Rest, ...]) -> list[Opened]:
-        """What is waited for, and how it goes on behind each."""
+        """The operations that are waited for, and how the script continues after each."""
         found: list[Opened] = []
         for place, rest in enumerate(rests):
             before, after = rests[:place], rests[place + 1 :]
@@ -97,7 +99,7 @@ class Interleaving:
         ]
 
     def gone_on(self, rests: tuple[Rest, ...], path: Path) -> list[tuple[Path, tuple[Rest, ...]]]:
-        """On each way, all branches that haven't ended, where they wait."""
+        """For each path, all branches that haven't ended, at their next waits."""
         ways: list[tuple[Path, tuple[Rest, ...]]] = [(path, ())]
         for rest in rests:
             ways = [(found, (*before, *more)) for one, before in ways for found, more in self._go_on(rest, one)]
@@ -130,7 +132,8 @@ class Interleaving:
         return [(path, (Rest(rest.lists, inner),))]
 
     def _look_at(self, statement: Statement, leaving: tuple[tree.Leaving, ...]) -> None:
-        """A statement of a branch, which may leave it so: a `break` leaves the `interleave`, or a loop in it."""
+        """Checks a statement of a branch; `leaving` has the words that may leave it: a `break` leaves the `interleave`,
+        or a loop in it."""
         is_interleave = isinstance(statement, tree.Alt) and statement.is_interleave
         is_loop = isinstance(statement, (tree.For, tree.While))
         is_left = isinstance(statement, tree.Leave) and statement.how in leaving

@@ -1,5 +1,5 @@
-"""Ways that jump to a label (ES 201 873-1, 19.7 and 19.8): they go on where it stands, in the list that they left or that
-is around it. A circle is unrolled, and one that changes nothing is refused.
+"""Paths that jump to a label (ES 201 873-1, 19.7 and 19.8): they continue at the label, in the list that they left or
+in one around it. A cycle is unrolled, and one that changes nothing is refused.
 """
 from __future__ import annotations
 
@@ -16,7 +16,8 @@ def has_labels(listed: list[Statement]) -> bool:
 
 
 def lost_label(paths: list[Path]) -> Optional[str]:
-    """The label of a way that jumps out of a function, an altstep or a test case, which none may; it goes on here."""
+    """The label of a path that jumps out of a function, an altstep or a test case, which isn't allowed; the path
+    continues here."""
     lost: Optional[str] = None
     for path in paths:
         if path.exit is Exit.JUMP:
@@ -25,7 +26,7 @@ def lost_label(paths: list[Path]) -> Optional[str]:
 
 
 class Labels:
-    """The labels of a list of statements, and the state in which the last way alone went back to one."""
+    """The labels of a list of statements, and the state of the last single path that jumped back to one."""
 
     def __init__(self, listed: list[Statement]):
         self.listed = listed
@@ -33,7 +34,7 @@ class Labels:
         self.before: Optional[State] = None
 
     def land(self, index: int, paths: list[Path]) -> None:
-        """The ways that jump to the label at this place go on here."""
+        """Lets the paths that jump to the label at this place continue here."""
         here = self.listed[index]
         if isinstance(here, tree.Label):
             for path in paths:
@@ -41,7 +42,7 @@ class Labels:
                     path.exit = Exit.ON
 
     def next(self, index: int, paths: list[Path]) -> int:
-        """The place that is looked at next. At the end of the list it is the first label that ways jump back to."""
+        """The next place to follow: at the end of the list, the first label that paths jump back to."""
         if index + 1 < len(self.listed) or not self.places:
             return index + 1
         back = [self.places[path.label] for path in paths if path.exit is Exit.JUMP and path.label in self.places]
@@ -53,7 +54,7 @@ class Labels:
         return min(back) if back else index + 1
 
     def forget(self) -> None:
-        """What was followed is followed anew."""
+        """Called when the list is followed again."""
         self.before = None
 
     def _look_at_circle(self, place: int, paths: list[Path]) -> None:

@@ -1,4 +1,4 @@
-"""How a form, a type and a name stand in a script of the profile."""
+"""The text of a form, a type and a name in a script of the profile."""
 from __future__ import annotations
 
 from typing import Iterable, Optional
@@ -47,7 +47,7 @@ def type_text(type: Type) -> str:
 
 
 class Names:
-    """Gives each thing a name of its own."""
+    """Gives each thing a unique name."""
 
     def __init__(self) -> None:
         self.taken: set[str] = set(RESERVED | RESERVED_ELSEWHERE)
@@ -56,7 +56,7 @@ class Names:
         self.taken |= set(names)
 
     def free(self, wanted: str, others: Optional[set[str]] = None) -> str:
-        """The wanted name, or one like it that nothing has."""
+        """The wanted name, or a similar one that isn't used."""
         wanted = wanted[: MOST_LETTERS - 4] or "v"
         taken = self.taken | (others or set())
         found, number = wanted, 2

@@ -1,7 +1,7 @@
-"""The branches of an `alt` as they are written, and which of them need not be, since nothing can come to them.
+"""The branches of an `alt` as they are written, and which of them can be left out because no message can reach them.
 
-What is known of what comes is checked by the script that is written: a message that it doesn't know of ends with an
-`error`, either since all branches wait behind it at its port for good, or by a branch that fails.
+The written script checks what is known about the messages: an unexpected message ends in an `error`, because either all
+branches wait forever behind it at its port, or a branch fails.
 """
 from __future__ import annotations
 
@@ -19,7 +19,7 @@ _WAITING = (Receiving.RECEIVE, Receiving.CHECK)
 
 
 class Leaf:
-    """A branch as it is written: a guard, with what is asked of the message besides."""
+    """A branch as it is written: a guard, and the facts about its message."""
 
     def __init__(self, guard: Guard, facts: Facts, message: Optional[Message], sender: Optional[Who]):
         self.guard = guard
@@ -27,18 +27,18 @@ class Leaf:
         self.message = message
         self.sender = sender
         self.how = guard.how
-        # What comes is discarded, and the `alt` begins anew.
+        # Its messages are discarded, and the `alt` is repeated.
         self.is_discarding = False
-        # By what has come before it is never chosen.
+        # It is never chosen, because of the messages that came before.
         self.is_never = False
         self.got: Optional[Got] = None
-        # What can come to it, where that is known; with nothing it is never chosen either, and a run that chooses it
-        # is an error.
+        # The messages that can come to it, if they are known. If there are none, it is never chosen either, and a run
+        # that chooses it is an error.
         self.coming: Optional[list[Coming]] = None
         self.awaited: Optional[Awaited] = None
-        # What is written for its message, in place of a template that takes more than can come.
+        # The message that is written instead of a template that accepts more than can come.
         self.exact: Optional[Message] = None
-        # Whether all branches wait at one port, so that what none of them takes is waited behind for good.
+        # Whether all branches wait at one port, so that they wait forever behind a message that none of them accepts.
         self.is_of_one_port = False
         self.has_several_peers = False
 
@@ -48,7 +48,7 @@ class Leaf:
 
     @property
     def only_sender(self) -> Optional[int]:
-        """Who sends it, where the port has several others, and a message of another one would be an error."""
+        """The sender of the message, if the port has others, and a message from another one would be an error."""
         if not self.is_of_one_port or not self.coming or self.guard.sender is not None:
             return None
         found = {one.sender.component for one in self.coming}
@@ -56,8 +56,8 @@ class Leaf:
 
 
 def without_barred(leaves: list[Leaf]) -> list[Leaf]:
-    """Where all wait at one port: without those that nothing can come to. What they would take must not be taken by one
-    behind them then, so that such a one takes what can come to it alone."""
+    """If all branches wait at one port: leaves out those that no message can reach. Their messages must not be taken by
+    a later branch, so a later one accepts only the messages that can come to it."""
     port = leaves[0].guard.port
     for leaf in leaves:
         if leaf.how not in _WAITING or leaf.guard.port != port or leaf.is_discarding:
@@ -78,7 +78,7 @@ def without_barred(leaves: list[Leaf]) -> list[Leaf]:
 
 
 def _is_made_exact(leaf: Leaf) -> bool:
-    """Whether it can be told by the values that come to it."""
+    """Whether it can be written as the list of values that can come to it."""
     if leaf.coming is None:
         return False
     forms = list(dict.fromkeys(one.form for one in leaf.coming))

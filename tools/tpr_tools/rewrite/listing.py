@@ -11,7 +11,7 @@ from .compatible import given_by_structure
 from .reading_modules import ModuleReader
 from .tokens import Refused, Source, Token
 
-# ES 201 873-1, 16.1.2. What isn't listed is a function of this module, or of one that it imports.
+# ES 201 873-1, 16.1.2. A name that isn't listed is a function of this module or of one that it imports.
 _PREDEFINED = frozenset(
     "any2unistr bit2hex bit2int bit2oct bit2str char2int char2oct decvalue decvalue_o decvalue_unichar encvalue"
     " encvalue_o encvalue_unichar enum2int float2int get_stringencoding hex2bit hex2int hex2oct hex2str hostid"
@@ -19,7 +19,7 @@ _PREDEFINED = frozenset(
     " istemplatekind isvalue lengthof oct2bit oct2char oct2hex oct2int oct2str oct2unichar regexp remove_bom"
     " replace rnd sizeof str2float str2hex str2int str2oct substr testcasename unichar2int unichar2oct".split()
 )
-# Calls that are constructs of their own.
+# Calls that are constructs of their own, and so reported as these.
 _TOLD_ELSEWHERE = ("match", "valueof", "checkstate")
 _WORDS = {"port": "p", "operation": "send", "type": "T", "value": "1", "name": "f", "verdict": "fail"}
 
@@ -62,7 +62,7 @@ def constructs_of(file: str, data: bytes) -> tuple[list[Listed], list[Refused]]:
 
 
 def _of_messages(reader: ModuleReader, modules: list[tree.Module]) -> list[Listed]:
-    """A message without its type, or a template by its name alone. A variable may be sent by its name."""
+    """Messages without their type, or templates given only by name. A variable may be sent by its name."""
     definitions = [item for module in modules for item in module.definitions]
     named = {item.name for item in definitions if isinstance(item, (tree.TemplateDefinition, tree.Constant))}
     found: list[Listed] = []
@@ -78,7 +78,7 @@ def _of_messages(reader: ModuleReader, modules: list[tree.Module]) -> list[Liste
 
 
 def _of_calls(reader: ModuleReader, modules: list[tree.Module]) -> list[Listed]:
-    """A function that is called, and no altstep or template with parameters."""
+    """Calls of functions, but not of altsteps or templates with parameters."""
     definitions = [item for module in modules for item in module.definitions]
     others = {item.name for item in definitions if not isinstance(item, tree.Function)}
     called = [at for at in reader.called if at.text not in others and at.text not in _TOLD_ELSEWHERE]
@@ -86,7 +86,7 @@ def _of_calls(reader: ModuleReader, modules: list[tree.Module]) -> list[Listed]:
 
 
 def _of_order(body: Union[tree.Function, tree.TestCase]) -> list[Listed]:
-    """Setup, starts, variables and statements come in this order, and `all component.done` last."""
+    """Checks the order: setup, starts, variables and statements, and `all component.done` last."""
     statements = body.body.statements if body.body else []
     found: list[Listed] = []
     is_behind = has_variables = False

@@ -1,4 +1,4 @@
-"""Follows lists of statements along all ways, and goes back where what was received must be told apart."""
+"""Follows lists of statements along all paths, and goes back if a received message must be distinguished."""
 from __future__ import annotations
 
 from dataclasses import replace
@@ -23,12 +23,14 @@ Plan = Optional[tuple[tuple[int, ...], Form, "Plan", "Plan"]]
 
 
 class ListFollower(Evaluator, Hoister, Interleaving):
-    """One behaviour. `ports` are its component's; `plans` says of a receive into which branches it is split."""
+    """Follows one behaviour. `ports` are those of its component; `plans` has, for each receive, the branches into which
+    it is split."""
 
     def __init__(self, run: Run, own: int, type: Type, at: Token):
         super().__init__(run.program, own)
         self.run = run
-        # Ways that are sorted agree in what they took, so that a message that is asked for no more keeps none of them apart.
+        # Sorted paths agree in the messages that they took, so a message that isn't asked for any more keeps none of
+        # them apart.
         self.spoken_in = run.program.asked_in if run.sorts else run.program.names_in
         self.flows, self.most_values = run.flows, run.options.values
         self.parameters = run.parameters
@@ -43,7 +45,7 @@ class ListFollower(Evaluator, Hoister, Interleaving):
         self.hint = ""
         self.root = self.new_scope(None)
         self.has_verdict = run.program.has_word("getverdict")
-        # What a default speaks of may be asked for wherever something is waited for.
+        # A default may use its names wherever the script waits.
         altsteps = run.program.altsteps if run.program.has_word("activate") else []
         self.frames.append(frozenset().union(run.program.names_of_timers(), *map(run.program.reached_by, altsteps)))
         self._suffixes: dict[int, list[frozenset[str]]] = {}
@@ -51,7 +53,7 @@ class ListFollower(Evaluator, Hoister, Interleaving):
         self._slices = {}
 
     def begin(self, path: Path) -> None:
-        """The component's ports and its variables, as they are when its behaviour begins."""
+        """Declares the component's ports and variables, as they are when its behaviour begins."""
         variables, root = path.state.variables, self.root.number
         for port in self.ports.values():
             variables[root, port.name] = Slot(port.type, PortValue(port.name))
@@ -66,7 +68,7 @@ class ListFollower(Evaluator, Hoister, Interleaving):
     # Lists of statements
 
     def statements(self, listed: list[Statement], path: Path, scope: Scope) -> list[Path]:
-        """All ways behind the list. Where a message must be told apart it goes back to where that came."""
+        """All paths after the list. If a message must be distinguished, goes back to where it was received."""
         points: list[Checkpoint] = []
         paths, index, above = [path], 0, path.fork
         open_now = (len(self.frames), len(self.results), self.depth)
@@ -99,7 +101,7 @@ class ListFollower(Evaluator, Hoister, Interleaving):
         return point.index, point.restored()
 
     def plan(self, splits: list[Split]) -> None:
-        """Branches more for one message; what was planned for those behind it hung on the branches that it had."""
+        """Adds planned branches for one message. Plans for later messages depended on its branches, and are dropped."""
         number = splits[0].symbol.number
         while self.plans and next(reversed(self.plans)) > number:
             self.plans.popitem()
@@ -107,7 +109,7 @@ class ListFollower(Evaluator, Hoister, Interleaving):
             self.plans[number] = _extended(self.plans.get(number), list(split.symbol.facts.items()), split)
 
     def _close(self, open_then: tuple[int, int, int]) -> None:
-        """Forgets the lists, calls and expressions that were left on the way back."""
+        """Forgets the lists, calls and expressions that were left when going back."""
         self.is_looking = False
         frames, results, self.depth = open_then
         del self.frames[frames:], self.results[results:]
@@ -117,7 +119,7 @@ class ListFollower(Evaluator, Hoister, Interleaving):
     ) -> list[Path]:
         found: list[Path] = []
         depth = len(self.frames)
-        # What stands before may be come to again by a `goto`.
+        # A `goto` may lead back to earlier statements.
         self.frames.append((listed, 0 if has_labels(listed) else index))
         for path in paths:
             if path.exit is Exit.ON:
@@ -133,7 +135,7 @@ class ListFollower(Evaluator, Hoister, Interleaving):
         return found
 
     def sorted(self, ways: list[Sorted], above: Optional[Fork], at: Token) -> list[Sorted]:
-        """The ways that come from one with this fork, sorted if they are to be."""
+        """The paths that come from the path with this fork, sorted if the run sorts."""
         if not self.run.sorts:
             return ways
         asked = Asked(self.live(), self.has_verdict, self.leave_behind, self._next_number, self.run.write)
@@ -144,7 +146,7 @@ class ListFollower(Evaluator, Hoister, Interleaving):
         return self.sorted_ways
 
     def _guarded(self, statement: Statement, path: Path, scope: Scope) -> list[Path]:
-        """What is refused is told, and the rest looked at as if it weren't there."""
+        """Follows a statement. A refusal is reported, and the rest is followed as if the statement weren't there."""
         open_now = (len(self.frames), len(self.results), self.depth)
         state, written = path.state.copy(), len(path.code)
         try:
@@ -161,7 +163,7 @@ class ListFollower(Evaluator, Hoister, Interleaving):
             return [path]
 
     def _look_within(self, statement: Statement, path: Path, scope: Scope) -> None:
-        """Of what is refused as a whole, what can't be carried over in it either; nothing of it is written."""
+        """Looks for further refusals inside a statement that is refused as a whole; nothing of it is written."""
         open_now = (len(self.frames), len(self.results), self.depth)
         for block in blocks_of(statement):
             inner, scope_within = Path([], path.state.copy(), None), self.new_scope(scope)
@@ -171,14 +173,14 @@ class ListFollower(Evaluator, Hoister, Interleaving):
             try:
                 self.statements(block.statements, inner, scope_within)
             except (Refusal, Split):
-                # It hangs on what is refused already.
+                # This results from the earlier refusal.
                 pass
             self._close(open_now)
 
     def _before(
         self, met: Communicates, statement: Statement, path: Path, written: int, scope: Scope
     ) -> list[Path]:
-        """The statement, behind a call in it that is followed first."""
+        """Follows a statement after a call in it that must be followed first."""
         listed = expressions_of(statement)
         depth = len(self.frames)
         try:
@@ -198,7 +200,7 @@ class ListFollower(Evaluator, Hoister, Interleaving):
         self.frames.append(names)
 
     def is_apart(self, call: tree.Call, listed: list[Expression], path: Path) -> bool:
-        """Whether nothing beside the call speaks of what it may change."""
+        """Whether nothing beside the call uses what the call may change."""
         beside = {name for node in listed for name in names_beside(node, call)}
         known = {name for _, name in path.state.variables}
         changed = set(self.program.reached_by(tree.word_called(call))) & known
@@ -215,11 +217,11 @@ class ListFollower(Evaluator, Hoister, Interleaving):
                 path.state.variables[key] = replace(path.state.variables[key], value=Mark.LOST)
 
     def leave_behind(self, path: Path, kept: set[Key]) -> None:
-        """A way is about to join others: of its variables these are kept."""
+        """Called before a path joins others, with the variables that are kept."""
         raise NotImplementedError
 
     def live(self) -> frozenset[str]:
-        """The names that are still spoken of, wherever this ends."""
+        """The names that may still be used after this point."""
         parts = []
         for frame in self.frames:
             parts.append(frame if isinstance(frame, frozenset) else self._suffix(*frame))
@@ -236,7 +238,7 @@ class ListFollower(Evaluator, Hoister, Interleaving):
         return known[index]
 
     def emit(self, path: Path, statement: Emitted) -> None:
-        """Writes a statement, behind what the behaviour waits for before it goes on."""
+        """Writes a statement, after everything that the behaviour must wait for before it continues."""
         if not isinstance(statement, Verdict):
             self.flush(path, statement.at)
         self.run.write(statement.at)
@@ -261,12 +263,12 @@ class ListFollower(Evaluator, Hoister, Interleaving):
 
 
 def _asked_first(split: Split, template: Form, no: Plan) -> Plan:
-    """The plan that asks for this template, and goes on with the other where it isn't matched."""
+    """A plan that asks for this template, and continues with the other plan if it isn't matched."""
     return (split.steps, template, None, no)
 
 
 def _extended(plan: Plan, facts: list[tuple[tuple[tuple[int, ...], Form], bool]], split: Split) -> Plan:
-    """The plan, with all that is asked now at the end of the branch that the facts are of."""
+    """The plan, extended at the end of the branch with these facts by everything that is now asked."""
     if plan is None:
         for template in reversed(split.templates):
             plan = _asked_first(split, template, plan)

@@ -1,4 +1,4 @@
-"""Follows loops turn by turn, and looks ahead to how much a loop, or a `repeat`, goes on to write (ES 201 873-1, 19.4 to 19.6)."""
+"""Follows loops turn by turn, and estimates what a loop or `repeat` will still write (ES 201 873-1, 19.4 to 19.6)."""
 from __future__ import annotations
 
 from typing import Callable, Optional
@@ -12,7 +12,7 @@ from .sorting import MOST_OF_TREE, Sorted
 from .tokens import Token
 from .tree import Expression, Statement
 
-# The ways that go on behind one turn.
+# The paths that continue after one turn.
 Turn = Callable[[Path], list[Path]]
 
 
@@ -34,7 +34,7 @@ class Looper(ListFollower):
         self, loop: Statement, condition: Expression, block: tree.Block, step: Optional[Statement],
         paths: list[Path], scope: Scope, is_first_done: bool,
     ) -> list[Path]:
-        """The turns of a loop, on each way as long as its condition holds."""
+        """Follows the turns of a loop, on each path as long as its condition holds."""
         self.frames.append(self.spoken_in(loop))
         finished: list[Path] = []
         is_asked = not is_first_done
@@ -51,7 +51,7 @@ class Looper(ListFollower):
                 self.run.step(loop.at)
                 turned += self._turned(condition if is_asked else None, block, path, scope, finished)
             is_asked = True
-            # All ways are joined once for each turn, since there may be many.
+            # All paths are joined once for each turn, because there may be many.
             going_on = self._stepped(turned, step, scope, finished)
             paths = joined(going_on, self.live(), self.has_verdict, self.leave_behind, self.run.sorts)
             if may_sort:
@@ -69,7 +69,7 @@ class Looper(ListFollower):
         self, loop: Statement, condition: Expression, before: Optional[State], path: Path, scope: Scope
     ) -> None:
         if before is not None and before == path.state:
-            # What is asked of a component doesn't hold for good.
+            # The state of a component may change later.
             self.is_looking = self.program.has_word("running") or self.program.has_word("alive")
             self.evaluate(condition, path, scope) if self.is_looking else None
             self.is_looking = False
@@ -78,7 +78,7 @@ class Looper(ListFollower):
     def _turned(
         self, condition: Optional[Expression], block: tree.Block, path: Path, scope: Scope, finished: list[Path]
     ) -> list[Path]:
-        """All that comes of a turn, if the condition holds."""
+        """The paths after a turn, if the condition holds."""
         found: list[Path] = []
         for one, goes_on in self._asked_of(condition, path, scope) if condition is not None else [(path, True)]:
             if one.exit is Exit.ON and goes_on:
@@ -88,7 +88,7 @@ class Looper(ListFollower):
         return found
 
     def _asked_of(self, condition: Expression, path: Path, scope: Scope) -> list[tuple[Path, bool]]:
-        """On each way, whether the condition of a loop holds; what it calls is followed before."""
+        """For each path, whether the condition of a loop holds; calls in it are followed before."""
         depth = len(self.frames)
         state = path.state.copy()
         try:
@@ -106,7 +106,7 @@ class Looper(ListFollower):
     def _stepped(
         self, turned: list[Path], step: Optional[Statement], scope: Scope, finished: list[Path]
     ) -> list[Path]:
-        """The ways that go on behind a turn, with the loop's step; the others have finished it."""
+        """The paths that continue after a turn and the loop's step; the others have finished the loop."""
         going_on: list[Path] = []
         for one in turned:
             if one.exit in (Exit.ON, Exit.CONTINUE):
@@ -120,7 +120,7 @@ class Looper(ListFollower):
     # How much more is written
 
     def look_ahead(self, at: Token, written: int, paths: list[Path], turn: Turn) -> None:
-        """Ends early where many ways go on to write too much, if each turn to come writes as much as the last."""
+        """Ends early if many paths are going to write too much, if each further turn writes as much as the last."""
         run = self.run
         if len(paths) > 1 and written and run.written > max(MOST_OF_TREE, run.looked_ahead * 5 // 4):
             run.looked_ahead = run.written
@@ -128,8 +128,8 @@ class Looper(ListFollower):
             run.look_ahead(at, left * written, 2 * written > run.written)
 
     def _turns_left(self, turn: Turn, path: Path, place: int) -> int:
-        """How many turns one way goes on for, where it is followed alone, by half the steps that all took before. Nothing of it
-        is written, or counts."""
+        """How many turns one path continues for, if it is followed alone, with at most half the steps that all took
+        before. Nothing of this is written or counted."""
         run, open_now = self.run, (len(self.frames), len(self.results), self.depth)
         begun = self.counted, self.sorted_ways, run.written, run.steps
         most, run.written, run.steps = run.steps // 2, 0, 0

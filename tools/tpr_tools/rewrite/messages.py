@@ -1,4 +1,4 @@
-"""The messages of a port: what type one has that doesn't name it, and whether it can be sent or received there."""
+"""The messages of a port: the type of a message that doesn't name it, and whether it can be sent or received there."""
 from __future__ import annotations
 
 from typing import Optional
@@ -20,7 +20,7 @@ from .values import (
 
 
 class Messages(Timers):
-    # Why what is looked at has none of the types that it may have.
+    # Why the examined value has none of the types that it may have.
     why_not: Optional[Refusal] = None
 
     def sent_types(self, port: str) -> list[Type]:
@@ -48,7 +48,7 @@ class Messages(Timers):
     # What is sent
 
     def message(self, node: Expression, port: str, path: Path, scope: Scope) -> Message:
-        """What is sent there, with its type."""
+        """The message that is sent there, with its type."""
         type, form = self._evaluated(node, self.sent_types(port), path, scope)
         if isinstance(form, Received) and form.steps == ():
             if form.symbol.type is not type.root:
@@ -67,7 +67,7 @@ class Messages(Timers):
             refuse(at, "this is no value, so that it can't be sent")
 
     def _evaluated(self, node: Expression, listed: list[Type], path: Path, scope: Scope) -> tuple[Type, Form]:
-        """Which of these types it has, and what it comes to."""
+        """Which of these types it has, and its value."""
         type = self._type_in(node, listed, path, scope)
         form = self.evaluate(node, path, scope, type)
         if form is Mark.LOST:
@@ -99,7 +99,7 @@ class Messages(Timers):
         if isinstance(node, tree.Name) and self.find(node.word, scope, path) is None:
             self.why_not = Refusal(node.at, f"`{node.word}` isn't known here")
             return type.kind is Kind.ENUM and node.word in type.root.names
-        # What is evaluated here is only looked at: nothing of it may last.
+        # The value is evaluated here only as a trial, which must leave no effects.
         looked_at = Path([], path.state.copy(), path.fork)
         try:
             form = self.evaluate(node, looked_at, scope, type)
@@ -116,7 +116,7 @@ class Messages(Timers):
         self._look_at_restrictions(form, type, at)
 
     def _look_at_restrictions(self, form: Form, type: Type, at: Token) -> None:
-        """A value keeps what its subtype asks, wherever in it."""
+        """Checks that a value satisfies the restrictions of its subtypes, everywhere inside it."""
         found: Optional[Type] = type
         while found is not None:
             if found.restriction is not None:
@@ -205,7 +205,7 @@ class Messages(Timers):
 
 
 def _is_narrower(declared: Type, listed: Type) -> bool:
-    """Whether a subtype that isn't the port's own restricts what a template of it matches."""
+    """Whether a subtype, other than the port's own, restricts the values that its template matches."""
     found: Optional[Type] = declared
     while found is not None and found is not listed:
         if found.restriction is not None:

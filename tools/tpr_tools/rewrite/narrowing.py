@@ -1,4 +1,4 @@
-"""What a branch asks of a message besides, written into its template at the place of what is asked."""
+"""Inserts the facts that a branch asks of a message into its template."""
 from __future__ import annotations
 
 from typing import Optional
@@ -11,7 +11,7 @@ from .values import Chosen, Elements, Fields, Form, Options, Wild, narrowed
 
 
 def narrow(form: Form, type: Type, steps: tuple[int, ...], asked: Form, at: Token) -> Form:
-    """The template, with what is asked at the end of these steps in it."""
+    """The template, with `asked` in it at the end of these steps."""
     found = narrowed_at(form, type, steps, asked)
     if found is None:
         refuse_open(at, "what is asked of this message later isn't a template that can be written")

@@ -11,7 +11,7 @@ from .tree import Expression
 def expressions_of(
     given: dict[str, str], program: Program
 ) -> tuple[dict[str, Expression], list[Refused]]:
-    """Each value as an expression, and what is wrong with them."""
+    """Each value as an expression, and the faults in them."""
     values: dict[str, Expression] = {}
     wrong: list[Refused] = []
     for name, text in given.items():

@@ -1,6 +1,6 @@
-"""Where an execution has come to: its variables, what it has set up, and the code that was written for it.
+"""The state of an execution: its variables, what it has set up, and the code that was written for it.
 
-An execution forks where a message decides how it goes on. The ways join again behind the `alt` where they agree.
+An execution forks if a message decides how it continues. The paths join again after the `alt` if they agree.
 """
 from __future__ import annotations
 
@@ -23,7 +23,7 @@ Counted = TypeVar("Counted", bound=Hashable)
 
 @dataclass(frozen=True)
 class Slot:
-    """A variable, with its type. A constant `is_fixed`, and what is evaluated at its use `is_late`."""
+    """A variable, with its type. A constant `is_fixed`, and a value that is evaluated at its use `is_late`."""
 
     type: Optional[Type]
     value: Form
@@ -33,7 +33,7 @@ class Slot:
 
 
 class Scope:
-    """A block in which names are declared; what it stands in is asked for the others."""
+    """A block in which names are declared; other names are looked up in the block around it."""
 
     def __init__(self, number: int, above: Optional[Scope]):
         self.number = number
@@ -50,7 +50,7 @@ class ActiveDefault:
 
 @dataclass(frozen=True)
 class Created:
-    """A component: its type, and the name that it was given where it was created."""
+    """A component: its type, and the name under which it was created."""
 
     type: Type
     hint: str
@@ -64,7 +64,7 @@ class Joined:
     one: End
     other: End
     at: Token
-    # The components that ran already: they may not have used these ports by then.
+    # The components that were already running: they may not have used these ports before.
     running: frozenset[int]
 
 
@@ -79,7 +79,7 @@ class Started:
     body: tree.Function | tree.Altstep
     arguments: tuple[tuple[str, Slot], ...]
     at: Token
-    # It waits for a message, since something came before its start.
+    # It waits for a message before it begins, because something came before its start.
     is_told: bool
 
 
@@ -92,15 +92,16 @@ class State:
     components: tuple[Created, ...] = ()
     joins: tuple[Joined, ...] = ()
     started: tuple[tuple[int, Started], ...] = ()
-    # Components that surely are done, and those that it only waits for before it goes on.
+    # Components that are surely done, and those that must be waited for before it continues.
     done: frozenset[int] = frozenset()
     awaited: frozenset[int] = frozenset()
     used: frozenset[str] = frozenset()
     left: frozenset[str] = frozenset()
     taken: tuple[tuple[str, int], ...] = ()
-    # How many messages it took at the least and at the most, by its port and the port that they were sent from.
+    # The least and the most messages that it took, by its port and the port that they were sent from.
     got: dict[tuple[str, End], Span] = field(default_factory=dict)
-    # How many it may have sent on each route. A turn of a loop that only sends leaves all else as it was.
+    # How many messages it may have sent on each route. The comparison leaves this out, because a turn of a loop that
+    # only sends changes nothing else.
     sent: dict[Route, Span] = field(default_factory=dict, compare=False)
 
     def copy(self) -> State:
@@ -109,7 +110,7 @@ class State:
         return found
 
     def setup(self) -> tuple[object, ...]:
-        """All but the variables and what is counted."""
+        """Everything except the variables and the counts."""
         return (self.defaults, self.components, self.joins, self.started, self.done, self.awaited)
 
 
@@ -122,16 +123,16 @@ class Exit(Enum):
     REPEAT = "repeat"
     RETURN = "return"
     END = "end"
-    # On the way to a label, and at the end of the list that has one, while others are on the way.
+    # Jumping to a label; or waiting at the end of the list with that label, while other paths jump.
     JUMP = "goto"
     BEHIND = "behind"
-    # It isn't come to, or waits for good: the behaviour doesn't end by it.
+    # Never reached, or waiting forever: the behaviour doesn't end here.
     STUCK = "stuck"
 
 
 @dataclass
 class Fork:
-    """An `alt` that ways come from: the code that it stands in, and how many ways there are."""
+    """An `alt` that paths come from: the code that contains it, and the number of paths."""
 
     code: Code
     above: Optional[Fork]
@@ -154,7 +155,7 @@ class Path:
 
 @dataclass
 class Checkpoint:
-    """The ways before a statement, how much was written for each, and in all."""
+    """The paths before a statement, and the amount that was written, for each and in total."""
 
     index: int
     counted: int
@@ -175,7 +176,7 @@ def checkpoint(index: int, counted: int, statements: int, paths: list[Path]) -> 
 
 
 def _codes_of(path: Path) -> list[Code]:
-    """What is written for the way, and where it goes on once it has joined others."""
+    """The code written for the path, and the code where it continues after joining others."""
     found, fork = [path.code], path.fork
     while fork is not None:
         found.append(fork.code)
@@ -187,8 +188,8 @@ def joined(
     paths: list[Path], live: frozenset[str], has_verdict: bool, leave: Callable[[Path, set[Key]], None],
     counts: bool = False,
 ) -> list[Path]:
-    """The ways, where those of one `alt` that agree in all that is still asked for are one; each is left before. They agree in
-    what was taken too, if that counts."""
+    """Joins the paths of one `alt` that agree in everything that is still used; `leave` is called for each of them
+    before. If `counts`, they must also agree in the messages that they took."""
     while True:
         groups: dict[int, list[Path]] = {}
         for path in paths:
@@ -199,7 +200,7 @@ def joined(
         }
         if not merged:
             return paths
-        # The one stands where the first of its group stood.
+        # The joined path takes the place of the first path of its group.
         paths = [
             merged.get(id(path.fork), path) for path in paths
             if id(path.fork) not in merged or path is groups[id(path.fork)][0]
@@ -207,7 +208,7 @@ def joined(
 
 
 def _is_whole(group: list[Path]) -> bool:
-    """Whether these are all ways of their `alt`."""
+    """Whether these are all paths of their `alt`."""
     fork = group[0].fork
     return fork is not None and len(group) == fork.ways
 
@@ -242,7 +243,7 @@ def _told(state: State, live: frozenset[str], has_verdict: bool) -> tuple[object
 
 
 def live_keys(state: State, live: frozenset[str]) -> set[Key]:
-    """The variables that are spoken of, and those that such a one stands for."""
+    """The variables that are still used, and those that they refer to."""
     found: set[Key] = set()
     for key, slot in state.variables.items():
         if key[1] in live or isinstance(slot.value, Reference):
@@ -253,7 +254,8 @@ def live_keys(state: State, live: frozenset[str]) -> set[Key]:
 
 
 def common(group: list[Path], live: frozenset[str]) -> State:
-    """What all know: variables that are asked for no more are forgotten, and of what was taken the least counts."""
+    """The common state: variables that aren't used any more are forgotten, and of the numbers of messages taken the
+    least counts."""
     state = group[0].state.copy()
     kept = live_keys(state, live)
     state.variables = {
@@ -273,7 +275,7 @@ def common(group: list[Path], live: frozenset[str]) -> State:
 
 
 def _spans_of_all(several: list[dict[Counted, Span]]) -> dict[Counted, Span]:
-    """What holds on each of several ways."""
+    """The bounds that hold on each of several paths."""
     found: dict[Counted, Span] = {}
     for key in dict.fromkeys(key for one in several for key in one):
         spans = [one.get(key, (0, 0)) for one in several]
@@ -282,7 +284,7 @@ def _spans_of_all(several: list[dict[Counted, Span]]) -> dict[Counted, Span]:
 
 
 class Split(Exception):
-    """How it goes on hangs on a part of what was received: the message gets a branch for each case."""
+    """The continuation depends on a part of a received message: the message gets a branch for each case."""
 
     def __init__(self, symbol: Symbol, steps: tuple[int, ...], templates: Iterable[Form], at: Token):
         super().__init__("a branch for each case")

@@ -1,4 +1,4 @@
-"""Patterns of texts (ES 201 873-1, B.1.5): how they are read, and which texts match them."""
+"""Patterns for texts (ES 201 873-1, B.1.5): reading them, and the texts that match."""
 from __future__ import annotations
 
 import string
@@ -12,20 +12,20 @@ _SETS = {
     "r": frozenset("\r"), "s": _SPACE,
 }
 _ALL = frozenset(map(chr, range(128)))
-# What is matched by no other sign: a reference, a character by its place, the border of a word.
+# Signs that no other sign can replace: a reference, a character by its place, the border of a word.
 _NOT_READ = frozenset("qNb")
 
 
 @dataclass(frozen=True)
 class Sign:
-    """One of these characters; without them any one."""
+    """One of these characters; without any characters, any character."""
 
     letters: Optional[frozenset[str]]
 
 
 @dataclass(frozen=True)
 class Row:
-    """One behind the other; of a group with its number."""
+    """Parts one after the other; a group has its number."""
 
     parts: tuple[Pattern, ...]
     group: Optional[int] = None
@@ -51,7 +51,7 @@ class NotRead(Exception):
 
 
 def letters_between(low: str, high: str) -> Pattern:
-    """Texts of any length, of these characters alone (B.1.2.5)."""
+    """Texts of any length that contain only these characters (B.1.2.5)."""
     return Times(Sign(frozenset(map(chr, range(ord(low), ord(high) + 1)))), 0, None)
 
 
@@ -139,7 +139,7 @@ class _Reader:
         return frozenset(_ALL - found if is_other else found)
 
     def _bounds(self) -> tuple[int, Optional[int]]:
-        """`#4`, `#(2,3)`, `#(,3)`, `#(2,)`: how often."""
+        """Reads a number of repetitions: `#4`, `#(2,3)`, `#(,3)` or `#(2,)`."""
         if self._next() != "(":
             digit = self._take()
             if digit not in _DIGITS:
@@ -168,8 +168,8 @@ def fits_pattern(text: str, pattern: Pattern) -> bool:
 
 
 def group_of(text: str, pattern: Pattern, number: int) -> Optional[str]:
-    """What of the text matches this group: nothing where the pattern doesn't match (C.4.1). None where it can match it in
-    several ways, or where there is no such group."""
+    """The part of the text that matches this group: empty if the pattern doesn't match (C.4.1). None if the group can
+    match in several ways, or if there is no such group."""
     if not 0 <= number < count_of_groups(pattern):
         return None
     found = {group or "" for end, group in _Matching(text, number).ends(pattern, 0) if end == len(text)}
@@ -182,7 +182,7 @@ def count_of_groups(pattern: Pattern) -> int:
 
 
 class _Matching:
-    """Where a match of a part can end that begins at a place, and what its group can have matched by then."""
+    """Where a match of a part can end that begins at a given place, and what its group can have matched by then."""
 
     def __init__(self, text: str, group: int):
         self.text = text

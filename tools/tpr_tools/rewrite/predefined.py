@@ -1,4 +1,4 @@
-"""Predefined functions that change one kind of value into another (ES 201 873-1, 16.1.2 and Annex C.1 to C.4)."""
+"""Predefined functions that convert values of one kind to another (ES 201 873-1, 16.1.2 and Annex C.1 to C.4)."""
 from __future__ import annotations
 
 import re
@@ -27,7 +27,7 @@ def _bits_of(form: Form) -> Optional[str]:
 
 
 def _of_bits(bits: str, letter: str) -> Form:
-    """Filled up with zeros on the left."""
+    """The value with these bits, filled with zeros on the left."""
     if letter == "B":
         return Digits(bits, "B")
     whole = 8 if letter == "O" else 4
@@ -125,7 +125,7 @@ _MARKS = ("0000FEFF", "FFFE0000", "EFBBBF", "FEFF", "FFFE")
 
 
 def _octets_to_universal(values: list[Form]) -> Optional[Form]:
-    """Without a mark of their byte order, which would be read in more than one way."""
+    """The text of octets without a byte order mark, because a mark could be read in more than one way."""
     octets, encoding = values[0], values[1] if len(values) > 1 else "UTF-8"
     if not isinstance(octets, Digits) or octets.letter != "O" or octets.digits.startswith(_MARKS):
         return None
@@ -137,7 +137,7 @@ def _octets_to_universal(values: list[Form]) -> Optional[Form]:
 
 
 def _universal_to_octets(values: list[Form]) -> Optional[Form]:
-    """In UTF-8: of another encoding it is open whether a mark of its byte order stands before it."""
+    """The octets in UTF-8. For any other encoding it is open whether a byte order mark comes first."""
     text, encoding = values[0], values[1] if len(values) > 1 else "UTF-8"
     if not isinstance(text, str) or encoding != "UTF-8":
         return None
@@ -145,7 +145,7 @@ def _universal_to_octets(values: list[Form]) -> Optional[Form]:
 
 
 def _without_mark(values: list[Form]) -> Optional[Form]:
-    """`remove_bom`; what begins with the marks of two encodings is left to the reader."""
+    """`remove_bom`; refuses octets that begin with the marks of two encodings."""
     octets = values[0]
     if not isinstance(octets, Digits) or octets.letter != "O" or octets.digits.startswith("FFFE0000"):
         return None
@@ -170,7 +170,7 @@ def _text_to_float(values: list[Form]) -> Optional[Form]:
 
 
 def _any_to_text(values: list[Form]) -> Optional[Form]:
-    """Of what is written in one way alone."""
+    """The text of values that can be written in only one way."""
     value = values[0]
     if isinstance(value, Digits):
         return f"'{value.digits}'{value.letter}"
@@ -181,7 +181,7 @@ Parts = tuple[object, ...]
 
 
 def _parts_of(form: Form) -> Optional[Parts]:
-    """Its elements, its signs, its digits, or its octets."""
+    """The parts of a value: elements, characters, digits, or octets."""
     if isinstance(form, Elements):
         return form.items
     if isinstance(form, Digits) and form.letter == "O":
@@ -199,7 +199,7 @@ def _of_parts(like: Form, parts: Parts) -> Form:
 
 
 def _cut(values: list[Form]) -> Optional[tuple[Parts, Parts, Parts]]:
-    """What stands before the index, then so many, and what is behind these."""
+    """The parts before the index, then `length` parts, and the parts after these."""
     parts, index, length = _parts_of(values[0]), values[1], values[2]
     if parts is None or not _is_number(index) or not _is_number(length):
         return None
@@ -214,7 +214,7 @@ def _part(values: list[Form]) -> Optional[Form]:
 
 
 def _replaced(values: list[Form]) -> Optional[Form]:
-    """Some elements or signs, from an index on, replaced by others."""
+    """Replaces some parts, beginning at an index, by others."""
     cut, new = _cut(values), _parts_of(values[3])
     whole, other = values[0], values[3]
     is_alike = type(whole) is type(other) and getattr(whole, "letter", "") == getattr(other, "letter", "")
@@ -226,7 +226,7 @@ MOVING = ("<<", ">>", "<@", "@>")
 
 
 def bitwise(sign: str, left: Form, right: Form) -> Optional[Form]:
-    """Of two strings of bits, hex digits or octets that are equally long (7.1.4)."""
+    """Combines two strings of bits, hex digits or octets with the same length (7.1.4)."""
     if not isinstance(left, Digits) or not isinstance(right, Digits) or len(left.digits) != len(right.digits):
         return None
     base = 2 if left.letter == "B" else 16
@@ -235,7 +235,7 @@ def bitwise(sign: str, left: Form, right: Form) -> Optional[Form]:
 
 
 def all_ones_of(form: Form) -> Form:
-    """As long as this one."""
+    """A string of ones with the same length."""
     if not isinstance(form, Digits):
         return form
     return Digits(("1" if form.letter == "B" else "F") * len(form.digits), form.letter)
@@ -257,7 +257,7 @@ def moved(sign: str, left: Form, right: Form) -> Optional[Form]:
 
 
 def _group(values: list[Form]) -> Optional[Form]:
-    """`regexp`, where the group can match in one way alone."""
+    """`regexp`, if the group can match in only one way."""
     text, pattern, number = values
     if not isinstance(text, str) or not isinstance(pattern, str) or not isinstance(number, int) or isinstance(number, bool):
         return None
@@ -268,7 +268,7 @@ def _group(values: list[Form]) -> Optional[Form]:
 
 
 def _encoding_of(values: list[Form]) -> Optional[Form]:
-    """By the mark of the byte order; what begins with the marks of two encodings is left to the reader."""
+    """The encoding, by its byte order mark. Refuses octets that begin with the marks of two encodings."""
     octets = values[0]
     if not isinstance(octets, Digits) or octets.letter != "O" or octets.digits.startswith("FFFE0000"):
         return None
@@ -277,7 +277,7 @@ def _encoding_of(values: list[Form]) -> Optional[Form]:
     if found:
         return found
     codes = bytes.fromhex(octets.digits)
-    # Of other texts without a mark a tool may also say that their encoding isn't known.
+    # For other texts without a mark a tool may also answer that the encoding isn't known.
     return "ASCII" if codes.isascii() else None
 
 
@@ -304,7 +304,7 @@ def _conversions() -> dict[str, tuple[int, Computed]]:
 
 
 CONVERSIONS = _conversions()
-# They may have one argument more.
+# These may have one more argument.
 ENCODING = ("oct2unichar", "unichar2oct")
 RESULTS = {"int": "integer", "str": "charstring", "char": "charstring", "unichar": UNIVERSAL, "float": "float", "unistr": UNIVERSAL}
 RESULTS.update({"bit": "bitstring", "hex": "hexstring", "oct": "octetstring"})

@@ -11,7 +11,7 @@ from .types import Types
 _Body = Union[tree.Function, tree.Altstep, tree.TestCase, tree.TemplateDefinition, tree.Constant]
 
 
-# A function that has one of these waits, and one that has one of the others does more than compute.
+# A function with one of these words waits; with one of the others it does more than compute.
 _WAITING = frozenset("receive trigger check alt interleave done killed timeout".split())
 _WRITING = _WAITING | frozenset("send setverdict start stop halt clear create connect map".split())
 
@@ -26,7 +26,7 @@ class Program:
         self.cases: dict[str, tree.TestCase] = {}
         self.controlled: dict[str, list[tree.Constant]] = {}
         self.executed: list[Token] = []
-        # That of the test case that is followed.
+        # The name of the test case that is followed.
         self.case_name = ""
         self.modules: list[tree.Module] = []
         self._tokens: dict[str, list[Token]] = {}
@@ -39,7 +39,7 @@ class Program:
         for source in sources:
             self._read(source)
         self._look_at_imports()
-        # Nothing else in a body has the name of a variable of the control part, so that one is a constant here.
+        # If nothing else in a body has the name of a variable of the control part, that variable is a constant here.
         alone = {name: found[0] for name, found in self.controlled.items() if len(found) == 1 and not self._is_defined(name)}
         changing = [one for case in self.cases.values() for one in case.parameters if one.direction is not tree.Direction.IN]
         self.constants.update({} if changing else alone)
@@ -95,7 +95,7 @@ class Program:
                     self.faults.append(refused_at(name.at, reason))
 
     def names_in(self, statement: tree.Statement) -> frozenset[str]:
-        """All names that stand in a statement, and in the functions and altsteps that it can come to."""
+        """All names in a statement, and in the functions and altsteps that it can reach."""
         found = self._names.get(id(statement))
         if found is None:
             found = self._reach(self._spelled(statement.at.file, statement.span))
@@ -103,7 +103,7 @@ class Program:
         return found
 
     def asked_in(self, statement: tree.Statement) -> frozenset[str]:
-        """The names in a statement, but for those of variables that it sets by what it receives wherever it speaks of them."""
+        """The names in a statement, except variables that are always set by a receive before they are used."""
         if id(statement) not in self._asked:
             tokens, places = self._tokens[statement.at.file], dict[str, set[int]]()
             for place in range(*statement.span):
@@ -117,7 +117,7 @@ class Program:
         return self._asked[id(statement)]
 
     def _received_in(self, statement: tree.Statement) -> Iterator[tuple[tree.Receive, set[int]]]:
-        """What is received in a statement, with all places that are come to by way of that alone."""
+        """The receives in a statement, each with all places that are reached only through it."""
         for branch in statement.branches if isinstance(statement, tree.Alt) and not statement.is_interleave else ():
             if isinstance(branch.event, tree.Receive):
                 yield branch.event, {*range(*branch.event.span), *range(*(branch.block.span if branch.block else (0, 0)))}
@@ -127,7 +127,7 @@ class Program:
             yield from self._received_in(inner)
 
     def calls_of(self, case: str) -> list[tree.Call]:
-        """The executions of a test case with arguments, once for each list of these."""
+        """The executions of a test case with arguments, one for each different list of arguments."""
         found: dict[tuple[str, ...], tree.Call] = {}
         for module in self.modules:
             for statement in module.control:
@@ -138,11 +138,11 @@ class Program:
         return list(found.values())
 
     def has_word(self, word: str) -> bool:
-        """Whether a word stands anywhere in the modules."""
+        """Whether the word occurs anywhere in the modules."""
         return any(token.text == word for tokens in self._tokens.values() for token in tokens)
 
     def names_of_timers(self) -> frozenset[str]:
-        """All names, where `any timer` or `all timer` may mean each; else none."""
+        """The names of all timers if `any timer` or `all timer` occurs, which may mean each of them; otherwise none."""
         if self._timers is None:
             tokens = [token for listed in self._tokens.values() for token in listed]
             pairs = zip(tokens, tokens[1:])
@@ -151,11 +151,11 @@ class Program:
         return self._timers
 
     def communicates(self, name: str) -> bool:
-        """Whether a function, or one that it comes to, may do what is written."""
+        """Whether a function, or one that it reaches, may do something for which a statement is written."""
         return self._comes_to(name, _WRITING)
 
     def waits(self, name: str) -> bool:
-        """Whether a function, or one that it comes to, may wait."""
+        """Whether a function, or one that it reaches, may wait."""
         return self._comes_to(name, _WAITING)
 
     def _comes_to(self, name: str, words: frozenset[str]) -> bool:
@@ -207,7 +207,7 @@ class Program:
         return found
 
     def chosen_case(self, name: Optional[str]) -> tree.TestCase | str:
-        """The test case that is named, or the only one, or the only one that is executed; else what is wrong."""
+        """The test case with this name, or the only one, or the only one that is executed; otherwise what is wrong."""
         if name is not None:
             return self.cases.get(name) or f"there is no test case `{name}`"
         if len(self.cases) == 1:

@@ -1,5 +1,5 @@
-"""How far the components can have come at most while one of them stands at a send: each goes on only as far as what it
-takes may have been sent by then. It is a least fixed point, from nothing that was sent on."""
+"""How far the components can have come at most when one of them reaches a send: each continues only if the messages
+that it takes may have been sent by then. This is a least fixed point, starting with no messages sent."""
 from __future__ import annotations
 
 from collections import Counter
@@ -21,7 +21,7 @@ class TooFar(Exception):
 
 
 class Reach:
-    """`mover` stands at a send, and has sent `sent` by then."""
+    """The state when `mover` reaches a send, and has sent `sent` by then."""
 
     def __init__(self, followed: Followed, mover: int, sent: Sends):
         self.followed = followed
@@ -31,7 +31,7 @@ class Reach:
         self.ended: set[int] = set()
         self.steps = 0
         self._supplies: dict[tuple[int, str, What], int] = {}
-        # The counts on each way with a number that is come to.
+        # The counts on each path that is reached and ends with a number.
         self._went: dict[int, list[tuple[_Takes, Sends]]] = {}
 
     def may_end(self, component: int) -> bool:
@@ -46,7 +46,7 @@ class Reach:
         return component in self.ended
 
     def _settle(self, number: int, code: Code) -> bool:
-        """Whether more of it is new."""
+        """Follows one component. Returns whether anything new was found."""
         before, was_ended = Counter(self.sent[number]), number in self.ended
         self._went.clear()
         if self._follow(number, code, Counter(), Counter()):
@@ -54,7 +54,7 @@ class Reach:
         return self.sent[number] != before or was_ended is not (number in self.ended)
 
     def _follow(self, number: int, code: Code, takes: _Takes, sent: Sends) -> bool:
-        """Whether it may come behind these statements; the counts are those there then."""
+        """Whether the end of these statements may be reached. The counts are those before them, and are updated."""
         for statement in code:
             self.steps += 1
             if self.steps > MOST_STEPS:
@@ -79,7 +79,7 @@ class Reach:
             if inner and self._passes(number, way.operation, inner[0]) and self._follow(number, way.code, *inner):
                 behind.append(inner)
         if not behind:
-            # Ways with a number go on in the `alt` behind this.
+            # Paths with a number continue in the `alt` after this one.
             return bool(set(self._went) - before)
         least, most = _all_of(behind)
         takes.clear()
@@ -88,16 +88,16 @@ class Reach:
         return True
 
     def _inner(self, way: Way, takes: _Takes, sent: Sends) -> Optional[tuple[_Takes, Sends]]:
-        """The counts where a branch begins; None where no way with its number is come to."""
+        """The counts at the beginning of a branch; None if no path with its number was reached."""
         if not isinstance(way.operation, Came):
             return Counter(takes), Counter(sent)
         came = self._went.pop(way.operation.number, None)
         return _all_of(came) if came else None
 
     def _passes(self, number: int, operation: object, takes: _Takes) -> bool:
-        """Whether what it waits for may be there."""
+        """Whether the message that it waits for may be there."""
         if isinstance(operation, GotEnd):
-            # Behind the end of the test case nothing is sent to it.
+            # After the end of the test case no message is sent to it.
             return False
         if isinstance(operation, GotDone):
             return operation.component in self.ended
@@ -114,21 +114,21 @@ class Reach:
         return True
 
     def _supply(self, number: int, port: str, what: What) -> int:
-        """How many such messages can have come to the port."""
+        """How many such messages can have arrived at the port."""
         key = (number, port, what)
         found: Optional[int] = self._supplies.get(key)
         if found is None:
             end = End(number, port)
             ends = dict.fromkeys(peers(self.followed.joins, end))
             known = [one for one in ends if one.component in self.sent]
-            # Of what comes from outside the script nothing is known.
+            # Nothing is known of messages from outside the script.
             found = sum(sum_of(self.sent[one.component], one.port, end, what) for one in known) + ENDLESS * (len(ends) - len(known))
             self._supplies[key] = found
         return found
 
 
 def _all_of(several: list[tuple[_Takes, Sends]]) -> tuple[_Takes, Sends]:
-    """The least that is taken and the most that is sent on several ways."""
+    """The least number taken and the most sent on several paths."""
     least, most = Counter(several[0][0]), Counter(several[0][1])
     for takes, sent in several[1:]:
         least &= takes

@@ -10,7 +10,7 @@ from .cursor import Cursor
 from .tokens import Kind, Token
 from .tree import Expression, Sign
 
-# How tight each operator binds (ES 201 873-1, table 6).
+# The precedence of each operator (ES 201 873-1, table 6).
 _TIGHTNESS = {
     "or": 1, "xor": 2, "and": 3, "==": 5, "!=": 5, "<": 6, ">": 6, "<=": 6, ">=": 6, "<<": 7, ">>": 7, "<@": 7,
     "@>": 7, "or4b": 8, "xor4b": 9, "and4b": 10, "+": 12, "-": 12, "&": 12, "*": 13, "/": 13, "mod": 13, "rem": 13,
@@ -31,9 +31,9 @@ _SETS = {
     "superset": Construct.SUPERSET, "subset": Construct.SUPERSET, "permutation": Construct.PERMUTATION,
     "decmatch": Construct.MATCHING,
 }
-# What a pattern of the profile may not hold.
+# Signs that a pattern of the profile may not contain.
 NOT_IN_PATTERNS = frozenset('\\[]{}()|#+"')
-# Between a value and these words it is asked something that only a run tells.
+# After a value and a dot, these words ask for something that is only known during a run.
 _ASKED = ("running", "alive", "read", "checkstate")
 
 
@@ -46,7 +46,7 @@ class ExpressionReader(Cursor):
         return value
 
     def _behind(self, value: Expression) -> Expression:
-        """A range, a length or `ifpresent` behind it."""
+        """Reads a range, a length or `ifpresent` after a value."""
         if self.is_at(".."):
             at = self.take()
             if self.is_at("!"):
@@ -68,7 +68,7 @@ class ExpressionReader(Cursor):
         return bounds
 
     def _level(self, least: int) -> Expression:
-        """An expression of operators that bind at least so tight."""
+        """Reads an expression with operators of at least this precedence."""
         if self.token.text in _UNARY and self.token.kind is Kind.KEYWORD:
             at = self.take()
             self.note(Construct.EXPRESSION, at)
@@ -146,7 +146,7 @@ class ExpressionReader(Cursor):
         return self.maybe_typed(tree.Name(token, token.text))
 
     def maybe_typed(self, name: tree.Name) -> Expression:
-        """`T:value`, where a `:` stands behind the name of a type."""
+        """Reads `T:value` if a `:` follows the name of a type."""
         if not self.is_at(":"):
             return name
         at = self.take()
@@ -275,7 +275,7 @@ class ExpressionReader(Cursor):
                 return value
 
     def _dotted(self, value: Expression) -> Optional[Expression]:
-        """A field, `create`, or what is asked; None where an operation follows, which is a statement's."""
+        """Reads a field, `create`, or a word that asks for a state; None if an operation of a statement follows."""
         word = self.ahead(1)
         if _names_a_part(word):
             self.place += 2
@@ -330,7 +330,7 @@ class ExpressionReader(Cursor):
 
 
 def _names_a_part(token: Token) -> bool:
-    """A field, or an alternative of `anytype`, which has the name of its type."""
+    """Whether the token names a field, or an alternative of `anytype`, which has the name of its type."""
     return token.kind is Kind.NAME or token.text in _BASE_TYPES
 
 

@@ -1,4 +1,4 @@
-"""Reads modules and their definitions (ES 201 873-1, 8, 10, 15, 16); what can't be read is told."""
+"""Reads modules and their definitions (ES 201 873-1, 8, 10, 15, 16); reports parts that can't be read."""
 from __future__ import annotations
 
 from collections import Counter
@@ -23,7 +23,7 @@ Found = TypeVar("Found")
 
 class ModuleReader(StatementReader):
     def modules(self) -> list[tree.Module]:
-        """All modules of a file; at least one is wanted."""
+        """All modules of a file; there must be at least one."""
         found: list[tree.Module] = []
         while not self.is_at_end():
             place = self.place
@@ -66,7 +66,7 @@ class ModuleReader(StatementReader):
                 self._to_next(place)
 
     def _to_next(self, place: int) -> None:
-        """To the next word with which a definition begins, that stands at the head of a line."""
+        """Skips to the next word that begins a definition, at the beginning of a line."""
         self.place = max(self.place, place + 1)
         while self.token.kind is not Kind.END:
             before = self.tokens[self.place - 1]
@@ -164,7 +164,7 @@ class ModuleReader(StatementReader):
         return self.type_name().word
 
     def _runs_on_alone(self) -> Optional[str]:
-        """Behind it may stand the types of `mtc` and of `system`, of which nothing is asked here."""
+        """Reads `runs on`. The types of `mtc` and of `system` may follow, which aren't used here."""
         runs_on = self._runs_on()
         while self.is_at("mtc", "system"):
             self.take()
@@ -188,7 +188,8 @@ class ModuleReader(StatementReader):
         )
 
     def _note_parameters(self, parameters: list[Parameter]) -> None:
-        """Of a function they are components; of which type one is a name alone doesn't tell."""
+        """Notes parameters of a function that surely aren't components. The name of a type alone doesn't show whether
+        it is a component type."""
         bases = ("integer", "boolean", "charstring", "float", "timer", "default")
         for parameter in parameters:
             if parameter.type.word in bases or parameter.direction is not Direction.IN:
@@ -285,7 +286,7 @@ class ModuleReader(StatementReader):
         self.note(Construct.CONTROL, self.take())
         start = self.place
         module.control += self._control_body(module.known).statements
-        # What is set twice, or handed to a call, may have another value.
+        # A variable that is set twice, or passed to a call, may have another value.
         tokens = self.tokens[start : self.place]
         set_there = Counter(token.text for token, behind in zip(tokens, tokens[1:]) if behind.text == ":=")
         calls = [place for place, token in enumerate(tokens[:-1]) if token.kind is Kind.NAME and tokens[place + 1].text == "("]
@@ -293,7 +294,7 @@ class ModuleReader(StatementReader):
         module.known = [one for one in module.known if set_there[one.name] == 1 and one.name not in handed]
 
     def _control_body(self, known: list[tree.Constant]) -> tree.Block:
-        """What it holds is looked through for its `execute` and its variables alone."""
+        """Reads the body of the control part, only for its `execute` and its variables."""
         start = self.place
         at = self.token
         statements: list[tree.Statement] = []
@@ -314,7 +315,7 @@ class ModuleReader(StatementReader):
         return tree.Block(at, statements, (start, self.place))
 
     def _executed(self) -> tree.Statement:
-        """The test case of an `execute`, with its arguments; what can't be read of it isn't looked at."""
+        """Reads the test case of an `execute`, with its arguments; parts that can't be read are ignored."""
         token = self.ahead(1)
         return self._tried(self._execution, tree.CallStatement(token, tree.Name(token, token.text), (self.place, self.place)))
 
@@ -325,7 +326,7 @@ class ModuleReader(StatementReader):
         return tree.CallStatement(name, self._postfix(tree.Name(name, name.text)), (start + 1, self.place))
 
     def _known_there(self, types: dict[str, tree.TypeName]) -> list[tree.Constant]:
-        """A variable that is set here; of those that are declared here the types."""
+        """Variables of the control part that are set here, with the types of those that are declared here."""
         if self.token.text in types:
             at = self.name()
             self.expect(":=")
@@ -335,7 +336,7 @@ class ModuleReader(StatementReader):
         return []
 
     def _tried(self, read: Callable[[], Found], otherwise: Found) -> Found:
-        """What is read here; where it can't be, something else. Nothing is noted of it, and it is read again."""
+        """Tries to read something, or returns `otherwise`. Notes nothing, because the text is read again later."""
         start, noted, called, nested = self.place, len(self.noted), len(self.called), self.nested
         try:
             return read()
@@ -354,7 +355,7 @@ class ModuleReader(StatementReader):
 
 
 def _in_brackets(tokens: list[Token], start: int) -> list[Token]:
-    """What stands behind a bracket, up to the one that closes it."""
+    """The tokens after a bracket, up to the closing one."""
     depth = 0
     for place in range(start, len(tokens)):
         depth += {"(": 1, ")": -1}.get(tokens[place].text, 0)

@@ -1,4 +1,4 @@
-"""Reads operations on ports, components and timers (ES 201 873-1, 21 to 23), each behind what it is called on."""
+"""Reads operations on ports, components and timers (ES 201 873-1, 21 to 23), each after its target."""
 from __future__ import annotations
 
 from typing import Optional, Union
@@ -19,7 +19,7 @@ _ENDS = {"kill": "`kill` ends a behaviour from outside; here each runs to its ow
 
 class OperationReader(TypeReader):
     def operation(self, target: Optional[Expression], any_of: Optional[Any], of: str, start: int) -> Statement:
-        """What stands behind the `.`. `of` is the kind that `any` or `all` speaks of, or empty."""
+        """Reads the operation after the `.`. `of` is the kind of things after `any` or `all`, or empty."""
         at = self.expect(".")
         word = self.take()
         if word.text == "send":
@@ -45,7 +45,7 @@ class OperationReader(TypeReader):
         self.fail("an operation is expected here")
 
     def _unsupported(self, at: Token, reason: str, start: int) -> tree.Unsupported:
-        """Passes the rest of the operation; a call's answers are read."""
+        """Skips the rest of the operation, but reads the answers of a call."""
         while self.token.kind is not Kind.END and not self.is_at(";", "}", "{"):
             if self.is_at("(", "["):
                 self.skip_brackets()
@@ -207,7 +207,8 @@ class OperationReader(TypeReader):
         return tree.Operate(at, target, PortAct(at.text), arguments, (start, self.place), of == "timer")
 
     def _note_arguments(self, call: Expression) -> None:
-        """A component is started with components as arguments alone. The function of the start isn't called here."""
+        """Notes the arguments of a start. A component may be started only with components as arguments. The function of
+        the start isn't called here."""
         if isinstance(call, tree.Call):
             self.called = [at for at in self.called if at is not call.at]
         for item in call.arguments if isinstance(call, tree.Call) else []:

@@ -30,7 +30,7 @@ class StatementReader(OperationReader):
         return Block(at, statements, (start, self.place))
 
     def _recovered(self) -> Statement:
-        """A statement; where it can't be read, that is told, and what comes behind its `;` is read on."""
+        """Reads a statement. If it can't be read, reports that, and continues after its `;`."""
         start, nested = self.place, self.nested
         try:
             return self.statement()
@@ -42,7 +42,7 @@ class StatementReader(OperationReader):
             return tree.Unsupported(fault.token, "", (start, self.place))
 
     def _close(self, start: int) -> bool:
-        """Closes the braces that are open since then; whether there were any."""
+        """Closes the braces that were opened since then. Returns whether there were any."""
         read = [token.text for token in self.tokens[start : self.place] if token.kind is Kind.SIGN]
         is_open = read.count("{") - read.count("}")
         if is_open <= 0:
@@ -52,7 +52,7 @@ class StatementReader(OperationReader):
         return True
 
     def _to_end(self, start: int) -> None:
-        """Behind the statement that began there: what it has opened is closed first."""
+        """Skips to the end of the statement that began there: everything that it has opened is closed first."""
         if self._close(start):
             return
         while not self.is_at_end() and not self.is_at("}"):
@@ -88,7 +88,7 @@ class StatementReader(OperationReader):
         return tree.Leave(at, how, (self.place - 1, self.place))
 
     def _of_all(self) -> Statement:
-        """`any port.receive`, `all component.done`, `any from p.receive` and the like."""
+        """Reads `any port.receive`, `all component.done`, `any from p.receive` and the like."""
         start, at = self.place, self.take()
         any_of = Any(at.text)
         of = self.take()
@@ -100,7 +100,7 @@ class StatementReader(OperationReader):
         return self.operation(None, any_of, of.text, start)
 
     def _of_name(self) -> Statement:
-        """An assignment, a call, or an operation on what is named."""
+        """Reads an assignment, a call, or an operation on a name."""
         start = self.place
         if self.is_at("self", "mtc", "system"):
             value: tree.Expression = self._sign()
@@ -335,11 +335,11 @@ class StatementReader(OperationReader):
         return found
 
     def answers(self) -> None:
-        """Of a `call`: none of them is carried over, but what stands in them is told."""
+        """Reads the answers of a `call`: none of them is carried over, but their contents are reported."""
         self.branches()
 
     def _recovered_branch(self) -> tree.Branch:
-        """A branch; where its event can't be read, that is told, and its block is read on."""
+        """Reads a branch. If its event can't be read, reports that, and reads its block."""
         start, nested = self.place, self.nested
         try:
             return self._branch()
@@ -369,7 +369,7 @@ class StatementReader(OperationReader):
         return tree.Branch(at, guard, False, event, block)
 
     def _single(self) -> Block:
-        """Behind `[else]` an altstep may be called without a block."""
+        """Reads the block after `[else]`, where an altstep may be called without a block."""
         start = self.place
         found = self.statement()
         return Block(found.at, [found], (start, self.place))
@@ -390,7 +390,7 @@ class StatementReader(OperationReader):
         return tree.Label(at, name, span) if at.text == "label" else tree.Goto(at, name, span)
 
     def _outside(self) -> Statement:
-        """A statement that has no place in the profile, whatever stands in it."""
+        """Reads a statement that can't be carried over, whatever it contains."""
         reasons = {
             "action": (Construct.ACTION, "`action` asks for something outside the run"),
             "execute": (Construct.EXECUTE, "`execute` is allowed only in a control part"),

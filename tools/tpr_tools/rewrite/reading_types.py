@@ -44,7 +44,7 @@ class TypeReader(ExpressionReader):
         return TypeName(at, word)
 
     def sizes(self) -> list[Expression]:
-        """The sizes of an array, behind its name."""
+        """The sizes of an array, after its name."""
         found: list[Expression] = []
         while self.is_at("["):
             at = self.take()
@@ -81,7 +81,7 @@ class TypeReader(ExpressionReader):
         return tree.Restriction(at, values, lengths) if values or lengths else None
 
     def _structured(self, at: Token) -> tree.TypeDefinition:
-        """A record or a set, with fields or of elements; a union."""
+        """Reads a record or a set, with fields or of elements, or a union."""
         word = self.take()
         is_list = word.text != "union" and self.is_at("of", "length")
         if word.text == "set":
@@ -170,7 +170,7 @@ class TypeReader(ExpressionReader):
             body.is_of_ranges = body.is_of_ranges or body.numbers[-1] is None
 
     def _enumerated_number(self) -> Optional[int]:
-        """The one number in the brackets; None where there are several, or a range."""
+        """The single number in the brackets; None if there are several, or a range."""
         sign = -1 if self.ahead(1).text == "-" else 1
         token, behind = self.ahead(2 if sign < 0 else 1), self.ahead(3 if sign < 0 else 2)
         self.skip_brackets()
@@ -253,7 +253,7 @@ class TypeReader(ExpressionReader):
         return tree.Variable(at, at.text, self.sizes(), None)
 
     def declaration(self) -> tree.Declaration:
-        """A `var`, `const`, `template` or `timer` in a body or a component type."""
+        """Reads a `var`, `const`, `template` or `timer` in a body or a component type."""
         if not self.is_at("var", "const", "template", "timer"):
             self.fail("a declaration is expected here")
         start, at = self.place, self.take()

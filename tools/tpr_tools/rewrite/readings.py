@@ -1,4 +1,4 @@
-"""What a test case with timers comes to in both readings: if no timer expires, and if each may expire at any moment."""
+"""The verdicts of a test case with timers in both readings: no timer expires, or each may expire at any moment."""
 from __future__ import annotations
 
 import os
@@ -16,12 +16,12 @@ from .rewriting import Rewritten
 
 
 class NoAnswer(Exception):
-    """What was printed isn't an answer of `tpr verdicts`."""
+    """The output isn't an answer of `tpr verdicts`."""
 
 
 def told_of_both(never: Optional[str], always: Optional[str], expiring: Rewritten) -> str:
-    """The verdicts by what `tpr verdicts` printed of the two scripts, or that one of them was refused. For each that only a
-    timeout brings, the one that comes first on a way to it."""
+    """The verdicts that `tpr verdicts` printed for the two scripts, or that one of them was refused. For each verdict
+    that only a timeout causes, the timeout that comes first on a path to it."""
     if never is None or always is None:
         one_line, other_line = (printed and first_line(_answer(printed)) or "refused" for printed in (never, always))
         return f"{one_line} if no timer expires; {other_line} if timers may expire"
@@ -47,7 +47,7 @@ def _answer(printed: str) -> Answer:
 
 
 def first_timeout(script: Rewritten, order: Iterable[str]) -> str:
-    """The timer that expires first where the components act in this order."""
+    """The timer that expires first if the components act in this order."""
     timers = script.lines.timers
     read = _read(script.text)
     ticks = {id(guard): tick for guard, tick in zip(_guards_at(read, set(timers)), script.lines.ticks)}
@@ -61,7 +61,8 @@ def first_timeout(script: Rewritten, order: Iterable[str]) -> str:
 
 
 def _step(run: Run, who: int, ticks: dict[int, Ticked]) -> Optional[Ticked]:
-    """The component's next step; what it takes of a timer's component by it."""
+    """Carries out the component's next step. Returns the timer operation whose message it takes from a timer's
+    component, if any."""
     while is_no_step(run.statement(who)):
         run.act(who)
     statement, told = run.statement(who), len(run.components[who].lines)
@@ -81,7 +82,7 @@ def _read(text: str) -> Script:
 
 
 def _guards_at(script: Script, ports: set[str]) -> list[Guard]:
-    """What is received at these ports, in the order of the text."""
+    """The receiving operations at these ports, in the order of the text."""
     functions = [*script.functions.values(), *([script.case] if script.case else [])]
     return [guard for function in functions for guard in _guards(function.block) if guard.port in ports]
 

@@ -1,4 +1,4 @@
-"""What stops a rewrite at a place: a construct that can't be carried over."""
+"""The exception that stops a rewrite at a place: a construct that can't be carried over."""
 from __future__ import annotations
 
 from typing import NoReturn
@@ -7,13 +7,13 @@ from .tokens import Token
 
 
 class Refusal(Exception):
-    """A construct that can't be carried over; without a reason it follows from one that is told already."""
+    """A construct that can't be carried over. Without a reason it results from one that was reported already."""
 
     def __init__(self, at: Token, reason: str, is_open: bool = False):
         super().__init__(reason)
         self.at = at
         self.reason = reason
-        # It may be carried over where it is known what can come.
+        # It may be carried over if the messages that can come are known.
         self.is_open = is_open
 
 
@@ -22,7 +22,7 @@ def refuse(at: Token, reason: str) -> NoReturn:
 
 
 def refuse_silently(at: Token) -> NoReturn:
-    """What follows from what is told already."""
+    """Refuses something that results from an earlier refusal."""
     raise Refusal(at, "")
 
 

@@ -1,4 +1,4 @@
-"""From scripts of the full language to one of the profile, or to all that can't be carried over."""
+"""Rewrites scripts of the full language to one of the profile, or lists everything that can't be carried over."""
 from __future__ import annotations
 
 import re
@@ -19,7 +19,7 @@ from .writing import Lines, Writer
 
 @dataclass
 class Rewritten:
-    """The script, or what was refused; and what is worth a word though it is carried over."""
+    """The script, or the refusals; and notes about parts that are carried over."""
 
     lines: Lines
     refused: list[Refused] = field(default_factory=list)
@@ -31,7 +31,7 @@ class Rewritten:
 
     @property
     def map(self) -> str:
-        """A line for each statement: its line, and the file, line and column that it comes from."""
+        """A line for each statement: its line, and its original line, column and file."""
         origins = self.lines.origins
         return "".join(f"{one.line} {one.at.line}:{one.at.column} {one.at.file}\n" for one in origins)
 
@@ -62,23 +62,24 @@ def rewrite(
         run.tell(Refusal(run.lost or nowhere, "a value isn't known here"))
     told = list(run.refused.values())
     if program.faults:
-        # What couldn't be read isn't known where it is used.
+        # Definitions that couldn't be read are unknown in the places that use them.
         told = [one for one in told if not _FOLLOWS.search(one.reason)]
     told = without_what_follows(told)
     encoding = [one for one in told if "--encode" in one.reason]
     if encoding and not program.faults:
-        # What else is refused is what --encode leaves.
+        # The other refusals are those that remain with --encode.
         told = encoding + rewrite(sources, case, parameters, replace(options, encodes=True)).refused
     return Rewritten(Lines(), sorted_places([*told, *program.faults]))
 
 
 def without_what_follows(told: list[Refused]) -> list[Refused]:
-    """What is refused sets no variable, so that behind it one may seem to have no value, or another alternative."""
+    """Leaves out consequences: a refused statement sets no variable, so later a variable may seem to have no value, or
+    another alternative."""
     return [one for one in told if not _SEEMING.search(one.reason)] or told
 
 
 def written(run: Run, chosen: TestCase, files: list[str]) -> Optional[Lines]:
-    """The script; None where something is refused, of which the run is told."""
+    """The script; None if something is refused, which the run has noted."""
     followed: Optional[Followed] = None
     try:
         followed = with_ends(run, chosen)
@@ -97,8 +98,8 @@ def written(run: Run, chosen: TestCase, files: list[str]) -> Optional[Lines]:
 
 
 def with_what_comes(before: Run, chosen: TestCase, files: list[str]) -> tuple[Run, Optional[Lines]]:
-    """Anew, with what can come to each port, where nothing comes from outside. What was refused for another reason than
-    that it wasn't known stays refused, unless nothing comes to it."""
+    """Does it again with the messages that can come to each port, if none comes from outside. A refusal for another
+    reason than unknown messages stays, unless no message can reach its place."""
     try:
         run, lines = sorted_if_large(before, chosen, files)
     except NotClosed:
@@ -116,8 +117,8 @@ def with_what_comes(before: Run, chosen: TestCase, files: list[str]) -> tuple[Ru
 
 
 def sorted_if_large(before: Run, chosen: TestCase, files: list[str]) -> tuple[Run, Optional[Lines]]:
-    """The tree of all ways, and if that gets large or deep, a script in which ways that go on alike are written once. If that
-    is refused for another reason than its size, it is the tree as far as it may grow."""
+    """The tree of all paths; if that becomes large or deep, a script in which equivalent paths are written once. If
+    that is refused for another reason than its size, returns the tree as far as it may grow."""
     run = before.anew(flows=Flows(), may_sort=True)
     lines = written(run, chosen, files)
     if lines is not None or not (run.is_large or any(_LARGE.search(one.reason) for one in run.refused.values())):
@@ -131,7 +132,7 @@ def sorted_if_large(before: Run, chosen: TestCase, files: list[str]) -> tuple[Ru
 
 
 def whole(before: Run, chosen: TestCase, files: list[str]) -> tuple[Run, Optional[Lines]]:
-    """All that follows where it isn't known what can come, if much of it was left."""
+    """Follows everything although the messages that can come aren't known, if much of it was left out before."""
     if not before.has_left:
         return before, None
     run = before.anew()
@@ -139,7 +140,7 @@ def whole(before: Run, chosen: TestCase, files: list[str]) -> tuple[Run, Optiona
 
 
 def look_at_sends(run: Run, followed: Followed, chosen: TestCase) -> None:
-    """A send to what has ended is refused, or told of where that is asked for."""
+    """Refuses a send to a component that has ended; reports it as a note if the option asks for that."""
     finder = EndedFinder(followed)
     for late in finder.all():
         if run.options.queues_ended:
@@ -148,13 +149,13 @@ def look_at_sends(run: Run, followed: Followed, chosen: TestCase) -> None:
         else:
             run.tell(Refusal(late.at, late.reason))
     if finder.unsure:
-        # It is refused there, and both cases are looked at.
+        # It is refused there, and both cases are followed.
         run.unsure |= finder.unsure
         follow(run, chosen)
 
 
 def _backslashes(sources: list[Source]) -> list[Refused]:
-    """The first text with a backslash: of what it means tools say different things."""
+    """The first text with a backslash, because tools disagree about its meaning."""
     reason = "a backslash in a text stands for itself, as in the standard; Eclipse Titan reads the start of an escape"
     return [refused_at(source.escaped, reason) for source in sources if source.escaped is not None][:1]
 

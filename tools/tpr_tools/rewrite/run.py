@@ -1,4 +1,4 @@
-"""What all behaviours of a rewrite share: the program, what was refused, and the counts that bound the work."""
+"""The state that all behaviours of a rewrite share: the program, the refusals, and the counts that limit the work."""
 from __future__ import annotations
 
 import time
@@ -17,22 +17,23 @@ from .types import Kind, Type, Types
 from .values import Elements, Form, PortValue
 
 MOST_STEPS = 150_000
-# Without what can come: where something is refused that may be known with it, and else.
+# Limits of the first attempt, in which the messages that can come aren't known: if something was refused that may be
+# carried over once they are, and otherwise.
 MOST_OPEN_STEPS = 2_000
 MOST_FIRST_STEPS = 10_000
-# What tpr check takes at most.
+# The most that tpr check accepts.
 MOST_STATEMENTS = 100_000
 MOST_REFUSALS = 100
 MOST_PORTS = 64
 
 
 class TooMany(Exception):
-    """So much is refused that the rest isn't looked at."""
+    """There are so many refusals that the rest isn't followed."""
 
 
 class Reading(Enum):
-    """What is made of a timer that runs: it is refused, it never expires while something else is waited for, or it expires
-    at any moment after its start."""
+    """How a running timer is read: it is refused; it never expires while something else is waited for; or it expires at
+    any moment after its start."""
 
     REFUSED = ""
     NEVER = "never"
@@ -41,17 +42,17 @@ class Reading(Enum):
 
 @dataclass(frozen=True)
 class Options:
-    """What was asked for, and the bounds."""
+    """The options, and the limits."""
 
     encodes: bool = False
     timers: Reading = Reading.REFUSED
     # A send to a component that has ended is carried over, though its message stays queued here.
     queues_ended: bool = False
-    # The most values that a receive is split by, statements that are written, and seconds.
+    # The most values by which a receive is split, the most statements that are written, and the most seconds.
     values: int = 64
     statements: int = 40_000
     seconds: int = 60
-    # Who is told each second how far it is.
+    # Called each second with the progress.
     tell: Callable[[str], None] = lambda told: None
 
 
@@ -63,38 +64,41 @@ class Run:
     # The most messages that can come to a port, by the number of its component and its name.
     most: dict[tuple[int, str], int] = field(default_factory=dict)
     refused: dict[tuple[str, int, int], Refused] = field(default_factory=dict)
-    # The places at which it may be carried over where it is known what can come.
+    # The places that may be carried over once the messages that can come are known.
     open: set[tuple[str, int, int]] = field(default_factory=set)
-    # Whether an end from outside, or a send to what has ended, is refused behind a wait, where nothing may come to it.
+    # Whether an end from outside, or a send to an ended component, is refused after a wait that perhaps no message can
+    # end.
     is_behind: bool = False
-    # What can come, where that is looked at.
+    # The messages that can come, if they are computed.
     flows: Optional[Flows] = None
-    # The components that the end of the test case ends where they still wait.
+    # The components that the end of the test case ends if they still wait.
     ending: set[int] = field(default_factory=set)
     lost: Optional[Token] = None
-    # What is told of though it is carried over, and the sends to what may have ended among it.
+    # Notes about parts that are carried over; the sends among them that go to components that may have ended.
     notes: list[Refused] = field(default_factory=list)
     queued: set[Token] = field(default_factory=set)
-    # Where it was asked whether a component runs that may have ended.
+    # The places that ask whether a component runs which may have ended.
     unsure: set[Token] = field(default_factory=set)
     begun: float = field(default_factory=time.process_time)
-    # By the clock of who waits.
+    # The time of the last report of progress, by the wall clock.
     told: float = field(default_factory=time.monotonic)
-    # Whether anything was waited for: else what comes changes nothing. And whether a message decided how it goes on.
+    # Whether anything was waited for (if not, the messages that can come change nothing), and whether a message decided
+    # how a path continues.
     has_waited: bool = False
     has_forked: bool = False
-    # Whether ways that go on alike are written once, and whether a script that gets large is left for that.
+    # Whether equivalent paths are written once; whether a script that becomes large is given up for that; and whether
+    # it was.
     sorts: bool = False
     may_sort: bool = False
     is_large: bool = False
-    # Whether much that follows is left for when it is known what can come, and whether it was.
+    # Whether following may stop early, to be repeated once the messages that can come are known, and whether it did.
     may_leave: bool = False
     has_left: bool = False
     steps: int = 0
     written: int = 0
-    # How much was written when it was last asked how much comes.
+    # How much was written at the last estimate of the rest.
     looked_ahead: int = 0
-    # The ports at which a `repeat` counts what can come.
+    # The ports at which a `repeat` counts the messages that can come.
     counted: set[tuple[int, str]] = field(default_factory=set)
 
     def tell(self, refusal: Refusal) -> None:
@@ -126,7 +130,7 @@ class Run:
             raise TooMany()
 
     def _look_at_time(self, at: Token) -> None:
-        """A word of what is done, to who waits for it; and an end where it takes too long."""
+        """Reports the progress to a waiting user, and ends if it takes too long."""
         took = int(time.process_time() - self.begun)
         most = self.options.seconds
         if took >= most:
@@ -146,8 +150,8 @@ class Run:
             self._stop(at, self._too_many())
 
     def look_ahead(self, at: Token, more: int, is_growing: bool) -> None:
-        """Ends early where a loop goes on to write so many more: twice as many as there may be, since ways also end, unless
-        each turn writes more than all before."""
+        """Ends early if a loop is going to write this many more statements: more than twice the limit, because paths
+        also end, or more than the limit if each turn writes more than all before."""
         if self.written + more > (1 if is_growing else 2) * self.options.statements:
             self._stop(at, self._too_many(self.written + more))
 
@@ -159,18 +163,18 @@ class Run:
         return f"{reason}: --statements {min(max(2 * most, wanted), MOST_STATEMENTS)} lets it write more"
 
     def _stop(self, at: Token, reason: str) -> NoReturn:
-        """What comes behind such a place isn't looked at."""
+        """Ends here: nothing after such a place is followed."""
         self.tell(Refusal(at, reason, self.has_waited))
         raise TooMany()
 
     def anew(self, flows: Optional[Flows] = None, sorts: bool = False, may_sort: bool = False) -> Run:
-        """The same in another way, within the same seconds."""
+        """A new run with other settings, within the same time limit."""
         found = Run(self.program, self.parameters, self.options, flows=flows, sorts=sorts, may_sort=may_sort)
         found.begun, found.told = self.begun, self.told
         return found
 
     def begin(self, at: Token) -> None:
-        """Forgets what an earlier round came to."""
+        """Forgets the results of an earlier round."""
         self.counted.clear()
         self.refused.clear()
         self.open.clear()
@@ -181,7 +185,7 @@ class Run:
 
 @dataclass(frozen=True)
 class PortOf:
-    """A port of a component type: its type, and its name in the script that is written."""
+    """A port of a component type: its name in the written script, and its type."""
 
     name: str
     type: Type
@@ -189,7 +193,7 @@ class PortOf:
 
 @dataclass
 class Members:
-    """What a component type has: ports, arrays of them by their names, and variables."""
+    """The members of a component type: ports, arrays of ports by their names, and variables."""
 
     ports: dict[str, PortOf] = field(default_factory=dict)
     arrays: dict[str, Form] = field(default_factory=dict)
@@ -234,7 +238,7 @@ def _add_ports(found: Members, variable: tree.Variable, type: Type, size_of: _Si
 
 
 def _nested(values: list[Form], sizes: list[int]) -> Form:
-    """The ports as an array, or as arrays in one."""
+    """The ports as a possibly nested array."""
     for size in reversed(sizes):
         groups = range(0, len(values), size)
         values = [Elements(tuple(values[first : first + size])) for first in groups]

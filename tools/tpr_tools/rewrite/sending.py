@@ -1,4 +1,4 @@
-"""What a component sends, counted by its port, the port that it comes to, and the message."""
+"""The messages that a component sends, counted by its port, the receiving port, and the message."""
 from __future__ import annotations
 
 from collections import Counter
@@ -10,13 +10,13 @@ from .paths import End, peers
 from .types import Type
 from .values import Form, Received, Symbol, matches
 
-# A message, or a template that is waited for: its type and its form. None stands for any.
+# A message, or a template that is waited for: its type and its form. None stands for any message.
 What = Optional[tuple[Type, Form]]
 Sends = Counter[tuple[str, End, What]]
 
 
 def sum_of(sent: Sends, port: str, end: End, what: What) -> int:
-    """How many of them are such ones, or may be."""
+    """How many of the messages match `what`, or may match."""
     if what is None:
         return sent[port, end, None]
     return sum(count for (one, to, message), count in sent.items() if (one, to) == (port, end) and _may_match(message, what))
@@ -39,7 +39,7 @@ def count_sent(sent: Sends, followed: Followed, sender: int, statement: Sent) ->
 
 
 def receivers(followed: Followed, sender: int, statement: Sent) -> list[End]:
-    """The ports that a message may come to."""
+    """The ports that a message may be sent to."""
     ends = list(dict.fromkeys(peers(followed.joins, End(sender, statement.port))))
     if statement.to is None or isinstance(statement.to, Symbol):
         return ends

@@ -1,4 +1,4 @@
-"""A value that was received, where what follows is computed with it: its message gets a branch for each that can come."""
+"""A received value that later statements compute with: its message gets a branch for each value that can come."""
 from __future__ import annotations
 
 from typing import NoReturn, Optional
@@ -17,25 +17,25 @@ COMPUTED = "this is computed from what was received"
 
 
 class Settler(Shaper):
-    # What can come, where that is looked at, and the most values that a receive is split by.
+    # The messages that can come, if they are computed, and the most values by which a receive is split.
     flows: Optional[Flows] = None
     most_values = 0
 
     def settled(self, form: Form, at: Token, otherwise: str = COMPUTED) -> Form:
-        """The form, in which nothing was received."""
+        """The form, if it contains no part of a received message; otherwise the message is split."""
         received = received_in(form)
         if received is not None:
             self.split(received, at, otherwise)
         return form
 
     def split(self, received: Received, at: Token, otherwise: str = COMPUTED) -> NoReturn:
-        """Asks for each of the values that it can have."""
+        """Splits the message into branches for all values that it can have."""
         symbol, steps = received.symbol, received.steps
         if self.flows is None:
             refuse_open(at, otherwise)
         values = list(dict.fromkeys(_value_of(one, steps) for one in symbol.coming))
         if not values:
-            # Nothing that can come is left: what is looked at here isn't come to.
+            # No message that can come is left: this place isn't reached.
             raise Refusal(at, "")
         if len(values) > self.most_values:
             count = len(values)
@@ -52,7 +52,7 @@ def _value_of(one: Coming, steps: tuple[int, ...]) -> Form:
 
 
 def received_in(form: Form) -> Optional[Received]:
-    """The first part that was received."""
+    """The first part of a received message in the form."""
     if isinstance(form, Received):
         return form
     inner: tuple[Form, ...] = ()

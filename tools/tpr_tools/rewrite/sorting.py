@@ -1,8 +1,8 @@
-"""Ways that go on alike are written once, where not all ways of their `alt` do.
+"""Writes equivalent paths once, if not all paths of their `alt` are equivalent.
 
-The profile has no calls, and none of its variables holds a number that was computed. So each way ends with a number that
-its component sends to itself, and behind the `alt` there is a branch for each number: this is where all ways go on that
-sent it. The message is there when the branches are looked at, and nothing else is received at its port.
+The profile has no calls, and none of its variables holds a computed number. So each path ends with a number that its
+component sends to itself, and after the `alt` there is a branch for each number, where all paths that sent it continue.
+The message is there when the branches are tried, and nothing else is received at its port.
 """
 from __future__ import annotations
 
@@ -12,19 +12,19 @@ from .emitted import Came, Code, Way, Ways, Went
 from .paths import Exit, Fork, Key, Path, common, live_keys
 from .tokens import Token
 
-# A script with more statements is written anew, with ways that are sorted.
+# A script with more statements is written again, with sorted paths.
 MOST_OF_TREE = 4_000
 
 
 class Sorted(NamedTuple):
-    """A way, and whether it is one that goes on in a loop."""
+    """A path, and whether it continues in a loop."""
 
     path: Path
     goes_on: bool
 
 
 class Asked(NamedTuple):
-    """What the ways are compared by."""
+    """The criteria for comparing paths."""
 
     live: frozenset[str]
     has_verdict: bool
@@ -34,7 +34,7 @@ class Asked(NamedTuple):
 
 
 def sorted_ways(ways: list[Sorted], above: Optional[Fork], at: Token, asked: Asked) -> list[Sorted]:
-    """The ways, where those that agree are one; they are all that come from a way with the fork `above`."""
+    """The paths, with equivalent ones joined. They are all paths that come from the one with the fork `above`."""
     moving = [way for way in ways if way.path.exit is not Exit.STUCK]
     roots = {id(fork): fork for fork in (_root(way.path, above) for way in moving)}
     fork = next(iter(roots.values()), None)
@@ -56,7 +56,7 @@ def sorted_ways(ways: list[Sorted], above: Optional[Fork], at: Token, asked: Ask
 
 
 def _root(path: Path, above: Optional[Fork]) -> Optional[Fork]:
-    """The first fork below `above` that the way comes from."""
+    """The first fork below `above` that the path comes from."""
     fork = path.fork
     while fork is not None and fork.above is not above:
         fork = fork.above
@@ -76,7 +76,7 @@ def _one(group: list[Sorted], branches: Ways, fork: Fork, at: Token, asked: Aske
 
 
 def _joined(group: list[Sorted], code: Code, fork: Optional[Fork], asked: Asked) -> Sorted:
-    """One way for all, whose code is this."""
+    """One path for all of the group, with this code."""
     paths = [way.path for way in group]
     for path in paths:
         asked.leave(path, live_keys(path.state, asked.live))

@@ -1,4 +1,4 @@
-"""What tools/rewrite can't carry over of scripts of the full language."""
+"""The parts of scripts of the full language that tools/rewrite can't carry over."""
 from __future__ import annotations
 
 from ..command import on_large_stack
@@ -8,7 +8,7 @@ from .tokens import Refused, Source
 
 
 def refused_of(sources: list[Source]) -> list[Refused]:
-    """Each place with its reason. It wants a large stack."""
+    """Each place with its reason. It needs a large stack."""
     try:
         return rewrite(sources).refused
     except RecursionError:
@@ -16,6 +16,6 @@ def refused_of(sources: list[Source]) -> list[Refused]:
 
 
 def stays_of(file: str, data: bytes) -> list[str]:
-    """What `explain --all` says of a script: each place with its reason, and what to do instead."""
+    """The output of `explain --all` for a script: each place with its reason, and what to do instead."""
     found = on_large_stack(lambda: refused_of([Source(file, data)]))
     return [f"{one.text()}\n  instead: {instead_of(one.reason)}\n" for one in found]

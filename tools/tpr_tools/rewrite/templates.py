@@ -1,4 +1,4 @@
-"""What an expression's type is, how arguments are bound to parameters, and the matching mechanisms of Annex B."""
+"""The type of an expression, the binding of arguments to parameters, and the matching mechanisms of Annex B."""
 from __future__ import annotations
 
 from itertools import permutations
@@ -19,7 +19,7 @@ from .values import Elements, Form, IfPresent, Mark, Options, Reference, TextPat
 
 _MOST_ORDERS = 24
 _MOST_LENGTHS = 40
-# The most texts that a pattern, or a range of characters, is listed as.
+# The most texts in the list for a pattern, or for a range of characters.
 _MOST_TEXTS = 100
 
 
@@ -36,11 +36,11 @@ class Shaper:
         return Scope(self.scopes, above)
 
     def nowhere(self) -> Path:
-        """A way with no variables, for what is evaluated once for all."""
+        """A path without variables, for expressions that are evaluated once for all behaviours."""
         code: Code = []
         return Path(code, State(), None)
 
-    # These are the evaluator's, which this is a part of.
+    # The methods below belong to the evaluator, of which this class is a part.
 
     def find(self, word: str, scope: Optional[Scope], path: Path) -> Optional[Key]:
         raise NotImplementedError
@@ -59,7 +59,7 @@ class Shaper:
     # Types
 
     def type_of(self, node: Expression, path: Path, scope: Optional[Scope]) -> Optional[Type]:
-        """The type that an expression is declared with; None where it has none of its own."""
+        """The declared type of an expression; None if it has none of its own."""
         if isinstance(node, tree.Typed):
             return self.types.named(node.type.word, node.type.at)
         if isinstance(node, tree.Name):
@@ -158,7 +158,7 @@ class Shaper:
     def target(
         self, node: Expression, path: Path, scope: Optional[Scope]
     ) -> tuple[Key, tuple[int, ...]]:
-        """The variable that is meant, and the steps to the part of it."""
+        """The variable that is meant, and the steps to its part."""
         if isinstance(node, tree.Name):
             key = self.find(node.word, scope, path)
             if key is None:
@@ -195,7 +195,7 @@ class Shaper:
         forms = [_of_signs(row, None) for row in rows or []]
         if not forms or any(isinstance(form, Texts) for form in forms):
             return Texts(pattern)
-        # A text whose signs were escaped isn't mixed up with one that has them.
+        # Escaped signs of a text must not be confused with wildcards.
         return forms[0] if len(forms) == 1 and "\\" not in text else Options(tuple(forms))
 
     def other_matching(self, node: tree.OtherMatching, items: list[Form], type: Optional[Type]) -> Form:
@@ -204,7 +204,7 @@ class Shaper:
         refuse(node.at, f"`{node.word}` isn't carried over")
 
     def of_length(self, at: Token, base: Form, low: Optional[int], high: Optional[int], type: Optional[Type]) -> Form:
-        """`? length(2)`: as many `?` as there are elements, for each length one list. Without an upper bound it is None."""
+        """`? length(2)`: a list with as many `?`, for each allowed length. `high` is None without an upper bound."""
         if low is None or low < 0 or high is not None and high < low:
             refuse(at, "the length isn't known here")
         if max(low, high or 0) > _MOST_LENGTHS:
@@ -218,7 +218,7 @@ class Shaper:
         return base if is_value(base) else forms[0] if len(forms) == 1 else Options(forms)
 
     def with_permutations(self, node: tree.Braces, items: list[Form]) -> Form:
-        """The elements; `permutation` among them stands for a list of all its orders."""
+        """The elements; `permutation` among them becomes a list of all its orders."""
         lists: list[tuple[Form, ...]] = [()]
         for item, form in zip(node.items, items):
             if isinstance(item, tree.OtherMatching) and item.word == "permutation":
@@ -235,7 +235,7 @@ class Shaper:
 
 
 def look_at_restricted(form: Form, word: str, at: Token) -> None:
-    """A template that is restricted to values, or to what isn't left out, is an error where it is another one (15.8)."""
+    """Refuses a template that breaks its restriction to values, or to forms that aren't omitted (15.8)."""
     if form in (Mark.LOST, Mark.UNSET) or not word:
         return
     is_left_out = form in (Mark.OMIT, Wild.ANY_OR_NONE) or isinstance(form, IfPresent)
@@ -249,7 +249,7 @@ _Rows = Optional[list[list[Form]]]
 
 
 def _rows_of(pattern: Pattern, most: Optional[int]) -> _Rows:
-    """What stands at each place of the texts that match, up to a length: a row for each; None where they are too many."""
+    """What is at each place of the matching texts, up to a length: a row for each text; None if there are too many."""
     if isinstance(pattern, Sign):
         letters = pattern.letters
         return [[Wild.ANY]] if letters is None else [[letter] for letter in sorted(letters) if " " <= letter <= "~"]
@@ -308,7 +308,7 @@ def _rows_of_form(base: Form, type: Optional[Type], most: Optional[int]) -> _Row
 
 
 def _signs_of(base: Form, type: Optional[Type]) -> Optional[list[Form]]:
-    """What a template of a charstring or of a record of has at each place; None of another template."""
+    """What a template of a charstring or of a record of has at each place; None for any other template."""
     if type is None or type.kind not in (Kind.CHARSTRING, Kind.LIST):
         return None
     if base in (Wild.ANY, Wild.ANY_OR_NONE):
@@ -322,7 +322,8 @@ def _signs_of(base: Form, type: Optional[Type]) -> Optional[list[Form]]:
 
 
 def _of_lengths(signs: list[Form], low: int, high: Optional[int]) -> list[list[Form]]:
-    """With as many in place of its `*` as there may be; without an upper bound the `*` stays behind those there must be."""
+    """The lists with each allowed number of elements instead of the `*`. Without an upper bound the `*` stays after the
+    required ones."""
     if Wild.ANY_OR_NONE not in signs:
         return [signs] if low <= len(signs) and (high is None or len(signs) <= high) else []
     place, fixed = signs.index(Wild.ANY_OR_NONE), len(signs) - 1
@@ -347,7 +348,7 @@ def _of_signs(signs: list[Form], type: Optional[Type]) -> Form:
 
 
 def _orders_of(items: tuple[Form, ...], at: Token) -> list[tuple[Form, ...]]:
-    """All orders of what a permutation lists."""
+    """All orders of the elements of a permutation."""
     if Wild.ANY_OR_NONE in items or len(items) > 4:
         refuse(at, "a permutation of more than four elements, or with `*`, isn't carried over")
     return list(dict.fromkeys(permutations(items)))

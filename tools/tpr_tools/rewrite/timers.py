@@ -1,8 +1,8 @@
-"""Timers (ES 201 873-1, 23) in the reading that was asked for.
+"""Timers (ES 201 873-1, 23) in the reading that the option chooses.
 
-`never`: no timer expires while something else is waited for; one that alone is waited for expires, since nothing else
-goes on there. `any`: each may expire at any moment after its start. A component of its own answers each start, and
-`t.timeout` and `t.stop` take this answer. How long a timer runs counts in neither.
+`never`: no timer expires while something else is waited for; a timer that is waited for alone expires, because nothing
+else can end that wait. `any`: each timer may expire at any moment after its start. A component for each timer answers
+the starts, and `t.timeout` and `t.stop` receive this answer. The duration of a timer counts in neither reading.
 """
 from __future__ import annotations
 
@@ -25,7 +25,7 @@ MOST_TIMERS = 64
 
 
 class Timers(Follower):
-    # The declaration that each name of a timer is of.
+    # The declaration of each timer's name.
     timers: dict[str, Token]
 
     @property
@@ -35,7 +35,7 @@ class Timers(Follower):
     # Declared, and gone
 
     def new_timers(self, variable: tree.Variable, type: Type, path: Path) -> Form:
-        """A timer, or an array of them. One that is there already has its name for itself."""
+        """A timer, or an array of timers. A timer that exists already keeps its name for itself."""
         taken = {timer.name.partition("[")[0] for _, timer in _timers_of(path)}
         name, number = variable.name, 2
         while name in taken or self.timers.setdefault(name, variable.at) is not variable.at:
@@ -43,7 +43,7 @@ class Timers(Follower):
         return _array_of(name, type, variable.at)
 
     def end_timers(self, scope: Scope, path: Path) -> None:
-        """A timer that runs when its block is left is stopped by that."""
+        """Stops the running timers of a block that is left."""
         if path.exit in (Exit.END, Exit.STUCK):
             return
         for place, timer in _timers_of(path):
@@ -51,7 +51,7 @@ class Timers(Follower):
                 self._stop_timer(place, timer, self._declared_at(timer), path)
 
     def leave_behind(self, path: Path, kept: set[Key]) -> None:
-        """A timer that is spoken of no more is stopped before the ways join, whether it runs on all of them or not."""
+        """Stops timers that aren't used any more before the paths join, even if they don't run on all of them."""
         for (key, _), timer in _timers_of(path):
             if key not in kept and timer.is_running and self.reading is Reading.ANY:
                 self.run.write(self._declared_at(timer))
@@ -89,7 +89,7 @@ class Timers(Follower):
             self._stop_timer(place, timer, at, path)
 
     def _look_at_duration(self, node: Expression, calls: bool, path: Path, scope: Scope) -> None:
-        """Of the time itself nothing is said, but one below 0 is an error (23.2)."""
+        """Checks the duration. Its length doesn't matter, but a negative one is an error (23.2)."""
         looked_at = path if calls else Path([], path.state.copy(), path.fork)
         try:
             value = self.evaluate(node, looked_at, scope)
@@ -116,7 +116,7 @@ class Timers(Follower):
     # Timeouts
 
     def expiring(self, event: tree.Find, path: Path, scope: Scope) -> list[tuple[Place, TimerValue]]:
-        """The timers that may expire of those that are waited for."""
+        """Those of the awaited timers that may expire."""
         if event.has_more:
             refuse(event.at, "this form of `timeout` isn't carried over")
         if isinstance(event.target, Any):
@@ -130,7 +130,7 @@ class Timers(Follower):
         return found
 
     def asked_of_timer(self, node: tree.Asked, path: Path, scope: Optional[Scope]) -> Form:
-        """Whether a timer runs: one that was started does so as long as it never expires."""
+        """Whether a timer runs. A started timer runs as long as it doesn't expire."""
         if node.target is None:
             timers = [timer for _, timer in self._visible(node.at, path, scope)]
         else:
@@ -143,7 +143,7 @@ class Timers(Follower):
         return is_started
 
     def _visible(self, at: Token, path: Path, scope: Optional[Scope]) -> list[tuple[Place, TimerValue]]:
-        """All timers by a name that is known here (23.3, 23.6); of others that run nothing is said."""
+        """All timers whose names are known here (23.3, 23.6). Other running timers aren't considered."""
         found = []
         for place, timer in _timers_of(path):
             if self.find(place[0][1], scope, path) == place[0]:
@@ -154,7 +154,7 @@ class Timers(Follower):
 
 
 def _timers_of(path: Path) -> list[tuple[Place, TimerValue]]:
-    """All timers that are there."""
+    """All timers that exist."""
     found: list[tuple[Place, TimerValue]] = []
     for key, slot in path.state.variables.items():
         if slot.type is not None and _is_of_timers(slot.type):
@@ -167,7 +167,7 @@ def _is_of_timers(type: Type) -> bool:
 
 
 def _timers_in(value: Form, steps: tuple[int, ...]) -> Iterator[tuple[tuple[int, ...], TimerValue]]:
-    """The timers of an array, or of arrays in one, each with its indices."""
+    """The timers of a possibly nested array, each with its indices."""
     if isinstance(value, TimerValue):
         yield steps, value
     elif isinstance(value, Elements):

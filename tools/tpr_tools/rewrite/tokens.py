@@ -76,7 +76,7 @@ _UNREADABLE = {
 
 
 class Source:
-    """A file, with its tokens and what of it is none."""
+    """A file, with its tokens and the places where no token begins."""
 
     def __init__(self, file: str, data: bytes):
         self.file = file
@@ -116,7 +116,7 @@ class Source:
             self.begun.append(self.tokens[-1])
 
     def _skip(self, place: int) -> int:
-        """Tells what no token begins with; an open text or comment ends with its line."""
+        """Reports a place where no token begins. An unclosed text or comment ends with its line."""
         line, column = self.position(place)
         letter = self.text[place]
         reason = _UNREADABLE.get(letter, f"{letter!r} begins no token")

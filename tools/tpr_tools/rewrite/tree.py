@@ -1,6 +1,6 @@
-"""The tree of a module of the full language: its definitions and statements, and what stands in them.
+"""The syntax tree of a module of the full language: its definitions and statements.
 
-Each node has the token at which it begins. Nodes are compared by identity.
+Each node has its first token. Nodes are compared by identity.
 """
 from __future__ import annotations
 
@@ -126,7 +126,7 @@ class Deactivate(Node):
 
 @dataclass(eq=False)
 class Place(Node):
-    """A port of a component, behind `connect` or `map`."""
+    """A port of a component, after `connect` or `map`."""
 
     component: Optional[Expression]
     port: Optional[Expression]
@@ -156,7 +156,7 @@ class PortAct(Enum):
 
 @dataclass(eq=False)
 class Operate(Node):
-    """`p.start`, `all port.stop`, but `c.stop` and `t.start` too: which it is, the name tells."""
+    """`p.start`, `all port.stop`, and also `c.stop` and `t.start`: the name tells which kind it is."""
 
     target: Optional[Expression]
     act: PortAct
@@ -173,7 +173,7 @@ class Finding(Enum):
 
 
 class Any(Enum):
-    """Who is meant where no name stands."""
+    """What is meant if there is no name."""
 
     ANY = "any"
     ALL = "all"
@@ -196,7 +196,7 @@ class Receiving(Enum):
 
 @dataclass(eq=False)
 class Redirect(Node):
-    """Where the value goes, whole or by fields, and the sender."""
+    """Where the value is stored, whole or by fields, and the sender."""
 
     value: Optional[Expression]
     parts: list[tuple[Expression, Expression]]
@@ -206,7 +206,7 @@ class Redirect(Node):
 
 @dataclass(eq=False)
 class Receive(Node):
-    """`port` is None for `any port`; `is_each` where it is `any from p`."""
+    """`port` is None for `any port`; `is_each` is set for `any from p`."""
 
     how: Receiving
     port: Optional[Expression]
@@ -230,7 +230,7 @@ class Find(Node):
 
 @dataclass(eq=False)
 class Unsupported(Node):
-    """A statement that has no place here, and why."""
+    """A statement that can't be carried over, and why."""
 
     reason: str
     span: tuple[int, int] = (0, 0)
@@ -286,7 +286,7 @@ class Parameter(Node):
     type: TypeName
     name: str
     value: Optional[Expression]
-    # Of a template: `value`, `omit`, `present` or nothing.
+    # For a template: `value`, `omit`, `present` or nothing.
     restriction: str = ""
 
 
@@ -354,5 +354,5 @@ class Module(Node):
     definitions: list[Definition]
     imports: list[Name]
     control: list[Statement]
-    # The variables of the control part that have one value there, whatever is executed.
+    # The variables of the control part that always have one value there, whatever is executed.
     known: list[Constant]

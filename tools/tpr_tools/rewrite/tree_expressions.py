@@ -1,6 +1,6 @@
-"""The tree of expressions, templates, types and declarations of the full language.
+"""The syntax tree of expressions, templates, types and declarations of the full language.
 
-Each node has the token at which it begins. Nodes are compared by identity.
+Each node has its first token. Nodes are compared by identity.
 """
 from __future__ import annotations
 
@@ -20,7 +20,7 @@ class Node:
 
 
 class Sign(Enum):
-    """What stands for itself in an expression or a template."""
+    """A sign that stands for itself in an expression or a template."""
 
     ANY = "?"
     ANY_OR_NONE = "*"
@@ -119,7 +119,7 @@ class PatternOf(Node):
 
 @dataclass(eq=False)
 class OtherMatching(Node):
-    """`superset`, `subset`, `permutation`, `ifpresent`, `length`: their word, and what they speak of."""
+    """`superset`, `subset`, `permutation`, `ifpresent`, `length`: the word, and its operands."""
 
     word: str
     items: list[Expression]
@@ -164,7 +164,8 @@ class Activate(Node):
 
 @dataclass(eq=False)
 class Asked(Node):
-    """`c.running`, `any component.alive`, `t.read`, `p.checkstate(..)` and the like: what can't be known before."""
+    """`c.running`, `any component.alive`, `t.read`, `p.checkstate(..)` and the like: states that can't be known before
+    the run."""
 
     of: str
     word: str
@@ -179,7 +180,7 @@ Expression = Union[
 
 
 def word_called(call: Expression) -> str:
-    """The name of what is called, with brackets behind it or without; nothing where it has none."""
+    """The name that is called, with or without brackets after it; empty if it has none."""
     called = call.called if isinstance(call, Call) else call
     return called.word if isinstance(called, (Name, FieldOf)) else ""
 
@@ -189,7 +190,7 @@ def word_called(call: Expression) -> str:
 
 @dataclass(eq=False)
 class TypeName(Node):
-    """A type where one is named, or written out within a field; of a result with what restricts its template."""
+    """A type that is named, or written out within a field; for a result also the restriction of its template."""
 
     word: str
     body: Optional[TypeBody] = None
@@ -207,7 +208,7 @@ class FieldType(Node):
 
 @dataclass(eq=False)
 class Restriction(Node):
-    """What stands behind a subtype's name: its list in parentheses, and its length."""
+    """The restriction after a subtype's name: its list in parentheses, and its length."""
 
     values: list[Expression]
     lengths: list[Expression]
@@ -233,7 +234,7 @@ class ListBody(Node):
 
 @dataclass(eq=False)
 class EnumBody(Node):
-    """Each name, with the number that stands behind it; `is_of_ranges` where one stands for several."""
+    """Each name, with the number after it; `is_of_ranges` if a name has several numbers."""
 
     names: list[str]
     numbers: list[Optional[int]] = field(default_factory=list)
@@ -262,7 +263,7 @@ class ComponentBody(Node):
 
 @dataclass(eq=False)
 class OtherBody(Node):
-    """A type that has no place here, and why."""
+    """A type that can't be carried over, and why."""
 
     reason: str
 
@@ -292,7 +293,7 @@ class Variable(Node):
 
 @dataclass(eq=False)
 class Declaration(Node):
-    """`is_late` where a value is evaluated when it is used: `@lazy` or `@fuzzy`."""
+    """`is_late` if a value is evaluated at its use: `@lazy` or `@fuzzy`."""
 
     kind: Declared
     type: TypeName

@@ -1,4 +1,4 @@
-"""The types of a program: what each name means, resolved once (ES 201 873-1, 6)."""
+"""The types of a program: the meaning of each name, resolved once (ES 201 873-1, 6)."""
 from __future__ import annotations
 
 from dataclasses import dataclass, field
@@ -38,7 +38,7 @@ class FieldOfType:
 
 @dataclass(eq=False)
 class Type:
-    """`root` is the type that it is another name of, or itself; `size` that of an array."""
+    """`root` is the type itself, or the type that it is an alias of; `size` is that of an array."""
 
     kind: Kind
     name: str
@@ -46,7 +46,7 @@ class Type:
     fields: list[FieldOfType] = field(default_factory=list)
     element: Optional[Type] = None
     size: Optional[int] = None
-    # Of an enumerated type, each with its number; without numbers where one has several.
+    # The names of an enumerated type with their numbers; without numbers if a name has several.
     names: list[str] = field(default_factory=list)
     numbers: dict[str, int] = field(default_factory=dict)
     above: Optional[Type] = None
@@ -73,7 +73,7 @@ class Type:
 
 
 def _numbers_of(body: tree.EnumBody) -> dict[str, int]:
-    """A name without a number has the least from 0 on that none has, in the order of the text (6.2.4)."""
+    """A name without a number gets the least unused one, counted from 0, in the order of the text (6.2.4)."""
     found = {name: number for name, number in zip(body.names, body.numbers) if number is not None}
     for name in body.names:
         if name not in found:
@@ -107,7 +107,7 @@ class Types:
         definition = self.definitions.get(word)
         if definition is None:
             if word == UNIVERSAL:
-                # Of its characters a message has those that a charstring has.
+                # A message may only have those of its characters that a charstring has.
                 self._known[word] = Type(Kind.CHARSTRING, word, above=self._known["charstring"])
                 return self._known[word]
             is_word = word in ("anytype", "address")
@@ -155,7 +155,7 @@ class Types:
         found.component, found.port = above.component, above.port
 
     def of(self, name: tree.TypeName, inner: str) -> Type:
-        """The type that is named or written out; `inner` is the name that one within a field gets."""
+        """The type that is named or written out; `inner` is the name for a type that is written out within a field."""
         if name.body is not None:
             found = Type(Kind.OTHER, self._free(inner), name.at)
             self._known[found.name] = found

@@ -1,6 +1,6 @@
 """Values and templates as a rewrite knows them, and whether a value matches a template (ES 201 873-1, Annex B).
 
-A form is a value where nothing in it is open. An integer, a boolean and a charstring stand for themselves.
+A form is a value if nothing in it is open. An integer, a boolean and a charstring stand for themselves.
 """
 from __future__ import annotations
 
@@ -18,7 +18,8 @@ class Wild(Enum):
 
 
 class Mark(Enum):
-    """What is no message: no value yet, `omit`, `null`, `-`, and what a refused statement would have set."""
+    """Forms that aren't messages: no value yet, `omit`, `null`, `-`, and the value that a refused statement would
+    set."""
 
     UNSET = "unset"
     OMIT = "omit"
@@ -29,14 +30,14 @@ class Mark(Enum):
 
 @dataclass(frozen=True)
 class Fields:
-    """A record's, in declared order."""
+    """The fields of a record, in declared order."""
 
     items: tuple[Form, ...]
 
 
 @dataclass(frozen=True)
 class Elements:
-    """Of a record of, or of an array."""
+    """The elements of a record of, or of an array."""
 
     items: tuple[Form, ...]
 
@@ -62,7 +63,7 @@ class Digits:
 
 @dataclass(frozen=True)
 class DigitsPattern:
-    """Digits with `?` for any one of them, of octets for any two, and `*` for any number of these."""
+    """Digits with `?` for any one of them (for octets: any two), and `*` for any number of these."""
 
     digits: str
     letter: str
@@ -91,7 +92,7 @@ class TextPattern:
 
 @dataclass(frozen=True)
 class Texts:
-    """Texts of a pattern of which the profile has none: it has no such signs, and too many match to list them."""
+    """Texts of a pattern that the profile doesn't have: it lacks such signs, and too many texts match to list them."""
 
     pattern: Pattern
 
@@ -131,7 +132,7 @@ class TimerValue:
 
 @dataclass(frozen=True)
 class Reference:
-    """A parameter that is another variable."""
+    """A parameter that refers to another variable."""
 
     scope: int
     name: str
@@ -155,7 +156,7 @@ class Coming(NamedTuple):
 
 
 class Symbol:
-    """A message that was received: what its template and the branches say of it, and no more."""
+    """A received message: what its template and the branches say about it, and no more."""
 
     def __init__(self, number: int, type: object, template: Form, hint: str):
         self.number = number
@@ -166,15 +167,15 @@ class Symbol:
         self.is_used = False
         self.name = ""
         self.is_sender = False
-        # Of a sender, the components that it may be.
+        # For a sender: the components that it may be.
         self.peers: tuple[int, ...] = ()
-        # All that it can be, where that is known.
+        # All messages that it can be, if they are known.
         self.coming: tuple[Coming, ...] = ()
 
 
 @dataclass(frozen=True)
 class Received:
-    """A message that was received, or a part of it, by its steps from the whole."""
+    """A received message, or a part of it, by the steps from the whole message."""
 
     symbol: Symbol
     steps: tuple[int, ...] = ()
@@ -186,7 +187,7 @@ Form = Union[
     Received,
 ]
 
-# Of a message: whether the part at these steps matches.
+# Facts about a message: whether the part at these steps matches.
 Facts = dict[tuple[tuple[int, ...], Form], bool]
 _OPEN = (Wild, Options, Excluded, Bounds, TextPattern, Texts, DigitsPattern, Received, IfPresent)
 VERDICTS = ("none", "pass", "inconc", "fail", "error")
@@ -197,7 +198,7 @@ def worse(one: str, other: str) -> str:
 
 
 def is_value(form: Form) -> bool:
-    """Whether nothing of it is open, and nothing unset."""
+    """Whether nothing in it is open or unset."""
     if isinstance(form, _OPEN) or form in (Mark.UNSET, Mark.NOT_USED, Mark.LOST):
         return False
     if isinstance(form, (Fields, Elements)):
@@ -206,7 +207,7 @@ def is_value(form: Form) -> bool:
 
 
 def is_template(form: Form) -> bool:
-    """Whether it can stand in a receive: nothing unset, and nothing that was received."""
+    """Whether it can be used in a receive: nothing in it is unset or part of a received message."""
     if isinstance(form, Received) or form in (Mark.UNSET, Mark.NOT_USED, Mark.LOST):
         return False
     if isinstance(form, (Fields, Elements, Options, Excluded)):
@@ -221,7 +222,7 @@ def has_received(form: Form) -> bool:
 
 
 def has_texts(form: Form) -> bool:
-    """Whether it can't be written, since the texts that match can't be listed."""
+    """Whether it can't be written, because the matching texts can't be listed."""
     return _has(form, Texts)
 
 
@@ -236,7 +237,7 @@ def _has(form: Form, kind: type) -> bool:
 
 
 def same(one: Form, other: Form) -> bool:
-    """Equal, where `1` isn't `true`."""
+    """Whether the two are equal; `1` isn't equal to `true`."""
     if isinstance(one, bool) is not isinstance(other, bool):
         return False
     if isinstance(one, (Fields, Elements)) and type(one) is type(other):
@@ -289,7 +290,7 @@ def _fits_pattern(text: str, pattern: str, one: str) -> bool:
 
 
 def _match_elements(values: tuple[Form, ...], templates: tuple[Form, ...]) -> bool:
-    """A row for each number of templates: which numbers of values they match."""
+    """Keeps, after each template, the numbers of values that the templates so far can match."""
     ends = {0}
     for template in templates:
         if template is Wild.ANY_OR_NONE:
@@ -300,12 +301,12 @@ def _match_elements(values: tuple[Form, ...], templates: tuple[Form, ...]) -> bo
 
 
 def may_be_left_out(template: Form) -> bool:
-    """Of an optional field: whether `omit` matches beside values."""
+    """For an optional field: whether the template matches `omit` beside values."""
     return template is Wild.ANY_OR_NONE or isinstance(template, IfPresent)
 
 
 def decided(template: Form, asked: Form) -> Optional[bool]:
-    """Whether all values that match the template match the asked one, or none do; None where it is open."""
+    """Whether all values that match the template match the asked one, or none do; None if that is open."""
     if is_value(template):
         return matches(template, asked)
     if asked is Wild.ANY or asked is Mark.OMIT:
@@ -339,7 +340,7 @@ def _both(one: Bounds, other: Bounds) -> Optional[Bounds]:
 
 
 def narrowed(template: Form, asked: Form) -> Optional[Form]:
-    """A template of what both match; None where that can't be said."""
+    """A template that matches what both match; None if there is none that can be written."""
     if template in (Wild.ANY, Wild.ANY_OR_NONE):
         return asked
     if isinstance(template, IfPresent):
@@ -359,7 +360,7 @@ def narrowed(template: Form, asked: Form) -> Optional[Form]:
 
 
 def _narrowed_options(items: tuple[Form, ...], asked: Form) -> Optional[Form]:
-    """Of each what both match; the only one that is left stands for itself."""
+    """For each item, what both match; a single remaining one stands for itself."""
     found: list[Form] = []
     for item in items:
         answer = decided(item, asked)

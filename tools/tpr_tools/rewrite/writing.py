@@ -1,4 +1,4 @@
-"""Writes the script of the profile: its types, components and behaviours, and which line each statement comes from."""
+"""Writes the script of the profile: its types, components and behaviours, and the original place of each statement."""
 from __future__ import annotations
 
 import os
@@ -24,14 +24,14 @@ from .values import Received, Symbol
 from .writing_types import TypeWriter
 
 MOST_BRACKETS = 32
-# Brackets, and what holds none: texts and comments.
+# Brackets, and texts and comments, in which brackets don't count.
 _BRACKETS = re.compile(r'"(?:[^"]|"")*"|//.*|[{}()\[\]]')
 MOST_BYTES = 1_048_576
 
 
 @dataclass(frozen=True)
 class Origin:
-    """A line of the script that was written, and the place that it comes from."""
+    """A line of the written script, and its original place."""
 
     line: int
     at: Token
@@ -39,11 +39,11 @@ class Origin:
 
 @dataclass
 class Lines:
-    """The lines, each with the place that it comes from where it has one."""
+    """The lines, and the original places of those that have one."""
 
     texts: list[str] = field(default_factory=list)
     origins: list[Origin] = field(default_factory=list)
-    # The port of each timer, and what takes the answer of its component, in the order of the text.
+    # The port of each timer, and the operations that receive the answer of its component, in the order of the text.
     timers: dict[str, str] = field(default_factory=dict)
     ticks: list[Ticked] = field(default_factory=list)
     has_files: bool = False
@@ -55,7 +55,7 @@ class Lines:
         self.texts.append(text)
 
     def first_too_deep(self) -> Optional[Token]:
-        """Where the first line comes from in which too many brackets are open at once."""
+        """The original place of the first line in which too many brackets are open at once."""
         is_open = 0
         for number, text in enumerate(self.texts, 1):
             for sign in _BRACKETS.findall(text):
@@ -71,7 +71,7 @@ class Lines:
 
 @dataclass
 class Shape:
-    """A component as it is written: its name, its type's, and the ports that it has besides."""
+    """A component as it is written: its name, the name of its type, and its additional ports."""
 
     part: Part
     name: str
@@ -79,13 +79,13 @@ class Shape:
     loops: dict[str, str] = field(default_factory=dict)
     controls: dict[int, str] = field(default_factory=dict)
     timers: dict[str, str] = field(default_factory=dict)
-    # A port that is connected with nothing: what is sent there fails.
+    # A port without a connection: a send from it fails.
     nowhere: str = ""
-    # Two that are connected with each other, for the numbers by which ways are sorted.
+    # Two ports that are connected with each other, for the numbers of sorted paths.
     numbers: tuple[str, ...] = ()
 
     def control_ports(self) -> list[str]:
-        """Those that carry the control messages of this tool."""
+        """The ports for the control messages of this tool."""
         return [*self.controls.values(), *self.timers.values(), *filter(None, [self.nowhere])]
 
     def extra_ports(self) -> list[str]:
@@ -124,7 +124,7 @@ class Writer:
         self.lines.add(f"module {self.module_name} {{")
         self._definitions()
         if self.run.refused:
-            # Of a type that isn't written no value can be.
+            # A type that isn't written has no values.
             return self.lines
         for number, shape in self.shapes.items():
             if number != 0:
@@ -150,7 +150,7 @@ class Writer:
     # Names
 
     def _name_all(self) -> None:
-        """Types and ports keep their names; components and variables get ones that nothing else has."""
+        """Types and ports keep their names; components and variables get unique ones."""
         program, followed = self.run.program, self.followed
         self.names.keep(program.types.definitions)
         self.case_name = followed.case.name[:60]
@@ -185,7 +185,8 @@ class Writer:
                 shape.loops[port] = self.names.free(f"{port}_loop")
 
     def _add_controls(self, part: Part) -> None:
-        """A port to each component that it tells to begin, or whose end it waits for, and one there."""
+        """Adds a port for each component that it tells to begin, or whose end it waits for, and one on the other
+        side."""
         shape = self.shapes[part.number]
         for number in sorted(tells_of(part.code)):
             other = self.shapes[number]
@@ -194,7 +195,7 @@ class Writer:
                 other.controls[part.number] = self.names.free(f"{shape.name}_control_{other.name}")
 
     def _add_timers(self, part: Part) -> None:
-        """A port to the component of each timer that something waits for."""
+        """Adds a port for the component of each timer whose timeout something waits for."""
         shape = self.shapes[part.number]
         without_unasked(part.code)
         for timer, starts in count_starts(part.code).items():
@@ -280,7 +281,7 @@ class Writer:
             self.started.append((shape.name, name, at))
 
     def _told_of_end(self, shape: Shape) -> list[int]:
-        """Who waits for the end of this component's behaviour."""
+        """The components that wait for the end of this component's behaviour."""
         number = shape.part.number
         found = []
         for other in self.followed.parts:
@@ -352,7 +353,7 @@ class Block:
         self.lines = writer.lines
 
     def variables(self, code: Code) -> None:
-        """A variable for each message that is spoken of later, and for each sender."""
+        """Declares a variable for each message that is used later, and for each such sender."""
         for statement in statements_of(code):
             if not isinstance(statement, Got):
                 continue
@@ -425,7 +426,7 @@ class Block:
         return self._timer(operation)[0] if isinstance(operation, Ticked) else self._got(operation)
 
     def _timer(self, statement: Ticked | Unstarted) -> list[str]:
-        """A start is sent, and its answer is taken by the timeout or the `stop`."""
+        """A start is written as a send, and the timeout or the `stop` receives its answer."""
         port = self.shape.timers[statement.timer]
         if isinstance(statement, Unstarted):
             return [f"{port}.send(boolean:false)"] * statement.count

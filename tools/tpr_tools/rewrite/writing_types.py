@@ -23,12 +23,12 @@ class TypeWriter:
         self.types = types
         self.tell = tell
         self.encoder = encoder
-        # Where a type stands that no module defines.
+        # The place for a type that no module defines.
         self.nowhere = nowhere
         self._written: set[Type] = set()
 
     def write(self, ports: list[Type], messages: list[Type], add: _Add) -> None:
-        """The types of messages that ports list, and the ports' own. A type that no message has may be left out."""
+        """Writes the types of messages that ports list, and the port types. A type without messages may be left out."""
         listed: dict[Type, str] = {}
         lists = [(port, self._directions(port, messages, listed)) for port in ports]
         for type in listed:
@@ -93,7 +93,7 @@ class TypeWriter:
         text = " ".join(
             f"{word} {', '.join(map(type_text, types))};" for word, types in lists.items() if types
         )
-        # A port that nothing is sent to must list something.
+        # A port that no message is sent to must list some type.
         add(f"  type port {port.name} message {{ {text or 'inout boolean;'} }}", port.at)
 
 
@@ -109,7 +109,7 @@ def _reasons_against(root: Type) -> Iterator[str]:
 
 
 def is_plain(type: Type, above: list[Type]) -> bool:
-    """Whether the profile has the type as it is, and all that it is made of."""
+    """Whether the profile has the type and all types inside it."""
     if type in above:
         return True
     if type.kind is Kind.LIST:
