@@ -1,1 +1,1 @@
-"""Says of a script that `tpr check` refuses what is wrong, and what to write."""
+"""Says what is wrong in a script that `tpr check` refuses, and what to write."""

@@ -17,8 +17,8 @@ class Unclosed(NamedTuple):
 
 
 def unclosed_at(text: Text, place: int) -> Optional[Unclosed]:
-    """The bracket that isn't closed, if the token at the place is unexpected because of one: the text ends there, it
-    begins a definition, which no bracket but that of the module may hold, or a branch inside another."""
+    """The unclosed bracket that makes the token at the place unexpected, if there is one: the text ends there, or the
+    token begins a definition, which only the bracket of the module may hold, or a branch inside another."""
     word = text.spelling(place)
     if word and word not in (*_DEFINITIONS, "["):
         return None
@@ -40,7 +40,7 @@ def unclosed_at(text: Text, place: int) -> Optional[Unclosed]:
 
 
 def _closes_another(text: Text, opened: int, closed: int) -> bool:
-    """Whether a bracket that begins its line stands further left than the line of the one that it closes."""
+    """Whether a bracket that begins its line is further left than the line of the bracket that it closes."""
     before = text.shown_line(text.line(closed))[: text.position(closed).column - 1]
     return not before.strip() and _width(before) < _width(text.shown_line(text.line(opened)))
 

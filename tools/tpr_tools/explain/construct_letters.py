@@ -1,4 +1,4 @@
-"""Which construct of the full language stands where no token begins: a sign that isn't in the profile."""
+"""Which construct of the full language is meant by a sign that isn't in the profile, where no token begins."""
 from __future__ import annotations
 
 import re
@@ -19,15 +19,15 @@ _SIGNS = (
     (re.compile(r"_"), Construct.NAME_BEGIN),
 )
 
-# The statements and definitions in which an expression stands, by their first word.
+# The statements and definitions that contain an expression, by their first word.
 _WITH_EXPRESSIONS = frozenset("if else while do select const template log return modulepar".split())
 
-# The words behind which a bracket holds an expression.
+# The words after which a bracket holds an expression.
 _BEFORE_BRACKETS = by_words("IF if, WHILE while, SELECT select, LOG log, LOOP for, MATCHING match")
 
 
 def construct_of_rest(text: Text, offset: int) -> Optional[Found]:
-    """What the statement is in which the sign stands, or else what the sign is."""
+    """The construct of the statement that contains the sign, or else of the sign itself."""
     place = len(text.tokens)
     if offset < len(text.letters) - len(text.rest):
         return None
@@ -42,7 +42,7 @@ def construct_of_rest(text: Text, offset: int) -> Optional[Found]:
 
 
 def _begin_of(text: Text, place: int) -> int:
-    """The first token of the statement that the place is in: behind a `;` or a brace."""
+    """The first token of the statement at the place: the one after a `;` or a brace."""
     while place > 0 and text.spelling(place - 1) not in (";", "{", "}"):
         place -= 1
     return place
@@ -65,7 +65,7 @@ def _of_statement(text: Text, fault: GrammarFault) -> Optional[Found]:
 
 
 def _is_in_value(text: Text, begin: int) -> bool:
-    """Whether what begins here is a field of a value, and no statement: the brace before it opens a value."""
+    """Whether a field of a value begins here, not a statement: the brace before it opens a value."""
     return begin > 1 and text.spelling(begin - 1) == "{" and text.spelling(begin - 2) in (":=", ":", "(", ",", "{")
 
 

@@ -1,7 +1,7 @@
-"""Which construct of the full language stands where the profile's grammar ends.
+"""Which construct of the full language is at the place where the profile's grammar ends.
 
-Only words and symbols at that place count, those that say most first (signs.table). Where none of them is a sign of a
-construct, nothing is said.
+Only words and symbols near that place count, the most specific first (signs.table). If none of them indicates a
+construct, the result is None.
 """
 from __future__ import annotations
 
@@ -16,7 +16,7 @@ from ..template import rows_of
 
 
 def by_words(table: str) -> dict[str, Construct]:
-    """The constructs by their words, of a table that has the words behind each construct."""
+    """The constructs by their words, from a table with the words after each construct."""
     rows = [it.split() for it in table.replace("\n", " ").split(",")]
     return {word: Construct[name] for name, *words in rows for word in words}
 
@@ -52,7 +52,8 @@ _KINDS: dict[str, Callable[[str], bool]] = {
 _SETUP, _STATEMENTS = ("the setup", "the start of a component"), ("a variable", "a statement", "a branch")
 _PARTS_OF_BODIES = ("a body", *_SETUP, *_STATEMENTS, "the end of the test case")
 _NOT_OUTER = ("a field", "the ports of a component type", "the end of the module")
-# Words of the script that are put into the texts of a construct: tokens from the beginning, or that before the place.
+# Words of the script that are inserted into the texts of a construct: tokens from the beginning of the statement, or
+# the token before the place.
 _FROM_BEGIN = {
     Construct.INITIAL_VALUE: {"type": 1, "name": 2},
     Construct.NO_RUNS_ON: {"name": 1},
@@ -61,15 +62,15 @@ _FROM_BEGIN = {
     Construct.CHECK: {"port": 0},
 }
 _BEFORE = {Construct.PORT_BRACKETS: "operation", Construct.REASON: "verdict"}
-# The type of a message that begins so, and how the message is written.
+# The type of a message that begins with this token, and how the message is written.
 _TYPES = {"-": "integer", "true": "boolean", "false": "boolean", "pattern": "charstring"}
 _WRITTEN = {"{": "{..}", "-": "-1", "pattern": 'pattern ".."'}
-_MOST_AHEAD = 10  # tokens among which one is looked for
+_MOST_AHEAD = 10  # most tokens among which one is searched for
 
 
 @dataclass(frozen=True)
 class Found:
-    """A construct, the first token of it, and the words of the script that are put into its texts."""
+    """A construct, its first token, and the words of the script that are inserted into its texts."""
 
     construct: Construct
     start: int
@@ -142,7 +143,7 @@ class Signs:
         return Found(construct, start, {"word": word, **words})
 
     def _of_message(self, word: str) -> dict[str, str]:
-        """Of a value or a template where its type stands."""
+        """The words for a value or a template in the place of its type."""
         type_name = "integer" if is_number(word) else "charstring" if is_text(word) else _TYPES.get(word, "TYPE")
         port = self.word(-4) if self.word(-3) == "." else "p"
         return {"type": type_name, "value": _WRITTEN.get(word, word), "operation": self.word(-2), "port": port}
@@ -158,7 +159,7 @@ class Signs:
         )
 
     def _is_first(self, wanted: list[str]) -> bool:
-        """Whether the tokens from the beginning on are these, and the place is that of the `^` among them."""
+        """Whether the tokens from the beginning on are these, with the place at the `^`."""
         if "^" in wanted:
             at, distance = wanted.index("^"), self.place - self.begin
             if distance < at - 1 if wanted[at - 1] == "…" else distance != at:

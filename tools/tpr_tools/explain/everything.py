@@ -1,4 +1,4 @@
-"""All faults of a script at once: those of explain, and each construct that the profile lacks."""
+"""All faults of a script at once: those that explain finds, and each construct that isn't in the profile."""
 from __future__ import annotations
 
 from typing import Iterator, Optional
@@ -12,21 +12,21 @@ _MOST_UNREADABLE = 20  # lines of one script
 
 
 def everything_of(file: str, data: Optional[bytes], said: str) -> list[Explanation]:
-    """That of the program's answer first, and the others in the order of the text, none of them twice."""
+    """The explanation of the program's answer, and then the others in the order of the text, each of them once."""
     told = list(explanations_of(file, data, said))
     has_more = told[0].answer is Answer.REFUSED and data is not None and told[0].line != 0
     return with_further(told, list(further(file, data or b"")) if has_more else [])
 
 
 def with_further(told: list[Explanation], listed: list[Explanation]) -> list[Explanation]:
-    """Those that are told, with those of a list that aren't told already."""
+    """Adds those of a list that aren't among the explanations yet."""
     others = told[1:] + [it for it in listed if not any(is_same(it, one) for one in told)]
     return [told[0], *sorted(others, key=lambda it: (it.line or 0, it.column or 0))]
 
 
 def is_same(listed: Explanation, other: Explanation) -> bool:
-    """Whether a listed one is told already: at its place, or as the same construct in its line. A line has hardly more
-    than one place that can't be read."""
+    """Whether a listed one is already there: at the same place, or as the same construct in the same line. A line
+    rarely has more than one place that can't be read."""
     if listed.line != other.line:
         return False
     return listed.column == other.column or listed.construct in ("", other.construct)

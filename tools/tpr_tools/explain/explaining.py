@@ -27,12 +27,12 @@ Fault = Union[TokenFault, GrammarFault, RuleFault]
 
 
 def explain(file: str, data: Optional[bytes], said: str) -> Explanation:
-    """`said` is what `tpr check` printed. There are no data where the file can't be read."""
+    """The explanation of `said`, the output of `tpr check`. `data` is None if the file can't be read."""
     return next(explanations_of(file, data, said))
 
 
 def explanations_of(file: str, data: Optional[bytes], said: str) -> Iterator[Explanation]:
-    """That of what was printed, then one of each further fault that explain's own reading finds."""
+    """The explanation of the program's answer, then one for each further fault that explain's own reading finds."""
     if said == "accepted":
         yield _accepted(file, data)
         return
@@ -82,7 +82,7 @@ def _accepted(file: str, data: Optional[bytes]) -> Explanation:
 
 
 class Reading(NamedTuple):
-    """What `tpr check` prints if it finds the same as explain, and the faults in the text."""
+    """The answer of `tpr check` that would agree with explain's own reading, and the faults in the text."""
 
     answer: str
     text: Optional[Text] = None
@@ -112,14 +112,14 @@ def _faults_of(text: Text) -> Sequence[Fault]:
 
 
 def line_of(text: Text, fault: Fault) -> int:
-    """The line at which the fault is told."""
+    """The line at which the fault is reported."""
     if isinstance(fault, TokenFault):
         return text.position_of(fault.offset, 1).line
     return text.line(fault.told if isinstance(fault, RuleFault) else fault.place)
 
 
 def _by_rules(explanation: Explanation) -> None:
-    """The rules of the number, and nothing of the script."""
+    """Adds the rules of the number, and nothing about the script."""
     rules = list(RULES_OF[Refusal(explanation.number or 0)])
     is_one = len(rules) == 1
     explanation.sentence = _sentence(rules[0]) if is_one else "a rule is broken, but explain doesn't find the place"
@@ -192,12 +192,12 @@ def _of_report(explanation: Explanation, text: Text) -> bool:
     return True
 
 
-# What stands for a value of these types, where somebody wrote the type alone.
+# Example values for these types, shown if the script has only the type.
 _VALUES = {"integer": "1", "boolean": "true", "charstring": '".."'}
 
 
 def _of_type_alone(explanation: Explanation, text: Text, fault: GrammarFault) -> bool:
-    """`receive(TYPE)` and `send(TYPE)`: what is missing is a template or a value. Whether the fault is that one."""
+    """Whether the fault is `receive(TYPE)` or `send(TYPE)`, where a template or a value is missing."""
     word, before, how = (text.spelling(fault.place - number) for number in (0, 2, 3))
     type_name = text.spelling(fault.place - 1)
     if (word, before) != (")", "(") or how not in ("receive", "trigger", "send"):
@@ -221,7 +221,7 @@ def _is_message_type(text: Text, name: str) -> bool:
 
 
 def _of_open_bracket(explanation: Explanation, text: Text, fault: GrammarFault) -> bool:
-    """A bracket that isn't closed is named with its line. Whether the fault is that there is one."""
+    """Whether the fault is an unclosed bracket, which is shown with its line."""
     unclosed = unclosed_at(text, fault.place)
     if unclosed is None:
         return False
@@ -235,14 +235,14 @@ def _of_open_bracket(explanation: Explanation, text: Text, fault: GrammarFault) 
 
 
 def _unexpected(text: Text, place: int) -> str:
-    """Such as: unexpected `;` after `(`."""
+    """For example: unexpected `;` after `(`."""
     word, before = text.spelling(place), text.spelling(place - 1)
     after = f"after `{before}`" if before else "at the beginning"
     return f"unexpected `{word}` {after}" if word else f"unexpected end of the text {after}"
 
 
 def _refused_token(text: Text, fault: GrammarFault, is_named: bool) -> str:
-    """Which word is unexpected there, and why if that is plain."""
+    """Which word is unexpected there, and why, if that is clear."""
     word, before, behind = (text.spelling(fault.place + number) for number in (0, -1, 1))
     told = _unexpected(text, fault.place)
     if not word:
@@ -269,7 +269,7 @@ def _add_construct(explanation: Explanation, found: Found, sentence: str) -> Non
 
 
 def _add_start(explanation: Explanation, text: Text, found: Found, place: int = -1) -> None:
-    """Shows where the construct begins, if that isn't the place that is shown already."""
+    """Shows where the construct begins, unless that place is shown already."""
     if found.start == place:
         return
     begin, shown = _show(text, found.start, "it begins here"), explanation.places[0]
@@ -303,7 +303,7 @@ _EXPLAINED: dict[type, Callable[[Explanation, Text, Any], None]] = {
 
 
 def rules_text(number: int) -> str:
-    """The rules of a number, in the words of the documents; of one that speaks of no script what to do, too."""
+    """The rules of a number, in the words of the documents. For a number that isn't about a script, also what to do."""
     refusal = Refusal(number)
     lines = [refusal.told()]
     if beyond := BEYOND_SCRIPTS.get(refusal):

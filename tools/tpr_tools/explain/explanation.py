@@ -1,4 +1,4 @@
-"""The explanation of one script: its refusal, the places of it, and what to write."""
+"""The explanation of one script: its refusal, the places in the script, and what to write."""
 from __future__ import annotations
 
 from dataclasses import dataclass, field
@@ -10,13 +10,13 @@ from ..script.tokens import Position
 from ..words import counted
 
 
-# So begins the text of a construct that nothing replaces.
+# The text of a construct without a replacement begins with this.
 NOTHING = "nothing: "
 STANDARD = "ES 201 873-1"
 
 
 class Answer(Enum):
-    """What `tpr check` has answered."""
+    """The kinds of answers of `tpr check`."""
 
     ACCEPTED = "accepted"
     REFUSED = "refused"
@@ -26,9 +26,9 @@ class Answer(Enum):
 
 @dataclass(frozen=True)
 class Shown:
-    """A place of the script: its line is shown, and what is meant is underlined.
+    """A place of the script: its line is shown, with the meant part underlined.
 
-    `begin` is the column where the construct begins to which it belongs, if that is on the same line.
+    `begin` is the column where the construct of the place begins, if that is on the same line.
     """
 
     position: Position
@@ -39,7 +39,7 @@ class Shown:
 
 @dataclass(frozen=True)
 class Warned:
-    """What an accepted script does in vain, and where."""
+    """Something in an accepted script that has no effect, and where."""
 
     sentence: str
     places: list[Shown]
@@ -69,7 +69,7 @@ class Explanation:
     clause: str = ""
     instead: str = ""
     rules: list[Rule] = field(default_factory=list)
-    # What explain's own reading finds, if that isn't what `tpr check` said: then no place is known.
+    # The result of explain's own reading, if it differs from that of `tpr check`: then no place is known.
     own_reading: str = ""
     # Where the line comes from, if tools/rewrite wrote the script.
     origin: str = ""
@@ -89,7 +89,7 @@ class Explanation:
         return f"{place}: refused {self.code()}: {self.sentence}"
 
     def code(self) -> str:
-        """The refusal; of what the program hasn't named the clause, if it is a construct."""
+        """The refusal; or, for a construct that the program hasn't reported, its clause."""
         if self.number is not None:
             return f"{self.number} {self.name}"
         return f"{STANDARD}, {self.clause}" if self.clause else ""
@@ -169,14 +169,14 @@ _LONGEST_LINE = 160
 
 
 def _shown_lines(shown: Shown, width: int) -> list[str]:
-    """The line of the script, and below it what is meant. A long line is shown around its place."""
+    """The line of the script, and below it marks under the meant part. A long line is shortened around the place."""
     before = shown.text[: shown.position.column - 1]
     text, cut = shown.text, 0
     if len(text) > _LONGEST_LINE:
         cut = max(0, len(before) - _LONGEST_LINE // 2)
         behind = "…" if len(text) > cut + _LONGEST_LINE else ""
         text = ("…" if cut else "") + text[cut : cut + _LONGEST_LINE] + behind
-    # A tab stays one, so that what is below stands where it should.
+    # A tab stays a tab, so that the marks below are at the right column.
     indent = "".join("\t" if letter == "\t" else " " for letter in before)
     if shown.begin is not None:
         indent = indent[: shown.begin - 1] + "~" * (len(indent) - shown.begin + 1)

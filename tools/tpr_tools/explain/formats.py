@@ -25,7 +25,7 @@ _MEANINGS = {
 
 
 class Told(NamedTuple):
-    """A fault or a warning. Its first line says what is wrong, and its first place is the one that is meant."""
+    """A fault or a warning. Its first line says what is wrong, and its first place is the reported one."""
 
     file: str
     level: str
@@ -52,7 +52,7 @@ def _told(explanations: list[Explanation]) -> Iterator[Told]:
 
 
 def _path(file: str) -> str:
-    """The name of a file as it is from here, if it is below."""
+    """The file name relative to the current folder, if the file is below it."""
     from_here = os.path.relpath(file)
     return file if from_here.startswith("..") else from_here
 
@@ -74,7 +74,7 @@ def _dumped(value: Any) -> str:
 
 
 def _gcc(explanations: list[Explanation]) -> str:
-    """Columns count bytes, as editors read them that read the messages of compilers."""
+    """Columns count bytes, as editors expect them in the messages of compilers."""
     lines = []
     for it in _told(explanations):
         at = f"{it.line or 1}:{it.places[0].position.byte if it.places else 1}"
@@ -87,7 +87,7 @@ def _gcc(explanations: list[Explanation]) -> str:
 
 
 def _github(explanations: list[Explanation]) -> str:
-    """Commands of a workflow, which GitHub shows beside the lines of a change."""
+    """Workflow commands, which GitHub shows beside the lines of a change."""
     lines = []
     for it in _told(explanations):
         where = {"file": _readable(it.file), "title": f"tpr {it.code}"}
@@ -108,7 +108,7 @@ def _escaped(text: str, more: str = "") -> str:
 
 
 def _codeclimate(explanations: list[Explanation]) -> str:
-    """The report on code quality that GitLab reads, each row with a fingerprint that a shift of lines leaves."""
+    """The code quality report that GitLab reads. The fingerprint of a row stays the same if lines are shifted."""
     rows: list[Any] = []
     times: Counter[tuple[str, str, str]] = Counter()
     for it in _told(explanations):
@@ -145,7 +145,7 @@ def _sarif(explanations: list[Explanation]) -> str:
 
 
 def _rule(code: str) -> dict[str, Any]:
-    """What a code means; the rules of a refusal in the words of the documents."""
+    """The meaning of a code; for a refusal the rules, in the words of the documents."""
     number = code.partition(" ")[0]
     rules = RULES_OF[Refusal(int(number))] if number.isdecimal() else ()
     text = "; ".join(it.told() for it in rules) or _MEANINGS.get(code, "this construct isn't in the profile")
@@ -165,7 +165,7 @@ def _location(file: str, place: Optional[Shown], line: Optional[int]) -> dict[st
     return {"physicalLocation": physical}
 
 
-# Each is given what isn't accepted without a warning.
+# Each gets the explanations of scripts that have a fault or a warning.
 FORMATS: dict[str, Callable[[list[Explanation]], str]] = {
     "text": _text,
     "json": _json,

@@ -1,7 +1,7 @@
-"""What a script that is accepted does in vain, as far as the script alone shows it.
+"""Parts of an accepted script that have no effect, as far as the script alone shows it.
 
-Each warning is certain: it names what no run can carry out, or what stays in a queue in each run that comes to it. So a
-message that depends on a variable, or a queue that something empties, is not warned of.
+Each warning is certain: it names something that no run can carry out, or a message that stays in a queue in each run
+that reaches it. So there is no warning of a message that depends on a variable, or of a queue that something empties.
 """
 from __future__ import annotations
 
@@ -18,12 +18,12 @@ from ..script.tree import Control, Message, Receive, Send, operations_in
 from ..words import and_
 
 Operation = Union[Send, Receive]
-# Of a component so many receiving operations are looked at in all: a large script is explained in seconds too.
+# The most receiving operations of a component that are examined, so that a large script is explained in seconds too.
 _MOST_LOOKED = 100_000
 
 
 class Finding(NamedTuple):
-    """A place, and what is said of it; and another place with its label, if there is one to show."""
+    """A place, and the warning; and another place with its label, if there is one to show."""
 
     place: int
     sentence: str
@@ -31,8 +31,8 @@ class Finding(NamedTuple):
 
 
 class _Template(NamedTuple):
-    """What a receiving operation takes: from which component, of which type, and by which test of the value. None
-    excludes nothing, as where a template depends on a loop variable."""
+    """What a receiving operation accepts: from which component, of which type, and by which test of the value. None
+    means no restriction, for example if a template depends on a loop variable."""
 
     sender: Optional[str]
     type: Optional[str]
@@ -45,8 +45,8 @@ class _Template(NamedTuple):
 
 
 def warnings_of(text: Text) -> list[Finding]:
-    """The warnings in the order of the text, each place and sentence once; or GrammarFault or RuleFault. The tokens are
-    known to have no fault."""
+    """The warnings in the order of the text, each place and sentence once. Raises GrammarFault or RuleFault. The tokens
+    are known to have no fault."""
     case = Case(text, check_script(text))
     players = {player.name: _Player(case, player) for player in case.players}
     found = [it for player in players.values() for it in player.warnings(players)]
@@ -60,8 +60,8 @@ class _Player:
         self.case, self.player = case, player
         self.operations = operations_in(player.statements())
         self.variables = {case.word(it) for it in player.variables()}
-        self.looked = 0  # how many receiving operations were looked at for a message
-        self.read: dict[str, list[_Template]] = {}  # by their ports, as far as they were looked at
+        self.looked = 0  # how many receiving operations were examined for a message
+        self.read: dict[str, list[_Template]] = {}  # by their ports, as far as they were examined
         self.receiving: dict[str, list[Receive]] = {}
         for it in self.operations:
             if isinstance(it, Receive):
@@ -92,7 +92,7 @@ class _Player:
         return Finding(operation.port, sentence)
 
     def hears_nobody(self, port: str, players: dict[str, _Player]) -> bool:
-        """Whether only the system can send there, and no function plays it."""
+        """Whether only the system can send there, and no function plays the system."""
         partners = {component for component, _ in self.partners(port)}
         return partners == {SYSTEM} and players[SYSTEM].player.body is None
 
@@ -101,7 +101,8 @@ class _Player:
         return Finding(operation.port, f"{mapped}, so no message ever arrives there")
 
     def of_send(self, send: Send, port: str, players: dict[str, _Player]) -> Iterator[Finding]:
-        """What it is to: a component that the port doesn't lead to; or receivers of which one never takes it."""
+        """The warnings about the receivers of a send: the port doesn't lead to the component, or one of the receivers
+        never accepts the message."""
         partners = self.partners(port)
         if send.to is not None and self.case.word(send.to) != "all":
             word = self.case.word(send.to)
@@ -121,7 +122,7 @@ class _Player:
                 yield from players[component].never_takes(send.message, there, self.player.name)
 
     def never_takes(self, message: Message, port: str, sender: str) -> Iterator[Finding]:
-        # The system without `sut` isn't part of the script: it takes whatever it likes.
+        # The system without `sut` isn't part of the script: it accepts anything.
         if self.player.name == SYSTEM and self.player.body is None or self.empties(port):
             return
         tried = self.receiving.get(port, [])
@@ -139,15 +140,15 @@ class _Player:
 
     @functools.lru_cache(maxsize=None)
     def empties(self, port: str) -> bool:
-        """Whether a message may be meant to stay there, or to be discarded: `trigger` drops, `clear` and `start` discard
-        all, and a port that is stopped or halted is left as it is."""
+        """Whether a message may be meant to stay at the port, or to be discarded: `trigger` drops messages, `clear` and
+        `start` discard all, and a port that is stopped or halted keeps them."""
         if any(self.case.word(it.how) == "trigger" for it in self.receiving.get(port, [])):
             return True
         controls = [it for it in self.operations if isinstance(it, Control)]
         return any(it.port is None or self.case.word(it.port) == port for it in controls)
 
     def templates(self, port: str) -> Iterator[_Template]:
-        """Those of a port in their order, each read once, and only if those before it didn't suffice."""
+        """The templates of a port in their order. Each is read once, and only if the ones before it didn't suffice."""
         read = self.read.setdefault(port, [])
         yield from read
         for operation in self.receiving.get(port, [])[len(read) :]:

@@ -1,1 +1,1 @@
-"""Shows a run of each verdict that `tpr verdicts` names, and where two runs diverge."""
+"""Shows a run for each verdict that `tpr verdicts` prints, and where two runs diverge."""

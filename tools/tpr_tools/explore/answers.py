@@ -1,4 +1,4 @@
-"""What `tpr verdicts` answers, read to the last byte: a line that isn't of its form is a fault."""
+"""Reads the answer of `tpr verdicts` completely: a line that doesn't have its form is a fault."""
 from __future__ import annotations
 
 import re
@@ -17,8 +17,8 @@ _FORM = (
 
 @dataclass(frozen=True)
 class Answer:
-    """The verdicts that are named, whether there are no others, how many states were looked at, and for each
-    verdict that has one an order by the names of components."""
+    """The verdicts that are named, whether there are no others, how many states were visited, and an order for each
+    verdict that has one, by the names of components."""
 
     verdicts: tuple[str, ...]
     decided: bool
@@ -26,13 +26,13 @@ class Answer:
     orders: tuple[tuple[str, tuple[str, ...]], ...]
 
     def status(self) -> int:
-        """The status that goes with it."""
+        """The exit status for this answer."""
         if not self.decided:
             return 3
         return 0 if len(self.verdicts) == 1 else 2
 
     def fault(self) -> Optional[str]:
-        """What of it can't be, whatever the script is."""
+        """What is impossible in the answer, for any script; None if nothing is."""
         if list(self.verdicts) != [it for it in VERDICTS if it in self.verdicts]:
             return "the verdicts aren't in their order, each once"
         wanted = self.verdicts if self.status() > 0 else ()
@@ -44,7 +44,7 @@ class Answer:
 
 
 def read_answer(printed: str) -> Optional[Answer]:
-    """The answer, None where the text isn't one."""
+    """The answer, or None if the text isn't one."""
     found = re.fullmatch(_FORM, printed, re.A)
     if found is None:
         return None

@@ -1,4 +1,4 @@
-"""Asks a program, in a session of its own, so that an interrupt in a terminal comes to the tool alone."""
+"""Runs a program in a session of its own, so that an interrupt in a terminal reaches only the tool."""
 from __future__ import annotations
 
 import contextlib
@@ -15,15 +15,15 @@ from .answers import Answer, read_answer
 
 
 class HandedFile:
-    """A file in memory, for the programs to which it is handed. Nothing of it is left behind, whatever ends the tool;
-    and `tempfile` takes long to be read."""
+    """A file in memory that is passed to programs. It disappears with the tool, however the tool ends; and importing
+    `tempfile` takes long."""
 
     def __init__(self, name: str):
         self.file = open(os.memfd_create(name), "wb")
         self.path = f"/proc/self/fd/{self.file.fileno()}"
 
     def write(self, data: bytes) -> None:
-        """Writes it anew. It is read from its beginning."""
+        """Replaces the contents. Readers begin at the start."""
         self.file.seek(0)
         self.file.truncate()
         self.file.write(data)
@@ -38,8 +38,8 @@ def printed_by(
     most_seconds: Optional[float] = None,
     shows: Optional[Callable[[int], None]] = None,
 ) -> tuple[Optional[int], str]:
-    """The status, None where it came to no end of its own, and what was printed. Each second `shows` gets how
-    many it has been waited for; it goes without `most_seconds`."""
+    """The status (None if the program was killed or took too long), and the output. Calls `shows` each second with the
+    number of seconds so far; a call with `shows` has no `most_seconds`."""
     process: Optional[subprocess.Popen[bytes]] = None
     try:
         with _interrupts_held():
@@ -57,7 +57,7 @@ def printed_by(
 def _end_of(
     process: subprocess.Popen[bytes], most_seconds: Optional[float], shows: Optional[Callable[[int], None]]
 ) -> tuple[Optional[int], str]:
-    """The same of a program that has begun."""
+    """The same for a program that has started."""
     is_late = False
     try:
         printed = _output_of(process, most_seconds, shows)
@@ -83,15 +83,15 @@ def _output_of(
 
 
 def broken(program: str, status: Optional[int], printed: str) -> Stop:
-    """The end of the tool, where the program doesn't do what is asked of it."""
+    """The end of the tool, if a program doesn't do what it should."""
     ended = "was killed or took too long" if status is None else f"ended with status {status}"
     told = " ".join(printed[-200:].split())
     return Stop(NOT_BUILT, f"{program} {ended}{f': {told}' if told else ', and printed nothing'}")
 
 
 def verdicts_by(program: str, data: bytes) -> Union[Answer, tuple[int, str]]:
-    """What `tpr verdicts` answers of the script; else the status and the line by which it refuses the script, or
-    tells that memory was refused."""
+    """The answer of `tpr verdicts` for the script; or else the status, and the line that refuses the script or reports
+    that memory ran out."""
     handed = HandedFile("script.ttcn")
     handed.write(data)
     with open(handed.path, "rb") as script, _line_on_a_terminal() as shows:
@@ -108,7 +108,7 @@ def verdicts_by(program: str, data: bytes) -> Union[Answer, tuple[int, str]]:
 
 @contextlib.contextmanager
 def _line_on_a_terminal() -> Iterator[Optional[Callable[[int], None]]]:
-    """Shows on a terminal how long the search has taken, in a line that is wiped out at its end."""
+    """Shows on a terminal how long the search has taken, in a line that is erased at the end."""
     if sys.stderr is None or not sys.stderr.isatty():
         yield None
         return
@@ -120,7 +120,8 @@ def _line_on_a_terminal() -> Iterator[Optional[Callable[[int], None]]]:
 
 @contextlib.contextmanager
 def _interrupts_held() -> Iterator[None]:
-    """An interrupt that comes meanwhile is raised behind it: so a program that has begun is known, and can be ended."""
+    """Delays an interrupt that arrives during the block until its end, so that a program that has started is known, and
+    can be ended."""
     came: list[int] = []
     heard = [it for it in (signal.SIGINT, signal.SIGTERM) if callable(signal.getsignal(it))]
     before = [signal.signal(it, lambda number, _: came.append(number)) for it in heard]

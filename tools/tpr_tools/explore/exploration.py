@@ -1,5 +1,6 @@
-"""What is shown of the verdicts that `tpr verdicts` answers: for each a run by an order of steps, and where two runs
-diverge. A run is forced on the program that forces orders, and told in the words of the script by the model of runs."""
+"""What is shown for the verdicts of `tpr verdicts`: for each verdict a run with its order of steps, and where two runs
+diverge. The program that forces orders makes the report of a run, and the model of runs describes the run in the words
+of the script."""
 from __future__ import annotations
 
 from dataclasses import dataclass
@@ -18,8 +19,8 @@ from .parting import Parting, Told, parting_of
 
 @dataclass
 class Shown:
-    """What is shown of a verdict: an order as `tpr verdicts` prints it, the run by it, and its report. Where there is no
-    report, `missing` says why. A `fault` is one of tpr or of its tools."""
+    """What is shown for a verdict: an order as `tpr verdicts` prints it, the run in this order, and its report. If
+    there is no report, `missing` says why. A `fault` is one of tpr or of its tools."""
 
     verdict: str
     order: tuple[str, ...]
@@ -31,7 +32,7 @@ class Shown:
 
 @dataclass(frozen=True)
 class Parted:
-    """Two runs of different verdicts, and where they part."""
+    """Two runs with different verdicts, and where they diverge."""
 
     better: Shown
     worse: Shown
@@ -39,12 +40,12 @@ class Parted:
 
 
 class Exploration:
-    """Looks at what was answered of a script."""
+    """The runs to show for an answer of `tpr verdicts`."""
 
     def __init__(self, script: ForcedScript, answer: Answer, origins: Optional[Origins] = None):
         self.answer = answer
         self.case = script.case(origins)
-        # Of one verdict and no other no order is printed: each comes to it.
+        # If there is only one verdict, `tpr verdicts` prints no order: any order leads to it.
         orders = answer.orders or [(verdict, tuple(some_order(Run(self.case)))) for verdict in answer.verdicts]
         self.shown = [self.followed(verdict, order) for verdict, order in orders]
         self.pairs = list(self.paired())
@@ -52,7 +53,7 @@ class Exploration:
         self.interrupted = False
 
     def followed(self, verdict: str, order: tuple[str, ...]) -> Shown:
-        """The run by the order, in the model."""
+        """The run in this order, in the model."""
         shown = Shown(verdict, order)
         try:
             told = Told(self.case, forced_order_of(self.case, order))
@@ -65,8 +66,8 @@ class Exploration:
         return shown
 
     def paired(self) -> Iterator[tuple[Shown, Shown]]:
-        """Each verdict but the best one with a better one, by runs as near to each other as are found. Of each verdict
-        the first of these is the one that is shown."""
+        """Pairs each verdict, except the best one, with a better one, using runs that are as similar as possible. The
+        first such run of a verdict becomes the one that is shown."""
         places = [place for place, it in enumerate(self.shown) if not it.fault]
         used: set[int] = set()
         for at, worse in enumerate(places):
@@ -80,14 +81,15 @@ class Exploration:
             yield (self.shown[kept], one) if moved == worse else (one, self.shown[kept])
 
     def near_ones(self, worse: int, others: list[int]) -> Iterator[tuple[Nearest, int, int]]:
-        """Orders that begin as another does: whose verdict they have, and whose order they begin with."""
+        """Orders that begin like another one, with the places of the verdict that they lead to and of the order that
+        they begin like."""
         for better in others:
             for moved, kept in ((better, worse), (worse, better)):
                 one, other = self.shown[moved], self.shown[kept]
                 yield nearest(self.case, one.verdict, one.order, other.order), moved, kept
 
     def run(self, runs: ForcedRuns) -> None:
-        """Has the orders run, for the reports. An interrupt ends it."""
+        """Runs the orders for their reports. An interrupt ends this."""
         told = [(it, it.told) for it in self.all_shown() if it.told is not None and not it.fault]
         try:
             for (shown, run_told), run in zip(told, runs.run([it.order() for _, it in told])):
@@ -97,20 +99,20 @@ class Exploration:
             self.no_reports = "it was interrupted"
 
     def all_shown(self) -> list[Shown]:
-        """With the runs that are there for what parts them alone."""
+        """All runs that are shown, including those that are only needed to show where two diverge."""
         return [*self.shown, *(better for better, _ in self.pairs if all(it is not better for it in self.shown))]
 
     def faults(self) -> list[str]:
         return [f"{it.verdict}: a fault in tpr or its tools: {it.fault}" for it in self.all_shown() if it.fault]
 
     def partings(self) -> list[Parted]:
-        """Where two runs part, of those that can be told."""
+        """Where two runs diverge, for the pairs without a fault."""
         told = [(it, other) for it, other in self.pairs if not it.fault and not other.fault]
         return [Parted(it, other, parting_of(it.told, other.told)) for it, other in told if it.told and other.told]
 
 
 def note(shown: Shown, told: Told, run: ForcedRun) -> None:
-    """What came of the order. The report must have the verdict, and be that of the run that is told."""
+    """Stores the result of an order. The report must have the verdict, and must be that of the run in the model."""
     if run.outcome is Outcome.FAULT:
         shown.missing = run.text.strip()
     elif run.outcome is not Outcome.REPORT:

@@ -24,7 +24,7 @@ def text_of(exploration: Exploration, script: str) -> str:
 
 
 def _lines_of(shown: Shown, steps: Optional[tuple[str, ...]]) -> list[str]:
-    """How each component ended, and what is left; without a report the order of `tpr verdicts`, and why."""
+    """How each component ended, and the messages that are left; without a report, the order, and the reason."""
     if shown.report:
         parts = parts_of(shown.report)
         ends = ", ".join(_end_of(*part) for part in parts)
@@ -35,7 +35,7 @@ def _lines_of(shown: Shown, steps: Optional[tuple[str, ...]]) -> list[str]:
 
 
 def parts_of(report: str) -> list[tuple[str, list[str]]]:
-    """By components the lines of a report that tell what they came to."""
+    """For each component, the lines of a report that show how it ended."""
     parts: list[tuple[str, list[str]]] = []
     for line in report.splitlines()[:-1]:
         word, rest = line.split(" ", 1) if " " in line else (line, "")
@@ -68,7 +68,7 @@ def text_of_partings(partings: list[Parted], origins: Origins) -> str:
 
 
 def _order_of(shown: Shown) -> Optional[str]:
-    """The order that is forced."""
+    """The order for the program that forces orders."""
     return None if shown.told is None else shown.told.order()
 
 
@@ -82,7 +82,7 @@ def _text_of_report(shown: Shown, script: str) -> str:
 
 
 def json_of(exploration: Exploration, script: str) -> str:
-    import json  # which takes long to be read, and isn't asked for in most cases
+    import json  # importing it takes long, and few calls need it
 
     return json.dumps(as_json(exploration, script), indent=2) + "\n"
 

@@ -1,4 +1,4 @@
-"""The steps of which `tpr verdicts` prints an order, taken in the model of runs."""
+"""Takes the steps of an order of `tpr verdicts` in the model of runs."""
 from __future__ import annotations
 
 from typing import Iterable
@@ -9,11 +9,11 @@ from ..model.tree import Variable
 
 
 class NoEnd(Exception):
-    """By an order of steps the model of runs doesn't come to an end."""
+    """In this order of steps, the model of runs doesn't reach an end."""
 
 
 def takes_step(run: Run, who: int) -> bool:
-    """Carries out the component's next step, if it has one. Declarations and the begin of a loop are none."""
+    """Carries out the component's next step, if it has one. Declarations and the beginning of a loop aren't steps."""
     while is_no_step(run.statement(who)):
         run.act(who)
     return run.statement(who) is not None and run.act(who) is not Act.WAITS
@@ -24,7 +24,7 @@ def is_no_step(statement: object) -> bool:
 
 
 def end_by(case: TestCase, names: Iterable[str]) -> str:
-    """The verdict to which the components come by steps in this order, or why they come to no end."""
+    """The verdict that the components reach by steps in this order, or why they reach no end."""
     run = Run(case)
     try:
         for at, name in enumerate(names, 1):
@@ -37,14 +37,14 @@ def end_by(case: TestCase, names: Iterable[str]) -> str:
 
 
 def look_for_end(run: Run) -> None:
-    """There must be no step more."""
+    """Checks that no component has a further step."""
     for name, who in run.case.places.items():
         if takes_step(run, who):
             raise NoEnd(f"{name} has a step after the order")
 
 
 def some_order(run: Run) -> list[str]:
-    """An order to an end, which the run comes to: each component goes on for as long as it can, in turn."""
+    """An order that leads the run to an end: each component in turn goes on for as long as it can."""
     names: list[str] = []
     goes_on = True
     while goes_on:
@@ -57,5 +57,5 @@ def some_order(run: Run) -> list[str]:
 
 
 def result_of(run: Run) -> str:
-    """The overall verdict where no component can go on."""
+    """The overall verdict, once no component can go on."""
     return run.report().split()[-1]

@@ -1,9 +1,9 @@
-"""Makes of an order of `tpr verdicts` one that a gate can force on the forced script.
+"""Translates an order of `tpr verdicts` into one that a gate can force on the forced script.
 
-A gate hears of statements, and of each look of an `alt` at several ports with a `trigger`. At one port an `alt` is one
-step there: it stands where it looked last, since what came later it sees in neither case, and what it discarded before
-stands in its queue until then. A send that fails touches nothing of others, so it stands in no order. Nor do the looks
-of a component that waits for good behind them: in the end it looks all the same.
+A gate sees statements, and each look of an `alt` at several ports with a `trigger`. An `alt` at one port is one step
+for the gate, in the place of its last look: it doesn't see later messages in either case, and the messages that it
+discarded before stay in its queue until then. A send that fails affects no other component, so it isn't in the order.
+The last looks of a component that then waits forever aren't either: in the end it looks anyway.
 """
 from __future__ import annotations
 
@@ -16,7 +16,7 @@ from .following import NoEnd, is_no_step, look_for_end
 
 
 def forced_order_of(case: TestCase, names: Iterable[str]) -> tuple[int, ...]:
-    """The components of the steps of which a gate hears, in the order of `tpr verdicts` that the names are."""
+    """The components of the steps that a gate sees, for an order of `tpr verdicts` given by names."""
     run, heard = Run(case), list[int]()
     for at, name in enumerate(names, 1):
         steps = heard_steps(run, case.places[name])
@@ -28,8 +28,8 @@ def forced_order_of(case: TestCase, names: Iterable[str]) -> tuple[int, ...]:
 
 
 def heard_steps(run: Run, who: int) -> Optional[int]:
-    """Carries out the component's next step of `tpr verdicts`. Of how many of its steps a gate hears by then, None where
-    it has none."""
+    """Carries out the component's next step of `tpr verdicts`. Returns how many steps a gate has seen by then, or None
+    if the component has no step."""
     heard = 0
     while is_no_step(statement := run.statement(who)):
         run.act(who)
@@ -43,14 +43,13 @@ def heard_steps(run: Run, who: int) -> Optional[int]:
 
 
 def is_heard_next(run: Run, who: int) -> bool:
-    """Whether the component's next step can be one of which a gate hears. Of the messages of one send that is the
-    first."""
+    """Whether a gate can see the component's next step. Of the messages of one send it sees the first."""
     statement = run.statement(who)
     return not isinstance(statement, Send) or run.components[who].sent == 0 and run.fault_of(who, statement) is None
 
 
 def without_last_looks(run: Run, heard: list[int]) -> tuple[int, ...]:
-    """Without the looks behind which a component waits for good."""
+    """The order without the looks after which a component waits forever."""
     left_out: set[int] = set()
     for who, component in enumerate(run.components):
         if component.looked and goes_by_looks(run.statement(who)):
@@ -60,8 +59,8 @@ def without_last_looks(run: Run, heard: list[int]) -> tuple[int, ...]:
 
 
 def goes_by_looks(statement: object) -> bool:
-    """Whether each look at the branches is a step of its own: at several ports what comes between a `trigger`'s
-    discard and the next look can make a difference. At one port it makes none."""
+    """Whether each look at the branches is a step of its own: if there are several ports, messages that arrive between
+    a `trigger`'s discard and the next look can make a difference. With one port they can't."""
     if not isinstance(statement, Tried):
         return False
     guards = [guard for guard, _ in statement.choice.branches]
@@ -72,7 +71,7 @@ def goes_by_looks(statement: object) -> bool:
 
 
 def carry_out(run: Run, who: int) -> None:
-    """Carries out the component's next step of which a gate hears, which it has."""
+    """Carries out the component's next step that a gate sees. There must be one."""
     by_looks = goes_by_looks(run.statement(who))
     act = run.act(who)
     while act is Act.MORE and not by_looks:
@@ -82,14 +81,14 @@ def carry_out(run: Run, who: int) -> None:
 
 
 def finish(run: Run) -> None:
-    """Carries out what stands in no order. It touches nothing of others."""
+    """Carries out the statements that aren't in the order. They don't affect other components."""
     for who in range(len(run.components)):
         while run.statement(who) is not None and run.act(who) is not Act.WAITS:
             pass
 
 
 def words_of(run: Run, who: int) -> str:
-    """How an order names the component's next step: by its name, and by one with a `+` for each branch that it has
-    tried since it was named last."""
+    """The component's next step in an order: its name; or its name with a `+`, once for each branch that it has tried
+    since it was last named."""
     name, looked = run.case.names[who], run.components[who].looked
     return " ".join([f"{name}+"] * looked[-1]) if looked and goes_by_looks(run.statement(who)) else name

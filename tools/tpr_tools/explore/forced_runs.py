@@ -10,11 +10,11 @@ from ..command import NOT_WRITTEN, REFUSED
 from ..words import VERDICTS
 from .asking import HandedFile, broken, printed_by
 
-MOST_SECONDS = 120  # for the orders that are run at once
+MOST_SECONDS = 120  # for all orders that run together
 
 
 class Outcome(Enum):
-    """What came of an order."""
+    """The kinds of results of an order."""
 
     REPORT = "a report"
     NOT_HELD = "the order couldn't be held"
@@ -24,7 +24,7 @@ class Outcome(Enum):
 
 @dataclass(frozen=True)
 class ForcedRun:
-    """What the program answered to an order: a report, or the line in its place."""
+    """The program's output for an order: a report, or the line in its place."""
 
     outcome: Outcome
     text: str
@@ -45,7 +45,8 @@ class ForcedRuns:
         self.handed = (self.forced.file.fileno(), self.orders.file.fileno())
 
     def refusal_of(self, script: str) -> Optional[tuple[int, str]]:
-        """The status and the line by which the program refuses the script, or tells that memory was refused."""
+        """The status, and the line with which the program refuses the script or reports that memory ran out. None if it
+        accepts the script."""
         status, printed = self._run(script, [])
         if status == 0:
             return None
@@ -57,8 +58,9 @@ class ForcedRuns:
         self.forced.write(text.encode("latin-1"))
 
     def run(self, orders: list[str]) -> list[ForcedRun]:
-        """What comes of each order, each of which is the names of components. An order that doesn't come to
-        an end is left, and those behind it are run anew. A program that ends as it should has answered all."""
+        """The result of each order; an order consists of names of components. If the program doesn't end an order in
+        time, that order is given up and the following ones are run again. A program that ends normally has answered
+        all."""
         answers: list[ForcedRun] = []
         while len(answers) < len(orders):
             status, printed = self._run(self.script, orders[len(answers) :])
@@ -73,14 +75,14 @@ class ForcedRuns:
         return answers
 
     def _run(self, script: str, orders: list[str]) -> tuple[Optional[int], str]:
-        """The status, None where there was no end, and what was printed."""
+        """The status (None if the program didn't end), and the output."""
         self.orders.write("".join(f"{order}\n" for order in orders).encode("latin-1"))
         command = [self.program, script, self.orders.path]
         return printed_by(command, says=subprocess.STDOUT, handed=self.handed, most_seconds=MOST_SECONDS)
 
 
 def _answer(text: str) -> ForcedRun:
-    """By what stands behind the line of an order: a report begins with a component, and ends with the result."""
+    """The result, from the text after the line of an order. A report begins with a component, and has a result."""
     last = text.splitlines()[-1]
     if text.startswith("component ") and last in [f"result {verdict}" for verdict in VERDICTS]:
         return ForcedRun(Outcome.REPORT, text)

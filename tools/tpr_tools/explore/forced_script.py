@@ -1,9 +1,9 @@
-"""Makes of a script one in which each act is a step of which a gate hears, and which prints the same reports.
+"""Makes of a script one in which a gate sees each act as a step, and which prints the same reports.
 
-A gate hears of the end of a statement by the next (docs/DECISIONS.md). So behind the last statement of each body
-stands a loop without a turn, which does nothing and prints nothing. And a send to all components, between the
-messages of which a gate holds nobody, is written as a send to each of them: the same messages, in the order of the
-connections. A component whose name a parameter hides is handed to the function as a parameter more.
+A gate notices the end of a statement when the next one begins (docs/DECISIONS.md). So each body gets a loop without a
+turn after its last statement, which does nothing and prints nothing. A gate can't pause a send to all components
+between its messages, so it is written as a send to each component: the same messages, in the order of the connections.
+A component whose name is hidden by a parameter is passed to the function as an additional parameter.
 """
 from __future__ import annotations
 
@@ -15,12 +15,12 @@ from ..origins import Origins
 from ..script.tree import Body, ComponentStart, Function, Loop, Send, TestCase, statements_in
 from .placed import Placed, PlacedCase, placed_tokens
 
-Edits = dict[int, tuple[int, list[str]]]  # by the place of a token: how many are taken out, and what stands there
+Edits = dict[int, tuple[int, list[str]]]  # by the place of a token: the number of tokens removed, and the new ones
 
 
 @dataclass
 class ForcedScript:
-    """The script that is run, by its tokens."""
+    """The tokens of the script that is run."""
 
     tokens: list[Placed]
 
@@ -28,7 +28,7 @@ class ForcedScript:
         return PlacedCase(self.tokens, origins)
 
     def text(self) -> str:
-        """The tokens, those of a line on a line."""
+        """The text: the tokens, with those of one line on one line."""
         pieces, line = [], 1
         for token in self.tokens:
             pieces.append("\n" if token.line != line else " ")
@@ -37,7 +37,7 @@ class ForcedScript:
         return "".join(pieces) + "\n"
 
     def own_line(self, number: int) -> int:
-        """The line of the script that stands in this line of the text."""
+        """The line of the script that this line of the text comes from."""
         lines = [1]
         for token in self.tokens:
             if token.line != lines[-1]:
@@ -46,7 +46,7 @@ class ForcedScript:
 
 
 def forced_script(data: bytes) -> ForcedScript:
-    """The script to run in the place of one that is accepted."""
+    """The script to run instead of an accepted one."""
     writer = _Writer(placed_tokens(data))
     writer.split_sends()
     return writer.script()
@@ -54,9 +54,9 @@ def forced_script(data: bytes) -> ForcedScript:
 
 @dataclass(frozen=True)
 class _Runner:
-    """A component that carries out a body, the components that the body's parameters mean, and the names that mean
-    something else there than a component of the test case. `handed` are components with the parameters by which they
-    are handed to it besides."""
+    """A component that runs a body; the components that are the arguments of the body's parameters; and the names that
+    mean something else in the body than a component of the test case. `handed` has the components that are passed as
+    additional parameters, with the names of these."""
 
     component: int
     arguments: dict[str, int]
@@ -65,7 +65,7 @@ class _Runner:
 
 
 class _Writer:
-    """The tokens of a script, and what is put in the place of some."""
+    """The tokens of a script, and the edits."""
 
     def __init__(self, tokens: list[Placed]):
         self.tokens = tokens
@@ -83,7 +83,7 @@ class _Writer:
         return ForcedScript(self.written(0, len(self.tokens), self.edits))
 
     def written(self, first: int, behind: int, edits: Edits) -> list[Placed]:
-        """The tokens from one place up to another, with the edits. What is new stands at the line before it."""
+        """The tokens between two places, with the edits. New tokens get the line of the place of their insertion."""
         tokens: list[Placed] = []
         place = first
         while place < behind:
@@ -99,7 +99,7 @@ class _Writer:
     def last_step(self, body: Body) -> Edits:
         place = self.end_of(body)
         if isinstance(body, TestCase):
-            # Nothing stands behind `all component.done`, which is no step.
+            # Nothing may follow `all component.done`, which isn't a step.
             place = next((at - 3 for at in range(place - 1, body.start, -1) if self.tokens[at] == "done"), place)
         begin = [] if self.tokens[place - 1] in ("{", "}", ";") else [";"]
         turn = self.turn
@@ -122,8 +122,8 @@ class _Writer:
     # Sends to all components
 
     def split_sends(self) -> None:
-        """Writes them anew: those of the test case in their place, and those of a function in a copy of it for
-        each start, since each component has connections of its own."""
+        """Splits all sends to all components: those of the test case in their place, and those of a function in a copy
+        of the function for each start, because each component has its own connections."""
         functions = {self.tokens[it.name]: it for it in self.bodies if isinstance(it, Function)}
         for case in (it for it in self.bodies if isinstance(it, TestCase)):
             self.edits.update(self.split(case, _Runner(0, {}, set())))
@@ -150,12 +150,12 @@ class _Writer:
         self.edits[start.function] = (1, [name])
 
     def hidden_in(self, body: Function) -> set[str]:
-        """The names that mean something else in the body than a component of the test case."""
+        """The names that don't mean a component of the test case in this body."""
         loops = [it.name for it in statements_in(body.statements) if isinstance(it, Loop)]
         return {self.tokens[it] for it in loops + [it.name for it in body.parameters + body.variables]}
 
     def add_one(self, edits: Edits, name: int, words: list[str]) -> None:
-        """Puts one parameter, or argument, more into the brackets behind the name."""
+        """Adds one parameter or argument in the brackets after the name."""
         place = self.place_of(")", name)
         new = edits.get(place, (0, []))[1]
         comma = [","] if new or self.tokens[place - 1] != "(" else []
@@ -174,7 +174,7 @@ class _Writer:
         return edits
 
     def sends_to(self, start: int, to: int, names: list[str]) -> list[str]:
-        """The same message to each of these. All stand at the line of the send."""
+        """A send of the same message to each of these. All are on the line of the original send."""
         line = self.tokens[start].line
         tokens: list[str] = []
         for name in names:
@@ -183,7 +183,7 @@ class _Writer:
         return tokens
 
     def name_of(self, component: int, runner: _Runner) -> str:
-        """By which name the body can speak of the component."""
+        """The name by which the body can refer to the component."""
         if component == runner.component:
             return "self"
         for name, meant in runner.arguments.items():

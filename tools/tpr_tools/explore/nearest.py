@@ -1,5 +1,5 @@
-"""An order of a better verdict that goes along with that of a worse one for as long as it can: what their runs have in
-common says nothing of the verdicts."""
+"""Finds an order for a better verdict that is the same as the order for a worse one for as long as possible, because
+the common part of two runs doesn't explain their verdicts."""
 from __future__ import annotations
 
 from collections import Counter
@@ -9,19 +9,19 @@ from ..model.bodies import TestCase
 from ..model.run import Run
 from .following import result_of, some_order, takes_step
 
-MOST_STEPS = 100_000  # of all runs that are tried
+MOST_STEPS = 100_000  # of all runs that are tried, in sum
 
 
 class Nearest(NamedTuple):
-    """An order, and with how many steps it begins as the other does."""
+    """An order, and how many of its first steps are the same as in the other order."""
 
     common: int
     order: tuple[str, ...]
 
 
 def nearest(case: TestCase, verdict: str, order: tuple[str, ...], worse: tuple[str, ...]) -> Nearest:
-    """The order to this verdict that begins as the worse one for longest, of those that go on as the order does, which
-    comes to this verdict too."""
+    """The order for this verdict with the longest common beginning with the worse one, among orders that continue like
+    `order`, which also leads to this verdict."""
     for common in range(len(worse) - 1, -1, -1):
         if (len(worse) - common) * len(worse) > MOST_STEPS:
             break
@@ -36,7 +36,7 @@ def nearest(case: TestCase, verdict: str, order: tuple[str, ...], worse: tuple[s
 
 
 def left_of(order: tuple[str, ...], done: tuple[str, ...]) -> Iterator[str]:
-    """What of the order is left, where the components have taken so many of their steps."""
+    """The remaining part of the order, after the components have taken these steps."""
     counts = Counter(done)
     for name in order:
         if counts[name] > 0:

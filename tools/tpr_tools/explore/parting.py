@@ -1,5 +1,4 @@
-"""Where two runs of a script diverge: the first thing that a component did in one of them and not in the other, in the
-words of the script."""
+"""Where two runs of a script diverge: the first thing that a component did only in one, in the words of the script."""
 from __future__ import annotations
 
 from dataclasses import dataclass
@@ -12,7 +11,7 @@ from ..origins import Origins
 from .forced_order import carry_out, finish, words_of
 from .placed import PlacedCase
 
-Name = tuple[int, str, int, int]  # of a message: where it is put, its sender and its number
+Name = tuple[int, str, int, int]  # of a message: the component and port to which it is sent, its sender and its number
 
 
 @dataclass(frozen=True)
@@ -45,7 +44,7 @@ class Deed:
 
 
 class Unordered(NamedTuple):
-    """Two lines of which neither waits for the other: of two sends, or of a statement that isn't one and of a send."""
+    """Two lines that don't wait for each other: those of two sends, or of another statement and a send."""
 
     line: int
     sent: int
@@ -63,8 +62,7 @@ class Unordered(NamedTuple):
 
 @dataclass(frozen=True)
 class Parting:
-    """What a component did in the one run, and what in the other; and two lines of which neither waits for the
-    other, if that is all there is to it."""
+    """What a component did in each run, and two lines that don't wait for each other, if only they differ."""
 
     component: str
     first: Deed
@@ -85,7 +83,7 @@ class Parting:
 
 
 def _place_as_json(line: Optional[int], origins: Origins) -> dict[str, object]:
-    """The script's own line, and where it comes from, as `tools/explain --json` names both."""
+    """The script's own line, and where it comes from, under the names of `tools/explain --json`."""
     return {"line": line, "origin": (origins.place(line) if line is not None else "") or None}
 
 
@@ -97,8 +95,8 @@ class Told:
         self.components = components
         self.steps: list[Done] = []
         self.of_each: list[list[Done]] = [[] for _ in case.names]
-        self.sent: dict[Name, int] = {}  # of each message the line of its send
-        self.put: dict[Name, int] = {}  # and how many steps came before it
+        self.sent: dict[Name, int] = {}  # the line of the send of each message
+        self.put: dict[Name, int] = {}  # and the number of steps before it
         self.words: list[str] = []
         self.run = Run(case)
         for who in components:
@@ -123,7 +121,7 @@ class Told:
         self.of_each[who].append(told)
 
     def line_of(self, run: Run, after: Run, who: int) -> int:
-        """The line of the statement; of an `alt` that of the branch that was chosen, or that discarded last."""
+        """The line of the statement; for an `alt`, the line of the branch that was chosen, or that discarded last."""
         statement = run.statement(who)
         if isinstance(statement, Tried) and not after.components[who].lines[-1] == "else":
             guard = chosen_guard(run, who, statement, after)
@@ -131,7 +129,7 @@ class Told:
         return self.case.line(statement) or 0
 
     def is_put_behind(self, name: Name, who: int, at: int) -> bool:
-        """Whether the message came behind the step of this number of the component, or never."""
+        """Whether the message was sent after this step of the component, or never."""
         place = [place for place, step in enumerate(self.steps) if step.who == who][at]
         return self.put.get(name, len(self.steps)) > place
 
@@ -147,7 +145,7 @@ class Told:
 
 
 def before_step(run: Run, who: int) -> Run:
-    """The run as it stands, for when the component has carried out its next step. It shares the component's lines."""
+    """The run before the component's next step, for comparison after the step. It shares the component's lines."""
     before, component = alike(run), alike(run.components[who])
     component.ports = {name: port.copy() for name, port in component.ports.items()}
     component.loops = component.loops.copy()
@@ -157,7 +155,7 @@ def before_step(run: Run, who: int) -> Run:
 
 
 def names_of_send(run: Run, who: int) -> list[Name]:
-    """The messages that the component puts at ports in its next step."""
+    """The messages that the component sends in its next step."""
     send = run.statement(who)
     if not isinstance(send, Send):
         return []
@@ -166,7 +164,7 @@ def names_of_send(run: Run, who: int) -> list[Name]:
 
 
 def chosen_guard(run: Run, who: int, tried: Tried, after: Run) -> object:
-    """The branch that was chosen: the first that wants what was taken or found; else the one that discarded."""
+    """The branch that was chosen: the first that matches the message taken or found, or else the one that discarded."""
     looked = after.components[who].looked
     if looked:
         return tried.choice.branches[looked[-1] - 1][0]
@@ -202,7 +200,7 @@ def touched_by(run: Run, after: Run, who: int) -> list[tuple[str, Message]]:
 
 
 def parting_of(one: Told, other: Told) -> Optional[Parting]:
-    """Where the one run parts from the other."""
+    """Where one run diverges from the other."""
     found = _first_unlike(one, other) or _first_unlike(other, one)
     if found is None:
         return None
@@ -212,8 +210,8 @@ def parting_of(one: Told, other: Told) -> Optional[Parting]:
 
 
 def _first_unlike(one: Told, other: Told) -> Optional[tuple[int, int]]:
-    """The first step, in the order of one run, that the other hasn't at its place: its component, and which of
-    its steps it is."""
+    """The first step of one run that the other doesn't have at its place: its component, and its number among the
+    component's steps."""
     counts = [0 for _ in one.case.names]
     for step in one.steps:
         at = counts[step.who]
@@ -225,8 +223,7 @@ def _first_unlike(one: Told, other: Told) -> Optional[tuple[int, int]]:
 
 
 def _unordered_lines(one: Told, other: Told, who: int, at: int) -> Optional[Unordered]:
-    """The lines of two sends to one port, or of a send and a look or operation, that came in one order here and in
-    the other there."""
+    """The lines of two sends to one port, or of a send and a look or operation, in another order in each run."""
     mine, others = (told.of_each[who][at] if at < len(told.of_each[who]) else None for told in (one, other))
     messages = [{} if it is None else it.names() for it in (mine, others)]
     only_one = [name for name in messages[0] if name not in messages[1]]

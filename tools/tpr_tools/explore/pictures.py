@@ -15,7 +15,7 @@ from .parting import Told
 
 
 def picture_of(script: str, partings: list[Parted], origins: Origins) -> str:
-    """An SVG file with each two runs that diverge."""
+    """An SVG file with each pair of diverging runs."""
     return beside_of(f"{script}: where the runs diverge", [_pair(it, origins) for it in partings])
 
 
@@ -36,7 +36,7 @@ Entries = list[tuple[Place, str]]  # with their lines
 
 
 def _order_of(told: Told) -> Entries:
-    """The entries of the report in the order of the steps. What stands in no order comes last."""
+    """The entries of the report in the order of the steps. Entries that no step made come last."""
     counts = [0] * len(told.case.names)
     entries: Entries = []
     for step in told.steps:
@@ -61,12 +61,12 @@ def _report_of(told: Told) -> Report:
 
 
 def _line_at(deliveries: Deliveries, places: list[Place], apart: int) -> int:
-    """The line of the report of the first entry that the other run hasn't."""
+    """The line of the report with the first entry that the other run doesn't have."""
     return deliveries.entry(places[apart]).line.number if apart < len(places) else 0
 
 
 class _Lines(Marks):
-    """The line of the script that an entry comes from, in brackets."""
+    """Shows the line of the script that an entry comes from, in brackets."""
 
     def __init__(self, told: Told):
         self.case = told.case

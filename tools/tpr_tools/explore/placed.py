@@ -1,4 +1,4 @@
-"""The places and lines of the script at which the statements of the model of runs stand."""
+"""The places and lines of the script for the statements of the model of runs."""
 from __future__ import annotations
 
 from typing import Optional
@@ -10,7 +10,7 @@ from ..script.tokens import Text
 
 
 class Placed(str):
-    """A token, and the line at which it stands."""
+    """A token with its line."""
 
     line: int
 
@@ -21,7 +21,7 @@ class Placed(str):
 
 
 def placed_tokens(data: bytes) -> list[Placed]:
-    """The tokens of a script that is accepted, with their lines."""
+    """The tokens of an accepted script, with their lines."""
     text = Text(data)
     return [Placed(*it) for it in zip(text.tokens, text.lines)]
 
@@ -36,7 +36,7 @@ class PlacedCase(TestCase):
         self.origins = origins or Origins([])
 
     def told(self, line: int) -> Line:
-        """A line of the script as it is told to whoever wrote it."""
+        """A line of the script as the user knows it: in the original file, if there is one."""
         return self.origins.line(line)
 
     def line(self, node: object) -> Optional[int]:

@@ -1,1 +1,1 @@
-"""The model of runs, by which the gate judges reports: it uses nothing else of the tools but the table of refusals."""
+"""The model of runs, by which the gate judges reports. It uses only the table of refusals of the other tools."""

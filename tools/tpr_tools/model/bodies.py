@@ -1,4 +1,4 @@
-"""What the components of a test case have and do: statements in one list each, routes, names."""
+"""The components of a test case and what they do: the statements of each in one list, the routes, and the names."""
 from __future__ import annotations
 
 from dataclasses import dataclass
@@ -6,12 +6,12 @@ from typing import Any
 
 from .tree import Block, Choice, Function, Loop, Script
 
-Code = list[Any]  # statements, and what an `alt` and a loop come to
+Code = list[Any]  # statements, and the entries that an `alt` and a loop become
 
 
 @dataclass(frozen=True)
 class Jump:
-    """The next statement stands there."""
+    """The next statement is at this place."""
 
     place: int
 
@@ -26,7 +26,7 @@ class Turn:
 
 @dataclass(frozen=True)
 class Tried:
-    """An `alt` whose blocks, that of `[else]` last, begin at these places."""
+    """An `alt`, and the places where its blocks begin; the block of `[else]` is last."""
 
     choice: Choice
     places: tuple[int, ...]
@@ -34,14 +34,14 @@ class Tried:
 
 @dataclass(frozen=True)
 class Begun:
-    """A loop, and the place behind it."""
+    """A loop, and the place after it."""
 
     loop: Loop
     behind: int
 
 
 def listed(block: Block, code: Code) -> Code:
-    """The statements of a block behind those of `code`, in one list."""
+    """The code, extended by the statements of a block."""
     for statement in block:
         if isinstance(statement, Choice):
             list_choice(statement, code)

@@ -1,6 +1,6 @@
-"""Makes plain lists of a script (docs/PROFILE.md, "A script"), from the tree that the tools read of it.
+"""Makes plain lists of a script (docs/PROFILE.md, "A script"), from the tree that the tools read.
 
-It is for scripts that `tpr check` accepts: it looks for no fault of a rule.
+It is for scripts that `tpr check` accepts: it doesn't look for broken rules.
 """
 from __future__ import annotations
 
@@ -38,7 +38,7 @@ class Reader:
         except (GrammarFault, RuleFault) as fault:
             raise Unreadable(f"token {fault.place} is {text.spelling(fault.place)}") from None
         self.word, self.forms = self.names.word, Forms(self.names)
-        # By the number of a node its token, and that of the `[else]` of an `alt`.
+        # The token of a node, by the node's id, and the token of the `[else]` of an `alt`.
         self.places: dict[object, int] = {}
         self.script = Script(self.forms)
         for name in self.names.components:

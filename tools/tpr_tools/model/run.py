@@ -1,10 +1,10 @@
-"""A model of runs, in which one thing happens at a time: lists, a message queue for each port with
-its halt mark, and no thread. It is written from docs/PROFILE.md ("A run"), docs/MODEL.md and the clauses
-that they name, and says what `tpr run` must print of a script where the order of the steps is known.
+"""A model of runs, in which one thing happens at a time: lists, a message queue for each port with its halt mark, and
+no thread. It is written from docs/PROFILE.md ("A run"), docs/MODEL.md and the clauses that they name, and says what
+`tpr run` must print for a script in a known order of steps.
 
-A step is what a gate counts (docs/DECISIONS.md, "The steps that a gate counts"). It is made of acts:
-between two acts another component may act. A send on one route is an act, so is one look at the branches of
-an `alt`, and so is an operation on all ports.
+A step is what a gate counts (docs/DECISIONS.md, "The steps that a gate counts"). It consists of acts: between two acts
+another component may act. A send on one route is an act, and so are one look at the branches of an `alt`, and an
+operation on all ports.
 """
 from __future__ import annotations
 
@@ -24,7 +24,7 @@ DONE_BY = {"start": "started", "stop": "stopped", "halt": "halted", "clear": "cl
 
 
 class Act(Enum):
-    """What became of a statement: it is done, it goes on, or it waits and nothing happened."""
+    """What an act did with a statement: it is done; it has further acts; or it waits, and nothing happened."""
 
     DONE = 0
     MORE = 1
@@ -43,8 +43,8 @@ class Message:
 
 @dataclass
 class Port:
-    """A port: its status, its queue with the oldest first, and while it is halted how many messages
-    are ahead of the mark (22.5)."""
+    """A port: its status, its queue with the oldest message first, and, while the port is halted, the number of
+    messages ahead of the mark (22.5)."""
 
     status: str = "started"
     queue: list[Message] = field(default_factory=list)
@@ -75,14 +75,14 @@ class Port:
 
 @dataclass
 class Component:
-    """How far a component has come. `place` is where its next statement stands, `sent` is on how many routes
-    that statement has sent, `steps` how many are done, `failed` the fault of the send by which it ended;
-    `numbers` are those of the next message on each route, `lines` those of the history in the report."""
+    """The state of a component. `place` is the place of its next statement, `sent` the number of routes on which that
+    statement has sent, `steps` the number of steps done, `failed` the fault of the send that ended it; `numbers` has
+    the next number on each route, `lines` the lines of its history in the report."""
 
     ports: dict[str, Port]
     place: int = 0
     sent: int = 0
-    # Of each look that discarded in the statement that it is at, how many branches it tried.
+    # For each look of the current statement that discarded a message, how many branches it tried.
     looked: tuple[int, ...] = ()
     failed: Refusal | None = None
     steps: int = 0
@@ -101,14 +101,14 @@ class Component:
 
 
 def alike(it: It) -> It:
-    """An object with the same fields: `copy.copy` in a third of the time, which is much of what a search takes."""
+    """An object with the same fields, in a third of the time of `copy.copy`: a search makes many copies."""
     other = object.__new__(type(it))
     other.__dict__.update(it.__dict__)
     return other
 
 
 class Run:
-    """A test case in the midst of its run."""
+    """A test case during its run."""
 
     def __init__(self, case: TestCase):
         self.case = case
@@ -120,7 +120,7 @@ class Run:
         return self.copy_of(range(len(self.components)))
 
     def copy_of(self, places: Iterable[int]) -> "Run":
-        """A copy of which no more than the components at these places may be changed: it shares the others."""
+        """A copy in which only the components at these places may be changed, because it shares the others."""
         other = alike(self)
         other.components = self.components[:]
         for place in places:
@@ -133,19 +133,19 @@ class Run:
         return {who, *(end[0] for end in self.routes(who, statement))} if isinstance(statement, Send) else {who}
 
     def statement(self, who: int) -> Any:
-        """The component's next statement, or None where it has ended."""
+        """The component's next statement, or None if it has ended."""
         me, code = self.components[who], self.case.bodies[who].code
         return code[me.place] if me.failed is None and me.place < len(code) else None
 
     def step(self, who: int) -> bool:
-        """Carries out the next statement. Where it waits, as much of it as can be, and False."""
+        """Carries out the next statement; if it waits, as many of its acts as possible, and returns False."""
         act = self.act(who)
         while act is Act.MORE:
             act = self.act(who)
         return act is Act.DONE
 
     def act(self, who: int) -> Act:
-        """The next act of the component, which hasn't ended."""
+        """Carries out the next act of the component, which hasn't ended."""
         statement, me = self.statement(who), self.components[who]
         act = Act.DONE
         if isinstance(statement, Tried):
@@ -163,7 +163,7 @@ class Run:
         return act
 
     def settle(self, who: int) -> None:
-        """Goes on to the next statement that is a step: ends of blocks and of turns are none."""
+        """Moves to the next statement that is a step: ends of blocks and of turns aren't steps."""
         me = self.components[who]
         while isinstance(statement := self.statement(who), (Jump, Turn)):
             if isinstance(statement, Jump):
@@ -192,7 +192,7 @@ class Run:
     # Sends (22.2.1)
 
     def receiver(self, who: int, name: str) -> int | None:
-        """The component behind `to`, or None where it is a variable without a value."""
+        """The component after `to`, or None if it is a variable without a value."""
         me = self.components[who]
         held: int | None = me.variables[name] if name in me.variables else self.case.bodies[who].components[name]
         return held
@@ -205,7 +205,7 @@ class Run:
         return [end for end in ends if end[0] == receiver]
 
     def fault_of(self, who: int, send: Send) -> Refusal | None:
-        """Why the send can't be carried out, the first cause that holds."""
+        """The first reason why the send can't be carried out, or None."""
         me = self.components[who]
         if me.ports[send.port].status != "started":
             return Refusal.NOT_SENDING
@@ -220,7 +220,7 @@ class Run:
         return Refusal.NEEDS_TO if len(routes) > 1 and send.receiver is None else None
 
     def send(self, who: int, send: Send) -> Act:
-        """One message on one route."""
+        """Sends one message on one route."""
         me = self.components[who]
         me.failed = self.fault_of(who, send)
         if me.failed is not None:
@@ -241,12 +241,12 @@ class Run:
         return Act.DONE
 
     def deliver(self, component: int, port: str, message: Message) -> None:
-        """The one place where a component changes another."""
+        """The only function in which a component changes another."""
         self.components[component].ports[port].queue.append(message)
 
     def held(self, me: Component, name: str) -> tuple[str, Any] | None:
-        """The type and the value that are sent by this name alone; None where the variable has no value. A loop
-        variable holds an integer."""
+        """The type and the value that a send of this name sends; None if the variable has no value. A loop variable
+        holds an integer."""
         if name in me.variables:
             held: tuple[str, Any] | None = me.variables[name]
             return held
@@ -264,7 +264,7 @@ class Run:
     # Receiving operations (20.2, 22.2.2, 22.2.3, 22.4)
 
     def look(self, who: int, tried: Tried) -> Act:
-        """One look at the branches, from the top."""
+        """Looks at the branches once, from the top."""
         me = self.components[who]
         for at, ((guard, _), place) in enumerate(zip(tried.choice.branches, tried.places), 1):
             top = me.ports[guard.port].top()
@@ -292,7 +292,7 @@ class Run:
         return guard.template is None or guard.type == top.type and guard.template(top.value, me.loops)
 
     def get(self, me: Component, guard: Guard, top: Message) -> None:
-        """Takes or finds a message, and sets what the redirect names."""
+        """Takes or finds a message, and sets the variables of the redirect."""
         self.note(me, "found" if guard.how == "check" else "took", guard.port, top)
         if guard.how != "check":
             me.ports[guard.port].take()
@@ -316,7 +316,7 @@ class Run:
         return self.components[who].verdict if self.components[who].failed is None else "error"
 
     def end(self, who: int) -> str:
-        """How the component ended. One that hasn't come to its end waits."""
+        """How the component ended. A component that hasn't reached its end waits."""
         failed = self.components[who].failed
         if failed is not None:
             return f"error {failed:d}"
@@ -330,12 +330,12 @@ class Run:
         return [f"component {body.name}", *me.lines, *end, *left]
 
     def report(self) -> str:
-        """The report, where no component can go on."""
+        """The report, once no component can go on."""
         lines = [line for place in range(len(self.components)) for line in self.lines_of(place)]
         return "".join(f"{line}\n" for line in [*lines, f"result {self.result()}"])
 
     def result(self) -> str:
-        """The overall verdict, where no component can go on."""
+        """The overall verdict, once no component can go on."""
         places = range(len(self.components))
         if "waiting" in [self.end(place) for place in places]:
             return "error"

@@ -13,7 +13,7 @@ Block = tuple[object, ...]  # of statements
 
 @dataclass(frozen=True)
 class Guard:
-    """A receiving operation, and where what it gets is kept."""
+    """A receiving operation, and the variables that keep its message and sender."""
 
     how: str
     port: str
@@ -33,7 +33,7 @@ class Variable:
 
 @dataclass(frozen=True)
 class Send:
-    """A send of a message, or of what a variable holds."""
+    """A send of a message, or of the value of a variable."""
 
     port: str
     message: Message | None
@@ -43,7 +43,7 @@ class Send:
 
 @dataclass(frozen=True)
 class Control:
-    """A port operation. No port is all ports of the component."""
+    """A port operation. Without a port it means all ports of the component."""
 
     port: str | None
     operation: str
@@ -58,8 +58,8 @@ class Setverdict:
 
 @dataclass(frozen=True)
 class Choice:
-    """An `alt`: guards with their blocks, and the block of `[else]`, if there is one. A receiving
-    operation that stands alone is one too, of one branch."""
+    """An `alt`: guards with their blocks, and the block of `[else]`, if there is one. A receiving operation outside an
+    `alt` is one with a single branch."""
 
     branches: tuple[tuple[Guard, Block], ...]
     otherwise: Block | None
@@ -77,7 +77,7 @@ class Loop:
 
 @dataclass(frozen=True)
 class Function:
-    """A function, or the test case, by its parameters' names."""
+    """A function, or the test case, with the names of its parameters."""
 
     parameters: tuple[str, ...]
     runs_on: str
@@ -86,7 +86,7 @@ class Function:
 
 @dataclass
 class Script:
-    """What a script defines. Its types are in `forms`."""
+    """The definitions of a script. Its types are in `forms`."""
 
     forms: Forms
     component_types: dict[str, tuple[str, ...]] = field(default_factory=dict)

@@ -1,7 +1,7 @@
-"""What the components did at each line of a script, and which statements none of them came to.
+"""What the components did at each line of a script, and which statements none of them reached.
 
-Of a script that tools/rewrite wrote they are the lines and statements of what that was given. One of these may have been
-written several times, and it is reached where one of them is.
+For a script that tools/rewrite wrote, these are the lines and statements of the original. A statement of the original
+may have several copies, and it is reached if one of them is.
 """
 from __future__ import annotations
 
@@ -19,13 +19,13 @@ from ..words import counted, shown
 from .walk import StopKind, Walk
 
 _MOST_TOLD = 4  # components beside one line
-_WIDEST = 80  # what is told of longer lines stands directly behind them
+_WIDEST = 80  # the text for a longer line comes directly after the line
 
 
 @dataclass
 class LineDone:
-    """A line with statements: where these and its branches stand, how often the components came to each, and
-    what they did."""
+    """A line with statements: the places of these and their branches, how often the components reached each, and what
+    they did."""
 
     statements: set[int] = field(default_factory=set)
     times: Counter[int] = field(default_factory=Counter)
@@ -38,7 +38,7 @@ class LineDone:
         return len(self.never_reached())
 
     def mark(self) -> str:
-        """How often, or that no component came to it, or not to all of it."""
+        """How often the line was reached; or that no component reached it, or only a part of it."""
         if self.never() == len(self.statements):
             return "never"
         return "partly" if self.never() else str(max(self.times.values()))
@@ -54,12 +54,12 @@ class LineDone:
 
 
 class Done:
-    """All lines with statements, those of functions that nothing is started with too."""
+    """All lines with statements, including those of functions that aren't started."""
 
     def __init__(self, case: Case, walks: list[Walk]):
         self.case = case
         self.lines: dict[Line, LineDone] = {}
-        # What stands within what was written for the same statement: who comes to it was counted there.
+        # Tokens inside another copy of the same statement: reaching them was counted there.
         self.inner: set[int] = set()
         for body in case.bodies():
             for token, around in tokens_in(body.statements):
@@ -97,7 +97,7 @@ class Done:
         return "\n".join(texts) + f"{self.summary()}\n"
 
     def texts(self) -> dict[str, list[str]]:
-        """The lines of the script, or of each file that it comes from, by the file that a line is told with."""
+        """The lines of the script, or of each file that it comes from, by the file name in its lines."""
         origins = self.case.origins
         if not origins.files:
             return {"": self.case.text.shown_lines()}
@@ -126,7 +126,7 @@ class Done:
 
 
 def tokens_in(statements: Iterable[Statement], around: tuple[int, ...] = ()) -> Iterator[tuple[int, tuple[int, ...]]]:
-    """The tokens of all statements, and of the branches among them, each with those around it."""
+    """The tokens of all statements, and of the branches in them, each with the tokens around it."""
     for statement in statements:
         yield statement.start, around
         inner = (*around, statement.start)
@@ -142,8 +142,8 @@ def tokens_in(statements: Iterable[Statement], around: tuple[int, ...] = ()) -> 
 
 
 def lines_in(file: str, origins: Origins) -> list[str]:
-    """The lines of a file that the script comes from, as it is named there. One that has nothing where a statement came
-    from is another file by now."""
+    """The lines of a file that the script comes from. If the file has nothing at the place of a statement, it was
+    changed, and the tool ends."""
     lines = shown_lines(read_bytes(file))
     for row in (row for row in origins.rows if row.file == file):
         text = lines[row.line - 1] if row.line <= len(lines) else ""
@@ -154,7 +154,7 @@ def lines_in(file: str, origins: Origins) -> list[str]:
 
 
 def _word(entry: Entry) -> str:
-    """What a component did by an entry."""
+    """What the entry says that a component did."""
     if isinstance(entry, Sent):
         return "sent"
     if isinstance(entry, (Received, Operation)):

@@ -1,4 +1,4 @@
-"""Reads a script, puts a report beside it, and ends the tool where one of them isn't right."""
+"""Reads a script, matches a report with it, and ends the tool if one of them isn't valid."""
 from __future__ import annotations
 
 from typing import Optional
@@ -16,7 +16,7 @@ from ..words import shown
 from .walk import DoesNotFit
 from .ways import Ways
 
-NOT_OF_IT = 1  # the report isn't one of the script
+NOT_OF_IT = 1  # the report doesn't belong to the script
 
 
 def case_of(script: str) -> Case:
@@ -37,7 +37,7 @@ def case_of(script: str) -> Case:
 
 
 def ways_of(case: Case, report: Report, file: str) -> Ways:
-    """The report, of which the file is named, beside its script."""
+    """Matches the report with its script; `file` is its name."""
     try:
         return Ways(case, report)
     except NotAReport as fault:

@@ -1,6 +1,6 @@
-"""By which emptying of its port a message was discarded, where it was neither got nor left. A report doesn't
-say it. What is known is in which order messages came: those of one route, and those of which one was sent
-in the past of the other."""
+"""Finds by which emptying of its port a message was discarded that was neither got nor left, because a report doesn't
+say it. Only some orders of arrival are known: that of messages on one route, and that of two messages of which one was
+sent in the past of the other."""
 from __future__ import annotations
 
 from bisect import bisect_left, bisect_right
@@ -11,8 +11,8 @@ from .past import Past
 
 
 class Emptyings(NamedTuple):
-    """The entries that empty a port, and from which to which of them, the second left out, one discarded
-    a message: several where the report leaves it open."""
+    """The entries that empty a port, and the range of those that may have discarded a message, the last one excluded:
+    several if the report leaves it open."""
 
     places: list[Place]
     first: int
@@ -20,7 +20,7 @@ class Emptyings(NamedTuple):
 
 
 class Emptied:
-    """All discarded messages of a report, and what can have discarded each."""
+    """All discarded messages of a report, and the emptyings that may have discarded each."""
 
     def __init__(self, deliveries: Deliveries):
         self.deliveries = deliveries
@@ -37,7 +37,7 @@ class Emptied:
         self.pasts: dict[int, Past] = {}
 
     def by(self, message: Message) -> Emptyings:
-        """In numbers of emptyings, each of which begins the era of its number, from 1."""
+        """The emptyings that may have discarded the message. They are numbered by the eras that they begin, from 1."""
         first, latest = self._first_on_route(message), message.latest
         if first < latest:
             first, latest = self._between_others(message, first, latest)
@@ -54,7 +54,8 @@ class Emptied:
         return self.places[key]
 
     def _first_on_route(self, message: Message) -> int:
-        """It came behind all that was sent before it on its route."""
+        """The first emptying after which the message can have arrived: it arrived after all messages that were sent
+        before it on its route."""
         if message.index not in self.first:
             first = 1
             for on_route in self.of_route[message.route]:
@@ -63,8 +64,9 @@ class Emptied:
         return self.first[message.index]
 
     def _between_others(self, message: Message, first: int, latest: int) -> tuple[int, int]:
-        """It came behind what was sent in its past, and ahead of what has its sending in the past. What the
-        port delivered or kept from behind it shows that it was discarded before."""
+        """Narrows the range. The message arrived after those that were sent in its past, and before those that have its
+        send in their past. If the port delivered or kept one of the latter, it had discarded the message before
+        that."""
         sender, entry = message.sent
         own = self.past(sender)
         for had in self.into[message.route[1:]]:
@@ -79,7 +81,7 @@ class Emptied:
         return first, max(first, latest)
 
     def _around(self, message: Message, all_of_them: Emptyings) -> Emptyings:
-        """Those that don't stand in the past of the sending, up to the first that has it in its past."""
+        """The emptyings that aren't in the past of the send, up to the first one that has the send in its past."""
         places, first, behind = all_of_them
         sender, entry = message.sent
         owner, own = self.past(places[0].component), self.past(sender)
@@ -95,7 +97,7 @@ class Emptied:
 
 
 def first_of(low: int, high: int, holds: Callable[[int], bool]) -> int:
-    """The first number from which on it holds, or the last of them."""
+    """The first number from which on it holds; `high` if there is none below."""
     while low < high:
         middle = (low + high) // 2
         if holds(middle):
@@ -106,8 +108,8 @@ def first_of(low: int, high: int, holds: Callable[[int], bool]) -> int:
 
 
 class Had:
-    """What a port delivered or kept of one route: where each was sent, and in which era it came. Both only
-    grow."""
+    """The messages of one route that a port delivered or kept: where each was sent, and in which era it arrived. Both
+    only grow."""
 
     def __init__(self, sender: int, messages: list[Message]):
         self.sender = sender
@@ -117,7 +119,7 @@ class Had:
         self.known: dict[int, list[int]] = {}
 
     def known_of(self, past: Past) -> list[int]:
-        """Of each the last entry of the component that stands in the past of its sending."""
+        """For each message, the last entry of the component that is in the past of its send."""
         if past.component not in self.known:
             last = past.last[self.sender]
             self.known[past.component] = [last[entry] for entry in self.sent]

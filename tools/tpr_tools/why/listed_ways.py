@@ -54,7 +54,7 @@ def _sent_at(ways: Ways, entry: Received, receiver: str) -> str:
 
 
 def _aligned(rows: list[Row]) -> str:
-    """The numbers of lines to the left, in columns, with a head above them."""
+    """The lines with their numbers on the left, in columns, below a head."""
     lines = [row.line.short() if row.line else "" for row in rows]
     lines[0] = "line"
     first, second = max(map(len, lines)), max(len(row.other) for row in rows)

@@ -1,31 +1,31 @@
-"""What stands in the past of an entry: what its component did before it, and, of each message that was got
-by then, the sending and the past of that. It has happened before in whatever order a run has had."""
+"""The past of an entry: what its component did before it, and, for each message that was got until then, its send and
+the past of the send. All this has happened before the entry, whatever the order of the run was."""
 from __future__ import annotations
 
 from ..report.deliveries import Deliveries, Place
 
 
 class Past:
-    """Of each entry the last entry of one component that stands in its past."""
+    """For each entry, the last entry of one component that is in its past."""
 
     def __init__(self, deliveries: Deliveries, component: int):
         self.deliveries = deliveries
         self.component = component
         self.last: list[list[int]] = [[] for _ in deliveries.at]
-        self.waiting: dict[int, list[int]] = {}  # components, by the message whose sending isn't reached yet
+        self.waiting: dict[int, list[int]] = {}  # components that wait for the send of a message
         ready = list(range(len(self.last)))
         while ready:
             ready += self._go_on(ready.pop())
-        # What waits in a circle is no report of tpr. Nothing is known of its past.
+        # Entries that wait for each other in a cycle can't be in a report of tpr. Nothing is known of their past.
         for last, messages in zip(self.last, deliveries.at):
             last += [-1] * (len(messages) - len(last))
 
     def has(self, place: Place, entry: int) -> bool:
-        """Whether the entry of the component stands in the past of the place, or is it."""
+        """Whether the entry of the component is in the past of the place, or at this place."""
         return entry <= self.last[place.component][place.entry]
 
     def _go_on(self, component: int) -> list[int]:
-        """As far as it can be known, and the components that waited for that."""
+        """Goes on as far as possible. Returns the components that waited for that."""
         last, messages = self.last[component], self.deliveries.at[component]
         woken: list[int] = []
         while len(last) < len(messages):

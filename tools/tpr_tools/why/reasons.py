@@ -20,7 +20,7 @@ Details = Callable[[Ways, int], list[str]]
 
 
 def reasons_of(ways: Ways) -> str:
-    """Some sentences, a line for each; nothing where the result is `pass`."""
+    """Some sentences, one on each line; nothing if the result is `pass`."""
     result = ways.report.result
     if result == "pass":
         return ""
@@ -34,7 +34,7 @@ def reasons_of(ways: Ways) -> str:
 
 
 def _told(ways: Ways, places: list[int], head: Head, details: Details) -> list[str]:
-    """What the components did in one sentence, and more of the first of them."""
+    """A sentence about the components at these places, and details about the first of them."""
     heads = [head(ways, place) for place in places[:_MOST_COMPONENTS]]
     others = [ways.report.components[place].name for place in places[_MOST_COMPONENTS:]]
     if others:
@@ -76,7 +76,7 @@ def _set_at(ways: Ways, number: int) -> str:
 
 
 def _set_by(ways: Ways, number: int) -> list[str]:
-    """In which branch the `setverdict` stands that made the local verdict what it is."""
+    """The branch with the `setverdict` that determined the local verdict."""
     walk = ways.walks[number]
     entry = first_of_verdict(walk.component, walk.component.verdict)
     assert entry is not None
@@ -96,7 +96,7 @@ def _set_by(ways: Ways, number: int) -> list[str]:
 
 
 def _later(ways: Ways, walk: Walk, chosen: Chosen) -> list[str]:
-    """Of each branch what it wants and what was got or is left at its port behind the `[else]`."""
+    """For each branch, what it waits for, and what was got at its port after the `[else]` or is left there."""
     standing = Standing(ways, walk, walk.origins[chosen.entry].turns)
     told = []
     for branch in chosen.alt.branches:
@@ -128,7 +128,7 @@ def turns_told(turns: Turns) -> str:
 
 
 def _of_error(ways: Ways) -> list[str]:
-    """The sends that failed come first: others may wait because of them."""
+    """Failed sends come first, because others may wait due to them."""
     stops = [(place, walk.stop) for place, walk in enumerate(ways.walks) if walk.stop]
     failed = [place for place, stop in stops if stop.kind is StopKind.FAILED]
     waits = [place for place, stop in stops if stop.kind is StopKind.WAITS]
@@ -185,7 +185,7 @@ def _needs_to(ways: Ways, walk: Walk, stop: Stop, send: Send) -> str:
 
 
 def _unset(ways: Ways, walk: Walk, stop: Stop, send: Send) -> str:
-    """The variable that is sent, or the one behind `to`, and where it could have been set."""
+    """The variable that is sent, or the one after `to`, and where it could have been set."""
     word = ways.case.word
     names = [word(place) for place in (send.variable, send.to) if place is not None]
     name = next(it for it in names if it in stop.variables and stop.variables[it] is None)

@@ -1,4 +1,4 @@
-"""What a wait waits for, and what stood in the queues of its component in the end."""
+"""What a component waits for, and what was in its queues at the end."""
 from __future__ import annotations
 
 from typing import Optional
@@ -15,8 +15,8 @@ _GOT = {"took": "taken", "found": "found", "dropped": "dropped"}
 
 
 class Standing:
-    """The queues of a component, beside the receiving operations that it looked at in the turns of its loops,
-    and those by which it waits in the end."""
+    """The queues of a component; the receiving operations that it reached, with the values of its loop variables; and
+    the operations by which it waits at the end."""
 
     def __init__(self, ways: Ways, walk: Walk, turns: Turns, waits: tuple[Receive, ...] = ()):
         self.ways = ways
@@ -41,7 +41,7 @@ class Standing:
             sender = f", from {self.walk.player.references[word(receive.sender)]}"
         return f"{told} at port {word(receive.port)}{sender}"
 
-    # What stood there
+    # What was there
 
     def told(self, receive: Receive) -> str:
         """Why the port had nothing for the operation in the end."""
@@ -69,7 +69,7 @@ class Standing:
         return self.case.line(self.walk.origins[entry].start)
 
     def of(self, entry: Received) -> str:
-        """The message, its sender, and where that sent it."""
+        """The message, its sender, and the line of its send."""
         return self.told_message(self.ways.sending_of(entry, self.component.name))
 
     def told_message(self, message: Message) -> str:
@@ -77,7 +77,7 @@ class Standing:
         return f"`{message.text}` (sent by {message.route.sender} at line {line})"
 
     def listed(self, left: list[Received]) -> str:
-        """What stands in a queue, the oldest first."""
+        """The messages in a queue, the oldest first."""
         if not left:
             return ""
         more = f" and {len(left) - _MOST_TOLD} more" if len(left) > _MOST_TOLD else ""
@@ -85,7 +85,7 @@ class Standing:
         return f"{', '.join(self.of(it) for it in left[:_MOST_TOLD])}{more} {are} there"
 
     def first(self, receive: Receive, left: list[Received]) -> str:
-        """What the top of a queue is, and what of it isn't wanted."""
+        """The top of a queue, and why the operation doesn't accept it."""
         top, is_wanted = left[0], self.walker.wants(receive, left[0])
         told = self.of(top)
         if self.walk.ports[top.port].status == "halted":
@@ -99,7 +99,8 @@ class Standing:
         return f"{told}; after it comes {self.of(wanted)}" if wanted else told
 
     def side_of_mark(self, top: Received) -> str:
-        """Where the top of a halted port is: ahead of the mark it would be got, or be known to be found."""
+        """On which side of the mark the top of a halted port is. If it were ahead of the mark, it would be got, or a
+        `found` would show it."""
         port = self.walk.ports[top.port]
         at_port = [it for it in self.waits if self.case.word(it.port) == top.port]
         would_be_got = any(self.walker.is_open(it, top) for it in at_port)
@@ -110,14 +111,14 @@ class Standing:
         return "is first there, before the mark or after it"
 
     def is_own(self, top: Received, port: Watched, ahead: bool) -> bool:
-        """Whether the component sent it to itself before the port was halted, or behind that. A `halt`
-        takes in first what has come."""
+        """Whether the component sent the message to itself before the port was halted, if `ahead`, or else after that.
+        Messages that the component sent itself before a `halt` are ahead of the mark."""
         if top.sender != self.component.name or port.since is None:
             return False
         return (self.ways.sending_of(top, top.sender).sent.entry < port.since) == ahead
 
     def unlike(self, receive: Receive, entry: Received) -> str:
-        """What of a message isn't what the operation wants."""
+        """In which respects the message differs from what the operation accepts."""
         kinds = []
         if receive.message is not None and not self.walker.matches(receive, entry.message):
             same_type = entry.message.partition(":")[0] == self.case.word(receive.message.type)
@@ -128,12 +129,12 @@ class Standing:
         return " and ".join(kinds)
 
     def elsewhere(self, receive: Receive, name: str) -> list[str]:
-        """What it wants, and what is at another port."""
+        """A message that the operation would accept, at another port."""
         found = [it for it in self.component.left if it.port != name and self.walker.wants(receive, it)]
         return [f"{self.of(it)} is at another port, {it.port}" for it in found[:1]]
 
     def later(self, receive: Receive, entry: int) -> str:
-        """What the operation wants, and what the component got at its port only behind the entry."""
+        """The message for the operation that the component got at this port after the entry, or that is left there."""
         name = self.case.word(receive.port)
         for place in range(entry + 1, len(self.component.entries)):
             got = self.component.entries[place]
@@ -142,10 +143,10 @@ class Standing:
         left = next((it for it in self.left_at(name) if self.walker.wants(receive, it)), None)
         return f"{self.of(left)} is left there" if left else ""
 
-    # What had come, and what never came
+    # Messages that arrived, and messages that never did
 
     def gone(self, receive: Receive, name: str) -> str:
-        """What became of the messages that were sent to the port."""
+        """What happened to the messages that were sent to the port."""
         routes = [route for route in self.ways.of_route if self.is_into(route, name)]
         sent = [message for route in routes for message in self.ways.of_route[route]]
         wanted = [it for it in sent if self.walker.wants(receive, self.as_received(it))]
@@ -166,13 +167,13 @@ class Standing:
         return Received(line, "left", message.route.port, message.route.sender, message.number, message.text)
 
     def fate(self, message: Message) -> str:
-        """How a message went, and at which line."""
+        """How a message left the queue, and at which line."""
         lines = self.ways.lines_gone(message)
         word = _GOT.get(message.fate, message.fate)
         return f"{word} at line {' or '.join(map(str, lines))}"
 
     def unsent(self, receive: Receive, name: str) -> Optional[tuple[str, Line]]:
-        """A send of such a message that its component never came to, by the component and the line."""
+        """A send of a matching message that its component never reached: the component and the line."""
         for walk in self.ways.walks:
             walker = Walker(self.case, walk.player, walk.component)
             for send in operations_in(walk.player.statements()):
@@ -187,7 +188,7 @@ class Standing:
         return None
 
     def leads(self, walker: Walker, send: Send, name: str) -> bool:
-        """Whether the send may go to the port: a component that a variable holds isn't known."""
+        """Whether the send may go to the port. If `to` names a variable, its component isn't known."""
         if send.to is not None and walker.is_to_one(send) and self.case.word(send.to) in walker.variables:
             return False
         return (self.component.name, name) in walker.routes(send)

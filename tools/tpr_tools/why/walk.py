@@ -1,10 +1,9 @@
 """The way of a component through its body: which statement each entry of its history comes from.
 
-What statements leave in a history says docs/MODEL.md ("Paths"). Each leaves entries that no other could
-leave at its place: a send, a port operation and a `setverdict` their own, `[else]` an `else`. Of the
-branches of an `alt` a message at the top of a port can be taken, found or discarded by one alone: the
-first at that port which it satisfies, or which is a `trigger`. So a history has one way through a body, or
-none, and of each entry there is one statement that it comes from.
+docs/MODEL.md ("Paths") defines the entries that statements make in a history. Each makes entries that no other could
+make at its place: a send, a port operation and a `setverdict` their own, `[else]` an `else`. Only one branch of an
+`alt` can take, find or discard the message at the top of a port: the first at that port which it satisfies, or which is
+a `trigger`. So a history has one way through a body, or none, and each entry comes from exactly one statement.
 """
 from __future__ import annotations
 
@@ -20,7 +19,7 @@ from ..script.case import Case, End, Player
 from ..script.forms import Test
 from ..script.tree import Alt, Branch, Control, Loop, Receive, Send, SetVerdict, Statement
 
-# What the loop variables around a statement hold, the outermost first.
+# The values of the loop variables around a statement, the outermost first.
 Turns = tuple[tuple[str, int], ...]
 
 _DONE_BY = {"start": "started", "stop": "stopped", "halt": "halted", "clear": "cleared"}
@@ -28,7 +27,7 @@ _WORDS = {"receive": "took", "trigger": "took", "check": "found"}
 
 
 class DoesNotFit(Exception):
-    """The script can't have this report: from which line on, and which lines of the script were next."""
+    """The script can't have this report: from this line on, and these lines of the script were possible next."""
 
     def __init__(self, line: int, component: str, text: str, possible: list[Line], reason: str):
         super().__init__(reason)
@@ -41,10 +40,10 @@ class DoesNotFit(Exception):
 
 @dataclass(frozen=True)
 class Chosen:
-    """A branch that was chosen: at which token it begins, by which entry, and the one around it."""
+    """A branch that was chosen: its first token, the entry that chose it, and the chosen branch around it."""
 
     alt: Alt
-    branch: Optional[Branch]  # none where it is `[else]`
+    branch: Optional[Branch]  # None for `[else]`
     entry: int
     outer: Optional["Chosen"]
 
@@ -56,8 +55,8 @@ class Chosen:
 
 
 class Origin(NamedTuple):
-    """What an entry comes from: the token at which the statement or the branch stands, the branch that it
-    is in, and what the loop variables held."""
+    """The origin of an entry: the token of the statement or branch, the branch that it is in, and the values of the
+    loop variables."""
 
     start: int
     within: Optional[Chosen]
@@ -73,7 +72,7 @@ class StopKind(Enum):
 
 @dataclass(frozen=True)
 class Stop:
-    """Where a behaviour stopped: a send, or the receiving operations of which none was open."""
+    """Where a behaviour stopped: a send, or the receiving operations, none of which was open."""
 
     kind: StopKind
     start: int
@@ -85,8 +84,8 @@ class Stop:
 
 @dataclass
 class Watched:
-    """What a history says of a port: its status and the entry that made it so, and its top, where a
-    `found` has told it. The mark may be known to stand at the top."""
+    """What a history shows of a port: its status and the entry that caused it, and its top if a `found` has shown it.
+    The mark may be known to be at the top."""
 
     status: str = "started"
     since: Optional[int] = None
@@ -104,7 +103,7 @@ class Watched:
 
 @dataclass
 class Walk:
-    """A component's way: the origin of each entry, where it stopped, and how often it came to what."""
+    """A component's way: the origin of each entry, where it stopped, and how often it reached each token."""
 
     player: Player
     component: Component
@@ -115,7 +114,7 @@ class Walk:
 
 
 class Walker:
-    """Goes through the body of one component."""
+    """Follows a history through the body of one component."""
 
     def __init__(self, case: Case, player: Player, component: Component):
         self.case = case
@@ -132,7 +131,7 @@ class Walker:
         self.tests: dict[int, Optional[Test]] = {}
 
     def whole(self) -> Walk:
-        """The way to the end that is reported, or DoesNotFit."""
+        """The way to the end that is reported. Raises DoesNotFit."""
         try:
             self.block(self.player.statements())
         except _Stopped:
@@ -147,7 +146,7 @@ class Walker:
         return self.entries[self.place] if self.place < len(self.entries) else None
 
     def note(self, start: int) -> None:
-        """The next entry comes from this statement."""
+        """Notes that the next entry comes from this statement."""
         self.walk.origins.append(Origin(start, self.within, self.turns))
         self.place += 1
 
@@ -155,7 +154,7 @@ class Walker:
         self.walk.visits[start] = self.walk.visits.get(start, 0) + 1
 
     def misfit(self, possible: list[int], reason: str) -> DoesNotFit:
-        """What comes next in the history can't: these are the tokens of what could."""
+        """The next entry isn't possible; these are the tokens of possible ones."""
         entry = self.next()
         line = entry.line if entry else self.component.end.line
         lines = [self.case.line(start) for start in possible]
@@ -187,7 +186,7 @@ class Walker:
     def loop(self, loop: Loop) -> None:
         self.come_to(loop.start)
         if not loop.block:
-            return  # of such there may be more turns than can be counted
+            return  # such a loop may have more turns than can be counted
         name, outer = self.case.word(loop.name), self.turns
         for turn in range(self.case.names.number(loop.first), self.case.names.number(loop.bound)):
             self.loops[name] = turn
@@ -203,7 +202,7 @@ class Walker:
         self.note(statement.start)
 
     def control(self, statement: Control) -> None:
-        """One entry for the port, or for each port of the component."""
+        """Reads one entry for the port, or one for each port of the component."""
         word = _DONE_BY[self.case.word(statement.operation)]
         ports = self.player.ports if statement.port is None else (self.case.word(statement.port),)
         for port in ports:
@@ -232,7 +231,7 @@ class Walker:
             self.note(statement.start)
 
     def fault_of(self, send: Send) -> Optional[Refusal]:
-        """Why the send can't be carried out, the first cause that holds."""
+        """The first reason why the send can't be carried out, or None."""
         if self.walk.ports[self.case.word(send.port)].status != "started":
             return Refusal.NOT_SENDING
         if send.variable is not None and self.held(send.variable) is None:
@@ -248,7 +247,7 @@ class Walker:
         return send.to is not None and self.case.word(send.to) != "all"
 
     def receiver(self, send: Send) -> Optional[str]:
-        """The component behind `to`, or None where it is a variable without a value."""
+        """The component after `to`, or None if it is a variable without a value."""
         assert send.to is not None
         name = self.case.word(send.to)
         return self.variables[name] if name in self.variables else self.player.references[name]
@@ -261,7 +260,7 @@ class Walker:
         return [end for end in ends if end[0] == receiver]
 
     def held(self, place: int) -> Optional[str]:
-        """What is sent by the name of a variable, or of a loop variable."""
+        """The message that is sent by the name of a variable or a loop variable."""
         name = self.case.word(place)
         return f"integer:{self.loops[name]}" if name in self.loops else self.variables[name]
 
@@ -297,8 +296,7 @@ class Walker:
         self.within = outer
 
     def choose(self, receives: list[Receive], starts: list[int], alt: Optional[Alt]) -> Optional[int]:
-        """The branch by which a message is taken or found, None for `[else]`. Before that, any number of
-        messages are discarded."""
+        """The branch by which a message is taken or found; None for `[else]`. Messages may be discarded before."""
         otherwise = alt.otherwise if alt else None
         possible = starts + ([otherwise.start] if otherwise else [])
         while True:
@@ -318,7 +316,7 @@ class Walker:
                 raise self.misfit(possible, f"a message{' or `[else]`' if otherwise else ''} is next")
 
     def branch_of(self, receives: list[Receive], entry: Received, possible: list[int]) -> int:
-        """The only branch that can have got the message: no branch before it was open."""
+        """The only branch that can have got the message, because no branch before it was open."""
         for place, receive in enumerate(receives):
             if self.case.word(receive.port) != entry.port:
                 self.check_none_open([receive])
@@ -338,7 +336,7 @@ class Walker:
         port.top = entry if entry.word == "found" else None
 
     def check_none_open(self, receives: list[Receive]) -> None:
-        """None of them is known to be open: the top of its port is known, and it wants that."""
+        """Checks that none of the operations is known to be open, because its port's top is known and satisfies it."""
         for receive in receives:
             port = self.walk.ports[self.case.word(receive.port)]
             if port.status != "stopped" and port.top is not None and self.is_open(receive, port.top):
@@ -365,7 +363,7 @@ class Walker:
         return test(value_of(text), self.loops)
 
     def redirect(self, receive: Receive, place: Optional[int]) -> None:
-        """What was taken or found last sets the variables behind `->`."""
+        """Sets the variables after `->` to the message that was taken or found last."""
         entry = self.entries[self.place - 1]
         assert place is not None and isinstance(entry, Received)
         values = ((receive.value_to, entry.message), (receive.sender_to, entry.sender))
@@ -376,7 +374,7 @@ class Walker:
     # Ends
 
     def wait(self, receives: list[Receive], starts: list[int], alt: Optional[Alt]) -> None:
-        """The history ends here: none of the operations is open in the end, or it doesn't fit."""
+        """The history ends here. Checks that none of the operations is open at the end."""
         for receive, start in zip(receives, starts):
             top = self.top_in_the_end(self.case.word(receive.port))
             if top and self.is_open(receive, top):
@@ -384,7 +382,7 @@ class Walker:
         self.stop(StopKind.WAITS, alt.start if alt else starts[0], None, tuple(receives))
 
     def top_in_the_end(self, name: str) -> Optional[Received]:
-        """The top of a port, where it is known to have one: at a halted one it may be behind the mark."""
+        """The top of a port at the end, if it is known to have one: at a halted port it may be after the mark."""
         port = self.walk.ports[name]
         left = next((it for it in self.component.left if it.port == name), None)
         if port.status == "started":

@@ -1,4 +1,4 @@
-"""A report beside the script that it is of: the line of each entry, and both ends of each message."""
+"""A report matched with its script: the line of each entry, and both ends of each message."""
 from __future__ import annotations
 
 from bisect import bisect_left
@@ -48,12 +48,12 @@ class Ways:
         return self.case.line(body.start) if body else None
 
     def line_of_stop(self, component: int) -> Optional[Line]:
-        """The send by which the behaviour ended, or its last wait."""
+        """The line of the send that ended the behaviour, or of its last wait."""
         stop = self.walks[component].stop
         return self.case.line(stop.start) if stop else None
 
     def line_of_verdict(self, component: int) -> Optional[Line]:
-        """The `setverdict` by which the local verdict came to be what it is, or the send that failed."""
+        """The line of the `setverdict` that determined the local verdict, or of the send that failed."""
         walk, verdict = self.walks[component], self.report.components[component].verdict
         if verdict == "error":
             return self.line_of_stop(component)
@@ -66,8 +66,8 @@ class Ways:
         return self.of_route[Route(entry.sender, receiver, entry.port)][entry.number]
 
     def lines_gone(self, message: Message) -> list[Line]:
-        """The line by which the message was taken or discarded, or all of which one discarded it, where
-        that is open; none where it is left."""
+        """The line by which the message was taken or discarded; all lines that may have discarded it, if that is open;
+        none if it is left."""
         if message.gone is not None or message.fate != "discarded":
             return [self.line(message.gone)] if message.gone else []
         places, first, behind = self.emptied.by(message)
@@ -77,7 +77,7 @@ class Ways:
         return sorted(line for line, at in of_lines if bisect_left(at, first) < bisect_left(at, behind))
 
     def _lines_of(self, port: tuple[str, str], places: list[Place]) -> dict[Line, list[int]]:
-        """Which of the emptyings of a port each line is. There may be many more of these than lines."""
+        """For each line, the emptyings of a port that it made. There may be many more emptyings than lines."""
         if port not in self._emptying_lines:
             of_lines = self._emptying_lines.setdefault(port, {})
             for number, place in enumerate(places):
@@ -86,7 +86,7 @@ class Ways:
 
 
 def first_of_verdict(component: Component, verdict: str) -> Optional[int]:
-    """The entry by which the local verdict came to be this one."""
+    """The entry at which the local verdict became this one."""
     for place, entry in enumerate(component.entries):
         if isinstance(entry, VerdictSet) and entry.verdict == verdict:
             return place
