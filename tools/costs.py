@@ -38,7 +38,7 @@ USAGE = "usage: tools/costs.py CRATE_FOLDER [COUNT]\n"
 NOT_CHECKED = 1  # no check has left a module
 MOST_TOLD = "25"
 
-# The modules that a check makes of a function or a type, by the word behind its name.
+# The kinds of modules that a check makes for a function or a type, by the word after its name.
 OF_ONE = (
     "Answers|Borrow|Carried|Code|Given|Goals|Invariants|Key|Kinds|Laws|Layout|Lts|Met|Named|Proof"
     "|Reads|Statement|Symbol|The[A-Z][A-Za-z]*|Tie"
@@ -58,7 +58,7 @@ def written(folder: str) -> list[tuple[float, str]]:
 
 
 def owner_of(name: str) -> str:
-    """What a module is of: a function, a type, a file of lemmas."""
+    """The function, type or file of lemmas that a module belongs to."""
     module = MODULE.fullmatch(name)
     inner = module["inner"] if module else name
     link = LINK.fullmatch(inner)
@@ -77,7 +77,7 @@ def costs_of(modules: list[tuple[float, str]]) -> dict[str, float]:
 
 
 def table(found: dict[str, float], most: int) -> str:
-    """What all took, and so many of the dearest."""
+    """The total, and the `most` dearest owners."""
     whole = sum(found.values())
     lines = [f"{whole:8.1f} s in all, {len(found)} parts"]
     for owner, seconds in sorted(found.items(), key=lambda it: it[1], reverse=True)[:most]:

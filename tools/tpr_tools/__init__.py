@@ -1,1 +1,1 @@
-"""The tools' parts. No verdict of tpr rests on them, and nothing here reads a file of tests/."""
+"""The parts of the tools. No verdict of tpr depends on them, and nothing here reads a file of tests/."""

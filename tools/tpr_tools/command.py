@@ -1,6 +1,6 @@
-"""What the command lines of the tools have in common.
+"""The common parts of the tools' command lines.
 
-The statuses are those of tpr and ./tpr, with one more: 5, if what was asked isn't so.
+The statuses are those of tpr and ./tpr, and one more: 5, if the answer to the tool's question is no.
 """
 from __future__ import annotations
 
@@ -18,7 +18,7 @@ DONE, NOT_BUILT, REFUSED, NOT_WRITTEN, WRONG_USAGE, NOT_SO = range(6)
 INTERRUPTED = 130
 
 Result = TypeVar("Result")
-# What is nested in a script is followed by calls that are nested as deep.
+# Nested parts of a script are handled by nested calls.
 _STACK = 512 * 1024 * 1024
 _CALLS = 60_000
 
@@ -45,21 +45,21 @@ def as_called(name: str, text: str) -> str:
 
 
 def with_installed_names(text: str) -> str:
-    """`tpr-why` in place of `tools/why`, and `tpr` in place of `./tpr`. A path keeps its name, and so does what isn't
-    installed."""
+    """The text with `tpr-why` in place of `tools/why`, and `tpr` in place of `./tpr`. Paths keep their names, and so do
+    commands that aren't installed."""
     text = re.sub(r"(?<![\w/.-])tools/(?!release\b)([a-z]+)(?![\w/]|\.\w)", r"tpr-\1", text)
     return re.sub(r"(?<![\w/.])\./tpr(?![\w/])", "tpr", text)
 
 
 def statuses(*numbers: int, **others: str) -> str:
-    """The statuses as --help has them: those of all tools, and those that mean more in one."""
+    """The statuses in the form of --help: those of all tools, and those with an additional meaning in this tool."""
     told = {number: _MEANINGS[number] for number in numbers}
     told.update({int(name.removeprefix("status_")): text for name, text in others.items()})
     return "status:\n" + "\n".join(f"  {number}  {text}" for number, text in sorted(told.items()))
 
 
 class Stop(Exception):
-    """The tool ends with this status, and says this on standard error."""
+    """Ends the tool with this status, and prints this text on standard error."""
 
     def __init__(self, status: int, text: str):
         super().__init__(text)
@@ -68,7 +68,7 @@ class Stop(Exception):
 
 
 class Arguments(argparse.ArgumentParser):
-    """A command line, the description of which has the statuses too."""
+    """A command line whose help also lists the statuses."""
 
     def __init__(self, name: str, description: str, statuses: str):
         super().__init__(
@@ -81,7 +81,7 @@ class Arguments(argparse.ArgumentParser):
         self.add_argument("--version", action=_Version, help="print which version of tpr this is")
 
     def print_help(self, file: object = None) -> None:
-        """It is an answer as any other, so where it can't be written the tool ends so."""
+        """Prints the help like any other answer, so that a failure to write it has the usual status."""
         write_out(self.format_help())
 
     def error(self, message: str) -> NoReturn:
@@ -90,7 +90,7 @@ class Arguments(argparse.ArgumentParser):
 
 
 class _Version(argparse.Action):
-    """Prints the version and ends, as --help does."""
+    """Prints the version and ends, like --help."""
 
     def __init__(self, option_strings: Sequence[str], dest: str, help: Optional[str] = None):
         super().__init__(option_strings, dest, nargs=0, default=argparse.SUPPRESS, help=help)
@@ -106,14 +106,14 @@ def version_line(name: str) -> str:
 
 
 def version() -> Optional[str]:
-    # Hardly a call asks for it, and the start of a tool is short.
+    # Imported here, because few calls need it, and a tool must start quickly.
     from .version import version_in
 
     return version_in(_ROOT)
 
 
 def read_bytes(file: Optional[str]) -> bytes:
-    """What the file holds, or standard input where there is none."""
+    """The bytes of the file; without a file, of standard input."""
     try:
         if file is None:
             return sys.stdin.buffer.read()
@@ -125,8 +125,9 @@ def read_bytes(file: Optional[str]) -> bytes:
 
 
 def report_in(file: Optional[str]) -> Report:
-    """The report that a file holds. Its messages aren't matched yet."""
-    # Not each tool reads a report, and a third of the start of one that doesn't went into the reader.
+    """The report in a file. Its messages aren't matched yet."""
+    # Imported here, because not every tool reads a report, and the reader took a third of the start of a tool that
+    # doesn't.
     from .report.reader import read_report
     from .report.report import NotAReport
 
@@ -143,7 +144,7 @@ def refusal_of(file: Optional[str], fault: NotAReport) -> Stop:
 def write_out(text: str) -> None:
     """Writes the answer on standard output."""
     try:
-        # The name of a file may have bytes that are no text: they are written as they are.
+        # The name of a file may have bytes that aren't valid text: they are written unchanged.
         sys.stdout.buffer.write(text.encode("utf-8", "surrogateescape"))
         sys.stdout.buffer.flush()
     except (OSError, AttributeError):
@@ -151,7 +152,7 @@ def write_out(text: str) -> None:
 
 
 def say(text: str) -> None:
-    """Says it on standard error, if there is one."""
+    """Prints a text on standard error, if there is one."""
     try:
         sys.stderr.buffer.write(text.encode("utf-8", "surrogateescape"))
         sys.stderr.buffer.flush()
@@ -168,9 +169,9 @@ def write_file(file: str, text: Union[str, bytes]) -> None:
 
 
 def on_large_stack(task: Callable[[], Result]) -> Result:
-    """The result of what reads scripts by calls that are nested as deep as they: in a thread of its own, since only such
-    a one gets a stack of this size."""
-    import threading  # Most tools need none, and the start of one is short.
+    """Runs the task in a thread of its own, because only such a thread gets a stack large enough for the nested calls
+    that read a script. Returns its result."""
+    import threading  # most tools don't need it, and must start quickly
 
     ended: list[Result] = []
     broken: list[BaseException] = []
@@ -192,9 +193,9 @@ def on_large_stack(task: Callable[[], Result]) -> Result:
 
 
 def run(name: str, tool: Callable[[], int], at_once: bool = False) -> NoReturn:
-    """Ends the process with the status of the tool; `at_once` where it leaves nothing to be done, and may hold so much
-    that to let go of it takes long."""
-    # What the tools make has no circles, so that looking for such costs a quarter of the time for nothing.
+    """Ends the process with the status of the tool. `at_once` is for a tool that has nothing left to do, and may hold
+    so much memory that freeing it takes long."""
+    # The tools make no cycles, and looking for them costs a quarter of the time.
     gc.disable()
     try:
         status = tool()
@@ -213,7 +214,8 @@ def run(name: str, tool: Callable[[], int], at_once: bool = False) -> NoReturn:
 
 
 def _forget_output() -> None:
-    """What could not be written is not tried again when the interpreter ends: it would end with a status of its own."""
+    """Discards output that couldn't be written. Otherwise the interpreter would write it again at its end, and end with
+    a status of its own."""
     for stream in ("stdout", "stderr"):
         try:
             getattr(sys, stream).flush()

@@ -13,7 +13,7 @@ _ROW = re.compile(r"([0-9]{1,9}) ([0-9]{1,9}):([0-9]{1,9}) (.+)")
 
 
 class Line(NamedTuple):
-    """A line as it is told: with its file where there are several."""
+    """A line as messages name it: with its file if there are several."""
 
     file: str
     number: int
@@ -22,7 +22,7 @@ class Line(NamedTuple):
         return f"{self.number} of {shown(self.file)}" if self.file else str(self.number)
 
     def short(self) -> str:
-        """As it stands in a column."""
+        """The line as it is shown in a column."""
         return f"{shown(self.file)}:{self.number}" if self.file else str(self.number)
 
 
@@ -36,7 +36,7 @@ class Row(NamedTuple):
 
 
 class Origins:
-    """Without rows each line comes from itself."""
+    """The rows of a map. Without rows, each line comes from itself."""
 
     def __init__(self, rows: list[Row]):
         self.rows = rows
@@ -44,7 +44,7 @@ class Origins:
         self.files = list(dict.fromkeys(row.file for row in rows))
 
     def row(self, own: int) -> Optional[Row]:
-        """That of the line, or of the nearest one above it that has any."""
+        """The row for the line, or for the nearest line above that has one."""
         if not self.rows:
             return None
         return self.rows[max(0, bisect_right(self._own, own) - 1)]
@@ -56,17 +56,17 @@ class Origins:
         return Line(row.file if len(self.files) > 1 else "", row.line)
 
     def place(self, own: int) -> str:
-        """`login.ttcn:9:5`; nothing where it comes from itself."""
+        """`login.ttcn:9:5`, or an empty text if the line comes from itself."""
         row = self.row(own)
         return f"{shown(row.file)}:{row.line}:{row.column}" if row else ""
 
     def heading(self) -> str:
-        """Whose lines are told, where they aren't the script's own."""
+        """Which files the line numbers belong to, if not to the script itself."""
         return f"lines of {and_(map(shown, self.files))}\n" if self.files else ""
 
 
 def origins_of(script: str) -> Origins:
-    """The map beside a script. One that isn't of the script as it stands ends the tool."""
+    """The map beside a script. A map that doesn't belong to the current script ends the tool."""
     file = f"{script}.map"
     if not os.path.isfile(file):
         return Origins([])
@@ -82,7 +82,7 @@ def origins_of(script: str) -> Origins:
 
 
 def origin_told(script: str, own: Optional[int]) -> str:
-    """`login.ttcn:9:5`; nothing where no map of the script as it stands lies beside it."""
+    """`login.ttcn:9:5`, or an empty text if there is no map that belongs to the current script."""
     try:
         return "" if own is None else origins_of(script).place(own)
     except Stop:
@@ -95,13 +95,13 @@ def _row_of(text: str) -> Optional[Row]:
 
 
 def _is_told(texts: list[str], row: Row) -> bool:
-    """Whether the line ends with the number that the map gives it."""
+    """Whether the line of the script ends with the number from the map."""
     text = texts[row.own - 1] if 0 < row.own <= len(texts) else ""
     return re.search(rf"// ([^/]*:)?{row.line}$", text) is not None
 
 
 def lines_told(lines: Iterable[Line]) -> str:
-    """`line 7`, `lines 7, 9 and 12-15`; of several files `line 7 of a.ttcn and lines 1-2 of b.ttcn`."""
+    """`line 7`, `lines 7, 9 and 12-15`; for several files `line 7 of a.ttcn and lines 1-2 of b.ttcn`."""
     by_file: dict[str, list[int]] = {}
     for line in sorted(set(lines)):
         by_file.setdefault(line.file, []).append(line.number)

@@ -1,4 +1,4 @@
-"""The program that a tool asks, and what it prints. Whatever is started here is ended when the tool is interrupted."""
+"""Runs the program for a tool, and reads its output. Whatever is started here ends when the tool is interrupted."""
 from __future__ import annotations
 
 import os
@@ -17,19 +17,19 @@ _MOST_SECONDS_TO_END = 30
 
 
 class NoProgram(Stop):
-    """There is no program to ask, for whatever script."""
+    """The program can't be run, for any script."""
 
     def __init__(self, text: str):
         super().__init__(NOT_BUILT, text)
 
 
 def program_of(named: Optional[str], root: str) -> str:
-    """The program of the command line or of TPR, or else that of the folder round the tools."""
+    """The program of the command line or of TPR; otherwise the one in the folder that contains the tools."""
     return os.path.abspath(named or os.environ.get("TPR") or os.path.join(root, "tpr"))
 
 
 def ordered_program_of(root: str) -> str:
-    """The program that forces orders: that of TPR_ORDERED; in a release the one beside tpr; else the one that
+    """The program that forces orders: that of TPR_ORDERED; in a release the one beside tpr; otherwise the one that
     `./build tpr_ordered` makes."""
     released = os.path.join(root, "tpr_ordered")
     made = os.path.join(root, "crates", "tpr_ordered", "out", "tpr_ordered")
@@ -37,7 +37,7 @@ def ordered_program_of(root: str) -> str:
 
 
 def printed_by(program: str, *words: str, given: bytes = b"") -> bytes:
-    """What it prints of these words, and of what it is given on standard input."""
+    """The program's output for these arguments and this standard input."""
     try:
         run = ended([program, *words], given, stdout=subprocess.PIPE)
     except (OSError, ValueError) as error:
@@ -48,8 +48,8 @@ def printed_by(program: str, *words: str, given: bytes = b"") -> bytes:
 
 
 class _Interrupts:
-    """Raises KeyboardInterrupt for the first signal that ends a tool, once what the tool starts is known. Signals that
-    the tool ignores stay ignored."""
+    """Raises KeyboardInterrupt for the first signal that ends a tool, but not before the started process is known.
+    Signals that the tool ignores stay ignored."""
 
     def __init__(self) -> None:
         self.came = False
@@ -57,7 +57,7 @@ class _Interrupts:
         heard = [it for it in _ENDING if signal.getsignal(it) not in (signal.SIG_IGN, None)]
         try:
             self.before = {it: signal.signal(it, self._take) for it in heard}
-        except ValueError:  # tools/rewrite works in a thread, which can't take signals
+        except ValueError:  # tools/rewrite works in a thread, and only the main thread can set handlers
             self.before = {}
 
     def _take(self, _number: int, _frame: Optional[FrameType]) -> None:
@@ -78,9 +78,9 @@ class _Interrupts:
 
 
 def ended(command: Sequence[str], given: bytes = b"", **how: Any) -> subprocess.CompletedProcess[bytes]:
-    """Runs a command that may start others, such as ./tpr and ./build. It has a session of its own, so that Ctrl-C in
-    a terminal reaches the tool alone. The tool then tells the command to end, and waits until it has cleared up. Without
-    signals to hand on, the command stays in the session of the tool, where Ctrl-C reaches it too."""
+    """Runs a command that may start others, such as ./tpr and ./build. It has a session of its own, so that Ctrl-C in a
+    terminal reaches only the tool. The tool then tells the command to end, and waits until it has cleaned up. If the
+    tool can't handle signals here, the command stays in the tool's session, so that Ctrl-C reaches it too."""
     interrupts = _Interrupts()
     process: Optional[subprocess.Popen[bytes]] = None
     try:
@@ -98,8 +98,7 @@ def ended(command: Sequence[str], given: bytes = b"", **how: Any) -> subprocess.
 
 
 def end(process: subprocess.Popen[bytes], has_session: bool = True) -> None:
-    """Tells a process to end, and waits for it. What is left of its session then is ended too, and so is a process that
-    doesn't end."""
+    """Tells a process to end, and waits for it. Kills it if it takes too long, and then the rest of its session."""
     process.terminate()
     try:
         process.wait(_MOST_SECONDS_TO_END)
@@ -112,7 +111,7 @@ def end(process: subprocess.Popen[bytes], has_session: bool = True) -> None:
 
 
 def kill_session(process: subprocess.Popen[bytes]) -> None:
-    """Ends a process that leads a session, with all that it has started."""
+    """Kills a process that leads a session, and everything that it has started."""
     try:
         os.killpg(process.pid, signal.SIGKILL)
     except (ProcessLookupError, PermissionError):
@@ -120,7 +119,7 @@ def kill_session(process: subprocess.Popen[bytes]) -> None:
 
 
 def build_if_wanted(root: str) -> None:
-    """Builds nothing that takes minutes unasked: asks on a terminal, and refuses elsewhere."""
+    """Builds the program unless it is up to date. That takes minutes, so asks on a terminal, and refuses elsewhere."""
     build = f"{root}/build"
     if ended([build, "is_built"]).returncode == 0:
         return
@@ -139,7 +138,7 @@ def _minutes_of_a_first_build(build: str) -> str:
 
 
 def _is_wanted(question: str) -> bool:
-    """Whether somebody is at a terminal who says so."""
+    """Whether a user at a terminal answers yes."""
     if not all(stream is not None and stream.isatty() for stream in (sys.stdin, sys.stderr)):
         return False
     say(question)

@@ -1,5 +1,5 @@
-"""The numbers and names of all refusals and faults, once. `tests/tools/explain_rules.py` compares them with
-docs/REFUSALS.md, and with the table by which the program prints them (`crates/tp_common`)."""
+"""The numbers and names of all refusals and faults. `tests/tools/explain_rules.py` compares them with docs/REFUSALS.md,
+and with the table by which the program prints them (`crates/tp_common`)."""
 from __future__ import annotations
 
 from enum import IntEnum
@@ -44,9 +44,10 @@ class Refusal(IntEnum):
         return self.name.title().replace("_", "")
 
     def told(self) -> str:
-        """Such as `40 NotSending`."""
+        """For example, `40 NotSending`."""
         return f"{self.value} {self.word}"
 
 
-# Why a send can't be carried out: of several the first counts (docs/PROFILE.md, "How a behaviour ends").
+# Why a send can't be carried out; if there are several reasons, the first counts
+# (docs/PROFILE.md, "How a behaviour ends").
 SEND_FAULTS = (Refusal.NOT_SENDING, Refusal.UNSET_VARIABLE, Refusal.NO_ROUTE, Refusal.NEEDS_TO)

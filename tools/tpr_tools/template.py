@@ -1,4 +1,4 @@
-"""Files beside the modules: those in which `{name}` stands for a part, parts that are files themselves, and tables."""
+"""Files beside the modules: texts in which `{name}` stands for a part, parts that are files themselves, and tables."""
 from __future__ import annotations
 
 import os
@@ -22,6 +22,7 @@ class Template:
 
 
 def rows_of(module: str, name: str) -> Iterator[list[str]]:
-    """The rows of a table beside the module, whose columns two spaces or more part. A line with a `#` is no row."""
+    """The rows of a table beside the module. Columns are separated by at least two spaces. Lines that begin with `#`
+    are comments."""
     with open(os.path.join(os.path.dirname(os.path.realpath(module)), name), encoding="utf-8") as opened:
         yield from (re.split(" {2,}", line.strip()) for line in opened if not line.startswith("#"))

@@ -1,4 +1,4 @@
-"""The words of a report, as docs/PROFILE.md has them."""
+"""The words of a report, from docs/PROFILE.md."""
 from __future__ import annotations
 
 import functools
@@ -15,7 +15,7 @@ RESERVED = frozenset(
     to trigger true type value var""".split()
 )
 
-# The words that the full language reserves besides.
+# The additional reserved words of the full language.
 RESERVED_ELSEWHERE = frozenset(
     """action activate address alive altstep and and4b any anytype bitstring break call case catch
     const continue control deactivate decmatch default disconnect display do encode enumerated
@@ -30,7 +30,7 @@ RESERVED_ELSEWHERE = frozenset(
 MOST_COMPONENTS = 64
 MOST_ON_A_ROUTE = 100_000
 
-# Patterns are compiled where they are used first: not each tool uses them, and the start of one is short.
+# Patterns are compiled when they are first used, because not every tool uses them, and a tool must start quickly.
 _NO_LETTER = "[^\t\n\r\x20-\ud7ff\ue000-\ufffd\U00010000-\U0010ffff]"
 
 _WORD = r"[A-Za-z][A-Za-z0-9_]{0,63}"
@@ -38,7 +38,7 @@ _WORD = r"[A-Za-z][A-Za-z0-9_]{0,63}"
 
 @functools.lru_cache(maxsize=4096)
 def is_name(word: str) -> bool:
-    """Whether a script can have declared it: a port, a type, a field, a component that is created."""
+    """Whether a script can declare a port, a type, a field or a created component with this name."""
     return re.fullmatch(_WORD, word) is not None and word not in RESERVED
 
 
@@ -47,7 +47,7 @@ def is_component_name(word: str) -> bool:
 
 
 def readable(text: str) -> str:
-    """The text with what an XML file can't have replaced."""
+    """The text, with characters that an XML file can't contain replaced."""
     return re.sub(_NO_LETTER, "\ufffd", text)
 
 
@@ -55,7 +55,7 @@ _CONTROL = "[\x00-\x1f\x7f-\x9f]"
 
 
 def shown(text: str) -> str:
-    """The text on one line, as a terminal can show it."""
+    """The text on one line, in the form that a terminal can show."""
     return re.sub(_CONTROL, lambda found: f"\\x{ord(found[0]):02x}", text)
 
 

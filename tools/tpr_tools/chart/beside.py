@@ -16,7 +16,7 @@ _HERE = "the runs diverge here"
 
 @dataclass(frozen=True)
 class Diverging:
-    """A run as a chart, and the first row that the other one hasn't."""
+    """A run as a chart, and the first row that the other run doesn't have."""
 
     sequence: Sequence
     row: int
@@ -24,7 +24,7 @@ class Diverging:
 
 @dataclass(frozen=True)
 class Pair:
-    """Two runs, and in words where they diverge."""
+    """Two runs, and a text that says where they diverge."""
 
     first: Diverging
     second: Diverging
@@ -43,7 +43,7 @@ def beside_of(title: str, pairs: list[Pair]) -> str:
 
 
 def _drawn(pair: Pair, y: float) -> tuple[list[str], float, float]:
-    """The parts of a pair below this height, how wide they are, and how high."""
+    """The SVG elements of a pair from this height down, their width, and their height."""
     parts = [Text(_MARGIN, y + 12 + _LINE * at, line).drawn() for at, line in enumerate(pair.words)]
     top = y + _LINE * len(pair.words) + 12
     drawings = [drawing_of(run.sequence, run.row) for run in (pair.first, pair.second)]
@@ -64,7 +64,7 @@ def _label(run: Diverging) -> str:
 
 
 def _line_of(drawing: Drawing, row: int) -> list[str]:
-    """A line above the row; where the run ends before the other one, below its last."""
+    """A line above the row; if the run ends before the other one, below its last row."""
     layout = drawing.layout
     y = layout.parting_y(row)
     right = layout.width - 12

@@ -1,8 +1,8 @@
 """The components of a test case with their ports, and what is connected and mapped.
 
-Components stand in columns: `mtc` in the first, in each further one those that are connected to one in the column
-before it. Behind these the others stand in the same way, beginning with the first component of each net. So each line
-runs between two columns, or at the right of one, and none through a component.
+Components stand in columns: `mtc` in the first, and in each further column the components that are connected to one in
+the column before it. The remaining components follow in the same way, beginning with the first component of each net.
+So each line runs between two columns, or at the right of one, and none through a component.
 """
 from __future__ import annotations
 
@@ -102,8 +102,8 @@ class Connections:
         return columns
 
     def columns_from(self, names: list[str], waiting: dict[str, Shown]) -> list[list[Shown]]:
-        """These, and all that are connected to them, by whichever way. Those of one column stand as those stand that
-        they are connected to."""
+        """The columns of these components and of all that they are connected to, directly or through others. Each
+        column has the order of the components in the column before that its components are connected to."""
         columns = []
         while names:
             column = [waiting.pop(name) for name in names]
@@ -123,7 +123,7 @@ class Connections:
         return first
 
     def net_of(self, name: str) -> set[str]:
-        """All that are connected to it, by whichever way, and itself."""
+        """All components that this one is connected to, directly or through others, and itself."""
         net, found = {name}, [name]
         while found:
             new = self.partners_of(found.pop()) - net
@@ -132,7 +132,7 @@ class Connections:
         return net
 
     def rank(self, it: Shown, column: list[Shown]) -> Optional[float]:
-        """The mean place of those in the column that it is connected to."""
+        """The mean place of its partners in the column."""
         partners = self.partners_of(it.name)
         places = [place for place, other in enumerate(column) if other.name in partners]
         return sum(places) / len(places) if places else None
@@ -154,7 +154,7 @@ class Connections:
         return picture(width, foot + self.legend_height(), title, self.description(), body + self.legend(foot))
 
     def bulge(self) -> float:
-        """How much room the lines between components of the last column need."""
+        """The room for the lines between components of the last column."""
         last = max(it.column for it in self.shown.values())
         inside = [it for it in self.joined if all(self.shown[end[0]].column == last for end in (it.first, it.second))]
         return _GAP / 2 if inside else 0
@@ -166,7 +166,7 @@ class Connections:
         to_x, bend = to_right.x, _GAP / 2
         way_in = to_x - bend
         if from_left.column == to_right.column:
-            # One line around another, so that they can be told apart.
+            # Bends a line around another, so that they can be told apart.
             bend *= min(0.3 + abs(to_y - y) / _FAR, 1)
             to_x = to_right.x + to_right.width()
             way_in = to_x + bend
@@ -208,12 +208,12 @@ class Connections:
         return any(end in (it.first, it.second) for it in self.joined)
 
     def is_entered(self, joined: Joined, end: End) -> bool:
-        """Whether the line comes in at the left of the component."""
+        """Whether the line reaches the component from the left."""
         columns = [self.shown[it[0]].column for it in (joined.first, joined.second)]
         return self.shown[end[0]].column > min(columns)
 
     def legend(self, top: float) -> list[str]:
-        """What a dashed line and a pale port mean, where there are such."""
+        """Explains dashed lines and pale ports, if there are any."""
         lines = [Text(_MARGIN, top + 18 * at, text, "small").drawn() for at, text in enumerate(self.meanings())]
         return ['<g aria-label="what the signs mean">', *lines, "</g>"] if lines else []
 

@@ -14,18 +14,18 @@ def width_of(text: str, letter: float = LETTER) -> float:
 
 
 def letters_in(width: float, letter: float) -> int:
-    """How many find room. A width that was made for a text has room for all of it, however it was rounded."""
+    """How many letters fit. A width that was computed for a text has room for all of it, in spite of rounding."""
     return int(width / letter + 1e-6)
 
 
 def cut(text: str, width: float, letter: float = LETTER) -> str:
-    """The text, with its end left out where it doesn't fit."""
+    """The text, shortened at its end if it doesn't fit."""
     most = max(letters_in(width, letter), 1)
     return text if len(text) <= most else text[: most - 1] + "…"
 
 
 def cut_middle(text: str, width: float, letter: float = LETTER) -> str:
-    """The text, with its middle left out where it doesn't fit: names often differ at their ends."""
+    """The text, shortened in its middle if it doesn't fit: names often differ at their ends."""
     most = max(letters_in(width, letter), 3)
     if len(text) <= most:
         return text
@@ -34,7 +34,7 @@ def cut_middle(text: str, width: float, letter: float = LETTER) -> str:
 
 
 def short(name: str) -> str:
-    """A component's name among other words."""
+    """A component's name, for use among other words."""
     return cut_middle(name, LONGEST_NAME, 1)
 
 
@@ -47,7 +47,7 @@ def escaped(text: str) -> str:
 
 
 class Box(NamedTuple):
-    """What nothing should strike through."""
+    """A box that no arrow may cross."""
 
     left: float
     top: float
@@ -56,7 +56,7 @@ class Box(NamedTuple):
 
 
 class Line(NamedTuple):
-    """A straight one."""
+    """A straight line."""
 
     x: float
     y: float
@@ -64,8 +64,7 @@ class Line(NamedTuple):
     to_y: float
 
     def hits(self, box: Box) -> bool:
-        """Whether some of it lies in the box: how much of the line does is cut down by one side of the box after
-        the other."""
+        """Whether a part of the line lies in the box. The line is clipped at one side of the box after the other."""
         first, last = 0.0, 1.0
         wide, high = self.to_x - self.x, self.to_y - self.y
         for way, room in (

@@ -1,4 +1,4 @@
-"""Where the parts of a chart stand, in pixels."""
+"""The places of the parts of a chart, in pixels."""
 from __future__ import annotations
 
 from dataclasses import dataclass
@@ -9,16 +9,16 @@ from .legend import Legend, legend_of
 from .sequence import Arrow, Sequence, Step
 
 ROW = 27
-REPEAT = 40  # after so many rows the names of the components are written again
-STRIP = 30  # the height of that
+REPEAT = 40  # rows after which the names of the components are written again
+STRIP = 30  # the height of that line of names
 PARTING = 22  # the height of what is left free above a row for a line across all life lines
-LOOP = 26  # how far the arrow of a message to the component itself goes to the right, where no badge is in its way
-LANES = 5  # side by side, for those that go round several rows
+LOOP = 26  # how far the arrow of a message to the component itself goes to the right, if no badge is in its way
+LANES = 5  # side by side, for loops over several rows
 LANE = 4
-STEM = 0.62  # how much of the way one end of a long arrow takes
+STEM = 0.62  # the part of the way that one end of a long arrow takes
 TITLE_LETTER = 11.2
-BESIDE_TITLE = 190  # what stands beside the title, with the margins
-MOST_LEFT = 4  # so many messages that are left are written out at the foot
+BESIDE_TITLE = 190  # what is beside the title, with the margins
+MOST_LEFT = 4  # at most so many messages that are left are listed at the foot
 
 _LEAST_GAP = 118
 _MOST_MARGIN = 300
@@ -29,27 +29,27 @@ _FOOT_LINE = 17
 
 @dataclass(frozen=True)
 class Layout:
-    """The places of the life lines and rows, and how wide the spaces beside the life lines are."""
+    """The places of the life lines and rows, and the widths of the spaces beside the life lines."""
 
     columns: tuple[float, ...]  # the middle of each life line
     boxes: tuple[float, ...]  # the width of the box at its head and at its foot
-    spaces: tuple[float, ...]  # to the left of each life line, and behind the last
+    spaces: tuple[float, ...]  # to the left of each life line, and after the last
     width: float
     reaches: tuple[float, ...]  # how far the arrows of each component to itself go to the right
     rows: int
     foot_lines: int
     legend: Legend
-    parted: Optional[int]  # the row above which a line parts the chart; where there is no such row, the foot
+    parted: Optional[int]  # the row above which a line divides the chart; without such a row, the line is at the foot
 
     def y(self, row: int) -> float:
-        """The height of a row, of which the names stand above some."""
+        """The height of a row; some rows have the names above them."""
         return _TOP + ROW * row + STRIP * self.strips_above(row) + self.parting_above(row)
 
     def parting_above(self, row: int) -> float:
         return PARTING if self.parted is not None and self.parted <= row else 0
 
     def parting_y(self, parted: int) -> float:
-        """The height of the line that parts the chart."""
+        """The height of the line that divides the chart."""
         return self.y(parted) - 27 if parted < self.rows else self.foot() - 14
 
     def strips_above(self, row: int) -> int:
@@ -85,7 +85,7 @@ def goes_right(arrow: Arrow) -> bool:
 
 
 def outer_space(arrow: Arrow) -> int:
-    """The space on the side of the receiver's life line that is away from the sender."""
+    """The space beside the receiver's life line, on the side away from the sender."""
     return arrow.receiver + 1 if goes_right(arrow) else arrow.receiver
 
 
@@ -112,7 +112,7 @@ def layout_of(sequence: Sequence, parted: Optional[int] = None) -> Layout:
 
 
 def _reaches(sequence: Sequence) -> tuple[float, ...]:
-    """An arrow round several rows goes round the badges in these rows too."""
+    """How far each component's loops reach. An arrow over several rows goes round the badges in these rows too."""
     reaches = [float(LOOP)] * len(sequence.names)
     loops = {arrow for step in sequence.steps for arrow in step.ends if arrow.is_loop()}
     badges = [(step.row, step.badge) for step in sequence.steps if step.badge]
@@ -125,7 +125,7 @@ def _reaches(sequence: Sequence) -> tuple[float, ...]:
 
 
 def _widen(spaces: list[float], least: float) -> None:
-    """Makes both margins wider where the title needs it."""
+    """Widens both margins if the title needs it."""
     missing = least - sum(spaces)
     if missing > 0:
         spaces[0] += missing / 2
@@ -141,7 +141,7 @@ def _box(sequence: Sequence, place: int, most_gap: float) -> float:
 
 
 def _needs(sequence: Sequence, most: float, reaches: tuple[float, ...]) -> list[float]:
-    """How wide each space would have to be for all that stands in it."""
+    """The width that each space needs for everything in it."""
     needs = [0.0] * (len(sequence.names) + 1)
     for step in sequence.steps:
         for space, width in _needs_of(step, most, reaches):
@@ -162,7 +162,7 @@ def _needs_of(step: Step, most: float, reaches: tuple[float, ...]) -> list[tuple
 
 
 def _needs_of_text(arrow: Arrow, most: float, reaches: tuple[float, ...]) -> list[tuple[int, float]]:
-    """The text of a message lies over all the spaces between sender and receiver."""
+    """The text of a message may extend over all spaces between sender and receiver."""
     if arrow.sender == arrow.receiver:
         return [(arrow.sender + 1, min(width_of(arrow.at_sender()) + reaches[arrow.sender] + 50, most))]
     first, last = sorted((arrow.sender, arrow.receiver))

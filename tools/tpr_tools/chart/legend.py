@@ -1,4 +1,4 @@
-"""What the signs of a chart mean: a line for those that occur and don't tell it themselves."""
+"""The legend of a chart: a line for each sign that occurs and needs an explanation."""
 from __future__ import annotations
 
 from dataclasses import dataclass
@@ -7,12 +7,12 @@ from typing import NamedTuple
 from .geometry import SMALL, Text, pixels, width_of
 from .sequence import Sequence
 
-_SAMPLE = 44  # the width of a sign, with what is between it and its text
+_SAMPLE = 44  # the width of a sign, with the gap before its text
 _BETWEEN = 22
 _LINE = 18
 _LEFT = 24
 
-# By the word of an arrow, or what else occurs in a chart.
+# The meanings, by the word of an arrow, or by what else occurs in a chart.
 _MEANINGS = {
     "found": "found by a check, and still queued",
     "dropped": "dropped by a trigger",
@@ -24,7 +24,7 @@ _MEANINGS = {
 
 
 class Entry(NamedTuple):
-    """A sign at its place, of those that are listed above."""
+    """A sign of the list above, at its place."""
 
     sign: str
     x: float
@@ -33,7 +33,7 @@ class Entry(NamedTuple):
 
 @dataclass(frozen=True)
 class Legend:
-    """The signs with their places, the first line at the top."""
+    """The signs with their places, beginning with the first line."""
 
     entries: tuple[Entry, ...]
 
@@ -49,7 +49,7 @@ class Legend:
 
 
 def legend_of(sequence: Sequence, width: float) -> Legend:
-    """As many signs in a line as find room."""
+    """As many signs in each line as fit."""
     entries: list[Entry] = []
     x, line = float(_LEFT), 0
     for sign in _signs_of(sequence):
@@ -62,7 +62,7 @@ def legend_of(sequence: Sequence, width: float) -> Legend:
 
 
 def _signs_of(sequence: Sequence) -> list[str]:
-    """Those that occur, in the order in which they are listed."""
+    """The signs that occur, in the order of the list."""
     arrows = [arrow for step in sequence.steps for arrow in step.ends]
     occurring = {arrow.word for arrow in arrows}
     if any(arrow.is_long() for arrow in arrows):

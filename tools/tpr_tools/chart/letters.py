@@ -10,7 +10,7 @@ _LEAST_GAP = 12
 _LONGEST_MARGIN = 40
 _ENDS = {"took": ">", "found": "?", "dropped": "x", "left": "]", "discarded": "#"}
 _WAITS = ")"
-_REPEAT = 40  # after so many rows the names of the components are written again
+_REPEAT = 40  # rows after which the names of the components are written again
 
 
 def letters_of(sequence: Sequence) -> str:
@@ -44,7 +44,7 @@ class _Letters:
         return "\n".join(line.rstrip() for line in lines) + "\n"
 
     def life_lines(self, row: int) -> list[str]:
-        """A line with the life lines: dots where a component has done all that it did."""
+        """A line with the life lines: dots for a component that has done everything."""
         line = [" "] * self.width
         for column, last in zip(self.columns, self.sequence.last_rows):
             line[column] = "|" if row <= last else "."
@@ -78,11 +78,11 @@ class _Letters:
         self.write(line, place, f"[{text}]")
 
     def note_cut(self, step: Step, text: str) -> None:
-        """The whole of a text that is cut stands below the chart."""
+        """Keeps the whole of a shortened text, which is written below the chart."""
         self.cut.append(f"  report line {step.numbers[0]}: {text}")
 
     def draw(self, line: list[str], arrow: Arrow, end: str, text: str) -> None:
-        """An arrow with its text on it."""
+        """Draws an arrow with its text on it."""
         start, stop = self.columns[arrow.sender], self.columns[arrow.receiver]
         if start == stop:
             self.write(line, start + 1, f"--{end} {text}")
@@ -101,7 +101,7 @@ class _Letters:
         return len(arrow.message.text) <= stop - start - 7
 
     def draw_end(self, line: list[str], arrow: Arrow) -> None:
-        """The end of an arrow that began in another row: it comes from the queue of the port."""
+        """Draws the end of an arrow that began in another row: the message comes from the queue of the port."""
         column = self.columns[arrow.receiver]
         end = _ENDS[arrow.word]
         message = arrow.message
@@ -113,7 +113,7 @@ class _Letters:
         self.write_outside(line, arrow, said)
 
     def write_outside(self, line: list[str], arrow: Arrow, text: str) -> None:
-        """On the side of the receiver's life line that is away from the sender."""
+        """Writes a text beside the receiver's life line, on the side away from the sender."""
         column = self.columns[arrow.receiver]
         if goes_right(arrow):
             behind = self.columns[arrow.receiver + 1] if arrow.receiver + 1 < len(self.columns) else self.width
@@ -161,7 +161,7 @@ def _cut(text: str, most: int) -> str:
 
 
 def _spaces(sequence: Sequence, width: int) -> list[int]:
-    """How many letters are to the left of each life line, and behind the last."""
+    """How many letters are to the left of each life line, and after the last."""
     needs = [_LEAST_GAP] * (len(sequence.names) + 1)
     for step in sequence.steps:
         for space, need in _needs(step):

@@ -7,7 +7,7 @@ from .sequence import Marks
 
 
 class LineMarks(Marks):
-    """The line of the script that an entry comes from, in brackets."""
+    """Shows the line of the script that an entry comes from, in brackets."""
 
     def __init__(self, ways: Ways):
         self.ways = ways

@@ -1,7 +1,7 @@
 """A chart as one HTML page that stands alone: its data, its style and its script are in it.
 
-The page draws what one looks at, as one scrolls. `script_lines` is for whoever knows of which line of the
-script a line of the report comes: the page then says it beside the line.
+The page draws only the visible part, while one scrolls. If `script_lines` gives the line of the script for a line of
+the report, the page shows it beside that line.
 """
 from __future__ import annotations
 
@@ -24,14 +24,14 @@ def page_of(sequence: Sequence, script_lines: Optional[Mapping[int, str]] = None
         "title": escape(sequence.title),
         "style": _TEMPLATE.part("page.css"),
         "code": "\n".join(_TEMPLATE.part(name) for name in ("told.js", "drawing.js", "acting.js")),
-        # A `<` in the data could end the script that it stands in.
+        # A `<` in the data could end the script element.
         "data": data.replace("<", "\\u003c"),
     }
     return _TEMPLATE.filled("page.html", parts)
 
 
 class _Data:
-    """What the page is told: lists of numbers and texts, each text of a message once."""
+    """The page's data: lists of numbers and texts, with the text of each message only once."""
 
     def __init__(self, sequence: Sequence, script_lines: Mapping[int, str]):
         self.sequence = sequence
@@ -64,8 +64,8 @@ class _Data:
         }
 
     def row(self, step: Step) -> list[object]:
-        """0 for a sending, with what became of it in this row; 1 for what was got; 2 for what a component
-        did by itself. The lines of the report stand at the end."""
+        """The row as a list. It begins with 0 for a send, with what happened to the message in this row; with 1 for a
+        message that was got; with 2 for what a component does by itself. The lines of the report are at the end."""
         if step.badge is not None:
             return [2, step.badge.column, step.badge.text, step.badge.verdict or "", *step.numbers]
         arrow = step.sends or step.ends[0]
@@ -79,8 +79,8 @@ class _Data:
         return [0, index, ended, *step.numbers]
 
     def message(self, arrow: Arrow) -> int:
-        """Sender, receiver, port, number, text, fate, the row and line of its sending, those of its end, and
-        those where it was found."""
+        """Adds a new message as a list: sender, receiver, port, number, text, fate, the row and line where it is sent,
+        those of its end, and those where it was found. Returns the message's index."""
         message = arrow.message
         if message.index not in self.messages:
             text = self.texts.setdefault(message.text, len(self.texts))
@@ -93,7 +93,7 @@ class _Data:
         return [arrow.start, line]
 
     def discarding(self, arrow: Arrow) -> list[int]:
-        """Of a message that was discarded, the entry that did it; that of another end comes later."""
+        """For a discarded message, the row and line of the entry that discarded it. Another end is filled in later."""
         message = arrow.message
         if message.fate != "discarded" or message.gone is None:
             return [-1, 0]

@@ -1,7 +1,7 @@
 """A part of a chart: some components, some rows, and repeats drawn once.
 
-An arrow of which one end isn't in the part is drawn as its other end, in the words of the report, so that
-the component and the number stand there.
+If one end of an arrow isn't in the part, the arrow is drawn as its other end, in the words of the report, which have
+the component and the number.
 """
 from __future__ import annotations
 
@@ -11,18 +11,18 @@ from typing import Optional
 from ..words import counted
 from .sequence import Arrow, Badge, Sequence, Step
 
-AROUND = 10  # so many rows are drawn above and below a line that is asked for
+AROUND = 10  # rows that are drawn above and below a line that is asked for
 _LONGEST_REPEAT = 8  # rows
 _LEAST_REPEATS = 3
 
 
 class NoSuchPart(Exception):
-    """What is asked for isn't in the chart."""
+    """The part that is asked for isn't in the chart."""
 
 
 @dataclass(frozen=True)
 class Asked:
-    """What part is wanted: nothing in a field is no wish."""
+    """The part that is asked for. An empty field means no restriction."""
 
     only: tuple[str, ...] = ()
     rows: Optional[tuple[int, int]] = None  # from 1, both included
@@ -49,7 +49,7 @@ def _columns_of(sequence: Sequence, only: tuple[str, ...]) -> list[int]:
 
 
 def _rows_of(sequence: Sequence, asked: Asked) -> tuple[int, int]:
-    """The first row, and the one behind the last."""
+    """The first row, and the one after the last."""
     rows = len(sequence.steps)
     if asked.around is not None:
         row = next((step.row for step in sequence.steps if asked.around in step.numbers), None)
@@ -80,7 +80,7 @@ class _Part:
         return self.last - self.first < len(self.sequence.steps) or len(self.columns) < len(self.sequence.names)
 
     def told(self) -> str:
-        """What is left out."""
+        """Says what is left out."""
         parts = []
         if len(self.columns) < len(self.sequence.names):
             parts.append(f"{len(self.columns)} of {counted(len(self.sequence.names), 'component')}")
@@ -93,7 +93,7 @@ class _Part:
         return [step for step in made if step is not None]
 
     def step(self, step: Step) -> Optional[Step]:
-        """The step with the columns of the part; none where it belongs to no component of it."""
+        """The step with the columns of the part, or None if it belongs to no component of the part."""
         if step.badge is not None:
             column = self.columns.get(step.badge.column)
             return None if column is None else step._replace(badge=step.badge._replace(column=column))
@@ -143,7 +143,7 @@ class _Part:
         )
 
     def last_row(self, last: int, steps: list[Step]) -> int:
-        """The row up to which a life line is drawn: to the end, where the component goes on behind it."""
+        """The row up to which a life line is drawn: the end of the chart if the component does more after it."""
         if last >= self.last:
             return len(steps) - 1
         return max((place for place, step in enumerate(steps) if step.row <= last), default=-1)
@@ -157,7 +157,7 @@ def _in_rows(arrow: Arrow, rows: dict[int, int]) -> Arrow:
 
 
 def _folded(steps: list[Step]) -> list[Step]:
-    """Rows that follow each other again and again are drawn once, with how often."""
+    """Draws repeated rows once, with the number of repeats."""
     kinds = _kinds_of(steps)
     same = {size: _same_behind(kinds, size) for size in range(1, _LONGEST_REPEAT + 1)}
     folded, place = [], 0
@@ -176,8 +176,8 @@ def _folded(steps: list[Step]) -> list[Step]:
 
 
 def _kinds_of(steps: list[Step]) -> list[int]:
-    """A number for each step, the same for those that look alike but for the number of a message. A step
-    of an arrow that goes over several rows is like no other."""
+    """A number for each step, which is the same for steps that differ only in the number of a message. A step of an
+    arrow over several rows is like no other."""
     kinds: dict[object, int] = {}
     return [kinds.setdefault(_kind(step), len(kinds)) for step in steps]
 
@@ -192,7 +192,7 @@ def _kind(step: Step) -> object:
 
 
 def _same_behind(kinds: list[int], size: int) -> list[int]:
-    """For each place how many kinds from there on are those that stand so many places later."""
+    """For each place, how many kinds from there on equal those `size` places later."""
     same = [0] * (len(kinds) + 1)
     for place in range(len(kinds) - size - 1, -1, -1):
         same[place] = same[place + 1] + 1 if kinds[place] == kinds[place + size] else 0

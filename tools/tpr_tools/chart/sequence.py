@@ -1,4 +1,4 @@
-"""What a chart shows, before anything of it has a place: arrows, badges on life lines, the foot."""
+"""The contents of a chart before the layout: arrows, badges on life lines, and the foot."""
 from __future__ import annotations
 
 from dataclasses import dataclass
@@ -10,23 +10,23 @@ from ..report.report import Component, Failed, Operation, Otherwise, Received, R
 from ..words import counted, readable
 from .geometry import short
 
-# How a message that stays in the queue ends in the row of its sending.
+# The fates of a message that stays in the queue, in the row of its sending.
 _AT_THE_QUEUE = ("left", "discarded")
-LONG = 14  # an arrow over more rows is drawn as its two ends
-FAR = 3  # life lines: an arrow over more of them has the names of both ends at each
+LONG = 14  # an arrow over more rows is drawn as two ends
+FAR = 3  # life lines: an arrow over more of them has the names of both components at each end
 _MOST_TOLD = 20  # of the messages that one entry discards
 _DOES = {"took": "takes", "found": "finds", "dropped": "drops"}
 
 
 class Marks:
-    """What stands behind what a chart shows: nothing, or, where a script is given, its lines."""
+    """The text after an entry of a chart: nothing, or the line of the script if a script is given."""
 
     def at(self, place: Place) -> str:
-        """Behind an entry."""
+        """The text after an entry."""
         return ""
 
     def at_end(self, component: int) -> str:
-        """Behind the end of a behaviour."""
+        """The text after the end of a behaviour."""
         return ""
 
 
@@ -40,38 +40,38 @@ class Arrow(NamedTuple):
     start: int
     stop: int
     mark: str = ""
-    is_split: bool = False  # its way would strike through something
+    is_split: bool = False  # it would cross something
 
     def outside(self) -> str:
-        """What stands beside the receiver's life line, on the side away from the sender."""
+        """The text beside the receiver's life line, on the side away from the sender."""
         return f"{self.word} {self.message.route.port}{self.mark}"
 
     def is_long(self) -> bool:
-        """Whether it is drawn as its two ends."""
+        """Whether it is drawn as two ends."""
         return self.is_split or self.stop - self.start > LONG
 
     def is_loop(self) -> bool:
-        """Whether it goes round several rows of one component, to the component itself."""
+        """Whether it goes over several rows, from a component to itself."""
         return self.sender == self.receiver and self.start < self.stop and not self.is_long()
 
     def is_far(self) -> bool:
-        """Whether who sees one end may not see the other, so that each names the other."""
+        """Whether one can see one end but perhaps not the other, so that each names the other."""
         return self.is_long() or abs(self.receiver - self.sender) > FAR
 
     def at_sender(self) -> str:
-        """The message, and where it goes."""
+        """The text at the sender: the message, and where it goes."""
         to = f"to {short(self.message.route.receiver)} #{self.message.number} " if self.is_far() else ""
         return to + self.message.text
 
     def at_receiver(self) -> str:
-        """What stands beside the receiver's life line, and where the message comes from."""
+        """The text beside the receiver's life line, with where the message comes from."""
         if not self.is_far():
             return self.outside()
         return f"{self.outside()} from {short(self.message.route.sender)} #{self.message.number}"
 
 
 class Badge(NamedTuple):
-    """What a component does by itself, on its life line."""
+    """Something that a component does by itself, on its life line."""
 
     column: int
     text: str
@@ -83,17 +83,17 @@ class Step(NamedTuple):
     ends in it."""
 
     row: int
-    said: str  # in words
+    said: str  # a description
     lines: str  # the lines of the report
     numbers: tuple[int, ...]  # and their numbers
-    sends: Optional[Arrow] = None  # of which the message's text is written in this row
+    sends: Optional[Arrow] = None  # the arrow of the message whose text is written in this row
     ends: tuple[Arrow, ...] = ()
     badge: Optional[Badge] = None
-    note: str = ""  # what is said across all life lines, in place of anything else
+    note: str = ""  # a text across all life lines, instead of anything else
 
 
 class Foot(NamedTuple):
-    """What stands under a life line."""
+    """The text below a life line."""
 
     end: str
     verdict: str
@@ -114,12 +114,12 @@ class Sequence:
     deliveries: Deliveries
 
     def line_of(self, place: Place) -> int:
-        """The line of the report at which an entry stands."""
+        """The line number of an entry in the report."""
         return self.deliveries.entry(place).line.number
 
 
 def sequence_of(report: Report, title: str, marks: Optional[Marks] = None) -> Sequence:
-    """The chart of a report; NotAReport where its components don't agree, or no order is one."""
+    """The chart of a report. Raises NotAReport if its components don't agree, or its entries have no order."""
     deliveries = deliveries_of(report)
     return sequence_in(deliveries, rows_of(deliveries), title, marks or Marks())
 
@@ -143,8 +143,8 @@ def sequence_in(deliveries: Deliveries, rows: list[Row], title: str, marks: Mark
 
 
 def _split(deliveries: Deliveries, rows: list[Row]) -> list[Row]:
-    """Where a message was found directly behind its sending and is left in the end, its row shows the
-    queue, and the next one that it was found."""
+    """If a message was found directly after it was sent, and is left in the end, its row shows the queue, and the next
+    row that it was found."""
     split = []
     for row in rows:
         message = deliveries.message(row.first)
@@ -208,7 +208,7 @@ class _Steps:
         return Step(number, said, *lines, self.arrow(message, self.word_at(stop), stop))
 
     def stays(self, message: Message) -> str:
-        """What becomes of a message that stays in the queue."""
+        """What happens to a message that stays in the queue."""
         if message.gone is None:
             return "it is left in the queue"
         return f"{self.deliveries.told_line(message.gone)} discards it"
@@ -259,7 +259,7 @@ def _foot(component: Component, mark: str = "") -> Foot:
 
 
 def _summary(deliveries: Deliveries) -> str:
-    """How many messages there are and what became of them, and the verdicts."""
+    """How many messages there are, what happened to them, and the verdicts."""
     report, messages = deliveries.report, deliveries.messages
     fates = {"took": "taken", "dropped": "dropped", "discarded": "discarded", "left": "left in a queue"}
     counts = [(sum(message.fate == fate for message in messages), told) for fate, told in fates.items()]

@@ -26,7 +26,7 @@ from .layout import (
 )
 from .sequence import Arrow, Foot, Badge, Sequence, Step
 
-# The paper, the ink, and for each verdict a ground, a border and an ink that can be read on it.
+# The paper, the ink, and for each verdict a background, a border and a readable ink.
 _COLOURS = {
     "none": ("#f6f8fa", "#8c959f", "#424a53"),
     "pass": ("#dafbe1", "#2da44e", "#0f5323"),
@@ -47,7 +47,7 @@ _SHAPES = (
     ("emptied", 12, 11.5, '<path d="M1 1H11V11H1zL11 11M11 1L1 11" fill="#ffffff" stroke="#57606a"/>'),
 )
 _ENDS = {"took": "taken", "found": "seen", "dropped": "crossed", "left": "queued", "discarded": "emptied"}
-_MOST_SAID = 60  # rows up to which the description tells each
+_MOST_SAID = 60  # most rows that the description lists one by one
 _HEAD_TOP, _HEAD_HEIGHT = 58, 26
 
 
@@ -57,9 +57,9 @@ def svg_of(sequence: Sequence) -> str:
 
 
 def drawing_of(sequence: Sequence, parted: Optional[int] = None) -> Drawing:
-    """The drawing, with room for a line above the row by which it is parted. In it no arrow strikes through a text, a badge
-    or the end of another arrow: one that would is drawn as its two ends. Its texts are longer then, so that it is laid
-    out anew."""
+    """The drawing, with room for a line above the row at which it is divided. No arrow crosses a text, a badge or the
+    end of another arrow: one that would is drawn as its two ends. Its texts are longer then, so the layout is computed
+    again."""
     while True:
         drawing = Drawing(sequence, layout_of(sequence, parted))
         striking = drawing.striking()
@@ -80,7 +80,8 @@ def _split(arrow: Arrow, striking: set[tuple[int, int]]) -> Arrow:
 
 
 def picture(width: float, height: float, title: str, description: str, body: list[str]) -> str:
-    """A file with these parts, and what all charts draw with. A screen reader tells the title and the description."""
+    """An SVG file with these parts, and with everything that all charts need for drawing. A screen reader reads the
+    title and the description."""
     wide, high = pixels(width), pixels(height)
     markers = "\n".join(_marker(*shape) for shape in _SHAPES)
     opening = (
@@ -128,7 +129,7 @@ class Drawing:
 
     def parts(self) -> list[str]:
         body = [*self.opening(), *self.life_lines(), *self.strips(), *self.heads()]
-        # All arrows are drawn before the first text, so that none lies over a text.
+        # All arrows are drawn before the first text, so that no arrow covers a text.
         body += ['<g aria-hidden="true">', *self.arrows(), "</g>"]
         body += [self.row(step) for step in self.sequence.steps]
         body += [self.foot(place, foot) for place, foot in enumerate(self.sequence.feet)]
@@ -141,7 +142,7 @@ class Drawing:
         return [Text(24, 38, name, "head").drawn(), pill]
 
     def description(self) -> str:
-        """What a screen reader tells: the summary, and each row of a chart that isn't too long."""
+        """The text for a screen reader: the summary, and each row if the chart isn't too long."""
         sequence = self.sequence
         said = [f"Components {', '.join(sequence.names)}. {sequence.summary}"]
         if len(sequence.steps) <= _MOST_SAID:
@@ -149,7 +150,7 @@ class Drawing:
         return "\n".join(said)
 
     def life_lines(self) -> list[str]:
-        """A line for each component, dotted from its last entry on."""
+        """A line for each component, dotted after its last entry."""
         lines = []
         for x, last in zip(self.layout.columns, self.sequence.last_rows):
             top, foot = float(_HEAD_TOP + _HEAD_HEIGHT), self.layout.foot()
@@ -170,7 +171,7 @@ class Drawing:
         return heads
 
     def strips(self) -> list[str]:
-        """The names again, for who has scrolled down."""
+        """The names again, for readers who have scrolled down."""
         strips = []
         for row in range(REPEAT, self.layout.rows, REPEAT):
             if self.layout.strips_above(row) == 0:
@@ -185,7 +186,7 @@ class Drawing:
         return [self.arrow(arrow) for step in self.sequence.steps for arrow in step.ends]
 
     def row(self, step: Step) -> str:
-        """The texts of a row, with what is told of it and the lines of the report that it stands for."""
+        """The texts of a row, its description, and its lines of the report."""
         parts = [text.drawn() for text in self.texts(step)]
         if step.badge:
             parts.append(_pill(*self.badge(step.row, step.badge), step.badge.verdict or "plain"))
@@ -193,7 +194,7 @@ class Drawing:
         return f'<g aria-label="{escape(said)}"><title>{escaped(step.lines)}</title>{"".join(parts)}</g>'
 
     def texts(self, step: Step) -> list[Text]:
-        """Those of a row, but for that of a badge."""
+        """The texts of a row, except the text of a badge."""
         texts = []
         if step.note:
             note = cut(step.note, self.layout.width - 40, SMALL)
@@ -206,7 +207,7 @@ class Drawing:
         return texts
 
     def badge(self, row: int, badge: Badge) -> tuple[float, float, str]:
-        """Its middle, and its text."""
+        """Its middle, its width, and its text."""
         room = 2 * min(self.layout.spaces[badge.column : badge.column + 2]) - 40
         return self.layout.columns[badge.column], self.layout.y(row), cut(badge.text, room)
 
@@ -225,7 +226,7 @@ class Drawing:
         return Text(x - 10, y - 5, text, "end halo")
 
     def middle_of_text(self, arrow: Arrow, text: str) -> float:
-        """In the space beside the sender where the text fits there, so that it lies on no life line."""
+        """The middle of the space beside the sender if the text fits there, so that it covers no life line."""
         columns = self.layout.columns
         beside = columns[arrow.sender + (1 if goes_right(arrow) else -1)]
         fits = width_of(text) < abs(beside - columns[arrow.sender]) - 20
@@ -241,7 +242,7 @@ class Drawing:
     # Arrows
 
     def striking(self) -> set[tuple[int, int]]:
-        """The arrows that strike through something, each by the rows where it starts and stops."""
+        """The arrows that cross something, each by the rows where it starts and stops."""
         boxes = [self.boxes(step) for step in self.sequence.steps]
         return {
             (arrow.start, arrow.stop)
@@ -255,7 +256,7 @@ class Drawing:
         return any(line.hits(box) for row in between for box in boxes[row] for line in lines)
 
     def boxes(self, step: Step) -> list[Box]:
-        """What nothing should strike through in a row: its texts, its badge, and the boxes that end its arrows."""
+        """The boxes of a row that no arrow may cross: its texts, its badge, and the boxes at the ends of its arrows."""
         boxes = [text.box() for text in self.texts(step)]
         y = self.layout.y(step.row)
         if step.badge:
@@ -269,7 +270,7 @@ class Drawing:
         return boxes
 
     def lines(self, arrow: Arrow) -> list[Line]:
-        """The straight lines of an arrow that goes over several rows and isn't drawn as its two ends."""
+        """The straight lines of an arrow that goes over several rows and isn't drawn as two ends."""
         start, stop = self.layout.columns[arrow.sender], self.layout.columns[arrow.receiver]
         top, foot = self.layout.y(arrow.start), self.layout.y(arrow.stop)
         if arrow.sender != arrow.receiver:
@@ -303,13 +304,13 @@ class Drawing:
         return self.path(arrow, f"M{pixels(x)} {pixels(start)}h{pixels(far)}V{pixels(stop)}H{pixels(x)}")
 
     def far(self, arrow: Arrow) -> float:
-        """How far a loop goes to the right: those that are open at once lie side by side."""
+        """How far a loop goes to the right: loops that are open at the same time are side by side."""
         if not arrow.is_loop():
             return LOOP
         return self.layout.reaches[arrow.sender] - LANE * self.lanes[arrow.start, arrow.stop]
 
     def two_ends(self, arrow: Arrow) -> str:
-        """An arrow over many rows: where it leaves and where it comes in, without the way between."""
+        """An arrow over many rows, drawn as its start and its end, without the way between."""
         start, stop = self.layout.columns[arrow.sender], self.layout.columns[arrow.receiver]
         way = (stop - start) * STEM if start != stop else LOOP
         top, foot = self.layout.y(arrow.start), self.layout.y(arrow.stop)
@@ -318,7 +319,7 @@ class Drawing:
         return self.path(arrow, leaves + comes)
 
     def text_again(self, arrow: Arrow) -> Text:
-        """The message once more, where its long arrow comes in."""
+        """The message again, at the end of its long arrow."""
         x, y = self.layout.columns[arrow.receiver], self.layout.y(arrow.stop) - 5
         text = cut(arrow.message.text, self.layout.room(arrow))
         if arrow.sender == arrow.receiver:
@@ -326,7 +327,7 @@ class Drawing:
         return Text(x - 12, y, text, "end halo") if goes_right(arrow) else Text(x + 12, y, text, "halo")
 
     def foot(self, place: int, foot: Foot) -> str:
-        """How the behaviour ended, its verdict, and what is left at its ports."""
+        """How the behaviour ended, its verdict, and the messages left at its ports."""
         x, width, top = self.layout.columns[place], self.layout.boxes[place], self.layout.foot()
         parts = [
             f'<rect class="foot" x="{pixels(x - width / 2)}" y="{pixels(top)}" width="{pixels(width)}" '
@@ -354,7 +355,7 @@ class Drawing:
 def lanes_of(loops: list[Arrow]) -> dict[tuple[int, int], int]:
     """The lane of each loop, by the rows where it starts and stops."""
     lanes: dict[tuple[int, int], int] = {}
-    used: list[int] = []  # the rows up to which the lanes are in use
+    used: list[int] = []  # the last rows of the loops in each lane
     for arrow in sorted(loops, key=lambda it: it.start):
         lane = next((lane for lane, last in enumerate(used) if last < arrow.start), len(used))
         used[lane : lane + 1] = [arrow.stop]

@@ -35,8 +35,8 @@ class Found:
 
 
 def explained(file: str, data: bytes, said: Optional[str]) -> list[Explanation]:
-    """The explanation of the program's answer, or of explain's own if there is none that explain knows; and those of
-    the other faults."""
+    """The explanation of the program's answer, or of explain's own reading if explain doesn't know the answer; and
+    those of the other faults."""
     found = list(explanations_of(file, data, said)) if said is not None else []
     if found and found[0].answer in (Answer.ACCEPTED, Answer.REFUSED):
         return found
@@ -51,7 +51,7 @@ def found_in(lines: Lines, explanations: list[Explanation]) -> list[Found]:
 
 
 def _refusal(lines: Lines, it: Explanation) -> Found:
-    """A construct besides those of the program's answer is a warning, which has its clause as its code."""
+    """A construct beyond those of the program's answer becomes a warning, with its clause as the code."""
     span = lines.whole_line(it.line or 1)
     if it.number is None:
         return _of_places(lines, Found(span, WARNING, it.code(), it.message()), it.places)

@@ -18,7 +18,7 @@ SHOW_RUNS = "tpr.showDivergingRuns"
 
 @dataclass(frozen=True)
 class Held:
-    """A request that waits for a program: what it asks for, and when it waits no longer; None if it always waits."""
+    """A request that waits for a program: what it asks for, and until when it waits; None means without a limit."""
 
     number: Union[int, str]
     wants: str
@@ -39,13 +39,13 @@ class Document:
     hints: Optional[list[Json]] = None
     jobs: dict[str, Job] = field(default_factory=dict)
     held: list[Held] = field(default_factory=list)
-    # Whether the editor has a lens of this version without the verdict.
+    # Whether the editor has a lens for this version that doesn't show the verdict yet.
     has_early_lens: bool = False
     _outline: Optional[Outline] = None
 
     @property
     def file(self) -> str:
-        """The name of the file, or the URI of a text that is in no file."""
+        """The name of the file, or the URI of a text that isn't in a file."""
         parts = urlsplit(self.uri)
         return unquote(parts.path) if parts.scheme == "file" else self.uri
 
@@ -60,7 +60,7 @@ class Document:
         return self._outline
 
     def change(self, version: Optional[int], text: str) -> None:
-        """A new version, of which nothing is known yet."""
+        """Stores a new version, about which nothing is known yet."""
         self.version = version
         self.lines = Lines(without_halves(text))
         self.is_saved = False
@@ -104,7 +104,7 @@ class Document:
 
 
 def verdict_told(printed: str, why: str) -> str:
-    """The title of the lens, from what `tpr verdicts` printed, or why it printed nothing."""
+    """The title of the lens, from the output of `tpr verdicts`, or from the reason why it printed nothing."""
     answer = read_answer(printed)
     if answer is None or answer.fault() is not None:
         return f"no verdicts: {printed.partition(chr(10))[0] or why}"

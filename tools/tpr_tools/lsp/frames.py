@@ -4,7 +4,7 @@ from __future__ import annotations
 import json
 from typing import Any, BinaryIO, Optional, Union
 
-# Any value that a message may have in it.
+# Any value that a message may contain.
 Json = Any
 
 PARSE_ERROR, INVALID_REQUEST, METHOD_NOT_FOUND, INVALID_PARAMS, INTERNAL_ERROR = -32700, -32600, -32601, -32602, -32603
@@ -76,7 +76,7 @@ class Writer:
         self._requests = 0
 
     def _send(self, message: dict[str, Json]) -> None:
-        # ASCII alone: a lone surrogate of the client can't be encoded in any other way.
+        # Only ASCII: a lone surrogate of the client can't be encoded in any other way.
         body = json.dumps({"jsonrpc": "2.0", **message}).encode("ascii")
         self._target.write(b"Content-Length: %d\r\n\r\n" % len(body) + body)
         self._target.flush()

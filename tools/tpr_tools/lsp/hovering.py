@@ -1,4 +1,4 @@
-"""What an editor shows of a name: what it is, where it is defined, and all definitions of a text."""
+"""What an editor shows for a name: what it is, and where it is defined; and the list of all definitions of a text."""
 from __future__ import annotations
 
 from typing import Optional, Union
@@ -69,7 +69,7 @@ def _partners(outline: Outline, port: str) -> list[str]:
 
 
 def _source(outline: Outline, lines: Lines, definition: Definition) -> str:
-    """The text of a type, and the head of what has statements."""
+    """The text of a type, or the head of a definition with statements."""
     has_statements = definition.kind in ("function", "altstep", "testcase")
     last = definition.head if has_statements else definition.last
     text = lines.text[outline.offsets[definition.first] : outline.end(last)]
@@ -104,5 +104,5 @@ def _symbol(outline: Outline, lines: Lines, it: Union[Definition, Declared]) -> 
 
 
 def flat(symbols: list[Json], uri: str) -> list[Json]:
-    """The same for a client that doesn't know symbols within symbols."""
+    """The same for a client that doesn't support symbols within symbols."""
     return [{"name": it["name"], "kind": it["kind"], "location": {"uri": uri, "range": it["range"]}} for it in symbols]

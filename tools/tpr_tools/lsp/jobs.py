@@ -1,4 +1,4 @@
-"""Programs in the background, each of which is ended by the next change of the text that it was given."""
+"""Programs in the background. A change of a text ends the programs that were given the text."""
 from __future__ import annotations
 
 import subprocess
@@ -9,8 +9,8 @@ from ..program import kill_session
 
 
 class Job:
-    """A program that reads a text from its standard input. Its end is handed to `post`, in another thread: what it has
-    printed, nothing if it was killed, couldn't be started, or took too long; and how it ended."""
+    """A program that reads a text from its standard input. When it ends, another thread passes two things to `post`:
+    its output (nothing if it was killed, couldn't be started, or took too long), and how it ended."""
 
     def __init__(self, command: Sequence[str], data: bytes, seconds: Optional[float], post: Callable[[Job], None]):
         self.command, self.printed, self.why = command, "", ""
@@ -20,7 +20,7 @@ class Job:
         threading.Thread(target=self._work, args=(data, seconds, post), daemon=True).start()
 
     def cancel(self) -> None:
-        """Kills the program with all that it has started."""
+        """Kills the program and everything that it has started."""
         with self._lock:
             self._is_cancelled = True
             if self._process is not None and self._process.returncode is None:

@@ -1,6 +1,6 @@
-"""What a text defines, found by its words alone: it needs no text that follows the grammar.
+"""The definitions of a text, found by its words alone, so that the text need not follow the grammar.
 
-So names are found while somebody types, and in a script of the full language.
+Names are found while the user types, and in a script of the full language.
 """
 from __future__ import annotations
 
@@ -17,7 +17,7 @@ _NAMED = ("template", "const", "modulepar")
 
 
 class Declared(NamedTuple):
-    """A port, a variable, a parameter or a field: the words of its type and of its name, by their numbers."""
+    """A port, a variable, a parameter or a field: the positions of the words of its type and of its name."""
 
     kind: str
     type: int
@@ -26,7 +26,7 @@ class Declared(NamedTuple):
 
 @dataclass
 class Definition:
-    """What is defined in a module: its first word, its name, and its last word, by their numbers."""
+    """A definition of a module: its kind, and the positions of its first word, its name and its last word."""
 
     kind: str
     first: int
@@ -107,7 +107,7 @@ class Outline:
         return self._with_body(made) if has_body else made
 
     def _with_body(self, made: Definition) -> Definition:
-        """Finds the braces of its body. One that isn't closed ends with the text, or before the next definition."""
+        """Finds the braces of its body. An unclosed body ends with the text, or before the next definition."""
         depth = 0
         for number in range(made.name + 1, len(self.words)):
             word = self.words[number]
@@ -204,7 +204,7 @@ class Outline:
         return next((it for it in ports if it.kind == "port" and self.words[it.name] == word), None)
 
     def directions(self, port_type: str) -> list[str]:
-        """Such as `inout Order, integer`."""
+        """For example, `inout Order, integer`."""
         owner = self.named.get(port_type)
         if owner is None or owner.kind != "port type":
             return []

@@ -13,7 +13,7 @@ _HALF = re.compile("[\ud800-\udfff]")
 
 
 def without_halves(text: str) -> str:
-    """The text with a replacement character for each half of a character, which no encoding of a file can hold."""
+    """The text with each half of a surrogate pair replaced, because no file encoding can hold one."""
     return _HALF.sub("\ufffd", text)
 
 
@@ -23,7 +23,7 @@ class Lines:
     def __init__(self, text: str):
         self.text = text
         self.starts = [0, *(found.end() for found in _BREAK.finditer(text))]
-        # The tools count lines by LF alone.
+        # The tools count only LF as the end of a line.
         self._feeds = self.starts
         if "\r" in text:
             self._feeds = [0, *(found.end() for found in _FEED.finditer(text))]
@@ -43,7 +43,7 @@ class Lines:
         return {"line": line, "character": offset - self.starts[line] + len(_WIDE.findall(before))}
 
     def told(self, line: int, column: int, length: int) -> Json:
-        """The range that a tool names, which ends in the line in which it begins."""
+        """The range for a place that a tool names, which ends on the line where it begins."""
         offset = self.offset_told(line, column)
         line = bisect_right(self.starts, offset) - 1
         end = max(offset, min(offset + length, self.end(line)))
@@ -53,14 +53,14 @@ class Lines:
         return {"start": self.position(start), "end": self.position(end)}
 
     def whole_line(self, number: int) -> Json:
-        """The range of a line that a tool names, from 1, without the spaces before its text."""
+        """The range of a line that a tool names, counted from 1, without the spaces before its text."""
         start = self.offset_told(number, 1)
         line = bisect_right(self.starts, start) - 1
         shown = self.text[start : self.end(line)]
         return self.region(start + len(shown) - len(shown.lstrip()), self.end(line))
 
     def offset(self, line: int, character: int) -> int:
-        """The offset of an editor's position. One beyond the end of a line or of the text is that end."""
+        """The offset of an editor's position. A position beyond the end of a line or of the text means that end."""
         if line >= len(self.starts):
             return len(self.text)
         start, end = self.starts[line], self.end(line)
@@ -73,6 +73,6 @@ class Lines:
         return offset
 
     def offset_told(self, line: int, column: int) -> int:
-        """The offset of a place that a tool names: both numbers from 1, columns in characters."""
+        """The offset of a place that a tool names: line and column are counted from 1, columns in characters."""
         line = max(1, min(line, len(self._feeds)))
         return min(self._feeds[line - 1] + column - 1, len(self.text))

@@ -1,5 +1,5 @@
-"""The language server: one thread handles messages, the ends of programs, and what is due, in the order in which they
-come. A second thread reads messages, so that a request can be cancelled before its turn."""
+"""The language server: one thread handles messages, the ends of programs and deadlines, in the order of their arrival.
+A second thread reads messages, so that a request can be cancelled before its turn."""
 from __future__ import annotations
 
 import json
@@ -37,13 +37,13 @@ _CAPABILITIES = {
     "inlayHintProvider": True,
     "executeCommandProvider": {"commands": [SHOW_RUNS]},
 }
-# What is done when a program has ended.
+# The action when a program has ended.
 Then = Callable[[Document, Job], None]
 Number = Union[int, str]  # of a request
 
 
 class Server:
-    """Asks the program, and starts the tools below `root`. A change waits for the next one for `delay` seconds."""
+    """Calls the program, and starts the tools below `root`. After a change it waits `delay` seconds for the next."""
 
     def __init__(self, program: str, root: str, delay: float, source: BinaryIO, target: BinaryIO):
         self.program, self.tools, self.delay = program, os.path.join(root, "tools"), delay
@@ -56,11 +56,11 @@ class Server:
         self.status: Optional[int] = None
         self.is_initialized = self.is_shut_down = False
         self.can: Json = {}
-        # A program that can't be asked isn't asked at each change, but again when a text is saved.
+        # A program that can't be run isn't tried again at each change, only when a text is saved.
         self.program_fails = False
 
     def serve(self) -> int:
-        """Works until the client ends it; the status of the process."""
+        """Works until the client ends it. Returns the status of the process."""
         threading.Thread(target=self._read, daemon=True).start()
         try:
             while self.status is None:
@@ -104,7 +104,7 @@ class Server:
         self.status = 0 if self.is_shut_down else 1
 
     def _pause(self) -> Optional[float]:
-        """How long nothing is due."""
+        """The time until the next deadline."""
         due = [it.check_at for it in self.documents.values() if it.check_at is not None]
         due += [held.until for it in self.documents.values() for held in it.held if held.until is not None]
         return max(0.0, min(due) - time.monotonic()) if due else None
@@ -139,7 +139,7 @@ class Server:
             self._log(refused.text)
 
     def _called(self, method: str, params: Json, number: Optional[Number]) -> Any:
-        """The result of a request; that of a notification is dropped."""
+        """The result of a request; the caller drops that of a notification."""
         if method == "exit":
             return self._end(None)
         if method == "initialize" and not self.is_initialized:
@@ -214,7 +214,7 @@ class Server:
         return self.documents[uri]
 
     def _forget(self, document: Document) -> None:
-        """Ends what was asked of this version."""
+        """Ends the programs that were started for this version."""
         document.cancel_jobs()
         for held in document.held:
             self.client.refuse(held.number, Refused(frames.CONTENT_MODIFIED, "the text has changed"))
@@ -238,7 +238,7 @@ class Server:
     # Programs
 
     def _start(self, document: Document, name: str, then: Then, seconds: Optional[float], *command: str) -> None:
-        """Starts a program, in place of an earlier one of this name. A cancelled one has no end here."""
+        """Starts a program, and cancels an earlier one of this name. `then` isn't called for a cancelled program."""
 
         def ended(job: Job) -> None:
             if document.jobs.get(name) is job:
@@ -264,7 +264,7 @@ class Server:
         self._publish(document, None if self.program_fails else said)
 
     def _publish(self, document: Document, said: Optional[str]) -> None:
-        """Shows the diagnostics, and starts what needs the answer."""
+        """Shows the diagnostics, and starts the programs that need the answer."""
         explanations = explained(document.file, document.data, said)
         document.found = found_in(document.lines, explanations)
         document.is_accepted = explanations[0].number is None
@@ -279,7 +279,7 @@ class Server:
         else:
             document.verdict = "no verdicts: tpr can't be run"
         self._answer_ready(document)
-        _ = document.outline  # A hover then finds it made.
+        _ = document.outline  # computes it before the first hover
 
     def _send_diagnostics(self, document: Document) -> None:
         found = [it.as_json(document.uri) for it in document.found]
@@ -399,12 +399,12 @@ _METHODS: dict[str, Callable[..., Any]] = {
 
 
 def _listed(job: Job) -> list[Json]:
-    """What a worker has printed; nothing if it was killed."""
+    """The list that a worker has printed; empty if it was killed."""
     return list(json.loads(job.printed or "[]"))
 
 
 def at(value: Json, *names: str) -> Json:
-    """What is at the end of the names; None if there is nothing."""
+    """The value at the end of this path of names; None if there is none."""
     for name in names:
         value = value.get(name) if isinstance(value, dict) else None
     return value

@@ -1,4 +1,4 @@
-"""What takes long, in a process of its own that the server can kill. It reads a text, and prints a list in JSON."""
+"""The slow work of the server, in a process that the server can kill. It reads a text, and prints a list in JSON."""
 from __future__ import annotations
 
 import json
@@ -28,14 +28,14 @@ from .diagnostics import explained, found_in
 from .frames import Json
 from .positions import Lines
 
-_MOST_LISTED = 200  # constructs of one text: an editor gains nothing from more
+_MOST_LISTED = 200  # constructs of one text: more are of no use in an editor
 _MOST_WAYS = 4  # that are named at one line
 _MOST_FILES = 1000  # of a folder
 _IMPORT, _MODULE = re.compile(rb"\bimport\s+from\s+(\w+)"), re.compile(rb"\bmodule\s+(\w+)")
 
 
 def constructs(file: str, said: str, data: bytes) -> list[Json]:
-    """The faults of a text and each construct that the profile lacks, with what to write instead, and whether
+    """The faults of a text and each construct that isn't in the profile, with what to write instead, and whether
     tools/rewrite carries it over."""
     listed = list(further(file, data))[:_MOST_LISTED]
     told = refused_of([Source(*it) for it in _with_imported(file, data).items()])
@@ -45,7 +45,7 @@ def constructs(file: str, said: str, data: bytes) -> list[Json]:
     on_line = Counter(one.line for one in listed if one.construct)
 
     def carried(one: Explanation) -> str:
-        # A reason at another place of the line is meant if nothing else there is listed.
+        # A reason for another place of the line belongs to this construct if nothing else is listed there.
         nearby = reasons.get(one.line or 0) if on_line[one.line] == 1 else None
         reason = refused.get((one.line or 0, one.column or 0), nearby) or elsewhere
         if reason is not None:
@@ -62,7 +62,7 @@ def constructs(file: str, said: str, data: bytes) -> list[Json]:
 
 
 def _with_imported(file: str, data: bytes) -> dict[str, bytes]:
-    """The text, and those of the files beside it whose modules it imports, or one of these does."""
+    """The text, and the texts of the files beside it whose modules are imported, directly or indirectly."""
     texts, names = {file: data}, _IMPORT.findall(data)
     paths = sorted(Path(file).parent.glob("*.ttcn*")) if names and os.path.isabs(file) else []
     readable = [it for it in paths[:_MOST_FILES] if it.is_file() and os.access(it, os.R_OK) and str(it) != file]
@@ -77,7 +77,7 @@ def _with_imported(file: str, data: bytes) -> dict[str, bytes]:
 
 
 def ways(program: str, seconds: float, data: bytes) -> list[Json]:
-    """Where the messages of one run went, and the lines that it didn't reach; nothing if the run takes too long."""
+    """Where the messages of one run went, and the lines that it didn't reach; empty if the run takes too long."""
     try:
         run = subprocess.run([program, "run"], input=data, stdout=subprocess.PIPE, timeout=seconds, check=False)
     except (OSError, subprocess.TimeoutExpired):

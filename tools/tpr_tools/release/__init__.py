@@ -1,1 +1,1 @@
-"""Makes what is handed out: an archive, and a Debian package."""
+"""Makes the files of a release: an archive, and a Debian package."""

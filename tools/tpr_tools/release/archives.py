@@ -1,4 +1,4 @@
-"""Archives that are the same bytes whoever makes them, and when: sorted, owned by root, all of one time."""
+"""Archives with the same bytes whoever makes them, and whenever: sorted, owned by root, with one time for all files."""
 from __future__ import annotations
 
 import gzip
@@ -13,7 +13,7 @@ _OF_A_LINK = 0o777
 
 
 def tar_of(entries: Iterable[Entry], time: int) -> bytes:
-    """The folders of the entries, and these."""
+    """An archive of the entries and their folders."""
     by_path = {entry.path: entry for entry in entries}
     written = io.BytesIO()
     with tarfile.open(fileobj=written, mode="w", format=tarfile.GNU_FORMAT) as archive:
@@ -28,7 +28,7 @@ def _folders_of(paths: Iterable[str]) -> set[str]:
 
 
 def _member(path: str, entry: Entry | None, time: int) -> tuple[tarfile.TarInfo, io.BytesIO]:
-    """Its head, with the same owner and time for all, and what it holds. Without an entry it is a folder."""
+    """The header, with the same owner and time for all, and the contents. Without an entry it is a folder."""
     head = tarfile.TarInfo(path)
     head.uname = head.gname = "root"
     head.mtime = time
@@ -42,7 +42,7 @@ def _member(path: str, entry: Entry | None, time: int) -> tuple[tarfile.TarInfo,
 
 
 def gzip_of(data: bytes, time: int = 0) -> bytes:
-    """Its head has the time, and no name."""
+    """The compressed data. The header has the time, and no name."""
     written = io.BytesIO()
     with gzip.GzipFile(filename="", mode="wb", compresslevel=9, fileobj=written, mtime=time) as file:
         file.write(data)
@@ -50,7 +50,7 @@ def gzip_of(data: bytes, time: int = 0) -> bytes:
 
 
 def ar_of(members: Iterable[tuple[str, bytes]], time: int) -> bytes:
-    """An archive as `ar` makes it, in the order given: a package is one."""
+    """An archive in the format of `ar`, in the given order: a Debian package has this format."""
     written = b"!<arch>\n"
     for name, data in members:
         head = f"{name:<16}{time:<12}{0:<6}{0:<6}{'100644':<8}{len(data):<10}`\n"

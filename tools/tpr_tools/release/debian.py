@@ -1,4 +1,4 @@
-"""A release as a Debian package: where its files stand, what it needs, and what is said of it."""
+"""A release as a Debian package: the places of its files, its dependencies, and its descriptions."""
 from __future__ import annotations
 
 import hashlib
@@ -44,7 +44,7 @@ def package_of(release: Release) -> bytes:
 
 
 def library_package_of(release: Release) -> bytes:
-    """The library for C and C++ with its headers, where a compiler looks for them."""
+    """The package of the library for C and C++, with its headers where a compiler looks for them."""
     entries = _placed_library(release)
     return _package(_control_of(release, entries, "control_of_library"), entries, release.time)
 
@@ -65,13 +65,13 @@ def _below_a_dot(entries: list[Entry]) -> list[Entry]:
 
 
 def _placed(release: Release) -> list[Entry]:
-    """The files where a package has them, links to the commands, and what Debian asks for."""
+    """The files at their places in a package, links to the commands, and the files that Debian requires."""
     entries = [_place(it) for it in release.entries]
     entries += [
         *_of_debian(release, "tpr", _DOCS),
         Entry("usr/share/lintian/overrides/tpr", _TEXTS.part("overrides").encode()),
         Entry("usr/bin/tpr", target="../lib/tpr/tpr"),
-        # For --version, which looks beside the tools.
+        # For --version, which reads it beside the tools.
         Entry(f"{_HOME}/VERSION", f"{release.version}\n".encode()),
     ]
     entries += [Entry(f"usr/bin/tpr-{tool}", target=f"../lib/tpr/tools/{tool}") for tool in release.tools()]
@@ -80,7 +80,7 @@ def _placed(release: Release) -> list[Entry]:
 
 
 def _place(entry: Entry) -> Entry:
-    """The program and its tools stand beside each other, as in the repository, so that these find it."""
+    """The program and its tools are in one folder, as in the repository, so that the tools find the program."""
     if entry.path == MANUAL:
         return Entry(f"{_PAGES}/tpr.1.gz", gzip_of(entry.data))
     if entry.path in PROGRAMS or entry.path.startswith("tools/") and not entry.path.endswith(".md"):
@@ -99,7 +99,7 @@ def _with_installed_names(path: str, data: bytes) -> bytes:
 
 
 def _with_debians_python(data: bytes) -> bytes:
-    """A command of a package runs with the system's python3, whatever stands first on PATH."""
+    """A command of a package runs with the system's python3, even if another one is first on PATH."""
     return re.sub(rb"\A#!/usr/bin/env python3\n", b"#!/usr/bin/python3\n", data)
 
 
@@ -114,7 +114,7 @@ def _control_of(release: Release, entries: list[Entry], name: str, **more: str) 
 
 
 def _of_debian(release: Release, package: str, docs: str) -> list[Entry]:
-    """What Debian asks for beside the documents of a package."""
+    """The files that Debian requires, beside the documents of a package."""
     facts = {"package": package, "version": release.version, "maintainer": release.maintainer}
     changes = _TEXTS.filled("changelog", {**facts, "date": _date_of(release.time)})
     copyright = _TEXTS.part("copyright").encode()
@@ -122,7 +122,7 @@ def _of_debian(release: Release, package: str, docs: str) -> list[Entry]:
 
 
 def _placed_library(release: Release) -> list[Entry]:
-    """Its files where a package has them, with its page and what Debian asks for."""
+    """The library's files at their places in a package, with its page and the files that Debian requires."""
     package = "libtp-port-dev"
     docs = f"usr/share/doc/{package}"
     places = {LIBRARY: f"{_LIBRARIES}/libtp_port.a", PKG_CONFIG: f"{_LIBRARIES}/pkgconfig/tp_port.pc"}
@@ -138,8 +138,8 @@ def _placed_library(release: Release) -> list[Entry]:
 
 
 def _libraries_of(programs: tuple[bytes, ...]) -> list[str]:
-    """The packages of the libraries that the programs are linked with, each as new as the newest version of
-    a symbol that a program asks of it."""
+    """The packages of the libraries that the programs are linked with, each with the newest version of a symbol that a
+    program needs from it."""
     needed: dict[str, list[tuple[int, ...]]] = {}
     for program in programs:
         for library in _linked_with(program):
@@ -153,7 +153,7 @@ def _libraries_of(programs: tuple[bytes, ...]) -> list[str]:
 
 
 def _linked_with(program: bytes) -> list[str]:
-    """The names of the libraries, as `ldd` tells them."""
+    """The names of the libraries, as `ldd` prints them."""
     with tempfile.NamedTemporaryFile() as file:
         file.write(program)
         file.flush()

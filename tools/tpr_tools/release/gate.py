@@ -7,7 +7,7 @@ from collections.abc import Mapping
 
 from ..command import NOT_BUILT, REFUSED, Stop
 
-# For each word of out/gate with a sum: the beginning of the refusal if another file is built.
+# For each word of out/gate with a hash: the beginning of the message if another file is built.
 _TRIED = {
     "program": "tpr isn't the program",
     "tpr_ordered": "tpr_ordered isn't the program",
@@ -28,8 +28,8 @@ def git(root: str, *words: str) -> str:
 
 
 def passed_gate(root: str, built: Mapping[str, bytes]) -> str:
-    """What the gate said that passed on this very commit and tried these very programs and this very library, as
-    ./test has kept it: lines of a word and what it names, an empty line, and the gate's last lines."""
+    """The last lines of the gate, if it passed on this commit, and with exactly these programs and this library. ./test
+    has kept them in out/gate: lines with a word and its value, an empty line, and the gate's last lines."""
     try:
         with open(f"{root}/out/gate", encoding="utf-8") as file:
             said = file.read()

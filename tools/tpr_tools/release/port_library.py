@@ -1,4 +1,4 @@
-"""The library for C and C++ that is handed out: which files it has, and where."""
+"""The files of the library for C and C++ in a release, and their places."""
 from __future__ import annotations
 
 # The places below the folder of the library, which `embedding/build` makes.
@@ -6,7 +6,7 @@ LIBRARY = "lib/libtp_port.a"
 PKG_CONFIG = "lib/pkgconfig/tp_port.pc"
 # The headers, each with its file of the repository.
 HEADERS = {"include/tp_port.h": "embedding/tp_port.h", "include/tp_port.hpp": "embedding/tp_port.hpp"}
-# The same of the programs that docs/EMBEDDING.md shows.
+# The same for the programs that docs/EMBEDDING.md shows.
 EXAMPLES = {"examples/soup.c": "embedding/soup.c", "examples/soup.cpp": "embedding/soup.cpp"}
 
 _PKG_CONFIG = """\
@@ -23,10 +23,10 @@ Libs: -L${{libdir}} -ltp_port
 
 
 def below_its_folder(version: str) -> str:
-    """The file for pkg-config of a library that may be moved: all is found from where the file stands."""
+    """The file for pkg-config, for a library that may be moved: all paths are relative to this file."""
     return _PKG_CONFIG.format(prefix="${pcfiledir}/../..", libdir="${prefix}/lib", version=version)
 
 
 def below_usr(version: str, libraries: str) -> str:
-    """That of a Debian package, with its libraries in this folder."""
+    """The file for pkg-config in a Debian package, with the libraries in this folder."""
     return _PKG_CONFIG.format(prefix="/usr", libdir=f"/{libraries}", version=version)

@@ -1,4 +1,4 @@
-"""What is handed out, file by file."""
+"""The files of a release."""
 from __future__ import annotations
 
 import os
@@ -12,17 +12,18 @@ from ..version import has_later_changes, is_number, newest_in
 from .gate import git
 from .port_library import EXAMPLES, HEADERS, LIBRARY, PKG_CONFIG, below_its_folder
 
-# What of the repository is handed out, and what of that isn't: it is for whoever changes tpr.
+# The parts of the repository that a release has; and the files among these that it leaves out, because only developers
+# of tpr need them.
 _PLACES = ("CHANGELOG.md", "LICENSE", "README.md", "VERSION", "docs", "examples", "tools")
 _KEPT_BACK = ("examples/.gitattributes", "tools/costs.py", "tools/release", "tools/tpr_tools/release/")
 
 MANUAL = "docs/tpr.1"
-PROGRAMS = ("tpr", "tpr_ordered")  # the second is the one that tools/explore runs
+PROGRAMS = ("tpr", "tpr_ordered")  # tools/explore runs the second
 
 
 @dataclass(frozen=True)
 class Entry:
-    """A file of an archive, or a link where it has a target."""
+    """A file of an archive, or a link if it has a target."""
 
     path: str
     data: bytes = b""
@@ -33,20 +34,20 @@ class Entry:
 @dataclass(frozen=True)
 class Release:
     version: str
-    time: int  # that of the commit, which every file is given
+    time: int  # the time of the commit, which each file gets
     maintainer: str
-    programs: tuple[bytes, ...]  # those of PROGRAMS
-    entries: tuple[Entry, ...]  # by the paths that they have in the repository
+    programs: tuple[bytes, ...]  # in the order of PROGRAMS
+    entries: tuple[Entry, ...]  # by their paths in the repository
     library: tuple[Entry, ...]  # the library for C and C++, by the paths below its folder
 
     def tools(self) -> list[str]:
-        """The commands beside the program, by their names."""
+        """The names of the commands in tools/."""
         found = (re.fullmatch("tools/([a-z]+)", it.path) for it in self.entries)
         return [it[1] for it in found if it]
 
 
 def release_of(root: str, programs: tuple[bytes, ...], library: bytes, said: str) -> Release:
-    """The programs and the library, with what of the repository belongs to them, and what the gate said."""
+    """The programs and the library, the files of the repository that belong to them, and the gate's last lines."""
     time, maintainer = git(root, "log", "-1", "--format=%ct %an <%ae>").strip().split(" ", 1)
     tracked = git(root, "ls-files", "-z", *_PLACES).split("\0")
     paths = [path for path in tracked if path and not path.startswith(_KEPT_BACK)]
@@ -78,8 +79,8 @@ def bytes_of(file: str) -> bytes:
 
 
 def version_of(root: str, time: int) -> str:
-    """The version in VERSION, which is the newest that CHANGELOG.md tells of. If that tells of later changes too, the
-    day and the commit follow: such as 0.9.0+git20261128.71076b9a, which is later than 0.9.0 and earlier than 0.9.1."""
+    """The version in VERSION, which must be the newest in CHANGELOG.md. If CHANGELOG.md has later changes too, the day
+    and the commit follow, as in 0.9.0+git20261128.71076b9a, which is later than 0.9.0 and earlier than 0.9.1."""
     version = bytes_of(f"{root}/VERSION").decode("utf-8", "replace").removesuffix("\n")
     if not is_number(version):
         raise Stop(REFUSED, f"{version!r} in VERSION isn't a version such as 1.0.0")

@@ -1,1 +1,1 @@
-"""Reads a report of `tpr run`: its messages, an order of its entries, and how two of them differ."""
+"""Reads a report of `tpr run`: its messages, an order of its entries, and the differences between two reports."""

@@ -1,12 +1,12 @@
-"""Which entry belongs to which: each message from its sending to where it went.
+"""Matches the entries of a report: each message, from its send to its end.
 
-The sender, the receiver and the receiver's port identify a route: with the number they identify one
-message. So `sent` on one side is matched with `took`, `found`, `dropped` and `left` on the other.
-A message that is none of these was discarded by a `cleared` or `started` of its port; by which one is
-settled where an order of all entries is sought (order.py).
+The sender, the receiver and the receiver's port identify a route: with the number they identify one message. So `sent`
+on one side is matched with `took`, `found`, `dropped` and `left` on the other. A message with none of these entries was
+discarded by a `cleared` or `started` of its port; the search for an order of all entries decides by which one
+(order.py).
 
-What a port has between two emptyings is an era: it holds the messages that the port delivered or kept
-then, in the order in which they came.
+An era of a port is the time between two emptyings: it holds the messages that the port delivered or kept in this time,
+in their order of arrival.
 """
 from __future__ import annotations
 
@@ -24,7 +24,7 @@ class Place(NamedTuple):
 
 
 class Route(NamedTuple):
-    """A way that messages go: the sending component, and the receiving component and port."""
+    """The way of messages: from the sending component to the receiving component and port."""
 
     sender: str
     receiver: str
@@ -32,7 +32,7 @@ class Route(NamedTuple):
 
 
 class Message:
-    """A message that was sent, and what became of it."""
+    """A message that was sent, and what happened to it."""
 
     __slots__ = ("route", "number", "text", "sent", "index", "fate", "gone", "found", "era", "turn", "latest")
 
@@ -43,20 +43,21 @@ class Message:
         self.sent = sent
         self.index = index  # among all messages
         self.fate = ""  # took, dropped, discarded or left
-        self.gone: Optional[Place] = None  # the entry by which it went; none where it is left
+        self.gone: Optional[Place] = None  # the entry by which it left the queue; none if it is left
         self.found: list[Place] = []
-        self.era: Optional[int] = None  # in which it came; of what was discarded it may be open
-        self.turn = 0  # its place among what the port had in that era
-        self.latest = 0  # the emptying, from 1, by which it was discarded at the latest
+        self.era: Optional[int] = None  # the era in which it arrived; possibly unknown for a discarded one
+        self.turn = 0  # its place among the messages that the port had in that era
+        self.latest = 0  # the last emptying, counted from 1, that can have discarded it
 
     def told(self) -> str:
-        """The message by its route and number, for whoever reads a refusal."""
+        """The message by its route and number, for a message to the user."""
         return f"message {self.number} from {self.route.sender} to {self.route.receiver}.{self.route.port}"
 
 
 @dataclass
 class Era:
-    """From one emptying of a port to the next: the entry that began it, and what was delivered or kept."""
+    """The time from one emptying of a port to the next: the entry that began it, and the messages that were delivered
+    or kept."""
 
     began: Optional[Place]
     queue: list[Message] = field(default_factory=list)
@@ -64,18 +65,18 @@ class Era:
 
 @dataclass
 class Port:
-    """A port of a component: its eras, and what is known of it while the history is read."""
+    """A port of a component: its eras, and its state while the history is read."""
 
     eras: list[Era] = field(default_factory=lambda: [Era(None)])
-    discarded: list[Message] = field(default_factory=list)  # by an emptying that is open
+    discarded: list[Message] = field(default_factory=list)  # by an emptying that isn't known
     status: str = "started"
     halted: Optional[Place] = None
-    nothing_ahead: bool = False  # the mark stands at the top, or the port is stopped
+    nothing_ahead: bool = False  # the mark is at the top, or the port is stopped
     emptied: Optional[int] = None  # the entry of the last emptying
-    top: Optional[Message] = None  # what a `found` has told of the top
+    top: Optional[Message] = None  # the top, as shown by a `found`
 
     def queue(self, message: Message) -> None:
-        """The message is the next that came in this era, of those that are delivered or kept."""
+        """Adds the next message that arrived in this era and was delivered or kept."""
         message.era, message.turn = len(self.eras) - 1, len(self.eras[-1].queue)
         self.eras[-1].queue.append(message)
 
@@ -88,14 +89,14 @@ class Deliveries:
     messages: list[Message]
     at: list[list[Optional[Message]]]  # by component and entry
     ports: dict[tuple[int, str], Port]
-    behind_mark: dict[Place, Message]  # the last message that was delivered behind a `halted`
-    discarded: dict[Place, list[Message]]  # by which entry is known once there is an order
+    behind_mark: dict[Place, Message]  # the last message that was delivered after a `halted`
+    discarded: dict[Place, list[Message]]  # by the entry that discarded them, once there is an order
 
     def entry(self, place: Place) -> Entry:
         return self.report.components[place.component].entries[place.entry]
 
     def message(self, place: Place) -> Optional[Message]:
-        """The message that was sent or got by this entry, if it is such an entry."""
+        """The message that was sent or got by this entry; None for other entries."""
         return self.at[place.component][place.entry]
 
     def discard(self, message: Message, place: Place) -> None:
@@ -109,7 +110,7 @@ class Deliveries:
 
 
 def deliveries_of(report: Report) -> Deliveries:
-    """The messages of the report; NotAReport where its components don't agree on them."""
+    """The messages of the report. Raises NotAReport if the components don't agree on them."""
     at: list[list[Optional[Message]]] = [[None] * len(it.entries) for it in report.components]
     made = Deliveries(report, [], at, {}, {}, {})
     routes: Routes = {}
@@ -127,7 +128,7 @@ Routes = dict[Route, list[Message]]
 
 
 def _read_sendings(made: Deliveries, component_place: int, routes: Routes) -> None:
-    """What a component has sent, by route: numbered from 0 on each."""
+    """Reads the messages that a component has sent: on each route they are numbered from 0."""
     component = made.report.components[component_place]
     names = set(made.report.names())
     at, messages = made.at[component_place], made.messages
@@ -156,8 +157,8 @@ class _Receiver:
         self.routes = routes
         self.made = made
         self.ports: dict[str, Port] = {}
-        self.next: dict[Route, int] = {}  # how many of a route are no longer queued
-        self.since: dict[Route, int] = {}  # the entry behind which the next of a route can go
+        self.next: dict[Route, int] = {}  # how many messages of a route are no longer queued
+        self.since: dict[Route, int] = {}  # the entry after which the next message of a route can leave the queue
 
     def read(self, into: list[Route]) -> None:
         for place, entry in enumerate(self.component.entries):
@@ -175,7 +176,7 @@ class _Receiver:
         return port
 
     def message(self, entry: Received) -> Message:
-        """The message that the entry names: it was sent, and not yet gone."""
+        """The message that the entry names, which must have been sent, and must still be queued."""
         number = entry.line.number
         route = Route(entry.sender, self.component.name, entry.port)
         sent = self.routes.get(route, [])
@@ -225,7 +226,7 @@ class _Receiver:
             port.nothing_ahead = True
 
     def empty(self, port: Port, here: Place) -> None:
-        """What was found and not taken is discarded here, and a new era begins."""
+        """Discards a message that was found and not taken, and begins a new era."""
         if port.top is not None:
             self.made.discard(port.top, here)
             self.next[port.top.route] = port.top.number + 1
@@ -234,7 +235,7 @@ class _Receiver:
         port.emptied, port.top = here.entry, None
 
     def discard_up_to(self, message: Message, line: int) -> None:
-        """What came before the message on its route, and isn't gone, was discarded by the port."""
+        """Discards the earlier messages on the same route that are still queued."""
         route = message.route
         first = self.next.get(route, 0)
         if first == message.number:
@@ -242,7 +243,7 @@ class _Receiver:
         self.discard(route, first, message.number, line)
 
     def discard(self, route: Route, first: int, behind: int, line: int) -> None:
-        """By which emptying is open: it is the last one until here at the latest."""
+        """Marks messages as discarded. It isn't known by which emptying; the last one so far is the latest possible."""
         port = self.port(route.port)
         if port.emptied is None or port.emptied < self.since.get(route, 0):
             told = self.routes[route][first].told()
@@ -253,7 +254,8 @@ class _Receiver:
         self.next[route] = behind
 
     def read_left(self) -> None:
-        """What is left: port by port, and on each route all that is behind the first of them."""
+        """Reads the messages that are left. They are listed port by port; on each route all after the first are
+        left."""
         read: dict[str, None] = {}
         last = ""
         for entry in self.component.left:
@@ -273,7 +275,7 @@ class _Receiver:
             self.since[message.route] = len(self.component.entries)
 
     def discard_the_rest(self, into: list[Route]) -> None:
-        """What of a route is neither gone nor left was discarded."""
+        """Discards the messages of each route that neither left the queue nor are left."""
         for route in into:
             sent = self.routes[route]
             first = self.next.get(route, 0)

@@ -1,14 +1,14 @@
-"""What differs between two reports of one script, beyond the order that is open.
+"""The differences between two reports of one script, except those that the open order explains.
 
-Open is in which order a component got what came on different connections (docs/PROFILE.md, "What is
-open in a report"). So two reports agree where for each component
+The order in which a component got messages from different connections is open
+(docs/PROFILE.md, "What is open in a report"). So two reports agree if, for each component,
 
-- on each connection into it the same messages came, and the same became of them, in the same order;
-- on each connection out of it the same messages went, in the same order;
+- on each connection into it the same messages arrived, with the same fates, in the same order;
+- on each connection out of it the same messages were sent, in the same order;
 - what it did by itself, its end and its verdict are the same;
-- where its history first differs it got messages of two connections;
-- and either it did the same kinds of things in the same order, whatever it got in the place of
-  another, or it did the same behind each message that it got.
+- at the first difference of its histories it got messages from two connections;
+- and either it did the same kinds of things in the same order, even if it got another message, or it did the same after
+  each message that it got.
 """
 from __future__ import annotations
 
@@ -25,13 +25,13 @@ EQUAL, ORDER, DIFFERENT = "equal", "equal except for the order between senders",
 
 @dataclass(frozen=True)
 class Difference:
-    """Where two reports differ: of what this is, and the line in each, if there is one."""
+    """A difference of two reports: what differs, and the line in each, if there is one."""
 
     what: str
     first: Optional[Line]
     second: Optional[Line]
     is_open: bool = False
-    more: int = 0  # of this, further places that differ
+    more: int = 0  # further places that differ in the same way
 
     def text(self) -> str:
         more = f"  and {counted(self.more, 'further place')}\n" if self.more else ""
@@ -40,7 +40,7 @@ class Difference:
 
 @dataclass(frozen=True)
 class Comparison:
-    """What was found: one of the three answers, what differs, and where the order differs first."""
+    """The result of a comparison: one of the three answers, the differences, and where the order differs first."""
 
     answer: str
     differences: tuple[Difference, ...]
@@ -72,7 +72,7 @@ def _told(report: str, line: Optional[Line]) -> str:
 
 
 def _of_names(first: Report, second: Report) -> Difference:
-    """The first component that isn't the same one."""
+    """The difference at the first component that isn't the same."""
     for one, other in zip_longest(first.components, second.components):
         if one is None or other is None or one.name != other.name:
             break
@@ -83,7 +83,7 @@ Parts = dict[str, list[tuple[str, Line]]]
 
 
 def _parts(component: Component) -> Parts:
-    """What a component did, sorted by its connections. The lines are those to show."""
+    """What a component did, sorted by its connections, with the lines to show."""
     parts: Parts = {}
     for entry in (*component.entries, *component.left):
         part, what = _part_of(entry)
@@ -95,7 +95,7 @@ def _parts(component: Component) -> Parts:
 
 
 def _part_of(entry: Entry) -> tuple[str, str]:
-    """The connection to which the entry belongs, and all that it says."""
+    """The connection to which the entry belongs, and the whole text of the entry."""
     if isinstance(entry, Received):
         part = f"what came from {entry.sender} at {entry.port}"
     elif isinstance(entry, Sent):
@@ -106,7 +106,7 @@ def _part_of(entry: Entry) -> tuple[str, str]:
 
 
 def _of_component(one: Component, other: Component) -> list[Difference]:
-    """For each part the first difference."""
+    """The first difference of each part."""
     parts, others = _parts(one), _parts(other)
     differences = []
     for part in dict.fromkeys([*parts, *others]):
@@ -117,7 +117,7 @@ def _of_component(one: Component, other: Component) -> list[Difference]:
 
 
 def _first_of(what: str, ours: list[tuple[str, Line]], theirs: list[tuple[str, Line]]) -> Optional[Difference]:
-    """The first place where these differ, and how many others there are."""
+    """The first place where the two differ, with the number of further ones."""
     differ = [
         (mine and mine[1], yours and yours[1])
         for mine, yours in zip_longest(ours, theirs)
@@ -127,7 +127,7 @@ def _first_of(what: str, ours: list[tuple[str, Line]], theirs: list[tuple[str, L
 
 
 def _of_places(one: Component, other: Component) -> list[Difference]:
-    """Where the parts agree: whether the open order explains where things stand."""
+    """If the parts agree: whether the open order explains the places of the entries."""
     what = f"{one.name}, the order of what it did"
     for history, others in ((one.entries, other.entries), (one.left, other.left)):
         difference = _first_entry(what, history, others)
@@ -137,19 +137,19 @@ def _of_places(one: Component, other: Component) -> list[Difference]:
         return []
     kinds = [[(_kind(entry), entry.line) for entry in component.entries] for component in (one, other)]
     first = _first_of(what, kinds[0], kinds[1])
-    # What stands one place later from there on isn't a further difference.
+    # From there on every entry is shifted, so later places aren't further differences.
     return [replace(first, more=0)] if first else []
 
 
 def _kind(entry: Entry) -> str:
-    """What an entry is, whatever was got or sent."""
+    """The kind of an entry, without its message."""
     if isinstance(entry, Received):
         return "got"
     return "sent" if isinstance(entry, Sent) else entry.line.text
 
 
 def _behind_each(component: Component) -> tuple[tuple[str, ...], Counter[tuple[str, ...]]]:
-    """What it did before it got a message, and for each message what it did behind it."""
+    """What a component did before its first message, and what it did after each message."""
     groups: list[list[str]] = [[]]
     for entry in component.entries:
         if isinstance(entry, Received):
@@ -159,15 +159,15 @@ def _behind_each(component: Component) -> tuple[tuple[str, ...], Counter[tuple[s
 
 
 def _first_orders(one: Component, other: Component) -> list[Difference]:
-    """Where a component first got one message in the place of another of a different connection, and
-    where such a one is left."""
+    """Where a component first got a message from another connection than in the other report, and where such a message
+    is left."""
     what = f"{one.name}, open: which came first"
     firsts = [_first_entry(what, one.entries, other.entries), _first_entry(what, one.left, other.left)]
     return [first for first in firsts if first and first.is_open]
 
 
 def _first_entry(what: str, history: tuple[Entry, ...], others: tuple[Entry, ...]) -> Optional[Difference]:
-    """Where two histories first differ, and whether that is open."""
+    """Where two histories first differ, and whether this difference is open."""
     for mine, yours in zip_longest(history, others):
         if mine is None or yours is None or mine.line.text != yours.line.text:
             is_open = isinstance(mine, Received) and isinstance(yours, Received) and _ways(mine) != _ways(yours)

@@ -7,10 +7,10 @@ from typing import Any, Optional, Union
 
 from ..words import is_name
 
-# A value: of a record or a record of its members, in their order.
+# A value. A record or a record of is a tuple of its members, in their order.
 Plain = Union[int, bool, str, tuple[Any, ...]]
 
-# As many brackets as a script may have open at once.
+# A script may have this many brackets open at once.
 MOST_BRACKETS = 32
 
 _INTEGER = re.compile(r"0|-?[1-9][0-9]{0,18}")
@@ -22,17 +22,17 @@ _LONGEST_KNOWN = 2_000
 
 
 class _NoValue(Exception):
-    """No value stands at this place."""
+    """There is no value at this place."""
 
 
 def is_message(text: str) -> bool:
-    """Whether the text is one of a message. `-` stands for a value that hasn't its type."""
+    """Whether the text is a message. `-` stands for a value that doesn't fit its type."""
     return text == "-" or value_of(text) is not None
 
 
 def value_of(text: str) -> Optional[Plain]:
-    """The value that a message has; None if the text is none of a message."""
-    # A message comes twice at least, and most of them often.
+    """The value of a message; None if the text isn't a message."""
+    # A report has each message at least twice, and most of them often.
     return _known(text) if len(text) < _LONGEST_KNOWN else _value_of(text)
 
 
@@ -50,7 +50,7 @@ _known = functools.lru_cache(maxsize=20_000)(_value_of)
 
 
 def _value(text: str, place: int, depth: int) -> tuple[Plain, int]:
-    """The value that stands at the place, and the place behind it."""
+    """The value at the place, and the place after it."""
     if text.startswith("{", place):
         return _braces(text, place, depth + 1)
     if found := _CHARSTRING.match(text, place):
@@ -64,7 +64,7 @@ def _value(text: str, place: int, depth: int) -> tuple[Plain, int]:
 
 
 def _braces(text: str, place: int, depth: int) -> tuple[Plain, int]:
-    """The record or the record of that begins at the place, and the place behind it."""
+    """The record or the record of that begins at the place, and the place after it."""
     if depth > MOST_BRACKETS:
         raise _NoValue
     if text.startswith("{}", place):

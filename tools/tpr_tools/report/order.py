@@ -1,16 +1,16 @@
-"""One order of all entries that the ports allow: each history keeps its own, and played in this order on
-the ports (docs/MODEL.md), with each message queued as it is sent, every port delivers, discards and keeps
-what the report says.
+"""One order of all entries that the ports allow. It keeps the order of each history. If it is played on the ports
+(docs/MODEL.md), and each message is queued when it is sent, every port delivers, discards and keeps what the report
+says.
 
-There are many such orders. This one goes on with a message as soon as it can, so that a chart has short
-arrows, and sends late what nobody waits for. At which ports an `else` looked, or a branch above the one
-that was chosen, isn't in a report, nor on which side of a mark a message is left: so an `else`, or a
-`halted`, may stand behind a sending that it missed.
+There are many such orders. This one continues with a message as soon as possible, so that a chart has short arrows, and
+delays messages that no component waits for. A report doesn't say at which ports an `else` looked, or a branch above the
+chosen one, or on which side of a mark a message is left. So an `else` or a `halted` may come after a send that it
+missed.
 
-search.py decides what an order must have. All that a component can do is done as it comes, since none
-of it can stand in the way of anything else, but for one thing: an emptying, where the port still has to
-discard what isn't sent yet. Those are put off until nothing else can be done. Where there are several
-then, each is tried. Where no order is found, what was read isn't a report of tpr.
+search.py decides what an order must have. Whatever a component can do is done at once, because it can't prevent
+anything else, with one exception: an emptying of a port that still has to discard messages which aren't sent yet. Such
+emptyings wait until nothing else can be done. If there are several then, each is tried. If no order is found, the text
+isn't a report of tpr.
 """
 from __future__ import annotations
 
@@ -25,12 +25,12 @@ _MOST_TRIES = 20_000
 
 
 class NoOrderFound(NotAReport):
-    """So many orders were tried that it isn't known whether there is one."""
+    """The search ended after too many tries: it isn't known whether there is an order."""
 
 
 @dataclass(frozen=True)
 class Row:
-    """One entry, or a sending together with what was done with the message directly behind it."""
+    """One entry, or a send together with what was done with its message directly after it."""
 
     first: Place
     second: Optional[Place] = None
@@ -40,8 +40,8 @@ class Row:
 
 
 def rows_of(deliveries: Deliveries) -> list[Row]:
-    """All entries in an order that the ports allow, and by which entries messages were discarded is
-    settled in the deliveries too. NotAReport where there is no such order."""
+    """All entries in an order that the ports allow. Also stores in the deliveries which entry discarded each message.
+    Raises NotAReport if there is no such order."""
     search = Search(deliveries)
     _find(search)
     for message, place in search.discardings():
@@ -52,8 +52,8 @@ def rows_of(deliveries: Deliveries) -> list[Row]:
 
 
 def rows_in(deliveries: Deliveries, order: list[Place], apart: int) -> list[Row]:
-    """All entries in an order that is known, as that of a run that was forced. What an emptying discards is settled in
-    the deliveries too. No row has an entry before the place `apart` together with one from there on."""
+    """All entries in a known order, for example that of a forced run. Also stores in the deliveries which messages an
+    emptying discards. No row combines an entry before the place `apart` with one after it."""
     columns = {name: place for place, name in enumerate(deliveries.report.names())}
     queues: dict[tuple[int, str], list[Message]] = {}
     for place in order:
@@ -71,8 +71,8 @@ def rows_in(deliveries: Deliveries, order: list[Place], apart: int) -> list[Row]
 
 
 def _find(search: Search) -> None:
-    """Goes on to the end, and back to the last choice where it can't."""
-    choices: list[tuple[int, int]] = []  # how much was done, and which components are still to be tried
+    """Searches to the end, and goes back to the last choice if there is no way on."""
+    choices: list[tuple[int, int]] = []  # the number of entries done, and the components still to be tried
     dead: set[tuple[int, ...]] = set()
     first: Optional[NotAReport] = None
     tries = 0
@@ -93,7 +93,7 @@ def _find(search: Search) -> None:
 
 
 def _try_next(search: Search, choices: list[tuple[int, int]], dead: set[tuple[int, ...]]) -> bool:
-    """Goes back to the last choice that has something left, and takes the next of it."""
+    """Goes back to the last choice that has something left, and tries the next component."""
     while choices:
         done, left = choices.pop()
         search.go_back(done)
@@ -107,7 +107,7 @@ def _try_next(search: Search, choices: list[tuple[int, int]], dead: set[tuple[in
 
 
 def _paired(deliveries: Deliveries, order: list[Place]) -> list[Row]:
-    """A sending and what is done with its message directly behind it are one row."""
+    """Combines a send with what is done with its message directly after it."""
     rows: list[Row] = []
     waiting: Optional[Place] = None
     for place in order:

@@ -1,7 +1,6 @@
 """Reads a report, and refuses what `tpr run` doesn't print.
 
-The lines are read here, one by one. That they agree with each other, messages and ports, is looked
-at in deliveries.py.
+The lines are read here, one by one. deliveries.py checks that they agree with each other in their messages and ports.
 """
 from __future__ import annotations
 
@@ -48,7 +47,7 @@ def read_report(data: bytes) -> Report:
 
 
 def _lines_of(data: bytes) -> list[Line]:
-    """The lines up to the last byte 10; what is behind it is no line, since each has one."""
+    """The lines up to the last line feed. The text after it isn't a line, because each line ends with one."""
     if foreign := _FOREIGN.search(data):
         number = data.count(b"\n", 0, foreign.start()) + 1
         raise NotAReport(number, f"a report has no byte {foreign[0][0]}")
@@ -150,7 +149,7 @@ def _short(text: str) -> str:
 
 
 def _entry(line: Line) -> Optional[Entry]:
-    """The entry that the line is, or None."""
+    """The entry on the line, or None."""
     kind = line.text.partition(" ")[0]
     read = _ENTRIES.get(kind)
     return read(line) if read else None
@@ -226,7 +225,7 @@ _ENTRIES: dict[str, Callable[[Line], Optional[Entry]]] = {
 
 
 def _check_components(report: Report) -> None:
-    """What each component's lines say of each other, and the components of the whole."""
+    """Checks that the lines of each component agree with each other, and the components with the whole."""
     seen: set[str] = set()
     for place, component in enumerate(report.components):
         number = component.line.number
@@ -246,7 +245,7 @@ def _check_components(report: Report) -> None:
 
 
 def _check_failure(component: Component) -> None:
-    """A behaviour that fails ends there, with the number by which it failed."""
+    """A behaviour that fails ends there, with the number of its failure."""
     for entry in component.entries[:-1]:
         if isinstance(entry, Failed):
             raise NotAReport(entry.line.number + 1, "the behaviour has ended on the line before")

@@ -1,4 +1,4 @@
-"""A report of `tpr run`, as its lines say it."""
+"""A report of `tpr run`, in the terms of its lines."""
 from __future__ import annotations
 
 from dataclasses import dataclass
@@ -8,7 +8,7 @@ from ..refusals import Refusal
 
 
 class NotAReport(Exception):
-    """What was read isn't what `tpr run` prints, from this line on."""
+    """The text isn't a report of `tpr run`, from this line on."""
 
     def __init__(self, line: int, reason: str):
         super().__init__(f"line {line}: {reason}")
@@ -52,7 +52,7 @@ class Operation(NamedTuple):
     port: str
 
     def empties(self) -> bool:
-        """Whether what is queued at the port is discarded (22.5.1, 22.5.2)."""
+        """Whether the messages queued at the port are discarded (22.5.1, 22.5.2)."""
         return self.word in ("cleared", "started")
 
 
@@ -70,7 +70,7 @@ class VerdictSet(NamedTuple):
 
 
 class Failed(NamedTuple):
-    """`failed CODE`, behind which there is no further entry"""
+    """`failed CODE`, after which there is no further entry"""
 
     line: Line
     fault: Refusal
@@ -89,7 +89,7 @@ class End(NamedTuple):
 
 @dataclass(frozen=True)
 class Component:
-    """What is reported of a component: its history, how its behaviour ended, and what is left."""
+    """The report on a component: its history, how its behaviour ended, and what is left."""
 
     name: str
     line: Line

@@ -1,17 +1,17 @@
-"""What an order of all entries must have, and how far one has come: see order.py.
+"""The conditions that an order of all entries must satisfy, and the progress of the search: see order.py.
 
 An entry waits
 
-- where it got a message, for the message's sending;
-- where it is the `halted` behind which messages were delivered, for the sending of the last of them;
-- where it empties a port, for what nothing else can discard;
-- where it sends what was delivered or left, for the emptying before it and for the message that came
-  before it at that port;
-- where it sends what was discarded, for what the port delivered and kept in this era, since what is
-  discarded came behind that.
+- if it got a message, for the message's send;
+- if it is the `halted` after which messages were delivered, for the send of the last of them;
+- if it empties a port, for the messages that no other entry can discard;
+- if it sends a message that was delivered or left, for the emptying before it and for the message that arrived before
+  it at that port;
+- if it sends a message that was discarded, for the messages that the port delivered and kept in this era, because the
+  discarded one arrived after them.
 
-An `else` waits for nothing: a report doesn't say at which ports it looked. Nor does a `halted` wait for
-messages that are left: it doesn't say on which side of the mark they are.
+An `else` waits for nothing, because a report doesn't say at which ports it looked. A `halted` doesn't wait for messages
+that are left, because the report doesn't say on which side of the mark they are.
 """
 from __future__ import annotations
 
@@ -20,13 +20,13 @@ from typing import Iterator, Optional
 from .deliveries import Deliveries, Message, Place, Port
 from .report import NotAReport, Operation, Received, Sent
 
-# What is done first: something with a message that was sent, then what a component does by itself, then
-# what somebody waits for, then any other sending. What is left is a choice.
+# The ranks, in the order in which they are done: something with a message that was sent, then what a component does by
+# itself, then a send that a component waits for, then any other send. What remains is a choice.
 GOT, BY_ITSELF, AWAITED, SENT, BY_CHOICE = range(5)
 
 
 class _Queue:
-    """How far a port has come."""
+    """The progress of a port."""
 
     __slots__ = (
         *("eras", "owner", "discarded", "due", "due_messages", "unsent"),
@@ -37,24 +37,24 @@ class _Queue:
         self.eras = port.eras
         self.owner = owner
         self.discarded = port.discarded
-        self.due = [0] * len(port.eras)  # how much has to be sent before the emptying that begins this era
+        self.due = [0] * len(port.eras)  # how many messages must be sent before the emptying that begins this era
         self.due_messages: dict[int, list[Message]] = {}
         for message in port.discarded:
             self.due[message.latest] += 1
             self.due_messages.setdefault(message.latest, []).append(message)
         self.unsent = len(port.discarded)
         self.era = 0
-        self.sent = 0  # how much of what is delivered or left in this era has come
+        self.sent = 0  # how many of the messages delivered or left in this era have arrived
         self.for_era: dict[int, list[int]] = {}  # the components that wait for an era to begin
-        self.for_room: list[int] = []  # and those that send what is discarded once there is room for it
+        self.for_room: list[int] = []  # and those that wait to send a message that the port discards
 
     def has_room(self) -> bool:
-        """Whether what comes now is discarded by the next emptying."""
+        """Whether a message that arrives now is discarded by the next emptying."""
         return self.sent == len(self.eras[self.era].queue)
 
 
 class Search:
-    """The entries that are done, and for each component what its next one waits for."""
+    """The entries that are done, and what each component's next entry waits for."""
 
     def __init__(self, deliveries: Deliveries):
         self.deliveries = deliveries
@@ -66,15 +66,15 @@ class Search:
         self.next = [0] * len(self.histories)
         self.left = sum(len(history) for history in self.histories)
         self.order: list[Place] = []
-        self.moment = [-1] * len(deliveries.messages)  # when each was sent
-        self.emptied_by = [0] * len(deliveries.messages)  # the era that began then
+        self.moment = [-1] * len(deliveries.messages)  # when each message was sent
+        self.emptied_by = [0] * len(deliveries.messages)  # the era that began when each was discarded
         self.last = 0
         self.look_at_all()
 
     def look_at_all(self) -> None:
         self.ready = [0] * 5  # by rank, a bit for each component
         self.rank = [-1] * len(self.histories)
-        self.waiting: dict[int, list[int]] = {}  # by the message that is waited for
+        self.waiting: dict[int, list[int]] = {}  # the components that wait for a message
         self.waits_for = [-1] * len(self.histories)  # the component that has to do something first
         self.blocked = 0  # a bit for each component that waits for one
         for queue in self.queues.values():
@@ -90,7 +90,7 @@ class Search:
         return tuple(self.next)
 
     def go_on(self) -> int:
-        """Does all that stands in no way. Answers the components of which one is to be chosen, if any."""
+        """Does everything that prevents nothing else. Returns the components among which to choose, if any."""
         ready = self.ready
         while True:
             if ready[GOT]:
@@ -107,13 +107,13 @@ class Search:
             ready = self.ready
 
     def near(self, components: int) -> int:
-        """The component that did something last, if it is among these, or else the first."""
+        """The component that did something last, if it is among these; otherwise the first."""
         if components >> self.last & 1:
             return self.last
         return (components & -components).bit_length() - 1
 
     def asked_for(self, components: int) -> int:
-        """One that others wait for, directly or in turn."""
+        """A component that others wait for, directly or indirectly."""
         component = self.near(self.blocked or components)
         for _ in self.histories:
             if component < 0:
@@ -124,7 +124,7 @@ class Search:
         return self.near(components)
 
     def best_of(self, components: int) -> int:
-        """The one that has to discard the least of what isn't sent."""
+        """The component whose port still has the fewest unsent messages to discard."""
         return min(
             (place for place in range(len(self.histories)) if components >> place & 1),
             key=lambda place: self.own_queue(place).unsent,
@@ -136,7 +136,7 @@ class Search:
         return self.queues[component, entry.port]
 
     def message_at(self, component: int, place: int) -> Message:
-        """What the entry sends or gets."""
+        """The message that the entry sends or gets."""
         message = self.deliveries.at[component][place]
         assert message is not None
         return message
@@ -167,7 +167,7 @@ class Search:
             self.ready[rank] |= bit
 
     def is_there(self, message: Message, component: int) -> bool:
-        """Whether the message was sent; else the component waits for it."""
+        """Whether the message was sent; if not, the component waits for it."""
         if self.moment[message.index] >= 0:
             return True
         sender = message.sent.component
@@ -196,7 +196,7 @@ class Search:
         return AWAITED if message.index in self.waiting else SENT
 
     def next_of(self, queue: _Queue) -> Message:
-        """What the port delivers or keeps next, of what hasn't come."""
+        """The next message that the port delivers or keeps."""
         return queue.eras[queue.era].queue[queue.sent]
 
     def wait(self, component: int, other: int) -> int:
@@ -214,7 +214,7 @@ class Search:
         return BY_CHOICE if queue.unsent > 0 and queue.eras[queue.era + 1].queue else BY_ITSELF
 
     def due_of(self, queue: _Queue) -> Message:
-        """The first message that has to be sent before the next emptying."""
+        """The first unsent message that must be sent before the next emptying."""
         return next(it for it in queue.due_messages[queue.era + 1] if self.moment[it.index] < 0)
 
     # What an entry does
@@ -260,7 +260,7 @@ class Search:
             self.look(component)
 
     def go_back(self, done: int) -> None:
-        """Undoes all but so many entries."""
+        """Undoes all entries after the first `done`."""
         if len(self.order) == done:
             return
         while len(self.order) > done:
@@ -287,7 +287,7 @@ class Search:
             queue.due[message.latest] += 1
 
     def discardings(self) -> Iterator[tuple[Message, Place]]:
-        """What was discarded by an emptying that was open, and by which it was in this order."""
+        """The messages whose discarding emptying wasn't known, with the emptying in this order."""
         for queue in self.queues.values():
             for message in queue.discarded:
                 began = queue.eras[self.emptied_by[message.index]].began
@@ -297,7 +297,7 @@ class Search:
     # Why there is none
 
     def circle(self) -> NotAReport:
-        """Why no entry can be next: each waits for one that stands behind another that waits."""
+        """Why no entry can be next: each waits for one that comes after another waiting one."""
         component = next(c for c, history in enumerate(self.histories) if self.next[c] < len(history))
         waiting: list[Place] = []
         while True:
@@ -317,7 +317,7 @@ class Search:
         return f"{told(place)} needs {told(needed)} before it, {why}"
 
     def need(self, place: Place) -> tuple[Place, str]:
-        """An entry that has to stand before this one, and why."""
+        """An entry that must come before this one, and why."""
         entry = self.deliveries.entry(place)
         message = self.deliveries.message(place)
         if isinstance(entry, Received):

@@ -1,4 +1,4 @@
-"""The last two passes of the checks: the bodies, and how many statements they come to."""
+"""The last two passes of the checks: the bodies, and the number of their statements."""
 from __future__ import annotations
 
 from typing import Optional
@@ -32,7 +32,7 @@ def check_bodies(names: Names, setup: Setup) -> None:
 
 
 class BodyRules:
-    """The rules on the statements of one body, and what its names are."""
+    """The rules on the statements of one body, and its names."""
 
     def __init__(self, names: Names, setup: Setup, body: Body):
         self.names = names
@@ -50,7 +50,7 @@ class BodyRules:
         self.loop_places: dict[str, int] = {}
 
     def check(self) -> int:
-        """How many statements it comes to."""
+        """Checks the body, and returns the number of its statements."""
         faults = self.names.faults
         before = len(faults.kept)
         for name, port in self.ports.items():
@@ -81,7 +81,7 @@ class BodyRules:
         return name in self.names.types or name in BASE_TYPES or self.names.is_unknown(name)
 
     def _check_new(self, told: int, place: int) -> None:
-        """The name isn't given in this scope yet."""
+        """Checks that the name isn't used in this scope yet."""
         name = self.names.word(place)
         taken = [
             ({name: self.ports[name].name} if name in self.ports else {}, "a port"),
@@ -118,7 +118,7 @@ class BodyRules:
         return size
 
     def _inner(self, statement: Statement) -> int:
-        """How many statements are in it."""
+        """The number of statements in it."""
         if isinstance(statement, Alt):
             return self._alt(statement)
         if isinstance(statement, Loop):

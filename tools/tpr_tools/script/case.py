@@ -21,7 +21,7 @@ End = tuple[str, str]
 class Player:
     """A component of the test case. The system without a `sut` has no body.
 
-    `references` says which component a word behind `to` or `from` means, where it is no variable.
+    `references` says which component a word after `to` or `from` means, unless the word is a variable.
     """
 
     name: str
@@ -60,21 +60,20 @@ class Case:
         return self.names.word(place)
 
     def own_line(self, place: int) -> int:
-        """The line at which a token stands."""
+        """The line of a token."""
         return self.text.lines[place]
 
     def line(self, place: int) -> Line:
-        """The line that it comes from: of a script that tools/rewrite wrote, one of what that was given."""
+        """The line that it comes from: for a script that tools/rewrite wrote, a line of the original."""
         return self._told[self.text.lines[place]]
 
     def source(self, place: int) -> tuple[Line, int]:
-        """What the statement or branch at a token comes from: a line, and the column there, or where it comes from
-        nothing else the token itself."""
+        """The origin of the statement or branch at a token: its line and column; without a map, line and token."""
         row = self.origins.row(self.text.lines[place])
         return self.line(place), row.column if row else place
 
     def bodies(self) -> list[Body]:
-        """All that is written, the functions that nothing is started with too."""
+        """All bodies, including those of functions that aren't started."""
         return [it for it in self.names.module.definitions if isinstance(it, (Function, TestCase))]
 
     def _join(self, pair: Pair) -> None:

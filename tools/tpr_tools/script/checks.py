@@ -14,14 +14,14 @@ from .tokens import Text
 
 @dataclass(frozen=True)
 class Checked:
-    """What a script defines, and the setup of its test case."""
+    """The definitions of a script, and the setup of its test case."""
 
     names: Names
     setup: Setup
 
 
 def check_script(text: Text, faults: Optional[Faults] = None) -> Checked:
-    """The script, or GrammarFault or RuleFault. The tokens are known to have no fault."""
+    """The checked script. Raises GrammarFault or RuleFault. The tokens are known to have no fault."""
     names = Names(text, read_module(text), faults or Faults())
     names.check()
     setup = Setup(names)
@@ -31,7 +31,7 @@ def check_script(text: Text, faults: Optional[Faults] = None) -> Checked:
 
 
 def faults_of(text: Text) -> list[RuleFault]:
-    """The first fault, and the others that don't follow from one; or GrammarFault."""
+    """The first fault, and the others that don't result from one. Raises GrammarFault."""
     faults = Faults(are_kept=True)
     try:
         check_script(text, faults)

@@ -1,5 +1,5 @@
-"""What the full language has and the profile writes otherwise or leaves out (docs/FROM_TTCN3.md): constructs.table has
-what each is, its clause of ES 201 873-1, and what to write here."""
+"""The constructs of the full language that the profile writes in another way or leaves out (docs/FROM_TTCN3.md). For
+each, constructs.table has its name, its clause of ES 201 873-1, and what to write instead."""
 from __future__ import annotations
 
 from enum import Enum

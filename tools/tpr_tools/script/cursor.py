@@ -1,7 +1,7 @@
-"""How far a script is read, and what could stand at a place of it.
+"""The position in a script, and what could be at a place.
 
-A script is read twice where its grammar has a fault: the second time it is known where, and all that
-was looked for at that place is noted.
+If the grammar has a fault, the script is read twice: the second time the place of the fault is known, and all tokens
+that would fit there are noted.
 """
 from __future__ import annotations
 
@@ -19,10 +19,10 @@ PORT_CONTROL = "`start`, `stop`, `halt` or `clear`"
 
 
 class GrammarFault(Exception):
-    """The first fault of the grammar: at which token, and what was read when it was met.
+    """The first fault of the grammar: at which token, and what was being read.
 
-    `begin` is the first token of the statement, branch or definition, `part` what was read there.
-    `sentence` says more than that the token can't stand there, where there is more.
+    `begin` is the first token of the statement, branch or definition, `part` what was being read there. `sentence` says
+    more than that the token is unexpected, if there is more to say.
     """
 
     def __init__(self, number: int, place: int, begin: int, part: str, sentence: str):
@@ -39,7 +39,7 @@ class Cursor:
     """The tokens, the place of the next one, and what is being read."""
 
     def __init__(self, text: Text, watched: int = -1):
-        # Behind the last token stand empty ones, so that looking ahead needs no bound.
+        # Empty tokens after the last one, so that looking ahead needs no bound.
         self.tokens = text.tokens + [""] * 4
         self.place = 0
         self.begin = 0
@@ -48,7 +48,7 @@ class Cursor:
         self.wanted: list[str] = []
 
     def refuse(self, *wanted: str, sentence: str = "", place: Optional[int] = None) -> NoReturn:
-        """The next token can't stand here, or the one at the place."""
+        """Refuses the next token, or the one at the place."""
         if self.place == self.watched:
             self.wanted += wanted
         raise GrammarFault(10, self.place if place is None else place, self.begin, self.part, sentence)
@@ -84,14 +84,14 @@ class Cursor:
         return self.place - 1
 
     def one_of(self, words: tuple[str, ...], *wanted: str) -> int:
-        """One of the words. What is said to be wanted may be a kind in place of them."""
+        """Reads one of the words. The message may name a kind of words instead of the words."""
         if self.tokens[self.place] not in words:
             self.refuse(*(wanted or [quoted(word) for word in words]))
         self.place += 1
         return self.place - 1
 
     def open(self, bracket: str, left: int) -> int:
-        """A bracket: how many may be open inside."""
+        """Reads an opening bracket, and returns how many may be open inside it."""
         place = self.expect(bracket)
         return self.below(place, left)
 
@@ -101,7 +101,7 @@ class Cursor:
         return left - 1
 
     def end(self, is_closed: bool) -> None:
-        """`;`, which may be missing before a `}`, and anywhere behind what ends in one."""
+        """Reads `;`, which is optional before a `}`, and after anything that ends with a `}`."""
         if self.has(";") or is_closed or self.tokens[self.place] == "}":
             return
         self.refuse("`}`")
@@ -114,7 +114,7 @@ class Cursor:
         return self.place - 1
 
     def component(self, *more: str) -> int:
-        """`who`: a component by its name, `mtc` or `self`, or one of the words more."""
+        """Reads a component: its name, `mtc` or `self`, or one of the additional words."""
         token = self.tokens[self.place]
         if token not in ("mtc", "self") and token not in more and not is_name(token):
             self.refuse(A_COMPONENT, "`mtc`", "`self`", *[quoted(word) for word in more])
@@ -122,7 +122,7 @@ class Cursor:
         return self.place - 1
 
     def integer(self) -> int:
-        """The place of its sign, or of the number."""
+        """Reads an integer, and returns the place of its sign or number."""
         start = self.place
         if self.has("-"):
             if not is_number(self.tokens[self.place]):

@@ -10,10 +10,10 @@ from .refusal_rules import Rule
 
 
 class RuleFault(Exception):
-    """The number, the token whose line is told, the token that is meant, and what is wrong.
+    """The number, the token whose line is reported, the token that is meant, and what is wrong.
 
-    `others` are further places to show, each with what it is; `instead` is what to write, and
-    `construct` what of the full language was meant.
+    `others` are further places to show, each with a text; `instead` is what to write, and `construct` the construct of
+    the full language that was meant.
     """
 
     def __init__(self, number: int, told: int, place: int, sentence: str, rule: Rule):
@@ -41,9 +41,10 @@ class RuleFault(Exception):
 
 
 class Faults:
-    """`with faults: ..` is a rule or a statement: the first fault ends the checks, or if faults are kept, this block."""
+    """`with faults: ..` is a rule or a statement. The first fault ends the checks, or only this block if faults are
+    kept."""
 
-    MOST = 100  # of one script: who mends them asks again
+    MOST = 100  # of one script: users who have corrected these ask again
 
     def __init__(self, are_kept: bool = False):
         self.are_kept = are_kept
@@ -54,7 +55,7 @@ class Faults:
             self.kept.append(fault)
 
     def stop(self) -> None:
-        """What follows would find faults that come from those that are kept."""
+        """Ends the checks here, because the following ones would only report consequences of the kept faults."""
         if self.kept:
             raise self.kept[-1]
 
@@ -74,7 +75,7 @@ def a(word: str) -> str:
 
 
 def nearest(name: str, known: Iterable[str]) -> str:
-    """A question about the name that may be meant, or nothing."""
+    """A question with the name that may be meant, or an empty text."""
     found = difflib.get_close_matches(name, list(known)[:500], 1, 0.7)
     return f" (did you mean `{found[0]}`?)" if found else ""
 

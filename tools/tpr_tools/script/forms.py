@@ -1,7 +1,7 @@
-"""What the values of a script are filled to, what its templates match, and how both are written.
+"""The complete values of a script, what its templates match, and how both are written.
 
-A value is an int, a bool, a str, or a tuple: the fields of a record in declared order, or the elements
-of a record of. What it is, its type says. The script is known to obey all rules.
+A value is an int, a bool, a str, or a tuple: the fields of a record in declared order, or the elements of a record of.
+Its type says which. The script is known to obey all rules.
 """
 from __future__ import annotations
 
@@ -18,9 +18,9 @@ _ANY_NUMBER = object()  # a `*` among the tests of elements
 
 
 def is_cut(tests: list[Any], items: Union[str, tuple[Plain, ...]], loops: Loops) -> bool:
-    """Whether the items can be cut into pieces, one for each test: any piece for a `*`, else one item.
+    """Whether the items can be cut into pieces, one for each test: any piece for a `*`, otherwise one item.
 
-    Between two `*` the first place that fits is as good as any behind it, so no other is tried again.
+    Between two `*` the first place that fits is as good as any later one, so no other is tried.
     """
     item = test = 0
     star, behind_star = -1, 0
@@ -39,13 +39,13 @@ def is_cut(tests: list[Any], items: Union[str, tuple[Plain, ...]], loops: Loops)
 
 
 class Forms:
-    """The values and templates of a script, with what its types say of them."""
+    """The values and templates of a script, by their types."""
 
     def __init__(self, names: Names):
         self.names = names
 
     def inner_of(self, type_name: str, number: int) -> list[tuple[str, str]]:
-        """The fields of a record with their types, in declared order; of a record of so many nameless elements."""
+        """The fields of a record with their types, in declared order; for a record of, `number` unnamed elements."""
         definition, word = self.names.types[type_name], self.names.word
         if isinstance(definition, ListType):
             return [("", word(definition.element))] * number
@@ -60,7 +60,7 @@ class Forms:
         return [(by_name[name], of) for name, of in inner]
 
     def braces(self, texts: list[str], type_name: str) -> str:
-        """The members, those of a record with their names."""
+        """The members in braces; those of a record with their names."""
         names = [name for name, _ in self.inner_of(type_name, len(texts))]
         return "{" + ", ".join(f"{name} := {text}" if name else text for name, text in zip(names, texts)) + "}"
 
@@ -70,7 +70,7 @@ class Forms:
         return form.kind is ValueKind.NAME or any(map(self.has_loop_variable, form.members))
 
     def text_of(self, message: Message, loops: Loops) -> str:
-        """How a report writes the message, with what the loop variables hold."""
+        """The message as a report writes it, with the values of the loop variables."""
         type_name = self.names.word(message.type)
         return f"{type_name}:{self.written(self.filled(message.value, type_name, loops), type_name)}"
 
@@ -132,7 +132,7 @@ class Forms:
     # How they are told
 
     def told(self, form: Value, type_name: str, loops: Loops) -> str:
-        """The template as the script writes it, with what the loop variables hold."""
+        """The template as the script writes it, with the values of the loop variables."""
         kind, word = form.kind, self.names.word
         if kind is ValueKind.NAME:
             return str(loops[word(form.start)])
@@ -157,7 +157,7 @@ def _unquoted(token: str) -> str:
 
 
 def _pattern(text: str) -> Test:
-    """`?` is any one character, `*` any number of them."""
+    """`?` matches any one character, `*` any number of them."""
     tests = [_ANY_NUMBER if it == "*" else _character(it) for it in text]
     return lambda value, loops: is_cut(tests, value, loops)
 

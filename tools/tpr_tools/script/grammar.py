@@ -25,7 +25,7 @@ from .tree import (
 
 
 def read_module(text: Text) -> Module:
-    """The module that the text is, or GrammarFault with all that could stand at its place."""
+    """The module in the text. Raises GrammarFault with all tokens that would fit at its place."""
     try:
         return ModuleReader(text).whole()
     except GrammarFault as fault:
@@ -38,7 +38,7 @@ def read_module(text: Text) -> Module:
 
 
 class ModuleReader(StatementReader):
-    """The module, its definitions, and the parts of a test case."""
+    """Reads the module, its definitions, and the parts of a test case."""
 
     def whole(self) -> Module:
         module = self.module()

@@ -9,7 +9,7 @@ from .names import BASE_TYPES, Names
 from .refusal_rules import Rule
 from .tree import ListType, Record, Value, ValueKind
 
-# Which type a value of these kinds has.
+# The type of values of these kinds.
 _FIXED = {
     ValueKind.INTEGER: "integer",
     ValueKind.BOOLEAN: "boolean",
@@ -20,7 +20,7 @@ _FIXED = {
 
 
 class MessageRules:
-    """The rules on the values of one statement. `variables` tells what the names in scope are."""
+    """The rules on the values of one statement. `variables` has the names in scope."""
 
     def __init__(self, names: Names, told: int, loops: list[str], variables: dict[str, int]):
         self.names = names
@@ -32,7 +32,7 @@ class MessageRules:
         return RuleFault(number, self.told, place, sentence, Rule.FITS)
 
     def check(self, type_name: str, value: Value, owner: Optional[int] = None) -> None:
-        """`owner` is the place of what the value is given to: a field."""
+        """`owner` is the place of the field that gets the value."""
         kind = value.kind
         if self.names.is_unknown(type_name):
             return

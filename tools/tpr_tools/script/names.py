@@ -1,4 +1,4 @@
-"""The first two passes of the checks: names are given once, and what they name is defined."""
+"""The first two passes of the checks: no name is used twice, and all names that are used are defined."""
 from __future__ import annotations
 
 from typing import Optional
@@ -14,7 +14,7 @@ SUT = "sut"
 
 
 class Names:
-    """What a module defines, by the names, and its faults in the order of docs/REFUSALS.md."""
+    """The definitions of a module by their names, and its faults in the order of docs/REFUSALS.md."""
 
     def __init__(self, text: Text, module: Module, faults: Faults):
         self.tokens = text.tokens
@@ -24,7 +24,7 @@ class Names:
         self.ports: dict[str, PortType] = {}
         self.components: dict[str, ComponentType] = {}
         self.functions: dict[str, Function] = {}
-        self.unknown: set[str] = set()  # what is told to be no type of a message: nothing follows from its uses
+        self.unknown: set[str] = set()  # names reported as not being message types: their uses cause no further faults
         self.case = self._only_case()
 
     def _only_case(self) -> TestCase:
@@ -40,7 +40,7 @@ class Names:
         return self.tokens[place]
 
     def number(self, place: int) -> int:
-        """The number whose sign, or first digit, stands there."""
+        """The number whose sign or first digit is at the place."""
         word = self.tokens[place]
         return -int(self.tokens[place + 1]) if word == "-" else int(word)
 
@@ -89,14 +89,14 @@ class Names:
         return fault.write("a module for each, in a file of its own")
 
     def _check_inner(self, definition: Definition) -> None:
-        """The names that a definition holds."""
+        """Checks the names inside a definition."""
         inner, what = _inner(definition)
         given: dict[str, int] = {}
         for declared in inner:
             name = self.word(declared.name)
             if name in given:
                 sentence = f"`{self.word(definition.name)}` has two {what} `{name}`"
-                # A field is told at its name's line, as a port and a parameter are.
+                # A fault in a field is reported on the line of its name, as for a port and a parameter.
                 fault = RuleFault(12, declared.name, declared.name, sentence, Rule.ONE_INNER_NAME)
                 raise fault.beside(given[name], "the first one")
             given[name] = declared.name
@@ -167,7 +167,7 @@ class Names:
             self._check_sut(function)
 
     def _check_sut(self, function: Function) -> None:
-        """Whether it can play the system."""
+        """Checks whether it can play the system."""
         if self.case.system is None:
             sentence = "`sut` plays the system, but the test case has no `system` clause"
             fault = RuleFault(16, function.start, function.name, sentence, Rule.SUT)
@@ -184,7 +184,7 @@ class Names:
     # What the later passes ask
 
     def kind_of(self, name: str) -> Optional[str]:
-        """What a definition of this name is."""
+        """The kind of the definition with this name."""
         if name in self.types:
             return "a record" if isinstance(self.types[name], Record) else "a record of"
         if name in self.ports:
@@ -208,7 +208,7 @@ class Names:
         return [place for it in listing for place in it.types]
 
     def is_unknown(self, *types: str) -> bool:
-        """Whether one of the types is told to be none."""
+        """Whether one of the types was reported as not being one."""
         return not self.unknown.isdisjoint(types)
 
     def listed_names(self, port_type: str, way: str) -> list[str]:
@@ -216,7 +216,7 @@ class Names:
 
 
 def _inner(definition: Definition) -> tuple[list[Declared], str]:
-    """The names that a definition holds, and what they are."""
+    """The names inside a definition, and their kind."""
     if isinstance(definition, Record):
         return definition.fields, "fields"
     if isinstance(definition, ComponentType):

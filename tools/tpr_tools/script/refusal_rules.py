@@ -1,4 +1,4 @@
-"""The rules that refusals are about: refusal_rules.table has the words of each, its numbers and its clauses."""
+"""The rules of refusals: refusal_rules.table has the words of each, its numbers and its clauses."""
 from __future__ import annotations
 
 import re
@@ -12,10 +12,10 @@ _ROWS = {name: row for name, *row in rows_of(__file__, "refusal_rules.table")}
 
 
 class Rule(Enum):
-    """A rule as the documents word it."""
+    """A rule in the words of the documents."""
 
     def told(self) -> str:
-        """The rule without the numbers of refusals, which the documents have in brackets."""
+        """The rule without the numbers of refusals, which are in brackets in the documents."""
         return re.sub(r" \([0-9]+\)", "", self.value)
 
     (
@@ -31,13 +31,12 @@ class Rule(Enum):
 
 
 def clauses_of(rule: Rule) -> str:
-    """The clauses of ES 201 873-1 that its pass of the checks is about; nothing for the reader and for limits of the
-    text."""
+    """The clauses of ES 201 873-1 for the pass that checks the rule; none for the reader and for limits of the text."""
     return _ROWS[rule.name][1].strip("-")
 
 
 class Beyond(NamedTuple):
-    """When a number is printed that speaks of no script, and what to do then."""
+    """For a number that isn't about a script: when it is printed, and what to do then."""
 
     rule: Rule
     remedy: str

@@ -15,7 +15,7 @@ Port = tuple[str, str]
 
 
 class Setup:
-    """The components that are there so far, their types, and which ports are joined."""
+    """The components so far, their types, and the connections of their ports."""
 
     def __init__(self, names: Names):
         self.names = names
@@ -25,7 +25,8 @@ class Setup:
         self.connected: dict[Port, dict[Port, Pair]] = {}
         self.mapped: dict[Port, Pair] = {}
         self.started: dict[str, ComponentStart] = {}
-        # What a port type lists in a way, each once: a script may list much, and connect many ports of it.
+        # The list of a port type for a direction, without repeats: a script may have a long list, and connect many
+        # ports of the type.
         self.lists: dict[tuple[str, str], dict[str, None]] = {}
 
     def check(self) -> None:
@@ -35,7 +36,7 @@ class Setup:
         before = len(faults.kept)
         for statement in self.case.setups:
             if isinstance(statement, Creation):
-                self._create(statement)  # Without it hardly anything can be said of what follows.
+                self._create(statement)  # if this fails, hardly anything can be said about the rest
                 continue
             with faults:
                 if self.names.word(statement.start) == "connect":
@@ -156,7 +157,7 @@ class Setup:
                 raise fault.beside(before.start, "here")
 
     def _listed(self, port: Port, way: str) -> tuple[str, dict[str, None]]:
-        """The port's type, and what that lists, each once."""
+        """The port's type, and its list without repeats."""
         declared = self.names.ports_of(self.types[port[0]])[port[1]]
         type_name = self.names.word(declared.type)
         if (type_name, way) not in self.lists:
@@ -200,7 +201,7 @@ class Setup:
         self.mapped[first] = self.mapped[second] = pair
 
     def _check_map_lists(self, pair: Pair, system: Port, other: Port, way: str) -> None:
-        """A port of `system` lists as `out` what goes out to the system, as the mapped port does."""
+        """A port of `system` lists as `out` what is sent to the system, like the mapped port."""
         system_type, of_system = self._listed(system, way)
         other_type, of_other = self._listed(other, way)
         wider, narrower = (of_other, of_system) if way == "out" else (of_system, of_other)

@@ -14,7 +14,7 @@ RECEIVING = ("receive", "trigger", "check")
 
 
 class StatementReader(ValueReader):
-    """Statements, and the variables before them."""
+    """Reads statements, and the variables before them."""
 
     def variables(self) -> list[Declared]:
         variables = []
@@ -29,7 +29,7 @@ class StatementReader(ValueReader):
         return variables
 
     def statements(self, left: int, is_case: bool) -> list[Statement]:
-        """Up to the end of the block, or of a test case's statements."""
+        """Reads the statements up to the end of the block, or those of a test case."""
         statements = []
         while not self.is_at("}") and not (is_case and self.is_all_component()):
             statements.append(self.statement(left))
@@ -76,7 +76,7 @@ class StatementReader(ValueReader):
         return Control(start, None, self.one_of(CONTROLS, PORT_CONTROL))
 
     def operation(self, left: int) -> Statement:
-        """What begins with the name of a port."""
+        """Reads a statement that begins with the name of a port."""
         port = self.name(A_STATEMENT)
         self.expect(".")
         word = self.tokens[self.place]
@@ -105,13 +105,13 @@ class StatementReader(ValueReader):
         return Send(port, port, message, variable, to)
 
     def sent(self, left: int) -> Message:
-        """A message. A variable could stand here too, and was not there."""
+        """Reads a message. A variable could be here too, but isn't."""
         if self.place == self.watched:
             self.wanted.append("the name of a variable")
         return self.message(left, False)
 
     def receiving(self, start: int, port: int, left: int) -> Receive:
-        """What stands behind the name of a port and its dot."""
+        """Reads the rest of a receiving operation, after the name of its port and the dot."""
         how = self.one_of(RECEIVING)
         if self.tokens[how] != "check":
             return self.received(start, port, how, left)
@@ -215,7 +215,7 @@ class StatementReader(ValueReader):
         self.expect("1")
 
     def same(self, name: int) -> None:
-        """The name of the loop's variable again."""
+        """Reads the name of the loop's variable again."""
         wanted = self.tokens[name]
         if is_name(self.tokens[self.place]) and self.tokens[self.place] != wanted:
             sentence = f"the four names in the head of a loop must be the same, here `{wanted}`"

@@ -1,7 +1,7 @@
-"""The tokens of a script, as docs/PROFILE.md has them ("Tokens"), and where each stands.
+"""The tokens of a script by docs/PROFILE.md ("Tokens"), and their places.
 
-A token is its spelling: what it is shows in its first character. The tokens are numbered from 0, and
-the number behind the last one is the place of the text's end.
+A token is its spelling, and its first character shows its kind. The tokens are numbered from 0, and the number after
+the last one is the place of the text's end.
 """
 from __future__ import annotations
 
@@ -19,7 +19,7 @@ GREATEST_NUMBER = 9_223_372_036_854_775_807
 
 _TOKEN = (r"[A-Za-z][A-Za-z0-9_]*|0|[1-9][0-9]*" r'|"[ !#-~]*(?:""[ !#-~]*)*"(?!")' r"|\.\.|:=|->|[{}()\[\],;:.?*<+-]")
 _WHOLE_TOKEN = re.compile(_TOKEN)
-# What stands between tokens, and a token, or the whole rest of the text where none begins.
+# The gap between tokens, and a token; or the rest of the text if no token begins there.
 _GAP = r"(?:[\t-\r ]+|//[^\n]*|/\*.*?\*/)*"
 _PIECE = re.compile(f"{_GAP}({_TOKEN}|\\Z|.+)", re.S)
 _PIECE_WITH_GAP = re.compile(f"{_GAP}(?:{_TOKEN}|\\Z|.+)", re.S)
@@ -27,7 +27,7 @@ _PIECE_WITH_GAP = re.compile(f"{_GAP}(?:{_TOKEN}|\\Z|.+)", re.S)
 
 @dataclass(frozen=True)
 class TokenFault:
-    """The first fault of the tokens: its number, where it is, and what it is."""
+    """The first fault of the tokens: its number, its place, and a description."""
 
     number: int
     offset: int
@@ -37,7 +37,7 @@ class TokenFault:
 
 @dataclass(frozen=True)
 class Position:
-    """A line and a column, both from 1, how many characters are meant, and the column in bytes."""
+    """A line and a column, both counted from 1, the length of the meant part in characters, and the column in bytes."""
 
     line: int
     column: int
@@ -50,7 +50,7 @@ class Text:
 
     def __init__(self, data: bytes):
         self.data = data
-        # A byte is a character here, so that the places in it are those in the bytes.
+        # Each byte is one character here, so that places are byte offsets.
         self.letters = data.decode("latin-1")
         self.tokens: list[str] = _PIECE.findall(self.letters)
         while self.tokens and not self.tokens[-1]:
@@ -80,11 +80,11 @@ class Text:
         return None
 
     def spelling(self, place: int) -> str:
-        """The token, and nothing for the end of the text."""
+        """The token; empty at the end of the text."""
         return self.tokens[place] if 0 <= place < len(self.tokens) else ""
 
     def offset(self, place: int) -> int:
-        """Where the token begins, in bytes from 0."""
+        """The offset of the token, in bytes from 0."""
         if self.starts is None:
             ends = accumulate(map(len, _PIECE_WITH_GAP.findall(self.letters)))
             self.starts = [end - len(token) for end, token in zip(ends, self.tokens)]
@@ -92,7 +92,7 @@ class Text:
 
     @functools.cached_property
     def lines(self) -> list[int]:
-        """The line of each token: how many ends of lines stand before it."""
+        """The line of each token, by the number of line ends before it."""
         offsets = [self.offset(place) for place in range(len(self.tokens))]
         between = [self.letters.count("\n", *cut) for cut in zip([0, *offsets], offsets)]
         return [count + 1 for count in accumulate(between)]
@@ -104,23 +104,23 @@ class Text:
         return self.position_of(self.offset(place), len(self.spelling(place)) or 1)
 
     def position_of(self, offset: int, length: int) -> Position:
-        """Columns count characters, so that what a comment holds is counted as an editor does."""
+        """Columns count characters, like in an editor, even after a comment with non-ASCII text."""
         line = self.letters.count("\n", 0, offset) + 1
         begin = self.letters.rfind("\n", 0, offset) + 1
         return Position(line, len(_readable(self.data[begin:offset])) + 1, length, offset - begin + 1)
 
     def shown_line(self, number: int) -> str:
-        """The line as it can be shown: what can't be read in it is replaced."""
+        """The line in a printable form: bytes that can't be decoded are replaced."""
         lines = self.data.split(b"\n", number)
         return _shown(lines[number - 1]) if 0 < number <= len(lines) else ""
 
     def shown_lines(self) -> list[str]:
-        """All lines, so that they can be shown."""
+        """All lines in a printable form."""
         return shown_lines(self.data)
 
 
 def shown_lines(data: bytes) -> list[str]:
-    """The lines of a text, so that they can be shown."""
+    """The lines of a text in a printable form."""
     lines = data.split(b"\n")
     return [_shown(line) for line in (lines if lines[-1] else lines[:-1])]
 

@@ -1,7 +1,7 @@
-"""What the grammar of docs/PROFILE.md makes of a script.
+"""The syntax tree of a script, by the grammar of docs/PROFILE.md.
 
-Each name and each word is kept as the number of its token, so that what is said of it can be shown at
-its place. `start` is the first token of what it stands in.
+Each name and each word is kept as the number of its token, so that messages can show its place. `start` is the first
+token of the whole construct.
 """
 from __future__ import annotations
 
@@ -121,7 +121,7 @@ class End:
 
 @dataclass
 class Pair:
-    """`connect` or `map`, whose word is at the start."""
+    """`connect` or `map`; this word is at the start."""
 
     start: int
     first: End
@@ -151,7 +151,7 @@ class TestCase:
 
 @dataclass
 class Send:
-    """`to` is the word `all` where it goes to all components."""
+    """`to` is the word `all` for a send to all components."""
 
     start: int
     port: int
@@ -247,7 +247,7 @@ def statements_in(statements: Iterable[Statement]) -> Iterator[Statement]:
 
 
 def operations_in(statements: Iterable[Statement]) -> list[Union[Send, Receive, Control]]:
-    """All sends, receiving operations and port operations, those of branches too, in the order of the text."""
+    """All sends, receiving operations and port operations, including those of branches, in the order of the text."""
     inside = [*statements_in(statements)]
     branches = [branch.receive for it in inside if isinstance(it, Alt) for branch in it.branches]
     found = [*branches, *(it for it in inside if isinstance(it, (Send, Receive, Control)))]

@@ -11,7 +11,7 @@ _NO_PATTERN = re.compile(r'[\\\[\]{}()|#+]|""')
 
 
 class ValueReader(Cursor):
-    """Values and templates: `is_template` tells which."""
+    """Reads values and templates: `is_template` tells which."""
 
     def message(self, left: int, is_template: bool) -> Message:
         type_name = self.type_name()
@@ -41,7 +41,7 @@ class ValueReader(Cursor):
         self.refuse(A_VALUE)
 
     def template(self, start: int, token: str, left: int) -> Value:
-        """What a template can be, and a value can't."""
+        """Reads what a template can be and a value can't."""
         if token not in ("?", "*", "(", "complement", "pattern"):
             self.refuse(A_TEMPLATE)
         self.place += 1
@@ -86,14 +86,14 @@ class ValueReader(Cursor):
         return is_number(ahead[0]) and ahead[1] == ".."
 
     def bound(self, *infinite: str) -> int | None:
-        """The place of a bound, or None where it is infinite."""
+        """The place of a bound, or None if it is infinite."""
         if tuple(self.tokens[self.place : self.place + len(infinite)]) == infinite:
             self.place += len(infinite)
             return None
         return self.integer()
 
     def braces(self, start: int, left: int, is_template: bool) -> Value:
-        """What stands behind a `{`."""
+        """Reads the rest after a `{`."""
         if self.has("}"):
             return Value(start, ValueKind.LIST)
         if is_name(self.tokens[self.place]) and self.tokens[self.place + 1] == ":=":

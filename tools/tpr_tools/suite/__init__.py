@@ -1,1 +1,1 @@
-"""Runs many scripts beside each other, and judges what comes of each."""
+"""Runs many scripts in parallel, and judges the results."""

@@ -16,12 +16,12 @@ if TYPE_CHECKING:
     from .pictures import Pictures
 
 
-_ANSWER = 14  # the width of what is said of a schedule
+_ANSWER = 14  # the width of the column about the schedule
 
 
 @dataclass
 class Case:
-    """A script, and the runs of it that are done, by their numbers. It is told of once all are."""
+    """A script, and its finished runs by their numbers. It is reported once all are done."""
 
     script: str
     runs: list[Run] = field(default_factory=list)
@@ -31,7 +31,7 @@ class Case:
         return os.path.basename(self.script).removesuffix(ENDING)
 
     def add(self, run: Run, drop: Callable[[tuple[str, ...]], None]) -> None:
-        """Of runs that printed the same text the first one is kept."""
+        """Adds a run. Among runs with the same output only the first one's files are kept."""
         self.runs.append(run)
         same = sorted((it for it in self.runs if it.digest == run.digest and it.kept), key=lambda it: it.number)
         for other in same[1:]:
@@ -39,11 +39,11 @@ class Case:
             self.runs[self.runs.index(other)] = replace(other, kept=())
 
     def schedule(self) -> Optional[Schedule]:
-        """What was answered of its schedule, if that was asked."""
+        """The answer about the schedule, if there is one."""
         return next((run.schedule for run in self.runs if run.schedule is not None), None)
 
     def pictures(self) -> list[Pictures]:
-        """What a page shows of its runs besides."""
+        """The additional pictures of its runs on a page."""
         return [run.pictures for run in sorted(self.runs, key=lambda run: run.number) if run.pictures is not None]
 
     def is_wanted(self) -> bool:
@@ -54,7 +54,7 @@ class Case:
         return all(run.is_wanted for run in self.runs)
 
     def worst(self) -> Run:
-        """The run that stands for the case: the worst of those that aren't wanted, else of all."""
+        """The run that stands for the case: the worst unexpected one, or else the worst of all."""
         unwanted = [run for run in self.runs if not run.is_wanted]
         return max(unwanted or self.runs, key=lambda run: (RESULTS.index(run.result), -run.number))
 
@@ -65,7 +65,7 @@ class Case:
         return sum(run.judging for run in self.runs)
 
     def counts(self) -> list[str]:
-        """Of several runs, how many came to what, and how many reports differ."""
+        """If the runs differ, how many had each result, and how many different reports there are."""
         told = []
         results = [run.result for run in self.runs]
         if len(set(results)) > 1:
@@ -76,14 +76,14 @@ class Case:
         return told + ([f"{texts} different reports"] if texts > 1 else [])
 
     def reason(self, most: Optional[int] = None) -> str:
-        """What was told of it, and what is kept."""
+        """The reasons of the result, and the file that is kept."""
         worst = self.worst()
         kept = [run for run in self.runs if run.kept and run.digest == worst.digest]
         where = [f"kept: {shown(kept[0].kept[0])}"] if kept and not self.is_wanted() else []
         return "; ".join([*self.told(most), *where])
 
     def told(self, most: Optional[int] = None) -> list[str]:
-        """The counts first, then the reasons, of each of which the end may be cut."""
+        """The counts first, then the reasons, each possibly shortened."""
         reasons = [*self.worst().reasons]
         if (schedule := self.schedule()) is not None and schedule.fault:
             reasons.append(Reason(schedule.fault))
@@ -113,12 +113,12 @@ def _scripts_in(folder: str) -> list[str]:
 
 
 class Table:
-    """A line for each case, with a star where its result, or its answer on the schedule, isn't expected."""
+    """A table with a line for each case, and a star if its result, or its answer about the schedule, isn't expected."""
 
     def __init__(self, scripts: list[str], most: Optional[int], with_schedules: bool = False):
         self.with_schedules = with_schedules
         self.width = max(len("script"), *(len(shown(script)) for script in scripts))
-        self.most = most  # letters of an entry, where it is for a terminal
+        self.most = most  # the number of letters of an entry, on a terminal
 
     def head(self) -> str:
         schedule = f"  {'verdicts':{_ANSWER}}" if self.with_schedules else ""
@@ -137,7 +137,7 @@ def _answer_of(case: Case) -> str:
 
 
 def summary_of(cases: list[Case], all_scripts: int) -> str:
-    """How many there are of each result, the time of the runs, and that of judging them."""
+    """How many cases have each result, the time of the runs, and the time for judging them."""
     results = [case.worst().result for case in cases]
     counts = [f"{results.count(result)} {result}" for result in RESULTS if result in results]
     runs, judging = sum(case.seconds() for case in cases), sum(case.judging() for case in cases)

@@ -1,5 +1,5 @@
-"""What the other tools say of a result that isn't expected, for whoever reads it in a build server: tools/explain of a
-script that is refused, tools/why of a report."""
+"""What other tools say about an unexpected result, for readers of a build server's pages: tools/explain about a refused
+script, tools/why about a report."""
 from __future__ import annotations
 
 from ..command import Stop
@@ -8,7 +8,7 @@ from .runs import Printed
 
 
 def explained(script: str, run: Printed, judged: Judged) -> str:
-    """Its text, nothing where there is nothing to be said. A tool that breaks off leaves the result as it is."""
+    """The text of the other tool; empty if there is nothing to say. If that tool fails, the result stays as it is."""
     try:
         if judged.result == "refused":
             return _refusal(script, run)
@@ -20,7 +20,7 @@ def explained(script: str, run: Printed, judged: Judged) -> str:
 
 
 def _refusal(script: str, run: Printed) -> str:
-    # Brought in here, as below: most suites have nothing to explain.
+    # Imported here, like the modules below, because most suites have nothing to explain.
     from ..explain.explaining import explain
 
     with open(script, "rb") as opened:

@@ -1,4 +1,4 @@
-"""What a run has come to: its result, and which components made it so."""
+"""The result of a run, and which components caused it."""
 from __future__ import annotations
 
 import time
@@ -12,8 +12,8 @@ from ..report.report import Component, Failed, NotAReport, Report, VerdictSet
 from ..words import VERDICTS
 from .runs import Printed, Stopped
 
-# What can come of a run, from the best to the worst: a report with its result, a refusal of the script,
-# a fault of the run, a run that was stopped at the bound, and anything else.
+# The possible results of a run, from the best to the worst: a report with its verdict, a refused script, a fault of the
+# run, a run that was stopped at its time limit, and anything else.
 RESULTS = (*VERDICTS, "refused", "fault", "stopped", "broken")
 
 _MOST_TOLD = 3
@@ -22,13 +22,13 @@ _LONGEST_SAID = 200
 
 @dataclass(frozen=True)
 class Reason:
-    """A part of why a result is what it is, and the entry before it."""
+    """A part of the reason for a result, and the entry before it."""
 
     what: str
     behind: str = ""
 
     def text(self, most: Optional[int] = None) -> str:
-        """The whole, or with so many letters of the entry."""
+        """The whole text, or the text with at most this many letters of the entry."""
         if not self.behind:
             return self.what
         is_cut = most is not None and len(self.behind) > most
@@ -37,12 +37,12 @@ class Reason:
 
 @dataclass(frozen=True)
 class Judged:
-    """What a run came to, and its report if it has one."""
+    """The result of a run, and its report if it has one."""
 
     result: str
     reasons: tuple[Reason, ...]
     report: Optional[Report] = None
-    seconds: float = 0.0  # what the judging took
+    seconds: float = 0.0  # the time for judging
 
 
 def judge(run: Printed) -> Judged:
@@ -71,7 +71,7 @@ def _judge(run: Printed) -> Judged:
 
 
 def _look_for_order(report: Report) -> None:
-    """Where it isn't known whether there is one, nothing is said against the report."""
+    """Checks that the entries have an order. A report for which that isn't known is accepted."""
     try:
         rows_of(deliveries_of(report))
     except NoOrderFound:
@@ -79,19 +79,19 @@ def _look_for_order(report: Report) -> None:
 
 
 def _other(result: str, what: str, run: Printed) -> Judged:
-    """The first line on standard error says more."""
+    """Any other result. The first line on standard error is added to the reason."""
     said = run.said.decode("utf-8", "replace").strip().partition("\n")[0]
     return Judged(result, (Reason(f"{what}, and said: {said[:_LONGEST_SAID]}" if said else what),))
 
 
 def _told_refusal(line: str) -> str:
-    """`10 Syntax, script line 9`: the number is that of a line of the script."""
+    """`10 Syntax, script line 9`: the number belongs to the script, not to the report."""
     what, found, number = line.removeprefix("refused ").partition(" line ")
     return f"{what}, script line {number}" if found else what
 
 
 def reasons_of(report: Report) -> tuple[Reason, ...]:
-    """Which components have made the result what it is, and at which lines of the report."""
+    """Which components caused the result, and at which lines of the report."""
     if report.result in ("none", "pass"):
         return ()
     told = [reason for reason in (_reason(it, report.result) for it in report.components) if reason]
@@ -101,7 +101,7 @@ def reasons_of(report: Report) -> tuple[Reason, ...]:
 
 
 def _reason(component: Component, result: str) -> Optional[Reason]:
-    """What this component has to do with the result."""
+    """What this component did to cause the result, if anything."""
     if result == "error":
         return _error_of(component)
     if component.verdict != result:
@@ -124,5 +124,5 @@ def _error_of(component: Component) -> Optional[Reason]:
 
 
 def _behind(component: Component, place: int, what: str) -> Reason:
-    """With the entry before this place."""
+    """The reason, with the entry before this place."""
     return Reason(what, component.entries[place - 1].line.text if place > 0 else "")

@@ -1,8 +1,8 @@
 """The cases of a suite as JUnit XML, for a build server.
 
-A result that isn't wanted is a failure if it is a verdict of the test case, and so is a verdict that depends on the
-schedule. It is an error if the test case has no verdict: the result error, a script that is refused, a fault. A script
-that wasn't done when the suite ended is skipped.
+An unexpected result is a failure if it is a verdict of the test case, and so is a verdict that depends on the schedule.
+It is an error if the test case has no verdict: the result error, a refused script, a fault. A script that wasn't done
+when the suite ended is skipped.
 """
 from __future__ import annotations
 
@@ -39,7 +39,7 @@ def write_junit(cases: list[Case], began: datetime, file: str) -> None:
 
 
 def alone(name: str, taken: set[str]) -> str:
-    """The name, with a number where there is one like it."""
+    """The name, with a number if the name is taken."""
     alone, number = name, 1
     while alone in taken:
         number += 1
@@ -71,7 +71,7 @@ def _counts(cases: list[Case], name: str) -> dict[str, str]:
 
 
 def _kind(case: Case) -> str:
-    """failure, error, or nothing, as of a case that was skipped."""
+    """failure, error, or nothing, for example for a skipped case."""
     if not case.is_done or case.is_wanted():
         return ""
     schedule = case.schedule()
@@ -109,13 +109,13 @@ def _add_properties(made: xml.Element, values: dict[str, str]) -> None:
 
 
 def _explained(case: Case) -> str:
-    """What the other tools say of it: first of the result, then of the schedule."""
+    """The texts of the other tools, first about the result, then about the schedule."""
     schedule = case.schedule()
     told = [case.worst().explained, schedule.text() if schedule is not None and schedule.fault else ""]
     return "".join(f"\n{readable(piece)}" for piece in told if piece)
 
 
 def _class_name(folder: str) -> str:
-    """The folder as a build server groups by it: its parts with dots between."""
+    """The folder as a build server groups by it: its parts joined by dots."""
     parts = [part for part in readable(folder).split(os.sep) if part not in ("", ".", "..")]
     return ".".join(part.replace(".", "_") for part in parts) or "scripts"

@@ -1,5 +1,5 @@
-"""What a suite keeps: a folder for each script, and in it for each different text the run that printed it
-first, by its number and its result."""
+"""The files that a suite keeps: for each script a folder, with the files of the first run that printed each different
+text, by the run's number and result."""
 from __future__ import annotations
 
 import os
@@ -13,19 +13,19 @@ from ..report.order import NoOrderFound
 from .judging import Judged
 from .runs import Printed
 
-CONNECTIONS, DIVERGING = "connections.svg", "diverging.svg"  # on a page alone
+CONNECTIONS, DIVERGING = "connections.svg", "diverging.svg"  # only for a page
 _OWN = re.compile(rf"run[0-9]+\.[a-z]+\.(report|svg|printed|said)|{CONNECTIONS}|{DIVERGING}")
 
 
 def folders_of(scripts: list[str], folder: str) -> list[str]:
-    """The folder of each script, by its name, below that of all."""
+    """The folder of each script, named after it, below the common folder."""
     paths = [os.path.abspath(script) for script in scripts]
     above = os.path.commonpath([os.path.dirname(path) for path in paths])
     return [os.path.join(folder, os.path.relpath(path, above)) for path in paths]
 
 
 def prepare(folders: list[str]) -> None:
-    """Makes the folders, and takes away what an earlier suite has kept in them."""
+    """Makes the folders, and removes the files that an earlier suite has kept in them."""
     for folder in folders:
         try:
             os.makedirs(folder, exist_ok=True)
@@ -39,7 +39,7 @@ def prepare(folders: list[str]) -> None:
 
 
 def keep(run: Printed, judged: Judged, folder: str, number: int, title: str, marks: Optional[Marks]) -> tuple[str, ...]:
-    """Writes the run's report and its chart, or what was printed in its place, and what was said."""
+    """Writes the run's report and its chart, or what was printed instead, and its standard error."""
     base = os.path.join(folder, f"run{number}.{judged.result}")
     files = {f"{base}.printed" if judged.report is None else f"{base}.report": run.printed}
     if judged.report is not None:
@@ -55,7 +55,7 @@ def keep(run: Printed, judged: Judged, folder: str, number: int, title: str, mar
 
 
 def drop(files: tuple[str, ...]) -> None:
-    """Takes away what was kept of a run that printed the same as an earlier one."""
+    """Removes the files of a run that printed the same as an earlier one."""
     for file in files:
         try:
             os.remove(file)

@@ -1,9 +1,9 @@
-"""A suite as an HTML page, index.html: a row for each script, first those that need attention, and behind each row its
-charts and the reasons of its result.
+"""A suite as an HTML page, index.html: a row for each script, beginning with those that need attention. A row opens to
+show its charts and the reasons of its result.
 
-The charts stay in files of their own, which a browser loads once a row is opened: so the page of many scripts stays
-small, and the style of a chart can't touch that of another one. Everything that comes from a script is escaped, and the
-page runs no code but its own, whatever a script says.
+The charts stay in files of their own, which a browser loads when a row is opened. So the page of many scripts stays
+small, and the style of a chart can't affect another one. Everything that comes from a script is escaped, and the page
+runs only its own code.
 """
 from __future__ import annotations
 
@@ -25,9 +25,10 @@ from .pictures import Lines, in_no_run, in_no_script
 from .workers import Run
 
 _TEMPLATE = Template(os.path.join(os.path.dirname(os.path.realpath(__file__)), "page"))
-# So much of a text is on the page; the files beside it have the whole. An order, a reason in its row, lines, any other.
+# The longest texts on the page: an order, a reason in its row, the number of lines, and any other text. The files
+# beside the page have the whole texts.
 _MOST_OF_AN_ORDER, _MOST_IN_A_ROW, _MOST_LINES, _MOST = 2_000, 400, 200, 20_000
-# What a script came to, in the order of the rows: the word of the style, and what a reader sees.
+# The states of a script, in the order of the rows: the word of the style, and the word for the reader.
 _STATES = {
     "unexpected": "unexpected",
     "schedule": "depends on the schedule",
@@ -38,7 +39,7 @@ _STATES = {
 
 
 class _Row(NamedTuple):
-    """A case, what it came to, and the name by which links find it."""
+    """A case, its state, and its name in links."""
 
     case: Case
     state: str
@@ -46,7 +47,7 @@ class _Row(NamedTuple):
 
 
 class Page:
-    """The file, and what the suite was asked to run."""
+    """The file, and the options of the suite."""
 
     def __init__(self, folder: str, places: list[str]):
         self.folder = folder
@@ -72,7 +73,7 @@ class Page:
         write_file(self.file, _TEMPLATE.filled("page.html", parts))
 
     def about(self, cases: list[Case], began: datetime) -> str:
-        """What was run, when, and how long it took."""
+        """The scripts that were run, the time of the start, and the duration."""
         runs, judging = sum(case.seconds() for case in cases), sum(case.judging() for case in cases)
         places = ", ".join(f"<code>{_text(shown(it))}</code>" for it in self.places)
         return f"{places}, started {began:%Y-%m-%d %H:%M:%S}. The runs took {runs:.3f} s, judging them {judging:.3f} s."
@@ -90,7 +91,7 @@ class Page:
             "time": f"{case.seconds():.3f} s",
             "why": _cut(_reason_of(row), _MOST_IN_A_ROW),
         }
-        # A long name goes on in the next line behind one of its words.
+        # A long name may continue on the next line after one of its words.
         texts = {name: _text(cell).replace("_", "_<wbr>") for name, cell in cells.items() if cell}
         summary = " ".join(f'<span class="{name}">{text}</span>' for name, text in texts.items())
         links = f'<p class="links"><a href="#{quote(row.anchor)}">link to this script</a> <a href="#top">to the top</a></p>'
@@ -102,7 +103,7 @@ class Page:
         )
 
     def parts(self, case: Case) -> Iterable[str]:
-        """Behind the row: first why, then what happened, then how the script is built."""
+        """The contents of an open row: first the reasons, then what happened, then how the script is built."""
         runs = sorted(case.runs, key=lambda run: run.number)
         if case.is_done and not case.is_wanted() and case.worst().explained:
             yield _pre(case.worst().explained)
@@ -119,7 +120,7 @@ class Page:
         yield from (f"<p>Not shown: {_text(told)}</p>" for it in pictured for told in it.failed)
 
     def schedule(self, case: Case, runs: list[Run]) -> Iterable[str]:
-        """The orders, and where the runs diverge; nothing of a verdict that is always the same."""
+        """The orders, and where the runs diverge; nothing for a verdict that is always the same."""
         schedule = case.schedule()
         if schedule is None or not (schedule.orders or schedule.diverging):
             return
@@ -135,7 +136,7 @@ class Page:
             yield f"<p>An order of steps for each verdict:</p>\n{_pre(orders)}"
 
     def run(self, case: Case, run: Run) -> Iterable[str]:
-        """A run that was kept, for all that printed the same."""
+        """A run whose files are kept; it stands for all runs with the same output."""
         same = sum(it.digest == run.digest for it in case.runs)
         of = f", the same in {same} of {counted(len(case.runs), 'run')}" if len(case.runs) > 1 else ""
         yield f"<h2>Run {run.number}: {_text(run.result)}{of}</h2>"
@@ -152,7 +153,7 @@ class Page:
         yield f'<p class="links">{" ".join(links)}</p>'
 
     def figure(self, file: str, told: str) -> str:
-        """A picture that is loaded once its row is open. The link shows it alone, with its texts to be searched."""
+        """A picture that is loaded when its row is opened. The link shows it alone, with texts that can be searched."""
         link = self.link(file)
         image = f'<img loading="lazy" src="{link}" alt="{_text(shown(told))}">'
         return f'<figure><a href="{link}">{image}</a></figure>'
@@ -181,7 +182,7 @@ def _name_of(script: str) -> str:
 
 
 def _anchor_of(script: str) -> str:
-    """The path, which stays the same from one suite to the next, without what the name of a place can't have."""
+    """The path without the characters that an anchor can't have. It stays the same from one suite to the next."""
     return "_".join(readable(_name_of(script)).split())
 
 
@@ -200,7 +201,7 @@ def _title(rows: list[_Row]) -> str:
 
 
 def _choices(rows: list[_Row]) -> Iterable[str]:
-    """How many scripts came to what. Each chooses the rows that are shown."""
+    """How many scripts are in each state. A click on one shows only those rows."""
     states = [row.state for row in rows]
     counts = {"all": counted(len(rows), "script")}
     counts.update({state: f"{states.count(state)} {told}" for state, told in _STATES.items() if state in states})
@@ -213,13 +214,13 @@ def _choices(rows: list[_Row]) -> Iterable[str]:
 
 
 def _lines_of(case: Case) -> Optional[Lines]:
-    """Its lines, with what none of its runs reached; None where there is no report."""
+    """The lines of a script, with those parts that none of its runs reached; None if there is no report."""
     lines = [it.unreached for it in case.pictures() if it.unreached is not None]
     return in_no_run(lines) if lines else None
 
 
 def _sources(cases: list[Case]) -> Iterable[str]:
-    """Of each file that several scripts come from the lines that none of them reached."""
+    """For each file that several scripts come from, the lines that none of them reached."""
     known = ((case.pictures()[0].files, lines) for case in cases if (lines := _lines_of(case)) is not None)
     for file, (number, lines) in in_no_script(known).items():
         never = sum(bool(it.never) for it in lines.values())
@@ -252,7 +253,7 @@ def _cut(text: str, most: int = _MOST) -> str:
 
 
 def _pre(text: str) -> str:
-    # A line feed that follows the tag isn't shown, so that a text may begin with one of its own.
+    # A browser doesn't show a line feed directly after the tag, and so the text may begin with one of its own.
     return f"<pre>\n{_text(_cut(text))}</pre>"
 
 
@@ -261,5 +262,5 @@ def _text(text: str) -> str:
 
 
 def _digest(part: str) -> str:
-    """By which a browser knows the page's own style and code."""
+    """A hash by which a browser recognises the page's own style and code."""
     return f"sha256-{base64.b64encode(hashlib.sha256(part.encode()).digest()).decode()}"

@@ -1,5 +1,5 @@
-"""What a page shows of a script besides its charts: its connections, the runs that diverge, and the lines that no run
-reached. It is made where the script is run, and only files and these lines go on from there."""
+"""The additional contents of a script on a page: its connections, the runs that diverge, and the lines that no run
+reached. They are made by the process that runs the script, which passes on only files and these lines."""
 from __future__ import annotations
 
 import os
@@ -38,7 +38,7 @@ class Unreached(NamedTuple):
         return self.never == self.statements
 
     def and_in(self, other: Unreached) -> Unreached:
-        """The same line as it was written into another script."""
+        """The same line, combined with its copy in another script."""
         statements, reached = self.statements | other.statements, self.reached() | other.reached()
         return Unreached(self.text or other.text, statements, statements - reached)
 
@@ -46,24 +46,24 @@ class Unreached(NamedTuple):
         return self.statements - self.never
 
 
-# Of a script that comes from other files all lines are known, and else those of which a part was never reached.
+# If the script comes from other files, all lines; otherwise only the lines that weren't completely reached.
 Lines = dict[Line, Unreached]
 
 
 @dataclass
 class Pictures:
-    """Of a run: the lines that it left out, or None where there is no report; what was drawn; and what failed."""
+    """The lines that a run didn't reach (None if there is no report), what was drawn, and what failed."""
 
     unreached: Optional[Lines] = None
     files: tuple[str, ...] = ()  # that the script comes from
     connections: bool = False
     diverging: bool = False
-    where: str = ""  # the runs diverge, in words
+    where: str = ""  # where the runs diverge, as a text
     failed: list[str] = field(default_factory=list)
 
 
 def in_no_run(runs: Iterable[Lines]) -> Lines:
-    """The lines of a script, with what each of the runs left out."""
+    """The lines of a script, with what none of the runs reached."""
     first, *others = runs
     for lines in others:
         first = {line: it._replace(never=it.never & lines[line].never) for line, it in first.items() if line in lines}
@@ -71,7 +71,7 @@ def in_no_run(runs: Iterable[Lines]) -> Lines:
 
 
 def in_no_script(scripts: Iterable[tuple[tuple[str, ...], Lines]]) -> dict[str, tuple[int, Lines]]:
-    """By the files that scripts come from, from how many scripts that is known, and the lines, with what none of these
+    """For each file that scripts come from: how many scripts have lines of it, and its lines, with what none of these
     scripts reached."""
     found: dict[str, tuple[int, Lines]] = {}
     for files, lines in scripts:
@@ -85,7 +85,7 @@ def in_no_script(scripts: Iterable[tuple[tuple[str, ...], Lines]]) -> dict[str, 
 
 
 class Drawer:
-    """Draws what there is of a run. What breaks off leaves the result as it is, and is reported on the page."""
+    """Draws the pictures for a run. A failure leaves the result as it is, and is shown on the page."""
 
     def __init__(self, script: str, folder: str):
         self.script = script
@@ -132,7 +132,7 @@ class Drawer:
             self.pictures.connections = True
 
     def draw_diverging(self, answer: Answer) -> None:
-        """The runs that are drawn are runs of the script too: a line that one of them reaches is reached."""
+        """Draws where runs diverge. These runs count as runs of the script: the lines that they reach are reached."""
         origins = origins_of(self.script)
         exploration = Exploration(forced_script(read_bytes(self.script)), answer, origins)
         self.pictures.failed += exploration.faults()

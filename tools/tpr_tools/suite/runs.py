@@ -1,4 +1,4 @@
-"""Runs one command on a script in a process of its own, within a bound of time and of what it prints."""
+"""Runs one command on a script in a process of its own, with limits on time and output."""
 from __future__ import annotations
 
 import os
@@ -26,7 +26,7 @@ class Stopped(Enum):
 
 @dataclass(frozen=True)
 class Printed:
-    """What came of a process: its status, or why it was stopped, in words too."""
+    """The result of a process: its status, or why it was stopped, also as a text."""
 
     status: Optional[int]
     stopped: Optional[Stopped]
@@ -37,15 +37,15 @@ class Printed:
 
 
 def program_of(named: str) -> str:
-    """The path of a program: a word without a slash is looked for on PATH, and then in the current folder."""
+    """The path of a program. A word without a slash is searched on PATH, and then in the current folder."""
     found = None if os.sep in named else shutil.which(named)
     return os.path.abspath(found or named)
 
 
 def built(program: str, root: str) -> str:
-    """The program, built before the first clock starts: a repository's ./tpr is given up for the program
-    that its ./build builds, since without one it would compile all sources for each script. What was
-    released has the program itself there, and no ./build."""
+    """The program, built before the first clock starts. For ./tpr of a repository, returns the program that ./build
+    makes, because ./tpr would otherwise compile all sources for each script. A release has the program itself there,
+    and no ./build."""
     if os.path.exists(f"{root}/build") and _is_same(program, f"{root}/tpr"):
         build_if_wanted(root)
         program = f"{root}/crates/tpr/out/tpr"
@@ -67,7 +67,7 @@ def _is_same(file: str, other: str) -> bool:
 
 
 class Runner:
-    """Runs the program, or a tool that asks it, one script at a time."""
+    """Runs the program, or a tool that calls it, on one script at a time."""
 
     def __init__(self, program: str, bound: float, megabytes: int):
         self.program = program
@@ -80,7 +80,7 @@ class Runner:
         return self.ended(self.program, "run", script)
 
     def ended(self, *words: str, variables: Optional[Mapping[str, str]] = None) -> Printed:
-        """What comes of a command, within the bounds."""
+        """The result of a command, within the limits."""
         began = time.monotonic()
         process = self.start(words, variables)
         reading = _Reading(process, began + self.bound, self.megabytes * _MEGABYTE)
@@ -97,7 +97,7 @@ class Runner:
             self.process = None
 
     def end_of(self, process: subprocess.Popen[bytes], until: float) -> tuple[Optional[Stopped], Optional[int]]:
-        """The status of a process that has closed what it prints."""
+        """The status of a process that has closed its output."""
         try:
             return None, process.wait(max(until - time.monotonic(), 0.01))
         except subprocess.TimeoutExpired:
@@ -114,7 +114,7 @@ class Runner:
         return f"not done within {self.bound:g} seconds"
 
     def start(self, words: Sequence[str], variables: Optional[Mapping[str, str]]) -> subprocess.Popen[bytes]:
-        """Each in a group of its own, so that all that it has started can be stopped."""
+        """Starts a process in a group of its own, so that all its children can be stopped too."""
         try:
             self.process = subprocess.Popen(
                 words,
@@ -131,14 +131,14 @@ class Runner:
         return self.process
 
     def stop(self) -> None:
-        """Stops the run, and lets none begin."""
+        """Stops the current run, and prevents new ones."""
         self.stopping = True
         if self.process is not None:
             kill_session(self.process)
 
 
 class _Reading:
-    """What a process prints and says, read as it comes."""
+    """The standard output and standard error of a process, read while it runs."""
 
     def __init__(self, process: subprocess.Popen[bytes], until: float, most: int):
         self.process = process
@@ -150,7 +150,7 @@ class _Reading:
         self.size = 0
 
     def read(self) -> Optional[Stopped]:
-        """Up to the end of both; else why not."""
+        """Reads both to their ends. If that isn't possible, returns why."""
         with selectors.DefaultSelector() as selector:
             for pipe in self.pipes:
                 selector.register(pipe, selectors.EVENT_READ)

@@ -1,5 +1,5 @@
-"""Whether the verdict of a script depends on the schedule, as `tpr verdicts` proves it, and where the runs diverge, in
-the words of tools/explore."""
+"""Whether the verdict of a script depends on the schedule, by the proof of `tpr verdicts`, and where the runs diverge,
+in the words of tools/explore."""
 from __future__ import annotations
 
 import os
@@ -13,14 +13,14 @@ from .wanted import Wanted
 
 _DIVERGE = "Where the runs diverge "
 _FAULT = "a fault in tpr or its tools"
-# The statuses of tools/explore with which it has an answer.
+# The statuses of tools/explore that come with an answer.
 _ONE_VERDICT, _SEVERAL, _UNDECIDED = 0, 5, 6
 
 
 @dataclass(frozen=True)
 class Asked:
-    """What is asked of each script: the program's proof, tools/explore by its path; and whether no answer but `always`
-    is expected."""
+    """What is checked for each script: `tpr verdicts`; tools/explore, by its path; and whether `always` is the only
+    expected answer."""
 
     verdicts: bool = False
     explore: Optional[str] = None
@@ -32,12 +32,12 @@ class Asked:
 
 @dataclass(frozen=True)
 class Schedule:
-    """What was answered."""
+    """The answer about a script."""
 
     answer: str  # the first line: `always pass`, `pass or fail`, `undecided`
-    orders: str = ""  # of each verdict the components by whose steps the model reaches it
+    orders: str = ""  # for each verdict, the components by whose steps the model reaches it
     explored: str = ""  # the first line of tools/explore
-    diverging: str = ""  # and what it says of where the runs diverge
+    diverging: str = ""  # its text about where the runs diverge
     fault: str = ""  # why this isn't as expected
     is_broken: bool = False  # there is no answer
     proved: Optional[Answer] = None  # what `tpr verdicts` answered
@@ -46,12 +46,12 @@ class Schedule:
         return " or " in self.answer
 
     def text(self) -> str:
-        """What is said of an answer that isn't as expected, behind its fault."""
+        """The text about an unexpected answer, after its fault."""
         return "".join(f"{piece}\n" for piece in (self.orders, self.diverging) if piece)
 
 
 def schedule_of(runner: Runner, script: str, asked: Asked, wanted: Wanted) -> Schedule:
-    """What is answered of a script that isn't refused."""
+    """The answer about a script that isn't refused."""
     schedule = _by_the_program(runner, script) if asked.verdicts else Schedule("")
     if asked.explore is not None and not schedule.is_broken:
         schedule = _explored(runner, script, asked.explore, schedule)
@@ -61,7 +61,7 @@ def schedule_of(runner: Runner, script: str, asked: Asked, wanted: Wanted) -> Sc
 
 
 def _fault_of(schedule: Schedule, asked: Asked, wanted: Wanted) -> str:
-    """Why the answer isn't as expected. Beside a script a known answer can stand."""
+    """Why the answer isn't as expected. A file beside the script may have the expected answer."""
     if wanted.answers:
         return "" if schedule.answer in wanted.answers else f"{schedule.answer} isn't the expected answer"
     if schedule.depends():
@@ -92,8 +92,8 @@ def _explored(runner: Runner, script: str, explore: str, schedule: Schedule) -> 
 
 
 def _broken(what: str, ended: Printed) -> Schedule:
-    """It broke off, which its last line on standard error says best, as that of a traceback does; or it found a fault,
-    and printed that."""
+    """A failure. If the command broke off, the last line on standard error says why, like that of a traceback; if it
+    found a fault, it has printed that."""
     said = ended.said.decode("utf-8", "replace").strip().rpartition("\n")[2]
     lines = ended.printed.decode("utf-8", "replace").splitlines()
     printed = next((line for line in lines if _FAULT in line), lines[0] if lines else "")

@@ -2,7 +2,7 @@
 
 `NAME.wanted` has the results that are expected of `NAME.ttcn`, a line for each: a result, or the whole line of a
 refusal. A line such as `pass or fail` is the expected answer of `tpr verdicts`, and its verdicts are expected results.
-If there is no such file but `NAME.expected` or `NAME.expected.N`, what is printed must be one of these texts.
+If there is no such file, but `NAME.expected` or `NAME.expected.N`, the output must be one of these texts.
 """
 from __future__ import annotations
 
@@ -15,13 +15,13 @@ from ..command import REFUSED, Stop, read_bytes
 from ..words import VERDICTS, counted
 
 CAN_BE_WANTED = (*VERDICTS, "refused")
-ALWAYS = "always"  # can be wanted on the command line besides: a verdict that doesn't depend on the schedule
+ALWAYS = "always"  # also allowed on the command line: a verdict that doesn't depend on the schedule
 ENDING = ".ttcn"
 
 
 @dataclass(frozen=True)
 class Wanted:
-    """The results that are wanted, and of refusals whole lines; or texts, of which one must be printed."""
+    """The expected results, and whole lines for refusals; or texts, of which one must be printed."""
 
     results: frozenset[str]
     lines: frozenset[str] = frozenset()
@@ -29,9 +29,9 @@ class Wanted:
     answers: frozenset[str] = frozenset()  # of `tpr verdicts`
 
     def fault(self, result: str, printed: bytes) -> Optional[str]:
-        """Why what came isn't wanted, or nothing. It is empty where the result says it."""
+        """Why the output isn't expected, or None if it is. The text is empty if the result itself says why."""
         if self.texts:
-            # A program that breaks off may have printed all that is wanted before.
+            # A program that breaks off may have printed everything expected before.
             return _difference(printed, self.texts) if result in CAN_BE_WANTED else ""
         if result in self.results:
             return None
@@ -67,14 +67,14 @@ def _read(file: str) -> Wanted:
 
 
 def _verdicts_of(line: str) -> Sequence[str]:
-    """The verdicts of an answer of `tpr verdicts` as it stands in its first line; none where it is no such line."""
+    """The verdicts in the first line of an answer of `tpr verdicts`; none if the line has another form."""
     verdicts = line.removeprefix("always ").split(" or ")
     is_answer = line.startswith("always ") == (len(verdicts) == 1) and all(it in VERDICTS for it in verdicts)
     return verdicts if is_answer else ()
 
 
 def _difference(printed: bytes, files: tuple[str, ...]) -> Optional[str]:
-    """Nothing where one of the files has what was printed; else where it leaves the nearest of them."""
+    """None if one of the files equals the output; otherwise where the output first differs from the nearest one."""
     best, told = -1, ""
     ours = printed.split(b"\n")
     for file in files:

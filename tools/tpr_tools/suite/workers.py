@@ -1,7 +1,7 @@
 """The processes in which a suite runs and judges its scripts: each does one run at a time.
 
-What comes back of a run is little: its report stays in the process, and is written or sent only where that
-was asked for.
+A process returns little about a run: the report stays in the process, and is written or sent only if that was asked
+for.
 """
 from __future__ import annotations
 
@@ -30,22 +30,22 @@ _CUT_WANTED, _CUT_UNWANTED = 2_000, 1_000_000
 
 @dataclass(frozen=True)
 class Task:
-    """A run that is to be done: of which script, the how manieth of it, and what is wanted."""
+    """A run to do: its script, its number among the script's runs, and what is expected."""
 
     script: int
     path: str
     number: int
     wanted: Wanted
-    folder: Optional[str]  # where its report is kept
+    folder: Optional[str]  # in which its report is kept
     title: str
-    known: frozenset[str]  # the texts of its runs that are done
-    asked: Asked  # of its schedule, once for all runs
+    known: frozenset[str]  # the outputs of the script's finished runs
+    asked: Asked  # about the schedule, once for all runs
     on_page: bool  # whether a page shows it
 
 
 @dataclass(frozen=True)
 class Run:
-    """What a run came to."""
+    """The result of a run."""
 
     script: int
     number: int
@@ -64,7 +64,7 @@ class Run:
 
 
 class Workers:
-    """So many processes. Each is asked for one run, and for the next once it has answered."""
+    """The processes, `jobs` of them. Each gets one run, and the next one after it has answered."""
 
     def __init__(self, jobs: int, runner: Runner, with_texts: bool):
         context = multiprocessing.get_context("fork")
@@ -81,7 +81,7 @@ class Workers:
             self.processes.append(process)
 
     def results(self, tasks: Iterator[Task]) -> Iterator[Run]:
-        """What comes of the tasks, as it comes. Each is asked for only when it can begin."""
+        """The results of the tasks, as they are finished. A task is requested only when it can begin."""
         task = next(tasks, None)
         while task or self.busy:
             while task and self.idle:
@@ -105,7 +105,7 @@ class Workers:
         return answer
 
     def end(self) -> None:
-        """Ends the processes, and what they run."""
+        """Ends the processes, and the programs that they run."""
         for process in self.processes:
             process.terminate()
         for process in self.processes:
@@ -113,14 +113,14 @@ class Workers:
 
 
 def _work(connection: Connection, runner: Runner, with_texts: bool, others: list[Connection]) -> None:
-    """What each process does, until nobody asks it any more."""
+    """The work of each process, until no further run is requested."""
 
     def end(*_: object) -> None:
         runner.stop()
         os._exit(0)
 
     signal.signal(signal.SIGTERM, end)
-    # Ctrl-C comes to all processes of a terminal: the first of them ends the others.
+    # Ctrl-C reaches all processes of a terminal, so only the main process handles it and ends the others.
     signal.signal(signal.SIGINT, lambda *_: None)
     for other in others:
         other.close()
@@ -167,8 +167,8 @@ def _do(task: Task, runner: Runner, with_texts: bool) -> Run:
 def _pictures(
     task: Task, folder: str, judged: Judged, schedule: Optional[Schedule]
 ) -> tuple[Pictures, Optional[Marks]]:
-    """What a page shows besides, and the marks of the chart."""
-    # Brought in here: it brings all that draws and explores with it, and most suites have no page.
+    """The additional pictures for a page, and the marks for the chart."""
+    # Imported here, because it imports all modules that draw and explore, and most suites have no page.
     from .pictures import Drawer
 
     drawer = Drawer(task.path, folder)
@@ -177,7 +177,7 @@ def _pictures(
 
 
 def _text(data: bytes, most: int) -> str:
-    """As much of the text as is asked for, with a note where it is cut."""
+    """At most this many characters of the text, with a note if it is cut."""
     text = data[: most * 2].decode("utf-8", "replace")
     if len(text) <= most or most == 0:
         return text if most else ""

@@ -1,12 +1,12 @@
-"""What an entry of Titan's log says of ports and messages.
+"""What an entry of Titan's log says about ports and messages.
 
     Port p was started.                                           an operation: started, stopped, halted, cleared
     Port p has accepted the connection from x(3):q.               p leads to q of x(3), until
     Port p was disconnected from x(3):q.
-    Sent on p to x(3) integer : 1                                 a sending, but where at once there follows
+    Sent on p to x(3) integer : 1                                 a send, unless the next entry is
     Dynamic test case error: Sending data on the connection of port p to 3:q failed. (Broken pipe)
     Message enqueued on p from x(3) integer : 1 id 4              an arrival, and its name on this port
-    Receive operation on port p succeeded, .. id 4                the next extraction of 4 is by a receive
+    Receive operation on port p succeeded, .. id 4                the next extraction of 4 is due to a receive
     Message with id 4 was extracted from the queue of p.          it is no longer queued
 """
 from __future__ import annotations
@@ -25,7 +25,7 @@ class Operation(NamedTuple):
 
 
 class Joined(NamedTuple):
-    """The port leads to this port of this component; None stands for the component itself."""
+    """The port is connected with this port of this component; None stands for the component itself."""
 
     port: str
     far_port: str
@@ -33,7 +33,7 @@ class Joined(NamedTuple):
 
 
 class Parted(NamedTuple):
-    """It leads there no more."""
+    """The connection has ended."""
 
     port: str
     far_port: str
@@ -41,14 +41,14 @@ class Parted(NamedTuple):
 
 
 class Sent(NamedTuple):
-    """A sending: `rest` is the receiver and the message, which only the connections tell apart."""
+    """A send: `rest` is the receiver and the message, which can only be separated by means of the connections."""
 
     port: str
     rest: str
 
 
 class Failed(NamedTuple):
-    """The sending before it on this port, which Titan writes first, was none."""
+    """The send before it on this port, which Titan logs first, has failed."""
 
     port: str
 
@@ -80,14 +80,14 @@ Event = Union[Operation, Joined, Parted, Sent, Failed, Enqueued, Succeeded, Extr
 
 
 class Unknown(Exception):
-    """The entry is of a port, and of no form that is known."""
+    """The entry is about a port, and has no known form."""
 
 
 _P = r"([^ ]+)"
 _FAILED = re.compile(rf"(?:.+: )?Dynamic test case error: Sending data on the connection of port {_P} to .+ failed\..*")
 _PORT, _ENDS = r"(?P<port>[^ ]+)", r"(?P<component>.+):(?P<far_port>[^ :]+)"
 _LOCALLY = r"local port (?P<far_port>[^ ]+)\."
-# What an entry of each form is: the names in the form are those of the event.
+# The event for each form: the names in the form are the fields of the event.
 _FORMS: tuple[tuple[type[Event], str], ...] = (
     (Operation, rf"Port {_PORT} was (?P<word>started|stopped|halted|cleared)\."),
     (Joined, rf"Port {_PORT} has established the connection with {_LOCALLY}"),
@@ -104,7 +104,7 @@ _FORMS: tuple[tuple[type[Event], str], ...] = (
 )
 _COMPILED = [(kind, re.compile(form)) for kind, form in _FORMS]
 
-# Of a port, and nothing that a trace says.
+# Entries about ports without anything that belongs into a trace.
 _OF_NO_USE = re.compile(
     rf"Port {_P} is waiting for connection from .+"
     rf"|Connection of port {_P} to .+ was (?:closed unexpectedly|reset) by the peer\."
@@ -115,7 +115,8 @@ _OF_NO_USE = re.compile(
     rf"|The message finally was sent on port {_P} to .+"
 )
 
-# How an entry begins that a trace may lack where it isn't read. Where kinds are written, all of PORTEVENT are these.
+# The beginnings of entries without which a trace would be incomplete. If kinds are logged, these are all entries of the
+# kind PORTEVENT.
 _OF_A_PORT = re.compile(
     r"(?:Sent|Called|Replied|Raised) on |(?:Message|Call|Reply|Exception) enqueued on |(?:Message|Operation) with id "
     r"|Port [^ ]+ (?:was|has) |Removing unterminated |[A-Z][a-z-]+ operation on port [^ ]+ succeeded"
@@ -123,7 +124,7 @@ _OF_A_PORT = re.compile(
 
 
 def event_of(entry: Entry) -> Optional[Event]:
-    """What the entry says of ports, None where that is nothing."""
+    """What the entry says about ports, or None if it says nothing."""
     if entry.kind in (None, "ERROR") and (found := _FAILED.fullmatch(entry.text)):
         return Failed(found[1])
     is_of_a_port = entry.kind == "PORTEVENT" if entry.kind else _OF_A_PORT.match(entry.text) is not None

@@ -1,8 +1,8 @@
-"""Reads a log of Eclipse Titan's as its entries: whose log it is, and the text of each entry.
+"""Reads a log of Eclipse Titan: the component that it belongs to, and the text of each entry.
 
-An entry begins with a time stamp, and goes on over all lines without one. What stands between the stamp and the text,
-the kind of event and the place in the source, is written in every entry or in none; the first entry, which is always
-of the same form, shows which.
+An entry begins with a time stamp, and continues over all lines without one. The parts between the stamp and the text,
+the kind of event and the place in the source, are in every entry or in none. The first entry, which always has the same
+form, shows which.
 """
 from __future__ import annotations
 
@@ -22,7 +22,7 @@ _FIRST = re.compile(
 )
 _REFERENCE = re.compile(r"\. Component reference: (.+?), component type: ")
 _KIND = re.compile(r"([A-Z]+)(?:_[A-Z0-9]+)* ")
-# A place, or several of them joined by `->`; `-` where there is none.
+# A place, or several of them joined by `->`; `-` if there is none.
 _SOURCE = re.compile(r"(?:-|[^ ]+:[0-9]+(?:\([a-z]+:[^ ()]+\))?) ")
 _ENDS = re.compile(r"TTCN-3 Parallel Test Component finished\.|Test case [^ ]+ finished\. Verdict: .*", re.DOTALL)
 _MASK = re.compile(r"TTCN Logger .* options: .*FileMask:=([^;]*).*", re.DOTALL)
@@ -38,8 +38,8 @@ class NotALog(Exception):
 
 
 class Entry(NamedTuple):
-    """The number of the entry's first line, its kind if kinds are written, and its text, the lines of which are joined
-    by one space each."""
+    """The number of the entry's first line, its kind if kinds are logged, and its text, whose lines are joined by a
+    single space."""
 
     line: int
     kind: Optional[str]
@@ -63,19 +63,19 @@ class Log:
     last_line: int
 
     def check_mask(self) -> None:
-        """Adds what is to be said where Titan was told not to log all events of ports."""
+        """Adds a trouble if Titan was told not to log all events of ports."""
         for entry in self.entries:
             found = _MASK.fullmatch(entry.text)
             if found and not {"LOG_ALL", "PORTEVENT"} & set(found[1].split(" | ")):
                 self.troubles.append(Trouble(entry.line, f"not all events of ports are logged: FileMask := {found[1]}"))
 
     def cases(self) -> list[str]:
-        """The test cases that it is of, in its order: mtc's own, or the one in which another component was made."""
+        """The test cases in the log, in order: those that mtc executed, or the one that created another component."""
         form = _CASE if self.name == "mtc" else _CASE_AROUND
         return [found[1] for entry in self.entries if (found := form.fullmatch(entry.text))]
 
     def of_case(self, case: str) -> Log:
-        """What of mtc's log is of this test case, which was executed once."""
+        """The part of mtc's log for this test case, which was executed once."""
         starts = [place for place, entry in enumerate(self.entries) if _CASE.fullmatch(entry.text)]
         first = starts[self.cases().index(case)]
         behind = next((place for place in starts if place > first), len(self.entries))
@@ -85,14 +85,14 @@ class Log:
         return Log(self.name, self.entries[first:behind], troubles, last_line)
 
     def check_end(self) -> None:
-        """Adds what is to be said where the log stops before its component or its test case does."""
+        """Adds a trouble if the log stops before its component or its test case does."""
         if not any(_ENDS.fullmatch(entry.text) for entry in self.entries):
             reason = f"the log of {self.name} ends here, before its component or its test case did"
             self.troubles.append(Trouble(self.last_line, reason))
 
 
 def read_log(text: str) -> Optional[Log]:
-    """The log; None where it is that of a host controller, which is no component."""
+    """The log; None for the log of a host controller, which isn't a component."""
     raw, cut = _raw_entries(text)
     first = _FIRST.fullmatch(raw[0].text)
     if first is None:
@@ -115,7 +115,7 @@ def short(text: str) -> str:
 
 
 def _raw_entries(text: str) -> tuple[list[Entry], Optional[Trouble]]:
-    """The entries with all that stands behind the time stamp, and where the last one is cut off."""
+    """The entries with everything after the time stamp, and the place where the last one is cut off."""
     lines = text.split("\n")
     stamp = next((stamp for stamp in _STAMPS if stamp.match(lines[0])), None)
     if stamp is None:
@@ -145,7 +145,7 @@ def _name(first: re.Match[str]) -> str:
 
 
 def _add(log: Log, raw: Entry, first: re.Match[str]) -> None:
-    """Adds the entry without what stands before its text."""
+    """Adds the entry without the parts before its text."""
     kind, text = None, raw.text
     if first["kind"]:
         found = _KIND.match(text)

@@ -1,9 +1,8 @@
 """The class of a port type for Eclipse Titan 8.2 that keeps its messages in the queue of libtp_port.a.
 
-Titan writes a class `TYPE_BASE` for a port type that isn't `internal`, and leaves `TYPE` to its user. What the class
-does with a message, whatever its type, is written there. So `TYPE` only shows it the top message, as if nothing else
-were queued, and looks whether it took that out. The parameters of each operation are read from the header that Titan
-wrote.
+Titan writes a class `TYPE_BASE` for a port type that isn't `internal`, and leaves `TYPE` to its user. `TYPE_BASE`
+handles messages of all types. So `TYPE` only shows it the top message, as if nothing else were queued, and checks
+whether it was removed. The parameters of each operation are read from the header that Titan wrote.
 """
 from __future__ import annotations
 
@@ -13,7 +12,7 @@ from typing import NamedTuple
 
 from ..template import Template
 
-# The text of the class, and of each of its operations and sendings.
+# The text of the class, and of each of its operations and sends.
 _TEMPLATE = Template(os.path.join(os.path.dirname(os.path.realpath(__file__)), "port"))
 OPERATIONS = ("receive", "check_receive", "trigger")
 _PROCEDURES = re.compile(r"^alt_status (?:check_)?(?:getcall|getreply|get_exception|catch)\(", re.M)
@@ -28,7 +27,7 @@ class NoPort(Exception):
 
 
 class Operation(NamedTuple):
-    """A receiving operation for one type of messages, or for any: its name, its parameters, and their names."""
+    """A receiving operation for one type of messages, or for any: its name, its parameters, and the names of these."""
 
     name: str
     parameters: tuple[str, ...]
@@ -38,7 +37,7 @@ class Operation(NamedTuple):
 
 
 def port_class(port_type: str, header: str, file: str) -> str:
-    """The text of TYPE.hh for the port type, of the header that Titan wrote of its module."""
+    """The text of TYPE.hh for the port type, from the header that Titan wrote for its module."""
     name = port_type.replace("_", "__")
     body = _body_of(name, port_type, header, file)
     space = re.search(r"^namespace (\w+) \{", header, re.M)

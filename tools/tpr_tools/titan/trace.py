@@ -1,8 +1,8 @@
 """Makes one trace (docs/TRACES.md) of the logs that Titan wrote of one test case.
 
-A log says on which port a message was sent, and to which component; which of its ports that is, the connections say,
-in the order in which they were made. It numbers no sending: an arrival gets the number of the first sending of its
-route, not yet used, with the same message, and where there is none a number that no sending has.
+A log says on which port a message was sent, and to which component; the receiver's port follows from the connections
+that were made until then. A log doesn't number sends. An arrival gets the number of the first unused send on its route
+with the same message; if there is none, a number that no send has.
 """
 from __future__ import annotations
 
@@ -19,8 +19,8 @@ _NO_WORD = re.compile("[^!-~]")
 
 
 class Message(NamedTuple):
-    """A line with a message: `sent`, `came`, `took`, `found` or `dropped`. The component is the receiver of what was
-    sent, else the sender; `arrival` is the place of the line `came` in its section."""
+    """A line with a message: `sent`, `came`, `took`, `found` or `dropped`. The component is the receiver of a `sent`,
+    and otherwise the sender; `arrival` is the place of the line `came` in its section."""
 
     word: str
     component: str
@@ -30,12 +30,12 @@ class Message(NamedTuple):
 
 
 class Cannot(Exception):
-    """The entry was read, and what it speaks of isn't known."""
+    """The entry was read, but something that it refers to isn't known."""
 
 
 @dataclass
 class Section:
-    """What one component did, and what of it must be known to read on."""
+    """The actions of one component, and the state that is needed to read further entries."""
 
     name: str
     lines: list[Message | Operation] = field(default_factory=list)
@@ -48,7 +48,7 @@ class Section:
     gone: list[tuple[str, int]] = field(default_factory=list)
 
     def read(self, entry: Entry) -> None:
-        """Adds what the entry says."""
+        """Adds the event of the entry."""
         try:
             event = event_of(entry)
             self._settle_gone(event)
@@ -61,8 +61,8 @@ class Section:
             self.troubles.append(Trouble(entry.line, f"{cannot}: {short(entry.text)}"))
 
     def _settle_gone(self, event: Optional[Event]) -> None:
-        """What was extracted, and by no operation that succeeded, was discarded by the clear, start or stop that
-        follows at once, or else by a trigger. Where the log ends there, it isn't known by which."""
+        """Handles messages that were extracted without a successful operation. They were discarded by the clear, start
+        or stop that follows at once, or else by a trigger. If the log ends there, it isn't known by which."""
         if isinstance(event, Extracted) or not self.gone:
             return
         emptied = event.port if isinstance(event, Operation) and event.word != "halted" else None
@@ -94,8 +94,8 @@ class Section:
             self._extract(event)
 
     def _parted(self, port: str, rest: str) -> tuple[str, str]:
-        """The component and the message: a name may have spaces, so it is looked for among those that the port has
-        been connected with. What stands in brackets behind `system` is an address, which is left with the message."""
+        """Separates the component from the message. A name may have spaces, so it is searched among those that the port
+        has been connected with. The brackets after `system` contain an address, which stays with the message."""
         if rest.startswith("system(") and "system" in self.partners.get(port, ()):
             return "system", rest[len("system") :]
         found = [name for name in self.partners.get(port, ()) if rest.startswith(f"{name} ")]
@@ -145,7 +145,7 @@ class Section:
 
 
 def section_of(log: Log) -> Section:
-    """What the component of the log did."""
+    """The section of the component that the log belongs to."""
     section = Section(log.name)
     for entry in log.entries:
         section.read(entry)
@@ -154,7 +154,7 @@ def section_of(log: Log) -> Section:
 
 
 class _Numbers:
-    """The numbers of what was sent and what came, route by route: sender, receiver, port of the receiver."""
+    """The numbers of sends and arrivals on each route: sender, receiver, port of the receiver."""
 
     def __init__(self, sections: list[Section]):
         self.sent: dict[tuple[str, str, str], int] = {}
@@ -169,7 +169,7 @@ class _Numbers:
         return number
 
     def of_arrival(self, route: tuple[str, str, str], text: str) -> int:
-        """Of a sender without a log, what comes is numbered as it comes."""
+        """The number of an arrival. Messages of a sender without a log are numbered in their order of arrival."""
         same = self.unused.get((*route, text))
         if same:
             return same.popleft()
@@ -192,7 +192,7 @@ def _place(name: str) -> tuple[int, str]:
 
 
 def _numbers_of_sendings(section: Section, numbers: _Numbers) -> dict[int, int]:
-    """By the places of the sendings in the section."""
+    """The number of each send, by its place in the section."""
     found = {}
     for place, line in enumerate(section.lines):
         if isinstance(line, Message) and line.word == "sent":
@@ -201,7 +201,7 @@ def _numbers_of_sendings(section: Section, numbers: _Numbers) -> dict[int, int]:
 
 
 def _text_of(section: Section, sent: dict[int, int], numbers: _Numbers) -> str:
-    """The section, with the numbers of its sendings by their places."""
+    """The text of the section, given the numbers of its sends by their places."""
     came: dict[int, int] = {}
     texts = [f"component {_word(section.name)}\n"]
     for place, line in enumerate(section.lines):
@@ -218,5 +218,5 @@ def _text_of(section: Section, sent: dict[int, int], numbers: _Numbers) -> str:
 
 
 def _word(name: str) -> str:
-    """The name of a component as a word of a trace: it may have spaces, and its number tells it from others."""
+    """The name of a component as a word of a trace. A name may have spaces; its number distinguishes it from others."""
     return _NO_WORD.sub("_", name)
