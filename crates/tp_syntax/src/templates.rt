@@ -119,8 +119,7 @@ impl<'a, 't> Parser<'a, 't> {
         }
         if self.is_symbol(Symbol::LeftParen) {
             self.pass_symbol(Symbol::LeftParen);
-            let template = self.parenthesised(alloc)?;
-            return Ok(template);
+            return self.parenthesised(alloc);
         }
         if self.is_word(Word::Complement) {
             self.pass_word(Word::Complement);
