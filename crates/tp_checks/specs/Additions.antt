@@ -1,4 +1,4 @@
--- What can't be added to a configuration, and where making the components stops.
+-- Why a component can't be added to a configuration, and where creating the components stops.
 use Rattle.std.specs.Prelude.{◌≡◌, ◌<◌, ◌≤◌, ◌+◌, ◌⊎◌, ℕ, true, Some, IfSome, IsSome, List, ◌∷◌, ◌++◌}
 use Rattle.std.specs.Prelude.{Contains, codes, length}
 use Rattle.tp_tree.specs.declared.tree.Creation.{Creation}
@@ -13,37 +13,36 @@ use Rattle.tp_checks.specs.Refused.{TellsAt}
 use Rattle.tp_checks.specs.Components.{Declared, HasSoundVariables, creation_of, creations, variables}
 use Rattle.tp_checks.specs.BrokenSetup.{CreationBreaks}
 
--- a component can't be added to a configuration, where its component types have these names
+-- adding a component to a configuration breaks this rule, given the names of the component types
 pub data AdditionBreaks (types : List (List ℕ)) (x : Declared) (s : Setup) : ModuleRule → Type 0 where
   -- its type is unknown (11)
   addition_unknown : (Contains types x.type_name → ⊥) → AdditionBreaks types x s Unknown
   -- a component has its name, or it is a second test system interface (12)
   addition_taken : Contains (names_of_components s) x.name ⊎ ((is_system_role x.role ≡ true) × HasSystem s.components)
       → AdditionBreaks types x s Duplicate
-  -- 64 components are there (15)
+  -- there are 64 components already (15)
   addition_many : 64 ≤ length s.components → AdditionBreaks types x s Limit
 
--- a configuration has the components of these names and of these variables, and there is room for as many variables as
--- may be
+-- a configuration has the components and the variables of these names, and room for the greatest number of variables
 pub record HasRoomForVariables (types others variables : List (List ℕ)) (most : ℕ) (s : Setup) : Type 0 where
   pub typed : length types ≡ length s.types
   pub named : names_of_components s ≡ others ++ variables
   pub few : length variables ≤ most
   pub room : length others + most ≤ 64
 
--- the test system interface can't be added, since a component has its name (12)
+-- the test system interface can't be added, because a component has its name (12)
 pub data InterfaceBreaks (case : TestCase) (s : Setup) : ModuleRule → Type 0 where
   interface_named : IsSome case.system → Contains (names_of_components s) (codes "system") → InterfaceBreaks case s Duplicate
 
--- but for its name, the test system interface can be added
+-- the test system interface can be added, unless a component has its name
 pub record AwaitsInterface (types : List (List ℕ)) (case : TestCase) (s : Setup) : Type 0 where
   pub typed : length types ≡ length s.types
   pub known : IfSome case.system (λ name. Contains types name)
   pub tests : HasSystem s.components → ⊥
   pub room : IsSome case.system → length s.components < 64
 
--- the `var` at which making the components stopped: those of the statements before it obey the rules on variables, and
--- it breaks the rule that is told at its line
+-- the `var` at which creating the components stopped: those before it obey the rules on variables, and it breaks the
+-- rule that is reported at its line, or memory ran out
 pub record StopsCreating (types ports others : List (List ℕ)) (most : ℕ) (list before : List SetupStatement)
     (fault : ModuleFault) : Type 0 where
   pub statement : SetupStatement

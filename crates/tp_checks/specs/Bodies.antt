@@ -1,5 +1,5 @@
--- What the statements of the text stand for, a case for each line of the grammar. A statement in which a fault
--- stands stands for nothing.
+-- What the statements of the text stand for, with a case for each line of the grammar. A statement with a fault stands
+-- for nothing.
 use Rattle.std.specs.Prelude.{◌≡◌, ◌≢◌, ◌<◌, ℕ, List, length, [], ◌∷◌, ◌++◌, Option, None, Some, Contains, slice_get}
 use Rattle.tp_value.specs.declared.types.Ty.{Ty}
 use Rattle.tp_value.specs.declared.types.Ty.TheVariants as ty
@@ -57,7 +57,7 @@ use Rattle.tp_checks.specs.Scoping.{IsPortNamed, sendable_types, receivable_type
 use Rattle.tp_checks.specs.Scoping.{IsNew, declared_port_names}
 use Rattle.tp_checks.specs.Messages.{IsMessage, IsTemplate}
 
--- what is sent, where this is the list of the types that can be sent there
+-- what is sent, given the types that can be sent at the port
 pub data IsSent (scope : Scope) (variables : Variables) (turns : List (List ℕ)) (sendable : List Ty)
     : SentExpression → Sent → Type 0 where
   written : (x : Message) (m : SendMsg) → IsMessage scope.types.now turns x m → Contains sendable m.ty
@@ -71,7 +71,7 @@ pub data IsSent (scope : Scope) (variables : Variables) (turns : List (List ℕ)
       → IsVariable variables n k (variable_type.Message u) → Contains sendable u
       → IsSent scope variables turns sendable (sent.Variable n) (s.Variable k)
 
--- to whom is sent
+-- the receivers of a send
 pub data IsReceiver (scope : Scope) (variables : Variables) (turns : List (List ℕ))
     : Option Receivers → Receiver → Type 0 where
   nobody : IsReceiver scope variables turns None to.Nobody
@@ -90,7 +90,7 @@ pub record IsSend (scope : Scope) (variables : Variables) (turns : List (List �
   pub sent : IsSent scope variables turns (sendable_types scope.behaviour port) x.sent y.sent
   pub receiver : IsReceiver scope variables turns x.to y.to
 
--- what is wanted, where this is the list of the types that can be received there
+-- a wanted message, given the types that can be received at the port
 pub data IsWanted (scope : Scope) (turns : List (List ℕ)) (receivable : List Ty)
     : Option MessageTemplate → RecvMsg → Type 0 where
   every_message : IsWanted scope turns receivable None recv_msg.Any
@@ -98,14 +98,14 @@ pub data IsWanted (scope : Scope) (turns : List (List ℕ)) (receivable : List T
       → Contains receivable u → IsTemplate scope.types.now turns u x.template r
       → IsWanted scope turns receivable (Some x) (recv_msg.Of u r)
 
--- the component behind `from`, if there is one
+-- the component after `from`, if there is one
 pub data IsFrom (scope : Scope) (variables : Variables) (turns : List (List ℕ))
     : Option ComponentName → Option ℕ → Type 0 where
   whoever : IsFrom scope variables turns None None
   this_one : (x : ComponentName) (k : ℕ) → IsReference scope variables turns x k
       → IsFrom scope variables turns (Some x) (Some k)
 
--- the variable behind `value`: it has the type of the template
+-- the variable after `value`, if there is one: it has the type of the template
 pub data IsValueTarget (variables : Variables) (turns : List (List ℕ))
     : RecvMsg → Option (List ℕ) → Option ℕ → Type 0 where
   no_target : (m : RecvMsg) → IsValueTarget variables turns m None None
@@ -113,7 +113,7 @@ pub data IsValueTarget (variables : Variables) (turns : List (List ℕ))
       → IsVariable variables n k (variable_type.Message u)
       → IsValueTarget variables turns (recv_msg.Of u r) (Some n) (Some k)
 
--- the variable behind `sender`: it holds components
+-- the variable after `sender`, if there is one: it holds components
 pub data IsSenderTarget (variables : Variables) (turns : List (List ℕ))
     : Option (List ℕ) → Option ℕ → Type 0 where
   no_sender_target : IsSenderTarget variables turns None None
@@ -140,13 +140,13 @@ pub data IsVerdict : VerdictName → Verdict → Type 0 where
   fail : IsVerdict verdict_name.Fail verdict.Fail
 
 mutual
-  -- what a statement does
+  -- a statement of the text stands for this one
   pub data IsStatement (scope : Scope) (variables : Variables) : List (List ℕ) → Action → ResolvedStatement → Type 0 where
     send : (turns : List (List ℕ)) (x : Send) (y : SendOperation) → IsSend scope variables turns x y
         → IsStatement scope variables turns (action.Send x) (statement.Send y)
     receive : (turns : List (List ℕ)) (x : Receive) (y : Receiving) → IsReceive scope variables turns x y
         → IsStatement scope variables turns (action.Receive x) (statement.Receive y)
-    -- not in the system under test
+    -- this statement and the next two aren't allowed in the system under test
     control : (turns : List (List ℕ)) (x : Control) (k : ℕ) (port : PortType)
         → scope.behaviour ≢ behaviour_kind.SystemUnderTest → IsPortNamed scope.component_type.now x.port k port
         → IsStatement scope variables turns (action.Control x) (statement.Control k x.operation)
@@ -163,7 +163,7 @@ mutual
         (otherwise : List ResolvedStatement) → AreBranches scope variables turns xs ys
         → IsBlock scope variables turns (out-ElseBranch e).block otherwise
         → IsStatement scope variables turns (action.Alt xs (Some e)) (statement.Alt ys (Some otherwise))
-    -- inside of it there is one loop variable more
+    -- in its block there is one more loop variable
     counted : (turns : List (List ℕ)) (x : Counted) (block : List ResolvedStatement)
         → IsNew scope variables turns (out-Counted x).turns.name
         → IsBlock scope variables (turns ++ (out-Counted x).turns.name ∷ [])
@@ -184,7 +184,7 @@ mutual
         → IsReceive scope variables turns x.receive y.receiving → IsAfter scope variables turns x.body y.block
         → IsBranch scope variables turns x y
 
-  -- what stands behind the operation of a branch: nothing, or a block
+  -- the rest of a branch after its operation: nothing, or a block
   pub data IsAfter (scope : Scope) (variables : Variables) : List (List ℕ) → BranchBody → List ResolvedStatement → Type 0 where
     nothing : (turns : List (List ℕ)) → IsAfter scope variables turns branch_body.Nothing []
     block : (turns : List (List ℕ)) (xs : List StatementText) (ys : List ResolvedStatement)
@@ -198,7 +198,7 @@ mutual
         → AreBranches scope variables turns xs ys → IsBranch scope variables turns x y
         → AreBranches scope variables turns (xs ++ x ∷ []) (ys ++ y ∷ [])
 
--- the type of a variable: a type of messages, or a component type where no type of messages has the name
+-- the type of a variable: a type of messages, or a component type if no type of messages has the name
 pub data IsVariableType (scope : Scope) : TypeName → VariableType → Type 0 where
   message : (x : TypeName) (u : Ty) → IsType scope.types.now x u → IsVariableType scope x (variable_type.Message u)
   component : (n : List ℕ) (k : ℕ) → type_number scope.types.now n ≡ None
@@ -214,7 +214,7 @@ pub data AreVariables (scope : Scope) : List Variable → Variables → Type 0 w
       → ws.names ≡ vs.names ++ x.name ∷ [] → ws.types ≡ vs.types ++ held ∷ []
       → AreVariables scope (xs ++ x ∷ []) ws
 
--- a body: no parameter has the name of a port, the variables come first, and the statements may speak of them
+-- a body: no parameter has the name of a port, the variables come first, and the statements may use them
 pub record IsBody (scope : Scope) (xs : List Variable) (statements : List StatementText) (body : Body) : Type 0 where
   pub variables : Variables
   pub no_port : (k : ℕ) (name : List ℕ) → slice_get (declared_port_names scope.component_type.now) k ≡ Some name

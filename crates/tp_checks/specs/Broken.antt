@@ -25,31 +25,31 @@ pub record IsDefinedWell (m : Module) (case : TestCase) (line : ℕ) : Type 0 wh
   pub definitions : HasSoundDefinitions m case
   pub begins : BeginsAmong m.definitions case line
 
--- the third pass finds this, where the component types are these and have these names and ports
+-- the third pass finds that this rule is broken at this line, given the component types with their names and ports
 pub data ThirdPassBreaks (names : List (List ℕ)) (types : List ComponentType) (made : List (List PortDecl))
     (functions : List Function) (case : TestCase) (begins : ℕ) : ModuleRule → ℕ → Type 0 where
-  -- on setup
+  -- a rule on setup
   on_setup : (rule : ModuleRule) (line : ℕ) → CaseSetupBreaks names types made case begins rule line
       → ThirdPassBreaks names types made functions case begins rule line
-  -- else on starts
+  -- if setup obeys the rules, a rule on starts
   on_starts : (config : Setup) (rule : ModuleRule) (line : ℕ) → AreSoundVariables names types case
       → IsConfigBySetup names made case config → StartsBreak functions case begins rule line
       → ThirdPassBreaks names types made functions case begins rule line
 
--- the same over the component types of the module
+-- the same, for the component types of the module
 pub record ThirdPassOfBreaks (m : Module) (case : TestCase) (begins : ℕ) (rule : ModuleRule) (line : ℕ) : Type 0 where
   pub types : List CompType
   pub types_are : AreComponentTypes m types
   pub breaks : ThirdPassBreaks (component_type_names m) (component_types m) (map ports_of types) (functions m) case
       begins rule line
 
--- the module breaks a rule of the first three passes, each of which is made where those before it found nothing
+-- the module breaks a rule of the first three passes, each of which is made only if those before it found nothing
 pub data DeclarationsBreak (m : Module) : ModuleRule → ℕ → Type 0 where
-  -- on names
+  -- a rule on names
   names : (rule : ModuleRule) (line : ℕ) → NamesBreak m rule line → DeclarationsBreak m rule line
-  -- on definitions
+  -- a rule on definitions
   definitions : (case : TestCase) (rule : ModuleRule) (line : ℕ) → HasUniqueNames m → test_cases m ≡ case ∷ []
       → DefinitionsOfBreak m case rule line → DeclarationsBreak m rule line
-  -- on setup and starts
+  -- a rule on setup or starts
   third_pass : (case : TestCase) (begins : ℕ) (rule : ModuleRule) (line : ℕ) → IsDefinedWell m case begins
       → ThirdPassOfBreaks m case begins rule line → DeclarationsBreak m rule line

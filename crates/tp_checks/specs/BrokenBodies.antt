@@ -1,5 +1,5 @@
--- Which rule is broken by a body that stands for nothing, and at which line: that of its first fault in the order of
--- the text, which stands at the line at which the statement, the branch or the variable begins, or the definition.
+-- Which rule is broken by a body that stands for nothing, and at which line: the rule of its first fault in the order
+-- of the text, at the line at which the statement, branch, variable or definition with this fault begins.
 use Rattle.std.specs.Prelude.{◌≡◌, ◌≢◌, ◌≤◌, ℕ, List, length, take, [], ◌∷◌, ◌++◌, Option, Some, Contains, slice_get}
 use Rattle.tp_tree.specs.declared.tree.Send.{Send}
 use Rattle.tp_tree.specs.declared.tree.Receive.{Receive}
@@ -31,7 +31,7 @@ use Rattle.tp_checks.specs.Bodies.{AreBranches, AreVariables, IsBlock, IsVariabl
 use Rattle.tp_checks.specs.BrokenOperations.{ReceiveBreaks, SendBreaks}
 
 mutual
-  -- a statement that begins at this line
+  -- a statement, which begins at the first line, breaks this rule at the second line
   pub data StatementBreaks (scope : Scope) (variables : Variables)
       : List (List ℕ) → ℕ → Action → ModuleRule → ℕ → Type 0 where
     send : (turns : List (List ℕ)) (line : ℕ) (x : Send) (r : ModuleRule) → SendBreaks scope variables turns x r
@@ -39,7 +39,7 @@ mutual
     receive : (turns : List (List ℕ)) (line : ℕ) (x : Receive) (r : ModuleRule)
         → ReceiveBreaks scope variables turns x r
         → StatementBreaks scope variables turns line (action.Receive x) r line
-    -- an operation on ports stands in the system under test (16), or its port is unknown (11)
+    -- an operation on ports is in the system under test (16), or its port is unknown (11)
     control_in_sut : (turns : List (List ℕ)) (line : ℕ) (x : Control)
         → scope.behaviour ≡ behaviour_kind.SystemUnderTest
         → StatementBreaks scope variables turns line (action.Control x) rule.NotInSut line
@@ -63,7 +63,7 @@ mutual
         (r : ModuleRule) (at : ℕ) → AreBranches scope variables turns xs ys
         → BlockBreaks scope variables turns (out-ElseBranch e).block r at
         → StatementBreaks scope variables turns line (action.Alt xs (Some e)) r at
-    -- the name of a loop variable isn't new (12), or the block breaks a rule, inside of which there is that variable too
+    -- the name of a loop variable isn't new (12), or the block, in which this variable is known too, breaks a rule
     old_name : (turns : List (List ℕ)) (line : ℕ) (x : Counted)
         → (IsNew scope variables turns (out-Counted x).turns.name → ⊥)
         → StatementBreaks scope variables turns line (action.For x) rule.Duplicate line
@@ -73,7 +73,7 @@ mutual
         (out-Counted x).block r at
         → StatementBreaks scope variables turns line (action.For x) r at
 
-  -- the statements of a block: those before one stand for something
+  -- one of the statements of a block breaks a rule, and those before it stand for something
   pub data BlockBreaks (scope : Scope) (variables : Variables)
       : List (List ℕ) → List StatementText → ModuleRule → ℕ → Type 0 where
     in_statement : (turns : List (List ℕ)) (xs : List StatementText) (ys : List ResolvedStatement) (i : ℕ) (x : StatementText)
@@ -81,7 +81,7 @@ mutual
         → StatementBreaks scope variables turns x.line x.action r at
         → BlockBreaks scope variables turns xs r at
 
-  -- a branch: its operation, which begins at the line of the branch, or the block behind it
+  -- a branch: its operation breaks a rule, at the line of the branch, or the block after its operation does
   pub data BranchBreaks (scope : Scope) (variables : Variables)
       : List (List ℕ) → BranchText → ModuleRule → ℕ → Type 0 where
     operation : (turns : List (List ℕ)) (x : BranchText) (r : ModuleRule)
@@ -90,21 +90,21 @@ mutual
         → IsReceive scope variables turns x.receive y → AfterBreaks scope variables turns x.body r at
         → BranchBreaks scope variables turns x r at
 
-  -- what stands behind the operation of a branch
+  -- the block after the operation of a branch breaks a rule
   pub data AfterBreaks (scope : Scope) (variables : Variables)
       : List (List ℕ) → BranchBody → ModuleRule → ℕ → Type 0 where
     in_block : (turns : List (List ℕ)) (xs : List StatementText) (r : ModuleRule) (at : ℕ)
         → BlockBreaks scope variables turns xs r at
         → AfterBreaks scope variables turns (branch_body.Block xs) r at
 
-  -- the branches of an `alt`: those before one stand for something
+  -- one of the branches of an `alt` breaks a rule, and those before it stand for something
   pub data BranchesBreak (scope : Scope) (variables : Variables)
       : List (List ℕ) → List BranchText → ModuleRule → ℕ → Type 0 where
     in_branch : (turns : List (List ℕ)) (xs : List BranchText) (ys : List ResolvedBranch) (i : ℕ) (x : BranchText)
         (r : ModuleRule) (at : ℕ) → AreBranches scope variables turns (take i xs) ys → slice_get xs i ≡ Some x
         → BranchBreaks scope variables turns x r at → BranchesBreak scope variables turns xs r at
 
--- a variable behind these: its type is unknown (11), its name isn't new (12), or there are 4,294,967,295 before it (15)
+-- a variable after these: its type is unknown (11), its name isn't new (12), or there are 4,294,967,295 before it (15)
 pub data VariableBreaks (scope : Scope) (before : Variables) (x : Variable) : ModuleRule → Type 0 where
   no_type : ((held : VariableType) → IsVariableType scope x.type_name held → ⊥) → VariableBreaks scope before x rule.Unknown
   not_new : (held : VariableType) → IsVariableType scope x.type_name held
@@ -112,13 +112,13 @@ pub data VariableBreaks (scope : Scope) (before : Variables) (x : Variable) : Mo
   too_many : (held : VariableType) → IsVariableType scope x.type_name held → IsNew scope before [] x.name
       → 4294967295 ≤ length before.names → VariableBreaks scope before x rule.Limit
 
--- the variables of a body: those before one stand for something
+-- one of the variables of a body breaks a rule, and those before it stand for something
 pub data VariablesBreak (scope : Scope) (xs : List Variable) : ModuleRule → ℕ → Type 0 where
   in_variable : (before : Variables) (i : ℕ) (x : Variable) (r : ModuleRule) → AreVariables scope (take i xs) before
       → slice_get xs i ≡ Some x → VariableBreaks scope before x r → VariablesBreak scope xs r x.line
 
 -- a body whose definition begins at this line: a parameter has the name of a port (12, at that line); or a variable
--- breaks a rule, or where they are right a statement
+-- breaks a rule; or, if all variables are valid, a statement does
 pub data BodyBreaks (scope : Scope) (line : ℕ) (xs : List Variable) (statements : List StatementText)
     : ModuleRule → ℕ → Type 0 where
   parameter : (name : List ℕ) → Contains (declared_port_names scope.component_type.now) name

@@ -10,24 +10,24 @@ use Rattle.tp_checks.specs.Definitions.{component_type_names, port_type_names, t
 use Rattle.tp_checks.specs.Rules.{AreComponentTypesKnown, ArePortTypesKnown, AreTypesKnown, HasFewPorts, IsSound}
 use Rattle.tp_checks.specs.Rules.{PlaysSystem}
 
--- a definition breaks this rule, where the types, port types and component types have these names, and this name stands
--- behind `system`
+-- a definition breaks this rule, given the names of the types, port types and component types, and the name after
+-- `system`
 pub data DefinitionBreaks (types ports components : List (List ℕ)) (system : Option (List ℕ)) (x : Defined)
     : ModuleRule → Type 0 where
   -- a type of fields, elements or messages is unknown (11)
   unknown_type : ¬ AreTypesKnown types x → DefinitionBreaks types ports components system x Unknown
   -- the type of a port is unknown (11)
   unknown_port_type : ¬ ArePortTypesKnown ports x → DefinitionBreaks types ports components system x Unknown
-  -- the type behind `runs on` or `system`, or of a parameter, is unknown (11)
+  -- a component type after `runs on` or `system`, or of a parameter, is unknown (11)
   unknown_component_type : ¬ AreComponentTypesKnown components x
       → DefinitionBreaks types ports components system x Unknown
-  -- these are known, and a component type has more than 64 ports (15)
+  -- the port types are known, and a component type has more than 64 ports (15)
   many_ports : ArePortTypesKnown ports x → ¬ HasFewPorts x → DefinitionBreaks types ports components system x Limit
-  -- these are known, and a function `sut` can't play the system under test (16)
+  -- the component types are known, and a function `sut` can't play the system under test (16)
   no_system : AreComponentTypesKnown components x → ¬ PlaysSystem system x
       → DefinitionBreaks types ports components system x NotInSut
 
--- one of these definitions breaks this rule, and those before it break none; at its line
+-- one of these definitions, at this line, breaks this rule, and those before it break none
 pub record DefinitionsBreak (types ports components : List (List ℕ)) (system : Option (List ℕ)) (list : List Definition)
     (rule : ModuleRule) (line : ℕ) : Type 0 where
   pub before : List Definition
@@ -38,7 +38,7 @@ pub record DefinitionsBreak (types ports components : List (List ℕ)) (system :
   pub breaks : DefinitionBreaks types ports components system definition.defined rule
   pub line_is : line ≡ definition.line
 
--- a definition of the module breaks this rule, where this is its test case
+-- a definition of the module with this test case breaks this rule, and those before it break none
 abbrev pub DefinitionsOfBreak : Module → TestCase → ModuleRule → ℕ → Type 0
 DefinitionsOfBreak m case =
     DefinitionsBreak (type_names m) (port_type_names m) (component_type_names m) case.system

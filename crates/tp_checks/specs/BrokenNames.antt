@@ -13,14 +13,14 @@ use Rattle.tp_checks.specs.Tables.{IsNumbered}
 use Rattle.tp_checks.specs.Definitions.{of_kind, case_of, declared, inner_names, name_of, test_cases}
 use Rattle.tp_checks.specs.Rules.{AreNamed}
 
--- one more name can't go behind these
+-- adding the name after these breaks this rule
 pub data NameBreaks (names : List (List ℕ)) (name : List ℕ) : ModuleRule → Type 0 where
   -- it is one of them (12)
   already_given : Contains names name → NameBreaks names name Duplicate
-  -- 4,294,967,295 others are there (15)
+  -- there are 4,294,967,295 others (15)
   crowded : (Contains names name → ⊥) → 4294967295 ≤ length names → NameBreaks names name Limit
 
--- one of the names that are declared can't go behind the old ones and those before it, which can; at its line
+-- one of the declared names, at this line, can't be added after the old ones and those before it, which can
 pub record DeclaringBreaks (old : List (List ℕ)) (list : List DeclaredName) (rule : ModuleRule) (line : ℕ)
     : Type 0 where
   pub before : List DeclaredName
@@ -31,11 +31,11 @@ pub record DeclaringBreaks (old : List (List ℕ)) (list : List DeclaredName) (r
   pub breaks : NameBreaks (old ++ map declared before) (declared name) rule
   pub line_is : line ≡ name.line
 
--- the names of the ports, each where it is declared
+-- the names of the ports, with the lines of their declarations
 abbrev pub port_name_list : List PortDeclaration → List DeclaredName
 port_name_list ports = flat_map (λ (p : PortDeclaration). p.names) ports
 
--- the fields, ports or parameters of a definition, each where it is declared
+-- the fields, ports or parameters of a definition, with the lines of their declarations
 abbrev pub inner_declared : Defined → List DeclaredName
 inner_declared (defined.Record r) = map (λ f. f.name) r.fields
 inner_declared (defined.List l) = []
@@ -48,24 +48,24 @@ inner_declared (defined.TestCase c) = []
 abbrev pub names_before : List Definition → List (List ℕ)
 names_before definitions = map (λ (x : Definition). name_of x.defined) definitions
 
--- the names that a definition gives can't go behind these
+-- the names that a definition declares break a rule, if it comes after definitions of these names
 pub data GivenNamesBreak (names : List (List ℕ)) (x : Definition) : ModuleRule → ℕ → Type 0 where
-  -- its own can't (12, 15)
+  -- its own name can't be added after these (12, 15)
   own_name : (rule : ModuleRule) → NameBreaks names (name_of x.defined) rule → GivenNamesBreak names x rule x.line
-  -- else one of its fields, ports or parameters can't go behind those before it (12, 15)
+  -- its own can, and one of its fields, ports or parameters can't be added after those before it (12, 15)
   inner_name : (rule : ModuleRule) (line : ℕ) → IsNumbered (names ++ name_of x.defined ∷ [])
       → DeclaringBreaks [] (inner_declared x.defined) rule line → GivenNamesBreak names x rule line
 
--- a definition behind these breaks a rule on names
+-- a definition after these breaks a rule on names
 pub data DefinedNameBreaks (before : List Definition) (x : Definition) : ModuleRule → ℕ → Type 0 where
-  -- a name that it gives is given before (12, 15)
+  -- a name that it declares can't be added (12, 15)
   given : (rule : ModuleRule) (line : ℕ) → GivenNamesBreak (names_before before) x rule line
       → DefinedNameBreaks before x rule line
-  -- else it is the second test case (12)
+  -- its names can, and it is the second test case (12)
   second_case : IsNumbered (names_before before ++ name_of x.defined ∷ []) → IsNumbered (inner_names x.defined)
       → 1 < length (of_kind case_of (before ++ x ∷ [])) → DefinedNameBreaks before x Duplicate x.line
 
--- one of the definitions does behind those before it, which obey the rules
+-- one of the definitions breaks a rule on names, and those before it obey the rules
 pub record DefinitionNamesBreak (list : List Definition) (rule : ModuleRule) (line : ℕ) : Type 0 where
   pub before : List Definition
   pub definition : Definition
@@ -78,6 +78,6 @@ pub record DefinitionNamesBreak (list : List Definition) (rule : ModuleRule) (li
 pub data NamesBreak (m : Module) : ModuleRule → ℕ → Type 0 where
   -- it has no test case (11)
   no_test_case : test_cases m ≡ [] → NamesBreak m Unknown m.line
-  -- else a definition breaks one (12, 15)
+  -- it has one, and a definition breaks a rule (12, 15)
   in_definition : (rule : ModuleRule) (line : ℕ) → test_cases m ≢ []
       → DefinitionNamesBreak m.definitions rule line → NamesBreak m rule line

@@ -29,8 +29,8 @@ use Rattle.tp_checks.specs.Bodies.{IsFrom, IsSent, IsValueTarget, IsWanted}
 use Rattle.tp_checks.specs.BrokenValues.{ValueBreaks}
 use Rattle.tp_checks.specs.BrokenTemplates.{TemplateBreaks}
 
--- a name that no variable has, or that a loop variable hides: of a loop variable, a parameter or a component variable
--- (13), or of none of them (11)
+-- a name that no variable has, or that a loop variable hides: it is that of a loop variable, a parameter or a component
+-- variable (13), or of none of them (11)
 pub data NamesNoVariable (scope : Scope) (variables : Variables) (turns : List (List ℕ)) (name : List ℕ)
     : ModuleRule → Type 0 where
   turn : (k : ℕ) → IsPlace turns name k → NamesNoVariable scope variables turns name rule.WrongType
@@ -41,7 +41,7 @@ pub data NamesNoVariable (scope : Scope) (variables : Variables) (turns : List (
   unknown : IsAbsent turns name → IsAbsent variables.names name → (Contains scope.parameters.now name → ⊥)
       → (Contains scope.component_variables.now name → ⊥) → NamesNoVariable scope variables turns name rule.Unknown
 
--- a name where that of a variable of messages is wanted: no variable has it, or one that holds a component (13)
+-- a name that should be that of a variable of messages: no variable has it, or the variable holds a component (13)
 pub data NamesNoMessage (scope : Scope) (variables : Variables) (turns : List (List ℕ)) (name : List ℕ)
     : ModuleRule → Type 0 where
   no_variable : (r : ModuleRule) → NamesNoVariable scope variables turns name r
@@ -49,7 +49,7 @@ pub data NamesNoMessage (scope : Scope) (variables : Variables) (turns : List (L
   holds_component : (k : ℕ) → IsAbsent turns name → IsVariable variables name k variable_type.Component
       → NamesNoMessage scope variables turns name rule.WrongType
 
--- a name where that of a variable of components is wanted: no variable has it, or one that holds messages (13)
+-- a name that should be that of a variable of components: no variable has it, or the variable holds messages (13)
 pub data NamesNoComponent (scope : Scope) (variables : Variables) (turns : List (List ℕ)) (name : List ℕ)
     : ModuleRule → Type 0 where
   no_variable_either : (r : ModuleRule) → NamesNoVariable scope variables turns name r
@@ -67,7 +67,7 @@ pub data MessageBreaks (scope : Scope) (variables : Variables) (turns : List (Li
   value : (u : Ty) (r : ModuleRule) → IsType scope.types.now x.type_name u → Contains sendable u
       → ValueBreaks scope.types.now variables turns u x.value r → MessageBreaks scope variables turns sendable x r
 
--- what is sent, where this is the list of the types that can be sent there
+-- a message or variable to send breaks this rule, given the types that can be sent at the port
 pub data SentBreaks (scope : Scope) (variables : Variables) (turns : List (List ℕ)) (sendable : List Ty)
     : SentExpression → ModuleRule → Type 0 where
   written : (x : Message) (r : ModuleRule) → MessageBreaks scope variables turns sendable x r
@@ -83,8 +83,8 @@ pub data SentBreaks (scope : Scope) (variables : Variables) (turns : List (List 
       → IsVariable variables n k (variable_type.Message u) → (Contains sendable u → ⊥)
       → SentBreaks scope variables turns sendable (sent_text.Variable n) rule.Direction
 
--- the component behind `to`: its name is that of a variable of messages (13), or neither of a variable nor of another
--- component that is known there (11)
+-- the component after `to`: its name is that of a variable of messages (13), or neither that of a variable nor of
+-- another component that is known there (11)
 pub data ReceiverBreaks (scope : Scope) (variables : Variables) (turns : List (List ℕ))
     : Option Receivers → ModuleRule → Type 0 where
   to_message : (n : List ℕ) (k : ℕ) (u : Ty) → IsAbsent turns n
@@ -94,7 +94,7 @@ pub data ReceiverBreaks (scope : Scope) (variables : Variables) (turns : List (L
       → ((k : ℕ) → IsReference scope variables turns (component_name.Named n) k → ⊥)
       → ReceiverBreaks scope variables turns (Some (destination.Component (component_name.Named n))) rule.Unknown
 
--- a send: the port is unknown (11), or what is sent breaks a rule, or where that is right the component behind `to`
+-- a send: the port is unknown (11), or what is sent breaks a rule, or, if that is valid, the component after `to` does
 pub data SendBreaks (scope : Scope) (variables : Variables) (turns : List (List ℕ)) (x : Send)
     : ModuleRule → Type 0 where
   no_port : IsAbsent (declared_port_names scope.component_type.now) x.port
@@ -106,8 +106,8 @@ pub data SendBreaks (scope : Scope) (variables : Variables) (turns : List (List 
       → IsSent scope variables turns (sendable_types scope.behaviour port) x.sent y
       → ReceiverBreaks scope variables turns x.to r → SendBreaks scope variables turns x r
 
--- what is wanted, where this is the list of the types that can be received there: the type is unknown (11), the port
--- doesn't receive it (14), or the template breaks a rule
+-- a wanted message, given the types that can be received at the port: its type is unknown (11), the port doesn't
+-- receive it (14), or the template breaks a rule
 pub data WantedBreaks (scope : Scope) (variables : Variables) (turns : List (List ℕ)) (receivable : List Ty)
     : Option MessageTemplate → ModuleRule → Type 0 where
   no_such_type : (x : MessageTemplate) → ((u : Ty) → IsType scope.types.now x.type_name u → ⊥)
@@ -118,7 +118,7 @@ pub data WantedBreaks (scope : Scope) (variables : Variables) (turns : List (Lis
       → Contains receivable u → TemplateBreaks scope.types.now variables turns u x.template r
       → WantedBreaks scope variables turns receivable (Some x) r
 
--- the component behind `from`: its name is that of a variable (13), or of nothing that is known there (11)
+-- the component after `from`: its name is that of a variable (13), or of nothing that is known there (11)
 pub data FromBreaks (scope : Scope) (variables : Variables) (turns : List (List ℕ))
     : Option ComponentName → ModuleRule → Type 0 where
   from_variable : (n : List ℕ) → Contains variables.names n
@@ -127,8 +127,8 @@ pub data FromBreaks (scope : Scope) (variables : Variables) (turns : List (List 
       → ((k : ℕ) → IsReference scope variables turns (component_name.Named n) k → ⊥)
       → FromBreaks scope variables turns (Some (component_name.Named n)) rule.Unknown
 
--- the variable behind `value`: it is no variable of messages, or holds another type than the template's, or there is
--- no template (13)
+-- the variable after `value`: it isn't a variable of messages; or it holds another type than the template's, or there
+-- is no template (13)
 pub data ValueTargetBreaks (scope : Scope) (variables : Variables) (turns : List (List ℕ)) (wanted : RecvMsg)
     : Option (List ℕ) → ModuleRule → Type 0 where
   holds_no_message : (n : List ℕ) (r : ModuleRule) → NamesNoMessage scope variables turns n r
@@ -138,14 +138,14 @@ pub data ValueTargetBreaks (scope : Scope) (variables : Variables) (turns : List
       → ((t : RecvTemplate) → wanted ≢ recv_msg.Of u t)
       → ValueTargetBreaks scope variables turns wanted (Some n) rule.WrongType
 
--- the variable behind `sender`: it is no variable of components
+-- the variable after `sender`: it isn't a variable of components
 pub data SenderTargetBreaks (scope : Scope) (variables : Variables) (turns : List (List ℕ))
     : Option (List ℕ) → ModuleRule → Type 0 where
   holds_no_component : (n : List ℕ) (r : ModuleRule)
       → NamesNoComponent scope variables turns n r
       → SenderTargetBreaks scope variables turns (Some n) r
 
--- a receiving operation: the port is unknown (11), or one of its parts breaks a rule where those before it are right
+-- a receiving operation: the port is unknown (11), or one of its parts breaks a rule and those before it are valid
 pub data ReceiveBreaks (scope : Scope) (variables : Variables) (turns : List (List ℕ)) (x : Receive)
     : ModuleRule → Type 0 where
   at_no_port : IsAbsent (declared_port_names scope.component_type.now) x.port

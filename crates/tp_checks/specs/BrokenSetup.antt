@@ -23,17 +23,17 @@ use Rattle.tp_checks.specs.Components.{HasPorts, HasSoundVariables, IsMember, Is
 use Rattle.tp_checks.specs.Components.{creations, interface, main_component, variable_name, variables}
 use Rattle.tp_checks.specs.Configuring.{IsPortOfEnd, Makes, most_variables}
 
--- a `var` of a component breaks this rule, where the component types and the ports of the main component have these
--- names, other components and the variables before it have these, and at most this many variables may be
+-- the `var` of a component breaks this rule, given the names of the component types, of the main component's ports, of
+-- other components and of the variables before it, and the greatest number of variables
 pub data CreationBreaks (types ports others names : List (List ℕ)) (most : ℕ) (c : Creation) : ModuleRule → Type 0 where
-  -- a variable before it has the name (12)
+  -- a variable before it has its name (12)
   taken : Contains names (variable_name c) → CreationBreaks types ports others names most c Duplicate
-  -- a port has it (12)
+  -- a port has its name (12)
   port : Contains ports (variable_name c) → CreationBreaks types ports others names most c Duplicate
   -- its name is new, and its type is unknown (11)
   unknown_type : (Contains names (variable_name c) → ⊥) → (Contains ports (variable_name c) → ⊥)
       → (Contains types c.type_name → ⊥) → CreationBreaks types ports others names most c Unknown
-  -- the type is known, and the other one is another (13)
+  -- its type is known, and its two types differ (13)
   other_type : (Contains names (variable_name c) → ⊥) → (Contains ports (variable_name c) → ⊥)
       → Contains types c.type_name → c.type_name ≢ c.created
       → CreationBreaks types ports others names most c WrongType
@@ -45,12 +45,12 @@ pub data CreationBreaks (types ports others names : List (List ℕ)) (most : ℕ
   component : IsSoundVariable types ports names most c → Contains others (variable_name c)
       → CreationBreaks types ports others names most c Duplicate
 
--- an end of a `connect` or a `map` names a component and a port that there are
+-- an end of a `connect` or a `map` names a component that exists, and a port of it
 abbrev pub IsEndKnown : Setup → List (List ℕ) → Option ℕ → PairEnd → Type 0
 IsEndKnown s names system x = (p : PortRef) × IsPortOfEnd s names system x p
 
--- an end of a `connect` or a `map` is unknown (11), where the component variables before it have these names and the
--- test system interface has this number
+-- an end of a `connect` or a `map` is unknown (11), given the names of the component variables before it and the number
+-- of the test system interface
 pub data EndsBreak (s : Setup) (names : List (List ℕ)) (system : Option ℕ) (x y : PairEnd) : ModuleRule → Type 0 where
   first_end : ¬ IsEndKnown s names system x → EndsBreak s names system x y Unknown
   second_end : ¬ IsEndKnown s names system y → EndsBreak s names system x y Unknown
@@ -64,7 +64,7 @@ pub data ConnectBreaks (s : Setup) (names : List (List ℕ)) (system : Option �
       → IsPortOfEnd s names system y q → ConnectRefused s p q fault → rule_refusal rule ≡ connect_refusal fault
       → ConnectBreaks s names system x y rule
 
--- a `map` does
+-- a `map` breaks this rule
 pub data MapBreaks (s : Setup) (names : List (List ℕ)) (system : Option ℕ) (x y : PairEnd) : ModuleRule → Type 0 where
   map_ends : (rule : ModuleRule) → EndsBreak s names system x y rule → MapBreaks s names system x y rule
   -- both ends are known, and this is the first cause to refuse it (22, 23, 24, 28)
@@ -72,13 +72,14 @@ pub data MapBreaks (s : Setup) (names : List (List ℕ)) (system : Option ℕ) (
       → IsPortOfEnd s names system y q → MapRefused s p q fault → rule_refusal rule ≡ map_refusal fault
       → MapBreaks s names system x y rule
 
--- a setup statement that makes no component does
+-- a setup statement that creates no component breaks this rule
 abbrev pub PairBreaks : Setup → List (List ℕ) → Option ℕ → SetupAction → ModuleRule → Type 0
 PairBreaks s names system (setup_action.Create c) rule = ⊥
 PairBreaks s names system (setup_action.Connect x y) rule = ConnectBreaks s names system x y rule
 PairBreaks s names system (setup_action.Map x y) rule = MapBreaks s names system x y rule
 
--- one of the setup statements does, in the configuration that those before it make of this one; at its line
+-- one of the setup statements, at this line, breaks this rule in the configuration that those before it make of this
+-- one
 pub record PairsBreak (system : Option ℕ) (start : Setup) (list : List SetupStatement) (rule : ModuleRule) (line : ℕ)
     : Type 0 where
   pub before : List SetupStatement
@@ -90,7 +91,7 @@ pub record PairsBreak (system : Option ℕ) (start : Setup) (list : List SetupSt
   pub breaks : PairBreaks config (variables before) system statement.action rule
   pub line_is : line ≡ statement.line
 
--- the number of the test system interface behind `mtc` and the components of these statements
+-- the number of the test system interface, which comes after `mtc` and the components of these statements
 abbrev pub interface_behind : TestCase → List SetupStatement → Option ℕ
 interface_behind case made = option_map (λ _. length (creations made) + 1) case.system
 
@@ -103,8 +104,8 @@ pub record StartsWith (names : List (List ℕ)) (types : List (List PortDecl)) (
   pub not_connected : s.connected ≡ []
   pub not_mapped : s.mapped ≡ []
 
--- these statements, whose variables obey the rules, are carried out one after the other, where the components of
--- `made` are there, and make this configuration
+-- the statements `before`, one after the other, make this configuration of one that has the components of the
+-- statements `made`, whose variables obey the rules
 pub record CarriesOut (names ports : List (List ℕ)) (types : List (List PortDecl)) (case : TestCase)
     (made before : List SetupStatement) (config : Setup) : Type 0 where
   pub sound : HasSoundVariables names ports (most_variables case) (creations made)
@@ -112,28 +113,28 @@ pub record CarriesOut (names ports : List (List ℕ)) (types : List (List PortDe
   pub starts_with : StartsWith names types case made start
   pub makes : Makes (interface_behind case made) start before config
 
--- the test case breaks a rule on setup, where the component types have these names and ports, the ports of the main
--- component these names, and the test case begins at this line
+-- the test case breaks a rule on setup, given the names and the ports of the component types, the names of the main
+-- component's ports, and the line at which the test case begins
 pub data SetupBreaks (names ports : List (List ℕ)) (types : List (List PortDecl)) (case : TestCase) (begins : ℕ)
     : ModuleRule → ℕ → Type 0 where
   -- a component has the name of the test system interface (12)
   interface_taken : IsSome case.system → Contains (variables case.setups) (codes "system")
       → SetupBreaks names ports types case begins Duplicate begins
-  -- a `var` does behind statements that obey the rules
+  -- a `var` breaks a rule, and the statements before it obey the rules
   a_var : (before : List SetupStatement) (x : SetupStatement) (after : List SetupStatement) (c : Creation)
       (config : Setup) (rule : ModuleRule) → case.setups ≡ before ++ x ∷ after → creation_of x ≡ Some c
       → CarriesOut names ports types case before before config
       → CreationBreaks names ports (codes "mtc" ∷ []) (variables before) (most_variables case) c rule
       → SetupBreaks names ports types case begins rule x.line
-  -- a `connect` or a `map` does behind statements that obey the rules, where components of some statements more are
-  -- there, whose variables obey the rules
+  -- a `connect` or a `map` breaks a rule, and the statements before it obey the rules; the components of further
+  -- statements, whose variables obey the rules, exist too
   a_pair : (made after before : List SetupStatement) (x : SetupStatement) (more : List SetupStatement) (config : Setup)
       (rule : ModuleRule) → case.setups ≡ made ++ after → made ≡ before ++ x ∷ more
       → CarriesOut names ports types case made before config
       → PairBreaks config (variables before) (interface_behind case made) x.action rule
       → SetupBreaks names ports types case begins rule x.line
 
--- the test case breaks a rule on setup, where the component types are these and have these names and ports
+-- the test case breaks a rule on setup, given the component types with their names and ports
 pub record CaseSetupBreaks (names : List (List ℕ)) (types : List ComponentType) (made : List (List PortDecl))
     (case : TestCase) (begins : ℕ) (rule : ModuleRule) (line : ℕ) : Type 0 where
   pub ports : List (List ℕ)

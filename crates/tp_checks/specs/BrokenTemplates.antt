@@ -18,7 +18,7 @@ use Rattle.tp_checks.specs.Placing.{HaveEntries}
 use Rattle.tp_checks.specs.Messages.{IsTemplate, AreMembers, AreElementTemplates, AreFieldTemplates}
 use Rattle.tp_checks.specs.BrokenValues.{TextBreaks, ValueNameBreaks}
 
--- a range: it stands where another type than `integer` is wanted, or its lower bound is above its upper (13)
+-- a range: the wanted type isn't `integer`, or the lower bound is above the upper one (13)
 pub data RangeBreaks (u : Ty) (low high : Option ℤ) : ModuleRule → Type 0 where
   no_range : u ≢ ty.Integer → RangeBreaks u low high rule.WrongType
   disordered : u ≡ ty.Integer → (AreOrdered low high → ⊥) → RangeBreaks u low high rule.WrongType
@@ -33,7 +33,7 @@ pub record IsTemplateEntry (types : Types) (turns : List (List ℕ)) (fields : L
   pub same_name : x.name ≡ field.name
   pub fits : IsTemplate types turns field.ty x.template made
 
--- a template of this type: it is of another type (13), or a part of it breaks a rule
+-- a template that should have this type: it is of another type (13), or a part of it breaks a rule
 mutual
   pub data TemplateBreaks (types : Types) (variables : Variables) (turns : List (List ℕ))
       : Ty → Template → ModuleRule → Type 0 where
@@ -45,7 +45,7 @@ mutual
         → TemplateBreaks types variables turns u (template.Text cs) r
     name : (u : Ty) (n : List ℕ) (r : ModuleRule) → ValueNameBreaks variables turns u n r
         → TemplateBreaks types variables turns u (template.Name n) r
-    -- a `*` stands among the elements of a record of alone
+    -- a `*` is allowed only among the elements of a `record of`
     any_or_none : (u : Ty) → TemplateBreaks types variables turns u template.AnyOrNone rule.WrongType
     one_of : (u : Ty) (ts : List Template) (r : ModuleRule) → MembersBreak types variables turns u ts r
         → TemplateBreaks types variables turns u (template.OneOf ts) r
@@ -60,15 +60,15 @@ mutual
     record_of_names : (u : Ty) (ts : List TemplateField) (r : ModuleRule)
         → RecordBreaks types variables turns u ts r → TemplateBreaks types variables turns u (template.Record ts) r
 
-  -- templates in parentheses: those before one stand for something
+  -- one of the templates in parentheses breaks a rule, and those before it stand for something
   pub data MembersBreak (types : Types) (variables : Variables) (turns : List (List ℕ))
       : Ty → List Template → ModuleRule → Type 0 where
     member : (u : Ty) (ts : List Template) (rs : List RecvTemplate) (i : ℕ) (x : Template) (r : ModuleRule)
         → AreMembers types turns u (take i ts) rs → slice_get ts i ≡ Some x
         → TemplateBreaks types variables turns u x r → MembersBreak types variables turns u ts r
 
-  -- templates in braces: they stand where another type is wanted than a record or a record of (13), or break a rule as
-  -- its fields or elements
+  -- templates in braces: the wanted type is neither a record nor a `record of` (13), or they break a rule as its fields
+  -- or elements
   pub data ListBreaks (types : Types) (variables : Variables) (turns : List (List ℕ))
       : Ty → List Template → ModuleRule → Type 0 where
     no_braces : (u : Ty) (ts : List Template) → named types u ≡ None
@@ -80,7 +80,8 @@ mutual
         → named types u ≡ Some (type_def.Record fields) → FieldTemplatesBreak types variables turns fields ts r
         → ListBreaks types variables turns u ts r
 
-  -- templates in braces under the names of fields, likewise
+  -- templates in braces, with the names of fields: the wanted type isn't a record (13), or they break a rule as its
+  -- fields
   pub data RecordBreaks (types : Types) (variables : Variables) (turns : List (List ℕ))
       : Ty → List TemplateField → ModuleRule → Type 0 where
     no_record : (u : Ty) (ts : List TemplateField)
@@ -90,15 +91,16 @@ mutual
         → named types u ≡ Some (type_def.Record fields) → EntryTemplatesBreak types variables turns fields ts r
         → RecordBreaks types variables turns u ts r
 
-  -- templates of the elements of a record of: those before one stand for something, and that one is no `*`
+  -- the template of an element of a `record of`, which isn't `*`, breaks a rule, and those before it stand for
+  -- something
   pub data ElementTemplatesBreak (types : Types) (variables : Variables) (turns : List (List ℕ))
       : Ty → List Template → ModuleRule → Type 0 where
     element : (u : Ty) (ts : List Template) (rs : List RecvTemplate) (i : ℕ) (x : Template) (r : ModuleRule)
         → AreElementTemplates types turns u (take i ts) rs → slice_get ts i ≡ Some x → x ≢ template.AnyOrNone
         → TemplateBreaks types variables turns u x r → ElementTemplatesBreak types variables turns u ts r
 
-  -- templates of the fields of a record by their places: there are more or fewer of them than fields (13), or those
-  -- before one stand for something
+  -- templates of the fields of a record, by place: there are more or fewer of them than fields (13), or one breaks a
+  -- rule and those before it stand for something
   pub data FieldTemplatesBreak (types : Types) (variables : Variables) (turns : List (List ℕ))
       : List Field → List Template → ModuleRule → Type 0 where
     count : (fields : List Field) (ts : List Template) → length fields ≢ length ts
@@ -109,8 +111,8 @@ mutual
         → slice_get fields i ≡ Some f → slice_get ts i ≡ Some x → TemplateBreaks types variables turns f.ty x r
         → FieldTemplatesBreak types variables turns fields ts r
 
-  -- templates of the fields of a record by their names: there isn't one entry for each field (13), or the entries
-  -- before one fit
+  -- templates of the fields of a record, by name: there isn't one entry for each field (13), or one entry breaks a rule
+  -- and those before it fit
   pub data EntryTemplatesBreak (types : Types) (variables : Variables) (turns : List (List ℕ))
       : List Field → List TemplateField → ModuleRule → Type 0 where
     names : (fields : List Field) (ts : List TemplateField)

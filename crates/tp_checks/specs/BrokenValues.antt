@@ -18,13 +18,13 @@ use Rattle.tp_checks.specs.declared.scope.Variables.{Variables}
 use Rattle.tp_checks.specs.Placing.{HaveEntries}
 use Rattle.tp_checks.specs.Messages.{IsValue, AreElements, AreFields}
 
--- a text: it stands where another type than `charstring` is wanted, or a character of it can't be printed (13)
+-- a text: the wanted type isn't `charstring`, or the text contains a character that can't be printed (13)
 pub data TextBreaks (u : Ty) (text : List ℕ) : ModuleRule → Type 0 where
   no_charstring : u ≢ ty.Charstring → TextBreaks u text rule.WrongType
   unprintable : u ≡ ty.Charstring → (ArePrintable text → ⊥) → TextBreaks u text rule.WrongType
 
--- a name: of a loop variable, where another type than `integer` is wanted (13); of a variable, which stands in no value
--- (13); or of neither (11)
+-- a name: it is that of a loop variable, and the wanted type isn't `integer` (13); or of a variable, which no value may
+-- contain (13); or of neither (11)
 pub data ValueNameBreaks (variables : Variables) (turns : List (List ℕ)) (u : Ty) (name : List ℕ) : ModuleRule → Type 0 where
   no_integer : (k : ℕ) → IsPlace turns name k → u ≢ ty.Integer → ValueNameBreaks variables turns u name rule.WrongType
   variable : IsAbsent turns name → Contains variables.names name → ValueNameBreaks variables turns u name rule.WrongType
@@ -39,7 +39,7 @@ pub record IsEntry (types : Types) (turns : List (List ℕ)) (fields : List Fiel
   pub same_name : x.name ≡ field.name
   pub fits : IsValue types turns field.ty x.value made
 
--- a value of this type: it is of another type (13), or a part of it breaks a rule
+-- a value that should have this type: it is of another type (13), or a part of it breaks a rule
 mutual
   pub data ValueBreaks (types : Types) (variables : Variables) (turns : List (List ℕ))
       : Ty → Value → ModuleRule → Type 0 where
@@ -64,15 +64,15 @@ mutual
         → named types u ≡ Some (type_def.Record fields) → EntriesBreak types variables turns fields vs r
         → ValueBreaks types variables turns u (value.Record vs) r
 
-  -- the elements of a record of: those before one stand for something
+  -- an element of a `record of` breaks a rule, and those before it stand for something
   pub data ElementsBreak (types : Types) (variables : Variables) (turns : List (List ℕ))
       : Ty → List Value → ModuleRule → Type 0 where
     element : (u : Ty) (vs : List Value) (ws : List SendValue) (i : ℕ) (x : Value) (r : ModuleRule)
         → AreElements types turns u (take i vs) ws → slice_get vs i ≡ Some x → ValueBreaks types variables turns u x r
         → ElementsBreak types variables turns u vs r
 
-  -- the fields of a record by their places: there are more or fewer values than fields (13), or the values before one
-  -- stand for something
+  -- the fields of a record, by place: there are more or fewer values than fields (13), or one value breaks a rule and
+  -- those before it stand for something
   pub data FieldsBreak (types : Types) (variables : Variables) (turns : List (List ℕ))
       : List Field → List Value → ModuleRule → Type 0 where
     count : (fields : List Field) (vs : List Value) → length fields ≢ length vs
@@ -82,7 +82,8 @@ mutual
         → slice_get fields i ≡ Some f → slice_get vs i ≡ Some x → ValueBreaks types variables turns f.ty x r
         → FieldsBreak types variables turns fields vs r
 
-  -- the fields of a record by their names: there isn't one entry for each field (13), or the entries before one fit
+  -- the fields of a record, by name: there isn't one entry for each field (13), or one entry breaks a rule and those
+  -- before it fit
   pub data EntriesBreak (types : Types) (variables : Variables) (turns : List (List ℕ))
       : List Field → List ValueField → ModuleRule → Type 0 where
     names : (fields : List Field) (vs : List ValueField)

@@ -22,22 +22,22 @@ creation_in (setup_action.Create c) = Some c
 creation_in (setup_action.Connect p q) = None
 creation_in (setup_action.Map p q) = None
 
--- the component that a setup statement makes, if it does
+-- the creation of a component, if the setup statement is one
 abbrev pub creation_of : SetupStatement → Option Creation
 creation_of x = creation_in x.action
 
--- the components that the setup statements make, in the order of the text
+-- the creations in the setup statements, in the order of the text
 abbrev pub creations : List SetupStatement → List Creation
 creations xs = filter_map creation_of xs
 
 abbrev pub variable_name : Creation → List ℕ
 variable_name c = c.name
 
--- the component variables
+-- the names of the component variables
 abbrev pub variables : List SetupStatement → List (List ℕ)
 variables xs = map variable_name (creations xs)
 
--- a component as the text declares it: its name, the name of its type, and what it is
+-- a component as the text declares it: its name, the name of its type, and its role
 pub record Declared : Type 0 where
   pub name : List ℕ
   pub type_name : List ℕ
@@ -46,11 +46,11 @@ pub record Declared : Type 0 where
 abbrev pub created : Creation → Declared
 created c = record { name = variable_name c; type_name = c.type_name; role = role.Test }
 
--- `mtc`, of the type behind `runs on`
+-- `mtc`, of the type after `runs on`
 abbrev pub main_component : TestCase → Declared
 main_component case = record { name = codes "mtc"; type_name = case.runs_on; role = role.Test }
 
--- the test system interface, of the type behind `system`, if there is such a clause
+-- the test system interface, of the type after `system`, if there is such a clause
 abbrev pub interface : TestCase → List Declared
 interface case =
     option_to_list (option_map
@@ -60,11 +60,11 @@ interface case =
 abbrev pub component_number : Option CompId → Option ℕ
 component_number found = option_map (λ (c : CompId). c.0) found
 
--- the components in their order: `mtc`, those that are made, and the test system interface
+-- the components in their order: `mtc`, those that are created, and the test system interface
 abbrev pub component_list : TestCase → List Declared
 component_list case = (main_component case ∷ map created (creations case.setups)) ++ interface case
 
--- a component of the configuration is the one that is declared, where the component types have these names
+-- a component of the configuration is this declared one, given the names of the component types
 pub record IsMember (types : List (List ℕ)) (x : Declared) (m : Member) : Type 0 where
   pub name : m.name ≡ x.name
   pub kind : place_of_name types x.type_name ≡ Some m.kind
@@ -78,7 +78,7 @@ pub record Adds (types : List (List ℕ)) (x : Declared) (old new : Setup) : Typ
   -- no other component has the name
   pub new_name : Contains (names_of_components old) member.name → ⊥
 
--- a component can be added to the configuration, where its component types have these names
+-- a component can be added to the configuration, given the names of its component types
 pub record CanAdd (types : List (List ℕ)) (x : Declared) (s : Setup) : Type 0 where
   pub typed : length types ≡ length s.types
   pub known : Contains types x.type_name
@@ -93,10 +93,10 @@ pub record HasPorts (types : List ComponentType) (name : List ℕ) (ports : List
   pub named : component.name ≡ name
   pub ports_are : ports ≡ declared_ports component.ports
 
--- the rules on component variables, where the main component has ports of these names, and at most this many variables
--- may be
+-- the rules on component variables, given the names of the component types and of the main component's ports, and the
+-- greatest number of variables
 pub record HasSoundVariables (types ports : List (List ℕ)) (most : ℕ) (xs : List Creation) : Type 0 where
-  -- no two variables have one name
+  -- no two variables have the same name
   pub distinct : AreDistinct (map variable_name xs)
   -- none has the name of a port of the main component
   pub no_port : All (λ (c : Creation). Contains ports (variable_name c) → ⊥) xs
@@ -107,7 +107,7 @@ pub record HasSoundVariables (types ports : List (List ℕ)) (most : ℕ) (xs : 
   -- there are at most 64 components, `mtc` and `system` counted
   pub few : length xs ≤ most
 
--- the rules on one more component variable, where those before it have these names
+-- the rules on one more component variable, given also the names of those before it
 pub record IsSoundVariable (types ports names : List (List ℕ)) (most : ℕ) (c : Creation) : Type 0 where
   pub numbered : IsNumbered (names ++ variable_name c ∷ [])
   pub no_port : Contains ports (variable_name c) → ⊥
@@ -115,18 +115,18 @@ pub record IsSoundVariable (types ports names : List (List ℕ)) (most : ℕ) (c
   pub same : c.type_name ≡ c.created
   pub few : length (names ++ variable_name c ∷ []) ≤ most
 
--- test components of these names can be added to the configuration, where its component types have these names
+-- test components of these names can be added to the configuration, given the names of its component types
 pub record CanAddAll (types added : List (List ℕ)) (s : Setup) : Type 0 where
   pub typed : length types ≡ length s.types
   pub distinct : AreDistinct (names_of_components s ++ added)
   pub room : length s.components + length added ≤ 64
 
--- components were added to the configuration as they are declared, one after the other, and nothing else was changed
+-- the components were added to the configuration as declared, one after the other, and nothing else changed
 pub record AddsAll (types : List (List ℕ)) (xs : List Declared) (old new : Setup) : Type 0 where
   pub components : (before : List Declared) → AllZip (IsMember types) before old.components
       → AllZip (IsMember types) (before ++ xs) new.components
   pub names_more : names_of_components new ≡ names_of_components old ++ map (λ (x : Declared). x.name) xs
-  -- no two of them have one name, if no two had before
+  -- no two of them have the same name, if no two had before
   pub apart : AreDistinct (names_of_components old) → AreDistinct (names_of_components new)
   pub types_stay : new.types ≡ old.types
   pub connected_stay : new.connected ≡ old.connected
@@ -138,6 +138,6 @@ pub record HasStopped (types : List (List ℕ)) (setups before : List SetupState
   pub all : setups ≡ before ++ rest
   pub added : AddsAll types (map created (creations before)) old new
 
--- the ports of each component type have names of their own
+-- within each component type the names of the ports are distinct, and fewer than 2 ^ 32
 abbrev pub HaveDistinctPorts : List ComponentType → Type 0
 HaveDistinctPorts types = All (λ (c : ComponentType). IsNumbered (declared_ports c.ports)) types

@@ -66,7 +66,7 @@ case_of (defined.Component c) = None
 case_of (defined.Function f) = None
 case_of (defined.TestCase c) = Some c
 
--- the test case stands among these definitions, and begins at this line
+-- the test case is one of these definitions, and begins at this line
 pub record BeginsAmong (definitions : List Definition) (case : TestCase) (line : ℕ) : Type 0 where
   pub definition : Definition
   pub there : Contains definitions definition
@@ -104,7 +104,7 @@ component_type_names m = map (λ (c : ComponentType). c.name) (component_types m
 abbrev pub function_names : Module → List (List ℕ)
 function_names m = map (λ (f : Function). f.name) (functions m)
 
--- a name where it is declared
+-- a declared name, without its line
 abbrev pub declared : DeclaredName → List ℕ
 declared n = n.name
 

@@ -1,4 +1,4 @@
--- What the values and templates of the text stand for. One in which a fault stands stands for nothing.
+-- What the values and templates of the text stand for. A value or a template with a fault stands for nothing.
 use Rattle.std.specs.Prelude.{◌≡◌, ℕ, ℤ, Bool, List, [], ◌∷◌, ◌++◌, map, Option, Some, slice_get, FitsSigned, length}
 use Rattle.std.specs.Prelude.{nat_eq, if◌then◌else◌}
 use Rattle.std.specs.Int.{w64}
@@ -27,7 +27,7 @@ use Rattle.tp_play.specs.declared.body.RecvTemplate.TheVariants as recv_template
 use Rattle.tp_checks.specs.Named.{IsPlace}
 use Rattle.tp_checks.specs.Scoping.{IsType}
 
--- a value fits a type and stands for this, where the loop variables have these names, outermost first
+-- a value fits a type and stands for this, given the names of the loop variables, outermost first
 mutual
   pub data IsValue (types : Types) (turns : List (List ℕ)) : Ty → Value → SendValue → Type 0 where
     int : (z : ℤ) → FitsSigned w64 z → IsValue types turns ty.Integer (value.Int z) (send_value.Int z)
@@ -45,7 +45,7 @@ mutual
     places : (u : Ty) (fields : List Field) (vs : List Value) (ws : List SendValue)
         → named types u ≡ Some (type_def.Record fields) → AreFields types turns fields vs ws
         → IsValue types turns u (value.List vs) (send_value.Record ws)
-    -- fields in braces by their names: as many as there are declared, and one for each of these
+    -- fields in braces by their names: as many as are declared, and one for each declared field
     fields : (u : Ty) (fields : List Field) (vs : List ValueField) (ws : List SendValue)
         → named types u ≡ Some (type_def.Record fields) → length vs ≡ length fields
         → AreNamed types turns vs fields ws
@@ -115,7 +115,7 @@ mutual
         → AreMembers types turns u ts rs → IsTemplate types turns u x y
         → AreMembers types turns u (ts ++ x ∷ []) (rs ++ y ∷ [])
 
-  -- templates of the elements of a record of: here alone `*` can stand
+  -- templates of the elements of a `record of`: a `*` is allowed only here
   pub data AreElementTemplates (types : Types) (turns : List (List ℕ))
       : Ty → List Template → List RecvTemplate → Type 0 where
     no_element_template : (u : Ty) → AreElementTemplates types turns u [] []
@@ -149,7 +149,7 @@ pub record IsListTemplate (types : Types) (turns : List (List ℕ)) (u : Ty) (ts
     : Type 0 where
   pub stands : (v : List Template) → v ≡ ts → IsTemplate types turns u (template.List v) r
 
--- the same where they are given under the names of fields
+-- the same for templates that are given by the names of fields
 pub record IsRecordTemplate (types : Types) (turns : List (List ℕ)) (u : Ty) (ts : List TemplateField)
     (r : RecvTemplate) : Type 0 where
   pub stands : (v : List TemplateField) → v ≡ ts → IsTemplate types turns u (template.Record v) r

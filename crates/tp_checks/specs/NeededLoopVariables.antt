@@ -1,4 +1,4 @@
--- Of which loop variables statements speak.
+-- How many loop variables statements need.
 use Rattle.std.specs.Prelude.{ℕ, ◌-◌, List, Option, None, Some, map, max}
 use Rattle.tp_play.specs.declared.body.Sent.{Sent}
 use Rattle.tp_play.specs.declared.body.Sent.TheVariants as sent
@@ -8,17 +8,17 @@ use Rattle.tp_play.specs.declared.body.ResolvedStatement.TheFolds.{fold-Resolved
 use Rattle.tp_play.specs.declared.body.ResolvedBranch.{ResolvedBranch}
 use Rattle.tp_play.specs.Fills.{greatest, needed, needed_by_wanted}
 
--- how many loop variables have to have values for what is sent
+-- how many loop variables need values when this is sent
 abbrev pub needed_by_sent : Sent → ℕ
 needed_by_sent (sent.Written m) = needed m.value
 needed_by_sent (sent.Variable k) = 0
 
--- the same of a block that may be missing
+-- the same for the block of an `[else]`, if there is one
 abbrev pub needed_by_else : Option (List ℕ) → ℕ
 needed_by_else None = 0
 needed_by_else (Some ns) = greatest ns
 
--- one layer of a statement: a `for` is itself around its block
+-- one layer of a statement; a `for` is one of the loops around its block
 abbrev pub needed_statement_step : o.ResolvedStatement-F ℕ ℕ → ℕ
 needed_statement_step (o.Send x) = needed_by_sent x.sent
 needed_statement_step (o.Receive x) = needed_by_wanted x.wanted
@@ -32,14 +32,14 @@ needed_statement_step (o.For first bound block) = greatest block - 1
 abbrev pub needed_branch_step : o.ResolvedBranch-F ℕ ℕ → ℕ
 needed_branch_step branch = max (needed_by_wanted branch.receiving.wanted) (greatest branch.block)
 
--- how many loop variables have to be around a statement
+-- how many loops a statement needs around it
 unfoldable pub needed_around : ResolvedStatement → ℕ
 needed_around = fold-ResolvedStatement ℕ ℕ needed_statement_step needed_branch_step
 
--- how many have to be around a branch
+-- how many loops a branch needs around it
 unfoldable pub needed_around_branch : ResolvedBranch → ℕ
 needed_around_branch = fold-ResolvedBranch ℕ ℕ needed_statement_step needed_branch_step
 
--- how many have to be around a block
+-- how many loops a block needs around it
 abbrev pub needed_around_all : List ResolvedStatement → ℕ
 needed_around_all statements = greatest (map needed_around statements)

@@ -1,4 +1,4 @@
--- Which entry stands for which field.
+-- Which entry is for which field.
 use Rattle.std.specs.Prelude.{◌≡◌, ◌<◌, ◌⊎◌, ℕ, List, [], map, Some, length, slice_get, All, Contains}
 use Rattle.tp_value.specs.declared.types.Field.{Field}
 
@@ -6,8 +6,8 @@ use Rattle.tp_value.specs.declared.types.Field.{Field}
 abbrev pub field_names : List Field → List (List ℕ)
 field_names fields = map (λ f. f.name) fields
 
--- the entries of these names stand at these places of the fields: each has the name of its field, and each field
--- has an entry
+-- the entries of these names are for the fields at these places: each has the name of its field, and each field has an
+-- entry
 pub record IsPlacing (fields : List Field) (names : List (List ℕ)) (places : List ℕ) : Type 0 where
   pub count : length names ≡ length fields
   pub as_many : length places ≡ length names

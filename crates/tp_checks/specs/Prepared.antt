@@ -1,4 +1,4 @@
--- What the first three passes of the checks ask of a module, and what they make of it.
+-- What the first three passes of the checks require of a module, and what they make of it.
 use Rattle.std.specs.Prelude.{◌≡◌, ◌≤◌, List, [], ◌∷◌, All, length, map}
 use Rattle.tp_tree.specs.declared.tree.Module.{Module}
 use Rattle.tp_tree.specs.declared.tree.TestCase.{TestCase}
@@ -22,7 +22,7 @@ pub record IsConfigOf (m : Module) (case : TestCase) (config : Setup) : Type 0 w
   pub few_ports : All (λ t. length t.ports.entries ≤ 64) types
   pub set_up : IsConfigBySetup (component_type_names m) (map ports_of types) case config
 
--- what was made of a module
+-- the result of the first three passes for a module
 pub record IsPreparedOf (m : Module) (p : Prepared) : Type 0 where
   -- the module has this test case, and no other
   pub one_test_case : test_cases m ≡ p.case.case.now ∷ []
@@ -45,13 +45,13 @@ pub record IsWellDeclared (m : Module) : Type 0 where
   pub names : HasUniqueNames m
   -- what a definition names is defined, a component type has at most 64 ports, and `sut` plays the system
   pub definitions : HasSoundDefinitions m case
-  -- the component variables have names of their own, known types, and are few
+  -- the component variables have names of their own and known types, and there aren't too many
   pub variables : AreSoundVariables (component_type_names m) (component_types m) case
-  -- no two components have one name, the ports of each `connect` and `map` are known, and each is allowed where it
-  -- stands
+  -- no two components have the same name, the ports of each `connect` and `map` are known, and each is allowed after
+  -- the statements before it
   pub config : Setup
   pub connections : IsConfigOf m case config
-  -- each component is started once, by a function of its type, with arguments of the parameters' types, and
-  -- `all component.done` is there
+  -- each component is started once, by a function of its type, with arguments of the parameters' types; if a component
+  -- is created, `all component.done` is there
   pub started : Starts
   pub starts : AreStarts (functions m) case started

@@ -28,7 +28,7 @@ use Rattle.tp_config.specs.Shape.{ports_of}
 use Rattle.tp_checks.specs.Tables.{place_of_name}
 use Rattle.tp_checks.specs.Definitions.{name_of, type_definitions, type_names, port_types, component_types, declared}
 
--- the type that a type name names, where the record and record-of types have these names
+-- the type that a type name names, given the names of the record and record-of types
 abbrev pub ty_of : List (List ℕ) → TypeName → Option Ty
 ty_of types type_name.Integer = Some ty.Integer
 ty_of types type_name.Boolean = Some ty.Boolean
@@ -39,7 +39,7 @@ ty_of types (type_name.Named name) = option_map ty.Named (place_of_name types na
 abbrev pub IsTypeNamed : List (List ℕ) → TypeName → Ty → Type 0
 IsTypeNamed types name ty = ty_of types name ≡ Some ty
 
--- the types that the names name were added behind those of other names
+-- if the old types are those of some names, the new ones are those of the same names followed by these
 abbrev pub Appends : List (List ℕ) → List TypeName → List Ty → List Ty → Type 0
 Appends types names old new =
     (before : List TypeName) → AllZip (IsTypeNamed types) before old → AllZip (IsTypeNamed types) (before ++ names) new
@@ -63,7 +63,7 @@ IsTypeDef types (defined.TestCase c) made = ⊥
 abbrev pub IsNamedType : List (List ℕ) → Defined → List ℕ × TypeDef → Type 0
 IsNamedType types x made = (made.0 ≡ name_of x) × IsTypeDef types x made.1
 
--- whether messages go into a port this way, and whether they go out; `inout` is both
+-- whether a port receives messages in this direction, and whether it sends them; with `inout` it does both
 abbrev pub goes_in : Way → Bool
 goes_in way.In = true
 goes_in way.Out = false
@@ -81,7 +81,7 @@ received_types x = if goes_in x.way then x.types else []
 abbrev pub sent_types : Direction → List TypeName
 sent_types x = if goes_out x.way then x.types else []
 
--- what a port of the type receives, and what it sends
+-- the types that a port of the type receives, and those that it sends
 abbrev pub IsPortType : List (List ℕ) → PortType → List Ty → List Ty → Type 0
 IsPortType types p ins outs =
     AllZip (IsTypeNamed types) (flat_map received_types p.directions) ins
@@ -90,7 +90,7 @@ IsPortType types p ins outs =
 abbrev pub IsMade : List (List ℕ) → PortType → PortLists → Type 0
 IsMade types p made = IsPortType types p made.ins made.outs
 
--- a port of this name that receives and sends this
+-- a port of this name that receives and sends these types
 abbrev pub port_decl : PortLists → DeclaredName → PortDecl
 port_decl made n = record { name = declared n; ins = made.ins; outs = made.outs }
 
@@ -99,14 +99,14 @@ abbrev pub port_list : List PortDeclaration → List (List ℕ × List ℕ)
 port_list ports =
     flat_map (λ (p : PortDeclaration). map (λ n. (declared n, p.type_name)) p.names) ports
 
--- what a port type of this name receives and sends
+-- the types that a port type of this name receives and sends
 pub record IsMadeOf (types : List (List ℕ)) (ports : List PortType) (name : List ℕ) (made : PortLists) : Type 0 where
   pub port_type : PortType
   pub there : Contains ports port_type
   pub named : port_type.name ≡ name
   pub lists : IsMade types port_type made
 
--- a port has its own name, and receives and sends what the port type of the name does
+-- a port has its declared name, and receives and sends what its port type does
 pub record IsPortDecl (types : List (List ℕ)) (ports : List PortType) (x : List ℕ × List ℕ) (port : PortDecl)
     : Type 0 where
   pub name : port.name ≡ x.0

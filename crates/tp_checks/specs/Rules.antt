@@ -22,13 +22,12 @@ use Rattle.tp_checks.specs.Resolved.{ty_of}
 
 -- no name is given twice, and each has a number of 32 bits
 pub record HasUniqueNames (m : Module) : Type 0 where
-  -- no two definitions have one name, and they are fewer than 2 ^ 32
+  -- the names of the definitions are distinct, and fewer than 2 ^ 32
   pub definitions : IsNumbered (definition_names m)
-  -- no two fields of a record type, ports of a component type or parameters of a function have one name, and they are
-  -- fewer than 2 ^ 32
+  -- within each definition the names of its fields, ports or parameters are distinct, and fewer than 2 ^ 32
   pub inner : All (λ (x : Definition). IsNumbered (inner_names x.defined)) m.definitions
 
--- there is one test case
+-- there is exactly one test case
 abbrev pub HasOneTestCase : Module → Type 0
 HasOneTestCase m = (case : TestCase) × (test_cases m ≡ case ∷ [])
 
@@ -42,7 +41,7 @@ pub record AreNamed (definitions : List Definition) : Type 0 where
 abbrev pub NamesType : List (List ℕ) → TypeName → Type 0
 NamesType types name = IsSome (ty_of types name)
 
--- each name where the type of a field, of elements or of messages stands names a type
+-- each type of a field, of elements or of messages is known
 abbrev pub AreTypesKnown : List (List ℕ) → Defined → Type 0
 AreTypesKnown types (defined.Record r) = All (λ f. NamesType types f.type_name) r.fields
 AreTypesKnown types (defined.List l) = NamesType types l.element
@@ -51,7 +50,7 @@ AreTypesKnown types (defined.Component c) = Unit {0}
 AreTypesKnown types (defined.Function f) = Unit {0}
 AreTypesKnown types (defined.TestCase c) = Unit {0}
 
--- each name where the type of a port stands names a port type
+-- the type of each port of a component type is a known port type
 abbrev pub ArePortTypesKnown : List (List ℕ) → Defined → Type 0
 ArePortTypesKnown ports (defined.Record r) = Unit {0}
 ArePortTypesKnown ports (defined.List l) = Unit {0}
@@ -60,7 +59,7 @@ ArePortTypesKnown ports (defined.Component c) = All (λ p. Contains ports p.type
 ArePortTypesKnown ports (defined.Function f) = Unit {0}
 ArePortTypesKnown ports (defined.TestCase c) = Unit {0}
 
--- each name where a component type stands names one: behind `runs on` and `system`, and at a parameter
+-- each component type after `runs on` or `system`, or of a parameter, is known
 abbrev pub AreComponentTypesKnown : List (List ℕ) → Defined → Type 0
 AreComponentTypesKnown components (defined.Record r) = Unit {0}
 AreComponentTypesKnown components (defined.List l) = Unit {0}
@@ -95,8 +94,8 @@ abbrev pub has_known_parameters : List (List ℕ) → Function → Bool
 has_known_parameters components f =
     list_all (λ p. is_some (place_of_name components p.type_name)) f.parameters
 
--- a component type is refused so, at its line: the type of a port is unknown; or each is known, and there are more
--- than 64 ports
+-- the fault of a component type, at its line: the type of a port is unknown (11); or each is known, and there are more
+-- than 64 ports (15)
 abbrev pub IsComponentFault : List (List ℕ) → ComponentType → ℕ → ModuleFault → Type 0
 IsComponentFault ports c line fault =
     ((¬ IsTrue (has_known_ports ports c)) × (fault ≡ Refused Unknown line))
@@ -106,7 +105,7 @@ IsComponentFault ports c line fault =
 abbrev pub sut : List ℕ
 sut = codes "sut"
 
--- a function has no parameters, and runs on the component type behind `system`
+-- a function has no parameters, and runs on the component type after `system`
 abbrev pub CanPlaySystem : Option (List ℕ) → Function → Type 0
 CanPlaySystem system f = (f.parameters ≡ []) × (system ≡ Some f.runs_on)
 
@@ -119,13 +118,13 @@ PlaysSystem system (defined.Component c) = Unit {0}
 PlaysSystem system (defined.Function f) = f.name ≡ sut → CanPlaySystem system f
 PlaysSystem system (defined.TestCase c) = Unit {0}
 
--- the rules on a function, where the component types have these names, and this name stands behind `system`
+-- the rules on a function, given the names of the component types and the name after `system`
 abbrev pub IsSoundFunction : List (List ℕ) → Option (List ℕ) → Function → Type 0
 IsSoundFunction components system f =
     AreComponentTypesKnown components (defined.Function f) × PlaysSystem system (defined.Function f)
 
--- the rules on one definition, where the types, port types and component types have these names, and this name stands
--- behind `system`
+-- the rules on one definition, given the names of the types, port types and component types, and the name after
+-- `system`
 pub record IsSound (types ports components : List (List ℕ)) (system : Option (List ℕ)) (x : Defined) : Type 0 where
   pub types_known : AreTypesKnown types x
   pub port_types_known : ArePortTypesKnown ports x
@@ -133,7 +132,7 @@ pub record IsSound (types ports components : List (List ℕ)) (system : Option (
   pub few_ports : HasFewPorts x
   pub plays_system : PlaysSystem system x
 
--- each is a record or record-of type whose types are known, no two have one name, and they are fewer than 2 ^ 32
+-- each is a record or record-of type whose types are known; their names are distinct, and fewer than 2 ^ 32
 pub record AreSoundTypes (types : List (List ℕ)) (xs : List Defined) : Type 0 where
   pub kinds : All (λ x. IsSome (type_of x)) xs
   pub known : All (AreTypesKnown types) xs
@@ -143,9 +142,9 @@ pub record AreSoundTypes (types : List (List ℕ)) (xs : List Defined) : Type 0 
 abbrev pub AreMessagesKnown : List (List ℕ) → PortType → Type 0
 AreMessagesKnown types p = AreTypesKnown types (defined.Port p)
 
--- the rules on a component type, where the port types have these names
+-- the rules on a component type, given the names of the port types
 pub record IsSoundComponent (ports : List (List ℕ)) (c : ComponentType) : Type 0 where
   pub known : ArePortTypesKnown ports (defined.Component c)
   pub few : HasFewPorts (defined.Component c)
-  -- no two ports have one name
+  -- no two ports have the same name
   pub distinct : AreDistinct (declared_ports c.ports)

@@ -29,18 +29,18 @@ declared_port_names ports = map (λ e. string_bytes e.0) ports.ports.entries
 abbrev pub declared_port_types : CompType → List PortType
 declared_port_types ports = map (λ e. e.1) ports.ports.entries
 
--- the port of this name stands at this place
+-- the port of this name is at this place
 pub record IsPortNamed (ports : CompType) (name : List ℕ) (place : ℕ) (port : PortType) : Type 0 where
   pub named : IsPlace (declared_port_names ports) name place
   pub typed : slice_get (declared_port_types ports) place ≡ Some port
 
--- what a behaviour sends at a port: in the system under test the two lists are exchanged
+-- the types that a behaviour can send at a port: the system under test sends what its ports receive
 abbrev pub sendable_types : BehaviourKind → PortType → List Ty
 sendable_types behaviour_kind.TestCase port = port.outs
 sendable_types behaviour_kind.Function port = port.outs
 sendable_types behaviour_kind.SystemUnderTest port = port.ins
 
--- what it receives there
+-- the types that it can receive there
 abbrev pub receivable_types : BehaviourKind → PortType → List Ty
 receivable_types behaviour_kind.TestCase port = port.ins
 receivable_types behaviour_kind.Function port = port.ins
@@ -54,14 +54,14 @@ pub data IsType (types : Types) : TypeName → Ty → Type 0 where
   type_named : (n : List ℕ) (k : ℕ) → type_number types n ≡ Some k
       → IsType types (type_name.Named n) (ty.Named k)
 
--- the variable of this name stands at this place and holds this
+-- the variable of this name is at this place, and holds values of this type
 pub record IsVariable (variables : Variables) (name : List ℕ) (place : ℕ) (held : VariableType) : Type 0 where
   pub named : IsPlace variables.names name place
   pub typed : slice_get variables.types place ≡ Some held
 
--- the component of this name stands at this place of the references: `mtc` at 0, `self` at 1, and from 2 the
--- parameters, then the component variables of the test case. A loop variable or a variable hides them, and a
--- parameter hides a component variable
+-- the component of this name is at this place of the references: `mtc` at 0, `self` at 1, and from 2 on the parameters,
+-- then the component variables of the test case. A loop variable or a variable hides them, and a parameter hides a
+-- component variable
 pub data IsReference (scope : Scope) (variables : Variables) (turns : List (List ℕ)) : ComponentName → ℕ → Type 0 where
   mtc : IsReference scope variables turns component_name.Mtc 0
   itself : IsReference scope variables turns component_name.SelfComponent 1
@@ -84,8 +84,8 @@ pub record IsNew (scope : Scope) (variables : Variables) (turns : List (List ℕ
 abbrev pub reference_count : Scope → ℕ
 reference_count scope = length scope.parameters.now + length scope.component_variables.now + 2
 
--- what the checks of a body rely on in its scope: a component type has at most 64 ports, and no two fields of a
--- record type have one name
+-- what the checks of a body assume about its scope: a component type has at most 64 ports, and no two fields of a
+-- record type have the same name
 pub record IsSoundScope (scope : Scope) : Type 0 where
   pub few_ports : length scope.component_type.now.ports.entries ≤ 64
   pub own_names : (u : Ty) (fields : List Field) → named scope.types.now u ≡ Some (type_def.Record fields)

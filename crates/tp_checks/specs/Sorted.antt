@@ -35,14 +35,14 @@ ComponentTypes = AreOfKind component_type_of (λ c. c.name)
 abbrev pub Functions : List Definition → List (List ℕ) → List Function → Type 0
 Functions = AreOfKind function_of (λ f. f.name)
 
--- each kind of definition of the module stands where it belongs
+-- the definitions of the module are sorted by kind, with their names
 pub record AreSorted (m : Module) (s : Sorted) : Type 0 where
   pub types : TypeDefinitions m.definitions s.type_names (map (λ x. x.now) s.types.items)
   pub ports : PortTypes m.definitions s.port_names (map (λ x. x.now) s.port_types.items)
   pub components : ComponentTypes m.definitions s.component_names (map (λ x. x.now) s.component_types.items)
   pub functions : Functions m.definitions s.function_names (map (λ x. x.now) s.functions.items)
 
--- the definitions of each kind that were sorted out
+-- the sorted definitions of each kind
 abbrev pub types_in : Sorted → List Defined
 types_in s = map (λ x. x.now) s.types.items
 
@@ -55,11 +55,11 @@ component_types_in s = map (λ c. c.now) s.component_types.items
 abbrev pub functions_in : Sorted → List Function
 functions_in s = map (λ f. f.now) s.functions.items
 
--- these are the component types that were sorted out, with their ports
+-- these are the sorted component types, with their ports
 abbrev pub AreComponentTypesIn : Sorted → List CompType → Type 0
 AreComponentTypesIn s made = AllZip (IsComponentType s.type_names (port_types_in s)) (component_types_in s) made
 
--- a definition obeys the rules, where the kinds have the names that were sorted out
+-- a definition obeys the rules, given the names of each kind of sorted definition
 abbrev pub IsSoundIn : Sorted → Option (List ℕ) → Definition → Type 0
 IsSoundIn s system x = IsSound s.type_names s.port_names s.component_names system x.defined
 
@@ -67,32 +67,32 @@ IsSoundIn s system x = IsSound s.type_names s.port_names s.component_names syste
 abbrev pub AreSound : Sorted → Option (List ℕ) → List Definition → Type 0
 AreSound s system definitions = All (IsSoundIn s system) definitions
 
--- the definitions that were sorted out obey the rules, each kind by itself
+-- the sorted definitions obey the rules, each kind by itself
 pub record IsSortedSound (s : Sorted) : Type 0 where
   pub types : AreSoundTypes s.type_names (types_in s)
   pub ports : All (AreMessagesKnown s.type_names) (port_types_in s)
   pub components : All (IsSoundComponent s.port_names) (component_types_in s)
 
--- these are what the port types receive and send
+-- these are the types that the port types receive and send
 pub record HasMade (s : Sorted) (made : List PortLists) : Type 0 where
   pub names : s.port_names ≡ map (λ (p : PortType). p.name) (port_types_in s)
   pub lists : AllZip (IsMade s.type_names) (port_types_in s) made
 
--- each definition of the module obeys the rules on definitions, where this is its test case
+-- each definition of the module with this test case obeys the rules on definitions
 abbrev pub HasSoundDefinitions : Module → TestCase → Type 0
 HasSoundDefinitions m case =
     All (λ (x : Definition).
     IsSound (type_names m) (port_type_names m) (component_type_names m) case.system x.defined)
     m.definitions
 
--- the port types have their own names
+-- the port types are listed under their own names
 abbrev pub ArePortsNamed : Sorted → Type 0
 ArePortsNamed s = s.port_names ≡ map (λ (p : PortType). p.name) (port_types_in s)
 
--- the component types have their own names
+-- the component types are listed under their own names
 abbrev pub AreComponentsNamed : Sorted → Type 0
 AreComponentsNamed s = s.component_names ≡ map (λ (c : ComponentType). c.name) (component_types_in s)
 
--- the functions have their own names
+-- the functions are listed under their own names
 abbrev pub AreFunctionsNamed : Sorted → Type 0
 AreFunctionsNamed s = s.function_names ≡ map (λ (f : Function). f.name) (functions_in s)

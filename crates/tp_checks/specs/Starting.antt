@@ -17,7 +17,7 @@ use Rattle.tp_checks.specs.Tables.{IsNumbered, place_of_name}
 use Rattle.tp_checks.specs.Rules.{sut}
 use Rattle.tp_checks.specs.Components.{creations, variables}
 
--- the number of the component that an argument names, where the component variables have these names; `self` is `mtc`
+-- the number of the component that an argument names, given the names of the component variables; `self` is `mtc`
 abbrev pub component_named : List (List ℕ) → ComponentName → Option ℕ
 component_named names (component_name.Named x) = option_map (λ k. k + 1) (place_of_name names x)
 component_named names component_name.Mtc = Some 0
@@ -27,17 +27,17 @@ component_named names component_name.SelfComponent = Some 0
 abbrev pub IsArgument : List (List ℕ) → ComponentName → CompId → Type 0
 IsArgument names x comp = component_named names x ≡ Some comp.0
 
--- the component has the type of the parameter, where the components have types of these names
+-- the component has the type of the parameter, given the names of the components' types
 abbrev pub HasParameterType : List (List ℕ) → Parameter → CompId → Type 0
 HasParameterType types p comp = slice_get types comp.0 ≡ Some p.type_name
 
--- the names of the types of `mtc` and of the components that are made, in their order
+-- the names of the types of `mtc` and of the created components, in their order
 abbrev pub type_names_of : TestCase → List (List ℕ)
 type_names_of case =
     case.runs_on ∷ map (λ (c : Creation). c.type_name) (creations case.setups)
 
--- a start obeys its rules and starts this, where the functions are these, the component variables have these names and
--- the components types of these names
+-- a start obeys its rules and starts this component, given the functions, the names of the component variables, and the
+-- names of the components' types
 pub record IsStartOf (functions : List Function) (names types : List (List ℕ)) (x : ComponentStart) (made : StartedComponent)
     : Type 0 where
   pub variable : ℕ
@@ -52,7 +52,7 @@ pub record IsStartOf (functions : List Function) (names types : List (List ℕ))
   pub arguments_known : AllZip (IsArgument names) x.arguments made.arguments.items
   pub arguments_fit : AllZip (HasParameterType types) function.parameters made.arguments.items
 
--- the components that are started
+-- the names of the started components
 abbrev pub started_names : List ComponentStart → List (List ℕ)
 started_names xs = map (λ (x : ComponentStart). x.component) xs
 
@@ -60,7 +60,7 @@ started_names xs = map (λ (x : ComponentStart). x.component) xs
 abbrev pub IsStartPlace : List (List ℕ) → List ℕ → ℕ → Type 0
 IsStartPlace started name k = place_of_name started name ≡ Some k
 
--- the starts of a test case obey their rules and start this
+-- the starts of a test case obey their rules, and start these components
 pub record AreStarts (functions : List Function) (case : TestCase) (made : Starts) : Type 0 where
   pub starts : AllZip (IsStartOf functions (variables case.setups) (type_names_of case))
       case.starts made.starts.items
@@ -68,5 +68,5 @@ pub record AreStarts (functions : List Function) (case : TestCase) (made : Start
   pub once : IsNumbered (started_names case.starts)
   -- each component is started
   pub all : AllZip (IsStartPlace (started_names case.starts)) (variables case.setups) made.places.items
-  -- a test case that makes components ends with `all component.done`
+  -- a test case that creates components ends with `all component.done`
   pub done : 0 < length (creations case.setups) → IsSome case.all_done

@@ -63,7 +63,7 @@ pub(crate) fn add_component(
     let Some(kind) = types.find(component.type_name) else {
         return Err(refused(ModuleRule::Unknown, component.line));
     };
-    // There is a type for each name; the test stands for the condition of `create`.
+    // There is a type for each name, but `create` requires the proof that this test gives.
     if kind as usize >= config.types().len() {
         return Err(refused(ModuleRule::Unknown, component.line));
     }
@@ -121,7 +121,7 @@ fn check_variable<'m>(
     Ok(())
 }
 
-/// The statement that creates no component, because it is refused.
+/// Where creating the components stopped: the statements before that, and the fault.
 #[derive(Drop)]
 pub struct StoppedCreation<'m> {
     pub before: &'m [SetupStatement],
@@ -146,7 +146,7 @@ pub(crate) fn variable_component(variables: &NameSet, name: &str) -> Option<Comp
     let Some(place) = variables.find(name) else {
         return None;
     };
-    // No table has so many names; the test keeps the sum within 32 bits.
+    // No table has this many names, but the sum has to fit in 32 bits.
     if place == u32::MAX {
         return None;
     }

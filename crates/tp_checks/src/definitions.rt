@@ -78,7 +78,7 @@ fn are_ports_few(ports: &[PortDeclaration]) -> bool
 {
     let mut count = 0;
     for port in ports {
-        // Asked at each declaration, so that the sum can't overflow.
+        // Checked at each declaration, so that the sum can't overflow.
         if !has_room(count, port.names.len()) {
             return false;
         }

@@ -128,7 +128,7 @@ pub fn find_reference(context: &Context, component: &ComponentName) -> Option<us
                 return None;
             };
             let place = find_component(context.scope, name)?;
-            // It never is: the place is below 2^33, by the clause `few`.
+            // This never happens: the place is below 2^33, by the clause `few`.
             if place > usize::MAX - 2 {
                 return None;
             }

@@ -50,7 +50,7 @@ fn add_types(types: &NameSet, names: &[TypeName], made: &mut Items<Ty>) -> Resul
 {
     for name in names {
         let Some(ty) = resolve(types, name) else {
-            // `check_definitions` has found all types: this never comes, and has no line.
+            // This never happens: `check_definitions` has found all types. So it has no line.
             return Err(refused(ModuleRule::Unknown, 0));
         };
         made.push(ty)?;
@@ -139,7 +139,7 @@ fn share(port_type: &PortType) -> Result<PortType, ModuleFault>
         (shared.ins ≡ port_type.now.ins) × (shared.outs ≡ port_type.now.outs)) }
     ensures refused { IfErr result (λ fault. fault ≡ ModuleFault.Memory (record {})) }
 {
-    // However many ports share the lists, they are in memory once.
+    // All ports of a type share its lists, which are in memory once.
     let ins = port_type.ins.share()?;
     let outs = port_type.outs.share()?;
     Ok(PortType { ins, outs })
@@ -233,7 +233,7 @@ fn make_component(
         add_ports(alloc, &mut ports, declaration.names.as_slice(), port_type)?;
     }
     if !has_room(0, ports.ports.len()) {
-        // Nor does this come: `check_definitions` has counted the ports.
+        // This never happens: `check_definitions` has counted the ports.
         return Err(refused(ModuleRule::Limit, 0));
     }
     Ok(ports)

@@ -99,7 +99,7 @@ fn make_type(
             };
             Ok(TypeDef::ListOf(element))
         }
-        // `sort` lets only records and lists come here.
+        // This never happens: `sort` passes only record and record-of types.
         _ => Err(refused(ModuleRule::Unknown, line)),
     }
 }
@@ -139,7 +139,7 @@ fn add_type(
 {
     let definition = make_type(alloc, names, defined, 0)?;
     let name = String::from_str(alloc, defined_name(defined))?;
-    // `check_names` has refused so many names, and two equal ones, at their lines.
+    // `check_names` has already refused too many names, and equal ones, at their lines.
     if types.len() >= u32::MAX as usize {
         return Err(refused(ModuleRule::Limit, 0));
     }

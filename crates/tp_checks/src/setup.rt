@@ -218,8 +218,8 @@ fn most_variables(case: &TestCase) -> usize
     }
 }
 
-/// The fault of the setup statements after creating the components has stopped: that of a
-/// connection or mapping before the stop, or the fault that stopped it.
+/// The fault of the setup statements if creating the components was stopped: that of a
+/// connection or mapping before the stop, or else the fault that stopped it.
 fn first_fault(
     alloc: Global,
     config: &mut Config,
@@ -242,7 +242,7 @@ fn first_fault(
         → Tells (SetupBreaks rules.now.type_names.now rules.now.port_names.now config.old.types
         case.entry.case.now case.entry.line) result }
 {
-    // The statements before the stop are set up all the same: a fault there comes first.
+    // The statements before the stop are still executed, because their faults come first.
     let system = match add_interface(alloc, config, rules.type_names, case.case, case.line) {
         Ok(system) => system,
         Err(fault) => return fault,

@@ -241,13 +241,13 @@ pub fn check_names(alloc: Global, parsed: &Module) -> Result<CaseAt<'_>, ModuleF
         IsRefusedBy (HasUniqueNames parsed.now × HasOneTestCase parsed.now)) }
     ensures told { IfErr result (Tells (NamesBreak parsed.now)) }
 {
-    // Asked first: this fault takes precedence over those of the definitions.
+    // Checked first, because this fault takes precedence over those of the definitions.
     if !has_case(parsed.definitions.as_slice()) {
         return Err(refused(ModuleRule::Unknown, parsed.line));
     }
     match find_case(alloc, parsed.definitions.as_slice())? {
         Some(found) => Ok(found),
-        // It doesn't come to this: there is a test case.
+        // This never happens: there is a test case.
         None => Err(refused(ModuleRule::Unknown, parsed.line)),
     }
 }

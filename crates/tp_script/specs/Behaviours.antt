@@ -10,7 +10,7 @@ use Rattle.tp_checks.specs.Rules.{sut}
 use Rattle.tp_play.specs.Behaviours.{Behaviour}
 use Rattle.tp_script.specs.Scopes.{Known, IsMainBody, IsFunctionBody}
 
--- the numbers of the components of so many component variables stand behind other numbers: they are 1, 2, ..
+-- `after` is `before` followed by the numbers of the components of `count` component variables: 1, 2, ..
 pub record Numbers (count : ℕ) (before after : List ℕ) : Type 0 where
   pub variables : List ℕ
   pub as_many : length variables ≡ count
@@ -22,13 +22,13 @@ pub record Numbers (count : ℕ) (before after : List ℕ) : Type 0 where
 abbrev pub AreReferences : ℕ → List ℕ → ℕ → List ℕ → Type 0
 AreReferences itself arguments count references = Numbers count (0 ∷ itself ∷ arguments) references
 
--- what the component of this number does, where these are the functions and the starts
+-- the behaviour of the component of this number, given the functions and the starts
 pub data Does (known : Known) (functions : List Function) (case : TestCase) (starts : Starts)
     : ℕ → Option Behaviour → Type 0 where
   -- `mtc`: the test case's own body
   main : (d : Behaviour) → IsMainBody known case d.body → AreReferences 0 [] (length known.components) d.references
       → Does known functions case starts 0 (Some d)
-  -- a component that is made: the body of the function that its start names, with the arguments of this start
+  -- a created component: the body of the function that its start names, with the arguments of this start
   started : (k place : ℕ) (x : StartedComponent) (f : Function) (d : Behaviour) → slice_get starts.places.items k ≡ Some place
       → slice_get starts.starts.items place ≡ Some x → slice_get functions x.function ≡ Some f
       → IsFunctionBody known f d.body
@@ -39,7 +39,7 @@ pub data Does (known : Known) (functions : List Function) (case : TestCase) (sta
       → f.name ≡ sut → IsFunctionBody known f d.body
       → AreReferences n [] (length known.components) d.references
       → Does known functions case starts n (Some d)
-  -- or nothing, where no function has that name
+  -- or nothing, if no function has that name
   nobody : (n : ℕ) → interface_number case ≡ Some n
       → (Contains (map (λ (f : Function). f.name) functions) sut → ⊥)
       → Does known functions case starts n None

@@ -24,26 +24,26 @@ use Rattle.tp_checks.specs.BrokenBodies.{BodyBreaks}
 use Rattle.tp_script.specs.Scopes.{IsFunctionBody, IsMainBody, IsScope, Known, plays_of}
 use Rattle.tp_script.specs.TestCases.{HasSoundBodies, IsTestCaseOf, known_of, size_of_test_case}
 
--- these variables and statements break a rule on bodies in such a scope, where their definition begins at this line
+-- these variables and statements, whose definition begins at this line, break a rule on bodies in such a scope
 pub record BreaksIn (known : Known) (plays : BehaviourKind) (runs_on : List ℕ) (parameters : List (List ℕ)) (begins : ℕ)
     (variables : List Variable) (statements : List Statement) (rule : ModuleRule) (line : ℕ) : Type 0 where
   pub scope : Scope
   pub is_scope : IsScope known plays runs_on parameters scope
   pub breaks : BodyBreaks scope begins variables statements rule line
 
--- the test case's own body does
+-- the test case's own body breaks a rule
 abbrev pub MainBreaks : Known → TestCase → ℕ → ModuleRule → ℕ → Type 0
 MainBreaks known case begins rule line =
     BreaksIn known behaviour_kind.TestCase case.runs_on [] begins case.variables
     case.statements rule line
 
--- the body of a function does
+-- the body of a function breaks a rule
 abbrev pub FunctionBreaks : Known → Function → ℕ → ModuleRule → ℕ → Type 0
 FunctionBreaks known f begins rule line =
     BreaksIn known (plays_of f) f.runs_on (map (λ p. declared p.name) f.parameters) begins
     f.variables f.statements rule line
 
--- the body of one of the functions does, and those of the functions before it obey the rules
+-- the body of one of the functions breaks a rule, and those of the functions before it obey the rules
 pub record FunctionsBreak (known : Known) (list : List Definition) (rule : ModuleRule) (line : ℕ) : Type 0 where
   pub before : List Definition
   pub definition : Definition
@@ -55,7 +55,8 @@ pub record FunctionsBreak (known : Known) (list : List Definition) (rule : Modul
   pub obey : AllZip (IsFunctionBody known) (of_kind function_of before) bodies
   pub breaks : FunctionBreaks known function definition.line rule line
 
--- a body breaks a rule: the test case's own, which begins at this line, or else the first of the functions that does
+-- a body breaks a rule: the test case's own, which begins at this line, or, if that obeys the rules, the first of the
+-- functions' bodies that does
 pub data BodiesBreak (known : Known) (case : TestCase) (begins : ℕ) (definitions : List Definition)
     : ModuleRule → ℕ → Type 0 where
   in_main : (rule : ModuleRule) (line : ℕ) → MainBreaks known case begins rule line
@@ -70,15 +71,15 @@ pub record IsCaseOf (m : Module) (case : TestCase) (begins : ℕ) (config : Setu
   pub config_is : IsConfigOf m case config
   pub types_are : AreTypes m types
 
--- the module breaks a rule of the passes, each of which is made where those before it found nothing
+-- the module breaks a rule of the passes, each of which is made only if those before it found nothing
 pub data ModuleBreaks (m : Module) : ModuleRule → ℕ → Type 0 where
-  -- on names, definitions, setup and starts
+  -- a rule on names, definitions, setup or starts
   declarations : (rule : ModuleRule) (line : ℕ) → DeclarationsBreak m rule line → ModuleBreaks m rule line
-  -- on bodies
+  -- a rule on bodies
   bodies : (case : TestCase) (begins : ℕ) (config : Setup) (types : Types) (rule : ModuleRule) (line : ℕ)
       → IsWellDeclared m → IsCaseOf m case begins config types
       → BodiesBreak (known_of m case config types) case begins m.definitions rule line → ModuleBreaks m rule line
-  -- on size: all components together have more than 100,000 statements to carry out (15)
+  -- the rule on size: all components together have more than 100,000 statements to execute (15)
   size : (case : TestCase) (begins : ℕ) (made : Made) → IsWellDeclared m → HasSoundBodies m
       → IsCaseOf m case begins made.config made.types → IsTestCaseOf m made → 100000 < size_of_test_case made
       → ModuleBreaks m Limit begins

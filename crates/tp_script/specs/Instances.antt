@@ -13,7 +13,7 @@ use Rattle.tp_play.specs.declared.instance.WhichBody.TheVariants as which_body
 use Rattle.tp_script.specs.Scopes.{Known}
 use Rattle.tp_script.specs.Behaviours.{AreReferences}
 
--- what the bodies may speak of, once the first three passes are done
+-- what the bodies may use, after the first three passes
 abbrev pub known_in : Prepared → Known
 known_in p =
     record {
@@ -49,7 +49,7 @@ AreInstances p instances = (k : ℕ) (x : Option Instance) → slice_get instanc
 abbrev pub instance_count : Prepared → ℕ
 instance_count p = length p.starts.places.items + 1 + (if is_some p.case.case.now.system then 1 else 0)
 
--- the size of what a component does, where the bodies have these sizes
+-- the size of a component's body, given that of the test case's own body and those of the functions' bodies
 abbrev pub size_from : ℕ → List ℕ → WhichBody → ℕ
 size_from own functions which_body.TestCase = own
 size_from own functions (which_body.Function place) = slice_index_or functions place 0
@@ -58,7 +58,7 @@ abbrev pub size_of_instance : ℕ → List ℕ → Option Instance → ℕ
 size_of_instance own functions None = 0
 size_of_instance own functions (Some instance) = size_from own functions instance.which_body
 
--- there are few component variables, and each is started
+-- there are at most 63 component variables, and each is started
 pub record AreFew (p : Prepared) : Type 0 where
   pub few : length p.variables ≤ 63
   pub as_many : length p.starts.places.items ≡ length p.variables

@@ -1,4 +1,4 @@
--- What the bodies of a module may speak of.
+-- What the bodies of a module may use.
 use Rattle.std.specs.Prelude.{◌≡◌, ◌≤◌, ℕ, List, [], Some, All, Contains, length, map, slice_get, if◌then◌else◌}
 use Rattle.std.specs.List.{AllZip}
 use Rattle.std.specs.Str.{bytes_eq}
@@ -24,20 +24,20 @@ use Rattle.tp_checks.specs.declared.scope.Scope.{Scope}
 use Rattle.tp_checks.specs.Bodies.{IsBody}
 use Rattle.tp_checks.specs.Placing.{field_names}
 
--- what each body of a module may speak of: the types of messages, the component types by their names, with their
--- ports, and the component variables of the test case
+-- what each body of a module may use: the types of messages, the component types by their names, with their ports, and
+-- the component variables of the test case
 pub record Known : Type 0 where
   pub types : Types
   pub component_types : List (List ℕ)
   pub ports : List (List PortDecl)
   pub components : List (List ℕ)
 
--- what a behaviour may speak of that runs on the component type of this name and has parameters of these names
+-- what a behaviour may use that runs on the component type of this name and has parameters of these names
 pub record IsScope (known : Known) (plays : BehaviourKind) (runs_on : List ℕ) (names : List (List ℕ)) (scope : Scope)
     : Type 0 where
   pub types : scope.types.now ≡ known.types
   pub component_types : scope.component_types.now ≡ known.component_types
-  -- the ports are those of the component type behind `runs on`
+  -- the ports are those of the component type after `runs on`
   pub kind : ℕ
   pub kind_known : place_of_name known.component_types runs_on ≡ Some kind
   pub ports : slice_get known.ports kind ≡ Some (ports_of scope.component_type.now)
@@ -68,15 +68,15 @@ IsFunctionBody known f body =
     IsBodyInScope known (plays_of f) f.runs_on (map (λ p. declared p.name) f.parameters)
     f.variables f.statements body
 
--- the test case's own body and those of the functions stand for something, where bodies may speak of this
+-- the test case's own body and those of the functions stand for something, given what bodies may use
 pub record HasBodies (known : Known) (case : TestCase) (functions : List Function) : Type 0 where
   pub main : Body
   pub main_body : IsMainBody known case main
   pub bodies : List Body
   pub function_bodies : AllZip (IsFunctionBody known) functions bodies
 
--- what the checks of bodies rely on: a component type has at most 64 ports, and no two fields of a record type have
--- one name
+-- what the checks of bodies assume: a component type has at most 64 ports, and no two fields of a record type have the
+-- same name
 pub record IsSoundKnown (known : Known) : Type 0 where
   pub few_ports : All (λ (ports : List PortDecl). length ports ≤ 64) known.ports
   pub own_names : (u : Ty) (fields : List Field) → named known.types u ≡ Some (type_def.Record fields)
@@ -92,6 +92,6 @@ pub record CanAllRun (known : Known) (definitions : List Definition) : Type 0 wh
   pub there : All (λ (x : Definition). AreComponentTypesKnown known.component_types x.defined) definitions
   pub typed : length known.component_types ≡ length known.ports
 
--- within each definition no two fields, ports or parameters have one name
+-- within each definition the names of its fields, ports or parameters are distinct, and fewer than 2 ^ 32
 abbrev pub HaveOwnNames : List Definition → Type 0
 HaveOwnNames definitions = All (λ (x : Definition). IsNumbered (inner_names x.defined)) definitions

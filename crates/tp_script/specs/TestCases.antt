@@ -19,7 +19,7 @@ use Rattle.tp_play.specs.Behaviours.{Behaviour, size_of_behaviour}
 use Rattle.tp_play.specs.TestCases.{Made}
 use Rattle.tp_script.specs.Behaviours.{Does}
 
--- what the bodies of a module may speak of, whose test case is this
+-- what the bodies of a module with this test case may use
 abbrev pub known_of : Module → TestCase → Setup → Types → Known
 known_of m case config types =
     record {
@@ -42,11 +42,11 @@ pub record IsTestCaseOf (m : Module) (made : Made) : Type 0 where
   pub one_test_case : test_cases m ≡ case ∷ []
   -- the record and record-of types under their own names, and nothing else
   pub types : AreTypes m made.types
-  -- the components in their order, with their declared ports, and the connections and mappings of the setup statements
-  -- alone
+  -- the components in their order, with their declared ports, and only the connections and mappings of the setup
+  -- statements
   pub kinds : AreKinds m made.config.types
   pub config : IsConfigOf m case made.config
-  -- each component does what it is there for, with the arguments of its start
+  -- each component has its own behaviour, with the arguments of its start
   pub starts : Starts
   pub starts_are : AreStarts (functions m) case starts
   pub everyone : length made.behaviours ≡ length made.config.components
@@ -66,10 +66,11 @@ pub record HasSoundBodies (m : Module) : Type 0 where
   pub bodies : List Body
   pub function_bodies : AllZip (IsFunctionBody (known_of m case config types)) (functions m) bodies
 
--- all components together have at most 100,000 statements to carry out
+-- the number of statements that all components together have to execute
 abbrev pub size_of_test_case : Made → ℕ
 size_of_test_case made = sum (map size_of_behaviour made.behaviours)
 
+-- all components together have at most 100,000 statements to execute
 pub record IsSmall (m : Module) : Type 0 where
   pub made : Made
   pub test_case : IsTestCaseOf m made

@@ -1,4 +1,4 @@
--- The faults of a text and of a module as those of a script, and the refusals that tell them.
+-- The faults of a text and of a module as those of a script, and the refusals that report them.
 use Rattle.tp_common.specs.declared.refusal.Refusal.{Refusal}
 use Rattle.tp_syntax.specs.declared.script_fault.ScriptFault.{ScriptFault}
 use Rattle.tp_syntax.specs.declared.script_fault.ScriptFault.TheVariants as script_fault
@@ -11,7 +11,7 @@ use Rattle.tp_script.specs.declared.fault.ScriptRule.TheVariants as script_rule
 use Rattle.tp_script.specs.declared.fault.TestCaseFault.{TestCaseFault}
 use Rattle.tp_script.specs.declared.fault.TestCaseFault.TheVariants as test_case_fault
 
--- each rule is told by its own refusal
+-- each rule is reported by its own refusal
 abbrev pub script_refusal : ScriptRule → Refusal
 script_refusal (script_rule.Text rule) = text_refusal rule
 script_refusal (script_rule.Module rule) = rule_refusal rule

@@ -75,7 +75,7 @@ pub fn check(alloc: Global, parsed: &Module) -> Result<TestCase, ModuleFault>
     ensures refused { IfErr result (IsRefusedBy (WellFormed parsed.now)) }
     ensures told { IfErr result (Tells (ModuleBreaks parsed.now)) }
 {
-    // Bodies come last: their rules speak of what the earlier passes have accepted.
+    // Bodies come last, because their rules rely on what the earlier passes have accepted.
     let prepared = prepare(alloc, parsed)?;
     let behaviours = resolve_behaviours(alloc, parsed, &prepared)?;
     Ok(assemble(prepared, behaviours))

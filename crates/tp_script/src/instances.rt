@@ -49,7 +49,7 @@ fn variable_count(prepared: &Prepared) -> Result<u32, ModuleFault>
 {
     let count = prepared.variables.len();
     if count > u32::MAX as usize {
-        // It doesn't come to this: a test case has 64 components at most.
+        // This never happens: a test case has at most 64 components.
         return Err(refused(ModuleRule::Limit, prepared.case.line));
     }
     Ok(count as u32)
@@ -108,7 +108,7 @@ fn started_instance(
         return Err(refused(ModuleRule::Limit, prepared.case.line));
     };
     let Some(started) = start_at(&prepared.starts, start) else {
-        // Nor to this: each place is that of a start.
+        // This never happens: each place is that of a start.
         return Err(refused(ModuleRule::NotStarted, prepared.case.line));
     };
     let references = references(alloc, itself, &started.arguments, count)?;

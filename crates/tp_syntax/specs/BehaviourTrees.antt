@@ -46,7 +46,7 @@ abbrev pub system_tree : Option (List ℕ) → Tree
 system_tree None = of may_have_system none
 system_tree (Some n) = of may_have_system (more (leaf (word w.System)) (one (leaf (name n))))
 
--- the items of a test case after `testcase`: from its name, from `runs`, and from the system
+-- the items of a test case: from the `system` clause on, from `runs` on, and all of them
 abbrev pub system_items : List Item
 system_items = rule may_have_system ∷ sy LeftBrace ∷ rule case_setups ∷ []
 

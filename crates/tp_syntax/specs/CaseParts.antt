@@ -74,7 +74,7 @@ parts_of b =
 abbrev pub body_tree : CaseBody → Tree
 body_tree b = case_tree (parts_of b)
 
--- how late a part stands
+-- the rank of a part: parts of a lower rank come before it
 abbrev pub stage_rank : Stage → ℕ
 stage_rank stage.Setups = 0
 stage_rank stage.Starts = 1
@@ -89,7 +89,7 @@ rank_of (declares t n) = 2
 rank_of (does x) = 3
 rank_of done = 4
 
--- nothing of a later rank was kept
+-- the body has no parts above this rank
 pub record IsUpTo (n : ℕ) (b : CaseBody) : Type 0 where
   pub no_starts : n < 1 → b.starts ≡ []
   pub no_variables : n < 2 → b.variables ≡ []

@@ -27,8 +27,8 @@ use Rattle.tp_syntax.specs.StatementTrees.{Shape, compounded, verdict_set, on_al
 use Rattle.tp_syntax.specs.StatementTrees.{named_tree}
 use Rattle.tp_syntax.specs.TemplateTrees.{of, one, sym, chain}
 
--- what a part does: a pairing, by its word; a creation; the start of a component, with its function and arguments; a
--- variable; a statement; or the end of all components
+-- what a part does: a `connect` or a `map`, by its word; a creation; the start of a component, with its function and
+-- arguments; a variable; a statement; or `all component.done`
 pub data Kind : Type 0 where
   pairs : Word → PairEnd → PairEnd → Kind
   creates : Creation → Kind
@@ -80,8 +80,7 @@ arguments_tree (c ∷ cs) =
     (more (component_tree c)
     (more (chain more_arguments (map component_tree cs)) (one (sym RightParen))))
 
--- whether the part begins with `all`, stands for the rule `case_unnamed`, begins with `var`, or stands for
--- `case_statement`, `case_action`
+-- whether the part begins with `all`, is one of the rule `case_unnamed`, or begins with `var`
 abbrev pub is_all : Kind → Bool
 is_all (does (on_all_ports o)) = true
 is_all done = true
@@ -102,6 +101,7 @@ abbrev pub is_over : Kind → Bool
 is_over done = true
 is_over _ = false
 
+-- whether the part is one of the rules `case_statement` and `case_action`
 abbrev pub is_statement : Kind → Bool
 is_statement (does s) = true
 is_statement done = true
@@ -117,7 +117,7 @@ end_of_statement b = end_frames end_of_case_statement case_statements b
 abbrev pub end_of_declaration : Bool → List Frame
 end_of_declaration b = end_frames end_of_case_variable case_variables b
 
--- what begins with `all`
+-- the frames of a part that begins with `all`
 abbrev pub case_all_frames : Kind → Bool → List Frame
 case_all_frames (does (on_all_ports o)) b =
     frame case_all None (leaf (word w.All) ∷ [])
@@ -136,7 +136,7 @@ unnamed_frames (does (verdict_set v)) b =
     frame case_unnamed None (set_verdict_tree v ∷ []) ∷ end_of_statement b
 unnamed_frames k b = enter case_unnamed ++ case_all_frames k b
 
--- a statement that begins with the name of a port, as one of those after all starts
+-- the frames of a statement that begins with the name of a port, after all starts
 abbrev pub named_frames : Kind → Bool → List Frame
 named_frames (does (port_started n)) b =
     frame case_statement None (named_tree n (leaf (word w.Start)) ∷ []) ∷ end_of_statement b
@@ -148,7 +148,8 @@ abbrev pub statement_frames : Kind → Bool → List Frame
 statement_frames k b =
     cond (is_unnamed k) (enter case_statement ++ unnamed_frames k b) (named_frames k b)
 
--- the start of a component, or a statement that begins with the name of a port, where a start may stand
+-- the frames of the start of a component, or of a statement that begins with the name of a port, if a start is still
+-- allowed
 abbrev pub after_name_frames : Kind → Bool → List Frame
 after_name_frames (starts n f args) b =
     frame after_case_name None (leaf (word w.Start) ∷ [])
@@ -172,7 +173,7 @@ action_frames k b =
     cond (is_unnamed k) (enter case_action ++ unnamed_frames k b)
     (frame case_action None (leaf (name (name_of k)) ∷ sym Dot ∷ []) ∷ after_name_frames k b)
 
--- after `var`, where a creation may stand
+-- the frames after `var`, if a creation is still allowed
 abbrev pub after_var_frames : Kind → Bool → List Frame
 after_var_frames (creates c) b =
     frame after_case_var None (leaf (name c.type_name) ∷ leaf (name c.name) ∷ [])
@@ -192,7 +193,7 @@ pair_frames line (pairs x a c) b =
     ∷ end_frames end_of_setup case_setups b
 pair_frames line _ b = []
 
--- after `var`, where only a variable may stand
+-- the frames after `var`, if only a variable is allowed
 abbrev pub variable_frames : Kind → Bool → List Frame
 variable_frames (declares t n) b =
     frame variable_parts None (type_tree t ∷ leaf (name n) ∷ []) ∷ end_of_declaration b

@@ -1,4 +1,4 @@
--- Numbers that tell words and symbols apart, and the characters of patterns.
+-- Numbers that distinguish words and symbols, and the characters of patterns.
 use Rattle.std.specs.Prelude.{ℕ, Bool, not, ◌==◌, List, [], ◌∷◌}
 use Rattle.std.specs.List.{list_any}
 use Rattle.tp_syntax.specs.declared.word.Word.{Word}
@@ -86,6 +86,6 @@ symbol_code s.Arrow = 17
 abbrev pub meta_characters : List ℕ
 meta_characters = 92 ∷ 91 ∷ 93 ∷ 123 ∷ 125 ∷ 40 ∷ 41 ∷ 124 ∷ 35 ∷ 43 ∷ 34 ∷ []
 
--- whether the text of a `pattern` may hold this character
+-- whether the text after `pattern` can contain this character
 abbrev pub is_plain : ℕ → Bool
 is_plain c = not (list_any (λ m. c == m) meta_characters)

@@ -41,7 +41,7 @@ parameters_tree (p ∷ ps) =
     (more (parameter_tree p)
     (more (chain more_parameters (map parameter_tree ps)) (one (sym RightParen))))
 
--- the items of a function: from `runs`, and from `function`
+-- the items of a function: from `runs` on, and all of them
 abbrev pub body_items : List Item
 body_items = wo w.Runs ∷ wo w.On ∷ token a_name ∷ sy LeftBrace ∷ rule variables ∷ []
 
@@ -64,7 +64,7 @@ behaviour_tree (d.Function f) = of behaviour (function_trees f)
 behaviour_tree (d.TestCase c) = of behaviour (test_case_trees c)
 behaviour_tree _ = nothing
 
--- whether it is a function or a test case, or a record or a list
+-- whether it is a function or a test case; and whether it is a record or a record of
 abbrev pub is_behaviour : Defined → Bool
 is_behaviour (d.Function f) = true
 is_behaviour (d.TestCase c) = true
@@ -75,7 +75,7 @@ is_record (d.Record r) = true
 is_record (d.List l) = true
 is_record _ = false
 
--- after `record`
+-- the frames after `record`
 abbrev pub after_record_frames : Defined → Bool → List Frame
 after_record_frames (d.Record r) b =
     frame after_record None
@@ -86,7 +86,7 @@ after_record_frames (d.List l) b =
     ∷ end_frames end_of_list definitions b
 after_record_frames _ b = []
 
--- after `type`
+-- the frames after `type`
 abbrev pub other_type_frames : Defined → Bool → List Frame
 other_type_frames (d.Port p) b =
     frame after_type None (leaf (word w.Port) ∷ leaf (name p.name) ∷ leaf (word w.Message)

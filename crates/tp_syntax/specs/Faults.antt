@@ -1,4 +1,4 @@
--- Which tokens are beyond the limits, and which lines may be named.
+-- Which tokens are beyond the limits, and the fault of tokens that can't be read.
 use Rattle.std.specs.Prelude.{◌≡◌, ℕ, zero, ◌+◌, ◌-◌, ◌<◌, ◌≤◌, min, ◌⊎◌, Bool, true, false, List, [], ◌∷◌, ◌++◌}
 use Rattle.std.specs.Prelude.{length, drop, Option, None, Some}
 use Rattle.tp_syntax.specs.declared.script_fault.TextRule.TheVariants.{Syntax, Limit}
@@ -12,7 +12,7 @@ use Rattle.tp_syntax.specs.Lexeme.{Lexeme, name, word, number, text, symbol, Pla
 use Rattle.tp_syntax.specs.declared.faults.Bracket.{Bracket}
 use Rattle.tp_syntax.specs.declared.faults.Bracket.TheVariants.{Opens, Closes, Neither}
 
--- which bracket a symbol is
+-- whether a symbol opens a bracket, closes one, or does neither
 abbrev pub symbol_bracket : Symbol → Bracket
 symbol_bracket LeftBrace = Opens
 symbol_bracket RightBrace = Closes
@@ -38,24 +38,24 @@ abbrev pub is_minus : Lexeme → Bool
 is_minus (symbol Minus) = true
 is_minus _ = false
 
--- the greatest number that may stand there: directly after a `-` one more
+-- the greatest number within the limits, which is one more directly after a `-`
 abbrev pub greatest_number : Bool → ℕ
 greatest_number true = 9223372036854775808
 greatest_number false = 9223372036854775807
 
--- where so many brackets are open, the bracket is within the limits
+-- the bracket is within the limits, if this many are open before it
 abbrev pub MayStandOpen : ℕ → Bracket → Type 0
 MayStandOpen opened Opens = opened < 32
 MayStandOpen opened Closes = Unit {0}
 MayStandOpen opened Neither = Unit {0}
 
--- how many brackets are open after it
+-- how many brackets are open after this one, if this many are open before it
 abbrev pub bracket_behind : ℕ → Bracket → ℕ
 bracket_behind opened Opens = opened + 1
 bracket_behind opened Closes = opened - 1
 bracket_behind opened Neither = opened
 
--- how many brackets are open after the token, of so many before it
+-- how many brackets are open after the token, if this many are open before it
 abbrev pub opened_behind : ℕ → Lexeme → ℕ
 opened_behind opened (name n) = opened
 opened_behind opened (word w) = opened
@@ -63,7 +63,8 @@ opened_behind opened (number n) = opened
 opened_behind opened (text t) = opened
 opened_behind opened (symbol s) = bracket_behind opened (symbol_bracket s)
 
--- where so many brackets are open, directly after a `-` or elsewhere, the token is within the limits
+-- the token is within the limits, if this many brackets are open before it; `signed` says whether it is directly after
+-- a `-`
 abbrev pub IsAllowed : ℕ → Bool → Lexeme → Type 0
 IsAllowed opened signed (name n) = Unit {0}
 IsAllowed opened signed (word w) = Unit {0}
@@ -71,31 +72,32 @@ IsAllowed opened signed (number n) = n ≤ greatest_number signed
 IsAllowed opened signed (text t) = Unit {0}
 IsAllowed opened signed (symbol s) = MayStandOpen opened (symbol_bracket s)
 
--- each of the tokens is within the limits, from where so many brackets are open, directly after a `-` or elsewhere, to
--- where so many are
+-- each of the tokens is within the limits. Before them `opened` brackets are open, after them `end`; `signed` and
+-- `end_signed` say whether a `-` comes directly before that place
 abbrev pub AreAllowed : ℕ → Bool → List PlacedLexeme → ℕ → Bool → Type 0
 AreAllowed opened signed [] end end_signed = (opened ≡ end) × (signed ≡ end_signed)
 AreAllowed opened signed (t ∷ ts) end end_signed =
     IsAllowed opened signed t.token
     × AreAllowed (opened_behind opened t.token) (is_minus t.token) ts end end_signed
 
--- the line of the first of the tokens, or of the text's end
+-- the line of the first of the tokens, or of the end of the text if there are none
 abbrev pub fault_line : List PlacedLexeme → ℕ → ℕ
 fault_line [] last = last
 fault_line (t ∷ ts) last = t.line
 
--- the token as the limits let it stand: a number that is too great is the greatest that may stand there
+-- the token, brought within the limits: a number that is too great becomes the greatest within them
 abbrev pub brought_within : Bool → Lexeme → Lexeme
 brought_within signed (number n) = number (min n (greatest_number signed))
 brought_within signed t = t
 
--- these tokens are those passed and the one after them, brought within the limits, whose line is noted
+-- `front` has the tokens that were passed and the token after them, brought within the limits; `beyond` is the line of
+-- that token
 abbrev pub IsCutOf : List PlacedLexeme → PlacedLexeme → Bool → List PlacedLexeme → Option ℕ → Type 0
 IsCutOf passed t signed front beyond =
     (front ≡ passed ++ record { token = brought_within signed t.token; line = t.line } ∷ [])
     × (beyond ≡ Some t.line)
 
--- these tokens are cut after the first that is beyond the limits
+-- `front` has the tokens up to the first one beyond the limits, which is brought within them; `beyond` is its line
 pub record IsCut (tokens front : List PlacedLexeme) (beyond : Option ℕ) : Type 0 where
   pub opened : ℕ
   pub signed : Bool
@@ -111,13 +113,14 @@ pub record IsCut (tokens front : List PlacedLexeme) (beyond : Option ℕ) : Type
 abbrev pub AreWithin : List PlacedLexeme → Type 0
 AreWithin ts = (opened : ℕ) × (signed : Bool) × AreAllowed 0 false ts opened signed
 
--- these are all the tokens, each within the limits; or they are cut after the first that isn't, whose line is noted
+-- the tokens that the parser sees: all of them if each is within the limits, otherwise those up to the first one beyond
+-- the limits, which is brought within them and whose line is noted
 abbrev pub AreTokensSeen : List PlacedLexeme → List PlacedLexeme → Option ℕ → Type 0
 AreTokensSeen tokens front beyond =
     ((front ≡ tokens) × (beyond ≡ None) × AreWithin tokens) ⊎ IsCut tokens front beyond
 
--- the fault where so many of these tokens, or none, can't stand: 15 where all stand and the last is beyond the limits,
--- else 10 at the first that can't, or at the end of the text
+-- the fault of tokens whose last `left` can't be read: 15 at the last token if `left` is 0 and that token is beyond the
+-- limits, otherwise 10 at the first of the last `left`, or at the end of the text
 abbrev pub fault_in : List PlacedLexeme → Option ℕ → ℕ → ℕ → ScriptFault
 fault_in front (Some line) zero last = Refused Limit line
 fault_in front beyond left last =

@@ -1,4 +1,4 @@
--- What an alternative of the grammar consists of, and which tokens it accepts.
+-- The items of an alternative of the grammar, and the tokens that they accept.
 use Rattle.std.specs.Prelude.{ℕ, nat_eq, nat_le, Bool, true, false, ◌||◌, ◌&&◌, List, [], ◌∷◌, Option, Some, None}
 use Rattle.std.specs.List.{list_all}
 use Rattle.std.specs.Str.{bytes_eq}
@@ -8,8 +8,9 @@ use Rattle.tp_syntax.specs.Lexeme.{Lexeme, name, word, number, text, symbol, Pla
 use Rattle.tp_syntax.specs.Code.{word_code, symbol_code, is_plain}
 use Rattle.tp_syntax.specs.Rule.{Rule}
 
--- one token: this word, symbol, number or name; any name, number or text; a number that may stand alone, or after a
--- `-`; a text that may follow `pattern`; a name that is bound, or the same again; or the end of the text
+-- one token: this word, symbol, number or name; any name, number or text; a number that is valid without a `-` before
+-- it, or after one; a text that is valid after `pattern`; a name that is bound, or the bound name again; or the end of
+-- the text
 pub data Terminal : Type 0 where
   of_word : Word → Terminal
   of_symbol : Symbol → Terminal
@@ -21,12 +22,13 @@ pub data Item : Type 0 where
   token : Terminal → Item
   rule : Rule → Item
 
--- an alternative, taken before one of these tokens
+-- an alternative that is taken if one of these tokens comes next
 pub record Guarded : Type 0 where
   pub guards : List Terminal
   pub items : List Item
 
--- guarded alternatives, the first of which that fits is taken, and what is taken else
+-- guarded alternatives, of which the first that fits the next token is taken, and the alternative that is taken if none
+-- fits
 pub record Choice : Type 0 where
   pub guarded : List Guarded
   pub otherwise : List Item
@@ -57,7 +59,7 @@ at_symbol s items = at (of_symbol s) items
 abbrev pub before : List Terminal → List Item → Guarded
 before guards items = record { guards = guards; items = items }
 
--- whether the token, or the end of the text, is this one
+-- whether this token, or the end of the text, is accepted
 abbrev pub accepts : Terminal → Option Lexeme → Bool
 accepts (of_word x) (Some (word y)) = nat_eq (word_code x) (word_code y)
 accepts (of_symbol x) (Some (symbol y)) = nat_eq (symbol_code x) (symbol_code y)
@@ -73,7 +75,7 @@ accepts a_pattern (Some (text bs)) = list_all is_plain bs
 accepts finish None = true
 accepts _ _ = false
 
--- whether one of these tokens comes
+-- whether one of these accepts the token, or the end of the text
 abbrev pub one_of : List Terminal → Option Lexeme → Bool
 one_of [] t = false
 one_of (g ∷ []) t = accepts g t

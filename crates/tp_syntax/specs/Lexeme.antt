@@ -1,4 +1,4 @@
--- Tokens as contracts see them: without where their bytes lie in memory.
+-- Tokens as contracts see them: without the addresses of their bytes.
 use Rattle.std.specs.Prelude.{ℕ, List}
 use Rattle.tp_syntax.specs.declared.word.Word.{Word}
 use Rattle.tp_syntax.specs.declared.token.Symbol.{Symbol}
@@ -14,7 +14,7 @@ pub data Lexeme : Type 0 where
   text : List ℕ → Lexeme
   symbol : Symbol → Lexeme
 
--- what a token is
+-- a token, as contracts see it
 abbrev pub lexeme_of : Token → Lexeme
 lexeme_of (token.Name s) = name s.now
 lexeme_of (token.Word w) = word w
@@ -27,6 +27,6 @@ pub record PlacedLexeme : Type 0 where
   pub token : Lexeme
   pub line : ℕ
 
--- what a placed token is, and its line
+-- a token with its line, as contracts see it
 abbrev pub placed_lexeme : Placed → PlacedLexeme
 placed_lexeme p = record { token = lexeme_of p.token; line = p.line }

@@ -49,7 +49,7 @@ component_tree component.Mtc = of who (one (leaf (word w.Mtc)))
 component_tree component.SelfComponent = of who (one (leaf (word w.SelfWord)))
 component_tree (component.Named n) = of who (one (leaf (name n)))
 
--- what is sent: a message, by its type, or a variable
+-- the tree of what is sent: a message, by its type, or a variable
 abbrev pub message_sent : TypeName → Tree → Tree
 message_sent (type_name.Named n) v =
     of sent (more (leaf (name n)) (one (of may_have_value (more (sym Colon) (one v)))))
@@ -166,7 +166,8 @@ turns_tree t =
     (more (sym Assign)
     (more (integer_tree t.first) (bound_trees t.name (integer_tree t.bound))))))))
 
--- the ends of the items of `turns`, where this name is bound
+-- the last items of the rule `turns`, if this name is bound: after the second `:=`, after the bound, and after the
+-- first value
 abbrev pub step_items : List ℕ → List Item
 step_items n = token (this_name n) ∷ sy Plus ∷ token (exactly 1) ∷ sy RightParen ∷ []
 

@@ -1,4 +1,4 @@
--- Reading that goes on: what is read of a rule up to the rule at its end, which is still to be read.
+-- Reading a rule up to the rule at its end, which is still to be read.
 use Rattle.std.specs.Prelude.{ℕ, ◌≡◌, Bool, true, false, List, [], ◌∷◌, ◌++◌, Option, None, Result}
 use Rattle.std.specs.Prelude.{MatchResult}
 use Rattle.tp_syntax.specs.Lexeme.{PlacedLexeme}
@@ -21,12 +21,12 @@ abbrev pub with_last : List Tree → Tree → Trees
 with_last [] t = one t
 with_last (x ∷ xs) t = more x (with_last xs t)
 
--- the tree at the end of these nodes, each at the end of the one before
+-- the tree of these frames: each gets the next one as its last tree, and the last frame gets this tree
 abbrev pub under : List Frame → Tree → Tree
 under [] t = t
 under (frame r line trees ∷ fs) t = node r line (with_last trees (under fs t))
 
--- the first rule is read from the front of the tokens up to the second one, which is at its end
+-- the first rule is read from the front of the tokens up to the second rule, which is at its end and still to be read
 mutual
   pub data Leads : Rule → List PlacedLexeme → List Frame → Rule → List PlacedLexeme → Type 0 where
     leads_here : {r : Rule} {ts : List PlacedLexeme} → Leads r ts [] r ts
@@ -59,13 +59,14 @@ mutual
         → Reads (known bound i) ts t mid → LeadsAll (bound_by bound i t) is mid trees fs q us
         → LeadsAll bound (i ∷ is) ts (t ∷ trees) fs q us
 
--- the rule is read up to another one; or it can't be, and this is where; or memory was refused
+-- the rule is read up to another one at its end; or it can't be read, and this is the place where reading fails; or
+-- memory ran out
 pub record Goes {A : Type 0} (r : Rule) (frames : A → List Frame) (onto : A → Rule) (p : Parser)
     (result : Result A Stuck) (q : Parser) : Type 0 where
   pub gone : MatchResult result (λ x. Leads r (left p) (frames x) (onto x) (left q))
       (λ e. Fails (rule r) (left p) e)
 
--- these items of a rule are read
+-- these items of a rule are read, or reading fails at this place, or memory ran out
 pub record ParsesAll {A : Type 0} (items : List Item) (view : A → Trees) (p : Parser)
     (result : Result A Stuck) (q : Parser) : Type 0 where
   pub parsed : MatchResult result (λ x. ReadsAll [] items (left p) (view x) (left q))
@@ -103,23 +104,23 @@ abbrev pub may_end_tree : Bool → Tree
 may_end_tree true = of may_end (one (sym Semicolon))
 may_end_tree false = of may_end none
 
--- a `;` that may be missing
+-- an optional `;`
 abbrev pub semicolon_frames : Rule → Bool → List Frame
 semicolon_frames r true = frame r None (sym Semicolon ∷ []) ∷ []
 semicolon_frames r false = enter r
 
--- whether a list goes on here
+-- the result is whether a list has a further part here
 pub record Enters (p : Parser) (result : Bool) : Type 0 where
   pub entered : (l q : Rule) → production l ≡ listed q → notes_line l ≡ false
       → Leads l (left p) (enter l) (part_or_end q result) (left p)
 
--- whether a `;` is passed, and whether the list goes on after it
+-- the result is whether a `;` was passed, and whether the list has a further part after it
 pub record Ends (p : Parser) (result : Bool × Bool) (q : Parser) : Type 0 where
   pub ended : (r l part : Rule) → production r ≡ ended l → production l ≡ listed part
       → notes_line r ≡ false → notes_line l ≡ false
       → Leads r (left p) (end_frames r l result.0) (part_or_end part result.1) (left q)
 
--- whether a `;` is passed
+-- the result is whether a `;` was passed
 pub record HasEnd (p : Parser) (result : Bool) (q : Parser) : Type 0 where
   pub ended : (r l : Rule) → production r ≡ ended l → notes_line r ≡ false
       → Leads r (left p) (semicolon_frames r result) (part_or_end l result) (left q)

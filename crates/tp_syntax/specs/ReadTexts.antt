@@ -11,22 +11,22 @@ use Rattle.tp_syntax.specs.DefinitionTrees.{module_tree}
 use Rattle.tp_syntax.specs.Faults.{AreTokensSeen, AreWithin, fault_in}
 use Rattle.tp_syntax.specs.SettledTokens.{settled}
 
--- the text has these tokens within the limits of tokens, and isn't too long
+-- the text isn't too long, and has these tokens, each within the limits of names and numbers
 pub record HasTokens (bytes : List ℕ) (tokens : List PlacedLexeme) : Type 0 where
   pub are : AreTokens bytes tokens
   pub limits : AreWithinLimits tokens
   pub short : length bytes ≤ 1048576
 
--- the text's tokens are within the limits of the grammar, and spell the module, with its lines
+-- the text's tokens are within the limits of the grammar and, when settled, spell the module, with its lines
 pub record IsReadAs (bytes : List ℕ) (m : Module) : Type 0 where
   pub tokens : List PlacedLexeme
   pub has : HasTokens bytes tokens
   pub within : AreWithin tokens
   pub spelled : IsText (settled tokens) (module_tree m)
 
--- the grammar refuses the tokens so: of those up to the first that is beyond the limits, brought within them, so many
--- can't stand. Some text begins with those before them. No text begins with these and the first of them, or is all of
--- them, if none of them stands beyond the limits.
+-- the grammar refuses the tokens with this fault: it can't read the last `left` of the tokens that the parser sees,
+-- when settled. Some text begins with those before them. Unless `left` is 0 and one of the tokens is beyond the limits,
+-- no text begins with those and the first of the last `left`, or is all the tokens if `left` is 0.
 pub record IsFaultOf (tokens : List PlacedLexeme) (last : ℕ) (fault : ScriptFault) : Type 0 where
   pub front : List PlacedLexeme
   pub beyond : Option ℕ
@@ -36,7 +36,8 @@ pub record IsFaultOf (tokens : List PlacedLexeme) (last : ℕ) (fault : ScriptFa
   pub none : (beyond ≡ None) ⊎ (0 < left) → NoneGoesOn (settled front) (At left)
   pub told : fault ≡ fault_in (settled front) beyond left last
 
--- the text has no such tokens, and this is its first fault; or the grammar refuses them so; or memory was refused
+-- the text itself is refused with this fault; or it has tokens, and the grammar refuses them with this fault; or memory
+-- ran out
 abbrev pub IsUnread : List ℕ → ScriptFault → Type 0
 IsUnread bytes fault =
     IsRefused bytes fault

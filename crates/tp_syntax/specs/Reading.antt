@@ -1,4 +1,4 @@
--- What is read by the grammar from tokens, and where it fails.
+-- How tokens are read by the grammar, and where reading fails.
 use Rattle.std.specs.Prelude.{ℕ, ◌≡◌, true, false, cond, List, [], ◌∷◌, Option, Some, None, length}
 use Rattle.tp_syntax.specs.Lexeme.{Lexeme, name, PlacedLexeme}
 use Rattle.tp_syntax.specs.declared.stuck.Stuck.{Stuck}
@@ -7,7 +7,7 @@ use Rattle.tp_syntax.specs.Item.{Terminal, binds, same, this_name, Item, token, 
 use Rattle.tp_syntax.specs.Rule.{Rule}
 use Rattle.tp_syntax.specs.Grammar.{production, notes_line}
 
--- a tree: a token, or what a rule spells, with the line that it notes
+-- a tree: a token, or the node of a rule, with the line that the rule notes
 mutual
   pub data Tree : Type 0 where
     leaf : Lexeme → Tree
@@ -17,7 +17,7 @@ mutual
     none : Trees
     more : Tree → Trees → Trees
 
--- the line that a rule notes
+-- the line that a rule notes, if it notes one: that of the next token
 abbrev pub line_ahead : List PlacedLexeme → ℕ
 line_ahead [] = 0
 line_ahead (p ∷ ps) = p.line
@@ -30,13 +30,13 @@ abbrev pub bound_by : List ℕ → Item → Tree → List ℕ
 bound_by bound (token binds) (leaf (name n)) = n
 bound_by bound _ _ = bound
 
--- the item, where this name is bound
+-- the item, once this name is bound: `same` then accepts only this name
 abbrev pub known : List ℕ → Item → Item
 known bound (token same) = token (this_name bound)
 known bound i = i
 
--- the item is read from the front of the tokens as this tree, and these are left; or all items; or, of the
--- alternatives, the first that fits
+-- the item is read from the front of the tokens as this tree, and these are left. `ReadsChoice` reads the first
+-- alternative that fits, `ReadsAll` all items
 mutual
   pub data Reads : Item → List PlacedLexeme → Tree → List PlacedLexeme → Type 0 where
     reads_token : {t : Terminal} {p : PlacedLexeme} {ps : List PlacedLexeme}
@@ -70,7 +70,8 @@ mutual
         → Reads (known bound i) ts t mid → ReadsAll (bound_by bound i t) is mid trees rest
         → ReadsAll bound (i ∷ is) ts (more t trees) rest
 
--- the item can't be read: so many tokens are left where the first can't stand; or memory was refused
+-- the item can't be read: reading stops where this many tokens are left, the first of which isn't accepted; or memory
+-- ran out
 mutual
   pub data Fails : Item → List PlacedLexeme → Stuck → Type 0 where
     fails_memory : {i : Item} {ts : List PlacedLexeme} → Fails i ts Memory

@@ -1,4 +1,4 @@
--- That a text is read as one module, and isn't refused then.
+-- Laws: a text is read as at most one module, and is refused for no rule if it is read.
 use Rattle.std.specs.Prelude.{◌≡◌, ℕ, List}
 use Rattle.tp_tree.specs.declared.tree.Module.{Module}
 use Rattle.tp_syntax.specs.declared.script_fault.TextRule.{TextRule}
@@ -10,7 +10,7 @@ use Rattle.tp_syntax.specs.DefinitionTrees.{module_tree}
 abbrev pub TreesDetermineModules : Type 0
 TreesDetermineModules = (m n : Module) → module_tree m ≡ module_tree n → m ≡ n
 
--- a text is read as one module
+-- a text is read as at most one module
 abbrev pub ReadingsAreUnique : Type 0
 ReadingsAreUnique = (text : List ℕ) (m n : Module) → IsReadAs text m → IsReadAs text n → m ≡ n
 

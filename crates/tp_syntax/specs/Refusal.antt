@@ -8,7 +8,8 @@ use Rattle.tp_syntax.specs.Rule.{a_module}
 use Rattle.tp_syntax.specs.Reading.{Tree, Reads, Fails}
 use Rattle.tp_syntax.specs.SpelledTrees.{Spells}
 
--- the tokens are the same up to the one where so many are left, and this one too, or the text's end
+-- the two lists have the same tokens up to and including the first of the last n of the first list; if n is 0, all
+-- tokens are the same
 pub data Agree : ℕ → List PlacedLexeme → List PlacedLexeme → Type 0 where
   agree_last : {n : ℕ} {ts us : List PlacedLexeme} → n ≡ length ts → next ts ≡ next us
       → Agree n ts us
@@ -19,23 +20,25 @@ pub data Agree : ℕ → List PlacedLexeme → List PlacedLexeme → Type 0 wher
 abbrev pub IsText : List PlacedLexeme → Tree → Type 0
 IsText ts t = Spells (rule a_module) ts t []
 
--- no text of the grammar begins with the tokens up to the one that can't stand, and with this one
+-- no text of the grammar begins with the tokens up to and including the one where reading stops, or is all of them if
+-- reading stops at the end
 abbrev pub NoneGoesOn : List PlacedLexeme → Stuck → Type 0
 NoneGoesOn ts (At n) = (us : List PlacedLexeme) (t : Tree) → Agree n ts us → IsText us t → ⊥
 NoneGoesOn ts Memory = Unit {0}
 
--- the others begin with the tokens before the one where so many are left
+-- the second list begins with the tokens of the first one, except its last n
 pub data Begins : ℕ → List PlacedLexeme → List PlacedLexeme → Type 0 where
   begins_end : {n : ℕ} {ts us : List PlacedLexeme} → n ≡ length ts → Begins n ts us
   begins_more : {n : ℕ} {p q : PlacedLexeme} {ts us : List PlacedLexeme} → p.token ≡ q.token
       → Begins n ts us → Begins n (p ∷ ts) (q ∷ us)
 
--- some text of the grammar begins with the tokens before the one that can't stand
+-- some text of the grammar begins with the tokens before the one where reading stops
 abbrev pub BeginsText : List PlacedLexeme → Stuck → Type 0
 BeginsText ts (At n) = (us : List PlacedLexeme) × (t : Tree) × Begins n ts us × IsText us t
 BeginsText ts Memory = Unit {0}
 
--- the tokens are refused so: reading fails there, or more stands after a whole text; or memory was refused
+-- the tokens are refused at this place: reading fails there, or it is the first token after a whole text; or memory ran
+-- out
 pub data IsRefusedAt : List PlacedLexeme → Stuck → Type 0 where
   refused_within : {ts : List PlacedLexeme} {e : Stuck} → Fails (rule a_module) ts e
       → IsRefusedAt ts e

@@ -1,6 +1,6 @@
 -- The rules of the grammar, by name.
 
--- what is spelled
+-- a rule, named after what it spells
 pub data Rule : Type 0 where
   a_module definitions a_definition after_type after_record end_of_list fields a_field : Rule
   more_fields ways a_way end_of_way more_ways way_word more_types declarations a_declaration : Rule

@@ -1,4 +1,4 @@
--- Tokens without a `-` directly before the number 0, whose line this 0 takes.
+-- Tokens without each `-` directly before the number 0, which takes the line of that `-`.
 use Rattle.std.specs.Prelude.{ℕ, Bool, false, ◌&&◌, ◌||◌, cond, List, [], ◌∷◌, ◌++◌, Option, Some, None, ◌==◌}
 use Rattle.tp_syntax.specs.declared.token.Symbol.TheVariants.{Minus}
 use Rattle.tp_syntax.specs.Lexeme.{Lexeme, number, symbol, PlacedLexeme}
@@ -11,7 +11,8 @@ is_zero _ = false
 abbrev pub minus_on : ℕ → PlacedLexeme
 minus_on line = record { token = symbol Minus; line = line }
 
--- what is kept of a token, and of a `-` directly before it, if its line is given; a `-` waits for the token after it
+-- the tokens that are kept of a token, and of a `-` directly before it if its line is given; a `-` waits for the token
+-- after it
 abbrev pub unsigned : PlacedLexeme → List PlacedLexeme
 unsigned t = cond (is_minus t.token) [] (t ∷ [])
 
@@ -30,7 +31,7 @@ abbrev pub kept_at_end : Option ℕ → List PlacedLexeme
 kept_at_end None = []
 kept_at_end (Some line) = minus_on line ∷ []
 
--- the tokens that are kept of these, after a `-` that waits
+-- the tokens that are kept of these, after a waiting `-` if its line is given
 abbrev pub settled_behind : Option ℕ → List PlacedLexeme → List PlacedLexeme
 settled_behind minus [] = kept_at_end minus
 settled_behind minus (t ∷ ts) = kept_of minus t ++ settled_behind (waiting t) ts
@@ -38,7 +39,7 @@ settled_behind minus (t ∷ ts) = kept_of minus t ++ settled_behind (waiting t) 
 abbrev pub settled : List PlacedLexeme → List PlacedLexeme
 settled ts = settled_behind None ts
 
--- whether a `-` stands directly before the number 0 among these tokens, or, if one stands before them, with the first
+-- whether these tokens contain a `-` directly before the number 0, or begin with the number 0 directly after a `-`
 abbrev pub has_negative_zero : Bool → List PlacedLexeme → Bool
 has_negative_zero after_minus [] = false
 has_negative_zero after_minus (t ∷ ts) =

@@ -14,7 +14,7 @@ pub data Among : List Guarded → List Item → List Item → Type 0 where
       → Among gs otherwise items → Among (g ∷ gs) otherwise items
   among_else : {otherwise : List Item} → Among [] otherwise otherwise
 
--- the tokens before the rest spell this tree of the item, or these of the items
+-- the tokens before the rest spell this tree of the item, or these trees of the items
 mutual
   pub data Spells : Item → List PlacedLexeme → Tree → List PlacedLexeme → Type 0 where
     spells_token : {t : Terminal} {p : PlacedLexeme} {ps : List PlacedLexeme}

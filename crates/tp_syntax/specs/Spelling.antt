@@ -23,7 +23,7 @@ abbrev pub IsNumber : List ℕ → Type 0
 IsNumber [] = ⊥
 IsNumber (b ∷ bs) = (is_digit b ≡ true) × Run is_digit bs × (b ≡ 48 → bs ≡ [])
 
--- the number that digits spell after those that spell n, in decimal
+-- the decimal number whose first digits spell n, followed by these digits
 abbrev pub value_on : ℕ → List ℕ → ℕ
 value_on n [] = n
 value_on n (b ∷ bs) = value_on (n * 10 + (b - 48)) bs
@@ -54,7 +54,7 @@ abbrev pub doubled : List ℕ → List ℕ
 doubled [] = []
 doubled (b ∷ bs) = if b == 34 then 34 ∷ 34 ∷ doubled bs else b ∷ doubled bs
 
--- the bytes spell the token: a name is a word that isn't reserved, and a text stands in quotes (34)
+-- the bytes spell the token: a name is a word that isn't reserved, and a text is enclosed in quotes (34)
 abbrev pub IsSpelled : Lexeme → List ℕ → Type 0
 IsSpelled (name n) bs = IsWord bs × (word_of bs ≡ None) × (n ≡ bs)
 IsSpelled (word w) bs = IsWord bs × (word_of bs ≡ Some w)

@@ -41,8 +41,8 @@ pub record Step : Type 0 where
   pub shape : Shape
   pub semicolon : Bool
 
--- a branch of an `alt`: its line, its port, the tree of its receiving operation, that of its block, whether it has a
--- `;`
+-- a branch of an `alt`: its line, its port, the tree of its receiving operation, that of its block, and whether it has
+-- a `;`
 pub record BranchView : Type 0 where
   pub line : ℕ
   pub port : List ℕ
@@ -50,7 +50,7 @@ pub record BranchView : Type 0 where
   pub body : Option Tree
   pub semicolon : Bool
 
--- `[else]`: its line, the tree of its block, whether it has a `;`
+-- `[else]`: its line, the tree of its block, and whether it has a `;`
 pub record ElseView : Type 0 where
   pub line : ℕ
   pub block : Tree
@@ -85,7 +85,7 @@ step_frames s = shape_frames s.line s.shape s.semicolon
 abbrev pub block_tree : List Step → Tree
 block_tree ss = under (enter statements ++ all_frames step_frames ss) closing_tree
 
--- what follows the operation of a branch
+-- the frames after the operation of a branch
 abbrev pub body_frames : Option Tree → Bool → List Frame
 body_frames (Some block) b =
     frame end_of_branch None (sym LeftBrace ∷ block ∷ may_end_tree b ∷ []) ∷ enter more_branches
@@ -109,7 +109,7 @@ otherwise_tree block b =
     (more (sym RightBracket)
     (more (sym LeftBrace) (more block (more (may_end_tree b) (one closing_tree))))))
 
--- what follows the branches: a `}`, or `[else]`
+-- the tree after the branches: a `}`, or `[else]`
 abbrev pub after_branches : Option ElseView → Tree
 after_branches None = closing_tree
 after_branches (Some e) = under (bracket_frames e.line) (otherwise_tree e.block e.semicolon)
@@ -191,7 +191,7 @@ step_of =
     fold-Statement Shape (Option Tree) BranchView Tree ElseView Step
     action_step body_step branch_step counted_step else_step statement_step
 
--- a block, and an `[else]` that may be missing
+-- the tree of a block; and the view of an `[else]`, if there is one
 abbrev pub statements_tree : List Statement → Tree
 statements_tree ss = block_tree (map step_of ss)
 

@@ -47,8 +47,8 @@ abbrev pub upper_tree : Option ℤ → Tree
 upper_tree None = of upper (one (leaf (word w.Infinity)))
 upper_tree (Some z) = of upper (one (integer_tree z))
 
--- the trees of a template at the places where it may stand: anywhere; where it is no integer, no name, or neither; what
--- stands after its bracket; and the whole of what stands in brackets after it, where a chain of others follows
+-- the trees of a template: as any template; as one that isn't an integer, isn't a name, or is neither; the part after
+-- its bracket; and the entries in braces or parentheses that begin with it, if a chain of others follows
 pub record Views : Type 0 where
   pub whole : Tree
   pub uncounted : Tree
@@ -65,7 +65,7 @@ pub record FieldViews : Type 0 where
 abbrev pub nothing : Tree
 nothing = leaf (name [])
 
--- an integer after a `(`, and what follows it
+-- an integer after a `(`, followed by this tree
 abbrev pub number_inside : ℤ → Tree → Tree
 number_inside (pos n) t = of in_parentheses (more (leaf (number n)) (one t))
 number_inside (negsuc n) t =
@@ -207,7 +207,7 @@ inside_tree t = (template_views t).inside
 abbrev pub field_tree : TemplateField → Tree
 field_tree f = field_whole (field_views f)
 
--- what stands after the first of the trees below a node
+-- the second tree below a node
 abbrev pub second_below : Tree → Tree
 second_below (node r line (more t (more u us))) = u
 second_below _ = nothing
@@ -215,7 +215,7 @@ second_below _ = nothing
 abbrev pub after_minus_tree : Template → Tree
 after_minus_tree t = second_below (inside_tree t)
 
--- what follows the integer after the `(`
+-- the tree after the integer that follows the `(`
 abbrev pub number_part : ℤ → Tree → Tree
 number_part (pos n) t = second_below t
 number_part (negsuc n) t = second_below (second_below t)
@@ -223,7 +223,7 @@ number_part (negsuc n) t = second_below (second_below t)
 abbrev pub after_number_tree : ℤ → Template → Tree
 after_number_tree z t = number_part z (inside_tree t)
 
--- the template is no integer, or no name: so its tree can stand for it
+-- the template isn't an integer, isn't a name, or is neither, so that its trees follow from the one of that kind
 abbrev pub IsUncounted : Template → Type 0
 IsUncounted t = (template_tree t ≡ of a_template (one (uncounted_tree t)))
     × ((rest : Tree)
@@ -239,17 +239,17 @@ IsCounted t =
 abbrev pub IsOther : Template → Type 0
 IsOther t = template_views t ≡ around (other_tree t) (inside_tree t)
 
--- the template stands in brackets, with this inside
+-- the template is in brackets that begin with this symbol, followed by this tree
 abbrev pub IsInside : Symbol → Tree → Template → Type 0
 IsInside s i t = template_views t ≡ of_bracket s i
 
--- what ends a part in braces: a `;`, after which others may follow, or the `}` if this is the last
+-- the end of a part in braces: a `;`, after which others may follow, or the `}` after the last part
 abbrev pub closing : {A : Type 0} → Rule → Bool → List A → Tree → Tree
 closing e true xs rest = of e (more (sym Semicolon) (one rest))
 closing e false [] rest = of e (one (sym RightBrace))
 closing e false (x ∷ xs) rest = of e (more nothing (one rest))
 
--- parts, each with what ends it, and their `}`
+-- parts in braces, each with its end, and the `}` after them
 abbrev pub steps : {A : Type 0} → Rule → Rule → (A → Tree) → (A → Bool) → List A → Tree
 steps m e view ends [] = of m (one (sym RightBrace))
 steps m e view ends (x ∷ xs) =

@@ -1,4 +1,4 @@
--- The trees of types and of what they are made of.
+-- The trees of types and of their parts.
 use Rattle.std.specs.Prelude.{ℕ, List, [], ◌∷◌, map, Some}
 use Rattle.tp_syntax.specs.declared.word.Word.TheVariants as w
 use Rattle.tp_syntax.specs.declared.token.Symbol.TheVariants.{RightBrace}

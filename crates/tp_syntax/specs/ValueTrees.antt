@@ -11,8 +11,8 @@ use Rattle.tp_tree.specs.declared.message.Value.TheFolds.{fold-Value, fold-Value
 use Rattle.tp_tree.specs.declared.message.ValueField.{ValueField}
 use Rattle.tp_syntax.specs.TemplateTrees.{of, one, sym, chain, nothing, integer_tree, bool_leaf}
 
--- the trees of a value at the places where it may stand: anywhere; where it is no name; what stands after its bracket;
--- and the whole of what stands in braces after it, where a chain of others follows
+-- the trees of a value: as any value; as one that isn't a name; the part after its bracket; and the entries in braces
+-- that begin with it, if a chain of others follows
 pub record Views : Type 0 where
   pub whole : Tree
   pub unnamed : Tree
@@ -93,10 +93,10 @@ inside_tree v = (value_views v).inside
 abbrev pub field_tree : ValueField → Tree
 field_tree f = field_whole (field_views f)
 
--- the value is no name, so its tree can stand for it
+-- the value isn't a name, so that two of its trees determine the others
 abbrev pub IsUnnamed : Value → Type 0
 IsUnnamed v = value_views v ≡ around (unnamed_tree v) (inside_tree v)
 
--- the value stands in braces
+-- the value is in braces
 abbrev pub IsBraced : Value → Type 0
 IsBraced v = value_views v ≡ of_bracket (inside_tree v)

@@ -59,7 +59,7 @@ word_spelling w.Infinity = codes "infinity"
 word_spelling w.Value = codes "value"
 word_spelling w.Sender = codes "sender"
 
--- all of them, from the shortest to the longest
+-- all reserved words, from the shortest to the longest
 abbrev pub words : List Word
 words =
     w.Of ∷ w.In ∷ w.On ∷ w.To ∷
@@ -74,13 +74,13 @@ words =
     w.Component ∷
     w.Setverdict ∷ w.Charstring ∷ w.Complement ∷ []
 
--- the word of the first entry of a table that is spelled so
+-- the word of the first entry of a table with this spelling
 abbrev pub first_spelled : List ℕ → List (List ℕ × Word) → Option Word
 first_spelled bs [] = None
 first_spelled bs (entry ∷ more) =
     if bytes_eq bs entry.0 then Some entry.1 else first_spelled bs more
 
--- the reserved words as they are spelled
+-- the reserved words with their spellings
 unfoldable pub reserved : List (List ℕ × Word)
 reserved = map (λ word. (word_spelling word, word)) words
 
@@ -88,6 +88,6 @@ reserved = map (λ word. (word_spelling word, word)) words
 abbrev pub word_of : List ℕ → Option Word
 word_of bs = first_spelled bs reserved
 
--- the bytes spell a reserved word exactly where they are its spelling
+-- bytes spell a reserved word if and only if they are its spelling
 abbrev pub WordsAreSpelled : Type 0
 WordsAreSpelled = (bs : List ℕ) (word : Word) → (word_of bs ≡ Some word) ↔ (bs ≡ word_spelling word)
