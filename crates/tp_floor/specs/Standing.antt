@@ -2,10 +2,10 @@
 use Rattle.std.specs.Prelude.{◌≡◌, ℕ, ◌+◌, ◌≤◌, List, sum}
 use Rattle.tp_floor.specs.declared.floor.Counts.{Counts}
 
--- so many rest as the places say
+-- the number at rest is the sum of all places
 abbrev pub AreCounted : Counts → List ℕ → Type 0
 AreCounted counts places = counts.resting ≡ sum places
 
--- a place, which was v and becomes w, is counted, and the number that rests changes as the place does
+-- a place, which is part of the number at rest, changes from v to w, and this number changes by as much
 abbrev pub ChangeTogether : ℕ → Counts → Counts → ℕ → Type 0
 ChangeTogether v x y w = (v ≤ x.resting) × (y.resting + v ≡ x.resting + w)

@@ -76,8 +76,8 @@ impl Counts {
     }
 }
 
-/// The rule of a floor: as many rest as its places say. It holds between any two steps of any
-/// threads.
+/// The rule of a floor: the number at rest is the sum of its places. It holds between any two steps
+/// of any threads.
 pub(crate) struct Standing;
 
 impl Protocol<Counts, u64> for Standing {

@@ -22,12 +22,12 @@ pub enum Woken {
 }
 
 /// The notifier of an inbox, kept under the inbox's lock. Contracts see it as how many pushes were
-/// announced, whether the inbox was closed, and for how many pushes its owner rests. It has nothing
-/// of the messages. A call that announces a push or closes the inbox ends the rest of an owner for
-/// which that is something, and returns that it is to be woken. So no owner rests for which there
-/// is something. An owner that rests has a place on the floor that counts; one that is awake has a
-/// place that doesn't. A call that changes the floor's counts calls the given hook between its load
-/// of them and its exchange.
+/// announced, whether the inbox was closed, and how many an owner that rests has taken out. It
+/// contains no messages. A call that announces a push or closes the inbox ends the owner's rest if
+/// there is now something for it, and returns that the owner is to be woken. So no owner rests
+/// while there is something for it. The owner's place on the floor counts as at rest while the
+/// owner rests, and only then. A call that changes the floor's counts calls the given hook between
+/// its load of them and its exchange.
 #[derive(Drop)]
 pub struct Notifier {
     announced: u64,
@@ -74,7 +74,7 @@ impl Notifier {
             ↔ IsSomeAnd self.old.awaits (λ taken. taken < self.new.announced) }
         ensures awaits { self.new.awaits ≡ (if result then None else self.old.awaits) }
     {
-        // No run comes to 2^64 pushes, so that this needn't be shown.
+        // No run reaches 2^64 pushes. With wrapping, this need not be proved.
         let announced = self.announced.wrapping_add(1);
         let wakes = match self.awaits {
             Some(taken) => announced > taken,
@@ -112,7 +112,7 @@ impl Notifier {
             ↔ (self.now.announced ≤ taken) × (self.now.closed ≡ true) }
         ensures nothing { result ≡ None ↔ (self.now.announced ≤ taken) × (self.now.closed ≡ false) }
     {
-        // What has arrived comes before the closing: a closed inbox is still emptied.
+        // Arrivals take precedence over the closing, because a closed inbox is still emptied.
         if self.announced > taken {
             return Some(Woken::Arrived);
         }

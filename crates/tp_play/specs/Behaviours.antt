@@ -9,6 +9,6 @@ pub record Behaviour : Type 0 where
   pub body : Body
   pub references : List ℕ
 
--- how many statements a component has to carry out at most, once each `for` stands for its copies
+-- how many statements a component executes at most: the block of a `for` counts once for each turn
 abbrev pub size_of_behaviour : Option Behaviour → ℕ
 size_of_behaviour d = option_map_or (λ (d : Behaviour). size_of_body d.body) d 0

@@ -1,4 +1,4 @@
--- What messages and templates come to, once loop variables have values.
+-- Messages and templates with their loop variables replaced by values.
 use Rattle.std.specs.Prelude.{ℕ, ℤ, ◌+◌, pos, List, [], ◌∷◌, max, slice_index_or}
 use Rattle.tp_value.specs.declared.value.Value.{Value}
 use Rattle.tp_value.specs.declared.value.Value.TheVariants as value
@@ -15,7 +15,7 @@ use Rattle.tp_play.specs.declared.body.RecvTemplate.TheFolds.{fold-RecvTemplate}
 use Rattle.tp_play.specs.declared.body.RecvMsg.{RecvMsg}
 use Rattle.tp_play.specs.declared.body.RecvMsg.TheVariants as recv_msg
 
--- the greatest of these numbers, 0 where there are none
+-- the greatest of these numbers, or 0 if there are none
 abbrev pub greatest : List ℕ → ℕ
 greatest [] = 0
 greatest (n ∷ ns) = max n (greatest ns)
@@ -29,7 +29,7 @@ needed_step (v.Turn k) = k + 1
 needed_step (v.Record ns) = greatest ns
 needed_step (v.List ns) = greatest ns
 
--- how many loop variables have to have values: one more than the last place of which the value speaks
+-- how many loop variables must have values: one more than the greatest place of one that the value mentions
 unfoldable pub needed : SendValue → ℕ
 needed = fold-SendValue ℕ needed_step
 
@@ -45,16 +45,16 @@ needed_template_step (r.Pattern ps) = 0
 needed_template_step (r.Record ns) = greatest ns
 needed_template_step (r.List ns) = greatest ns
 
--- the same of a template
+-- the same for a template
 unfoldable pub needed_by_template : RecvTemplate → ℕ
 needed_by_template = fold-RecvTemplate ℕ needed_template_step
 
--- the same of what a receiving operation wants
+-- the same for the wanted part of a receiving operation
 abbrev pub needed_by_wanted : RecvMsg → ℕ
 needed_by_wanted recv_msg.Any = 0
 needed_by_wanted (recv_msg.Of u w) = needed_by_template w
 
--- one layer of a value: a loop variable is the integer that it holds (0, where it has no value)
+-- one layer of a value: a loop variable is replaced by the integer that it holds, or by 0 if it has no value
 abbrev pub value_step : List ℤ → v.SendValue-F Value → Value
 value_step turns (v.Int z) = value.Int z
 value_step turns (v.Bool b) = value.Bool b
@@ -63,7 +63,7 @@ value_step turns (v.Turn k) = value.Int (slice_index_or turns k (pos 0))
 value_step turns (v.Record vs) = value.Record vs
 value_step turns (v.List vs) = value.List vs
 
--- a value, where the loop variables hold these integers, the outermost first
+-- the value, if the loop variables hold these integers, the outermost first
 unfoldable pub filled : List ℤ → SendValue → Value
 filled turns = fold-SendValue Value (value_step turns)
 
@@ -79,11 +79,11 @@ template_step turns (r.Pattern ps) = template.Pattern ps
 template_step turns (r.Record ts) = template.Record ts
 template_step turns (r.List ts) = template.List ts
 
--- a template, where the loop variables hold these integers
+-- the template, if the loop variables hold these integers
 unfoldable pub filled_template : List ℤ → RecvTemplate → Template
 filled_template turns = fold-RecvTemplate Template (template_step turns)
 
--- what a receiving operation wants, where the loop variables hold these integers
+-- the wanted part of a receiving operation, if the loop variables hold these integers
 abbrev pub filled_wanted : List ℤ → RecvMsg → MsgTemplate
 filled_wanted turns recv_msg.Any = msg_template.Any
 filled_wanted turns (recv_msg.Of u w) = msg_template.Of u (filled_template turns w)

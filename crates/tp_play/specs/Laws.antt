@@ -1,4 +1,4 @@
--- What is filled has the type that its text was checked for.
+-- Filled messages and templates have the types for which they were checked.
 use Rattle.tp_value.specs.declared.types.Types.{Types}
 use Rattle.tp_value.specs.declared.message.Message.{Message}
 use Rattle.tp_value.specs.declared.message.MsgTemplate.{MsgTemplate}
@@ -7,10 +7,10 @@ use Rattle.tp_play.specs.declared.body.SendMsg.{SendMsg}
 use Rattle.tp_play.specs.declared.body.RecvMsg.{RecvMsg}
 use Rattle.tp_play.specs.Playable.{IsAlwaysTyped, IsAlwaysFitting, WantedFits}
 
--- where a message has its type whatever the loop variables hold, what it is filled to has it
+-- if the message has its type whatever the loop variables hold, the filled message has this type
 abbrev pub HasItsType : SendMsg → Message → Type 0
 HasItsType message made = (types : Types) → IsAlwaysTyped types message → HasType types made.ty made.value
 
--- where what is wanted fits its type whatever the loop variables hold, what it is filled to fits it
+-- if the wanted part fits its type whatever the loop variables hold, the filled one fits this type
 abbrev pub FitsItsType : RecvMsg → MsgTemplate → Type 0
 FitsItsType wanted made = (types : Types) → IsAlwaysFitting types wanted → WantedFits types made

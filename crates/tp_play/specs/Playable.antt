@@ -1,6 +1,6 @@
--- What an executor needs of a body: that each place of which it speaks is there and holds what it has to, and that what
--- is sent and what is wanted is of its type. A predicate for each kind of statement says it, where so many loop
--- variables are around.
+-- What an executor needs of a body: each place that it mentions exists and holds what it must, and each message and
+-- template has its type. There is a predicate for each kind of statement, which depends on the number of loop variables
+-- around the statement.
 use Rattle.std.specs.Prelude.{◌≡◌, ◌≤◌, ◌<◌, ◌+◌, ℕ, ℤ, List, [], ◌∷◌, Option, Some, None, All, FitsSigned, slice_get}
 use Rattle.std.specs.Int.{w64}
 use Rattle.tp_value.specs.declared.types.Ty.{Ty}
@@ -27,7 +27,7 @@ use Rattle.tp_play.specs.declared.body.VariableType.TheVariants as variable_type
 use Rattle.tp_play.specs.declared.body.Body.{Body}
 use Rattle.tp_play.specs.Fills.{needed, needed_by_wanted, filled, filled_wanted}
 
--- where a body is played: the record and record-of types, how many ports the component has, how many components the
+-- what a body can refer to: the record and record-of types, how many ports the component has, how many components the
 -- references name, and what the body's variables hold
 pub record Stage : Type 0 where
   pub types : Types
@@ -47,26 +47,26 @@ HoldsComponents s k = slice_get s.variables k ≡ Some variable_type.Component
 abbrev pub IsAlwaysTyped : Types → SendMsg → Type 0
 IsAlwaysTyped types m = (turns : List ℤ) → All (FitsSigned w64) turns → HasType types m.ty (filled turns m.value)
 
--- what is wanted fits its type
+-- the wanted part fits its type
 abbrev pub WantedFits : Types → MsgTemplate → Type 0
 WantedFits types msg_template.Any = Unit {0}
 WantedFits types (msg_template.Of u t) = Fits types u t
 
--- whatever integers the loop variables hold, what is wanted fits its type
+-- whatever integers the loop variables hold, the wanted part fits its type
 abbrev pub IsAlwaysFitting : Types → RecvMsg → Type 0
 IsAlwaysFitting types x = (turns : List ℤ) → All (FitsSigned w64) turns → WantedFits types (filled_wanted turns x)
 
--- a message that is written out: it speaks of no loop variables but the n around it, and has its type
+-- a message that is written in the send: it mentions only the n loop variables around it, and has its type
 pub record CanWrite (s : Stage) (n : ℕ) (m : SendMsg) : Type 0 where
   pub around : needed m.value ≤ n
   pub typed : IsAlwaysTyped s.types m
 
--- what is sent: a message that is written out, or what a variable of messages holds
+-- what is sent: a message that is written in the send, or the value of a variable of messages
 abbrev pub CanSay : Stage → ℕ → Sent → Type 0
 CanSay s n (sent.Written m) = CanWrite s n m
 CanSay s n (sent.Variable k) = (u : Ty) × HoldsValues s k u
 
--- to whom is sent: a reference that is there, or a variable of components
+-- the receiver of a send: nobody, a reference that exists, a variable that holds components, or all
 abbrev pub CanAddress : Stage → Receiver → Type 0
 CanAddress s receiver.Nobody = Unit {0}
 CanAddress s (receiver.Reference k) = k < s.references
@@ -79,23 +79,23 @@ pub record CanSend (s : Stage) (n : ℕ) (x : SendOperation) : Type 0 where
   pub sent : CanSay s n x.sent
   pub to : CanAddress s x.to
 
--- what is wanted: the template speaks of no loop variables but the n around it, and fits its type
+-- the wanted part: the template mentions only the n loop variables around it, and fits its type
 pub record CanWant (s : Stage) (n : ℕ) (x : RecvMsg) : Type 0 where
   pub around : needed_by_wanted x ≤ n
   pub fits : IsAlwaysFitting s.types x
 
--- the reference behind `from` is there
+-- the reference after `from`, if there is one, exists
 abbrev pub CanExpect : Stage → Option ℕ → Type 0
 CanExpect s None = Unit {0}
 CanExpect s (Some k) = k < s.references
 
--- the variable behind `value` holds values of the type that is wanted
+-- the variable after `value`, if there is one, holds values of the wanted type
 abbrev pub CanKeepValue : Stage → RecvMsg → Option ℕ → Type 0
 CanKeepValue s x None = Unit {0}
 CanKeepValue s recv_msg.Any (Some k) = ⊥
 CanKeepValue s (recv_msg.Of u r) (Some k) = HoldsValues s k u
 
--- the variable behind `sender` holds components
+-- the variable after `sender`, if there is one, holds components
 abbrev pub CanKeepSender : Stage → Option ℕ → Type 0
 CanKeepSender s None = Unit {0}
 CanKeepSender s (Some k) = HoldsComponents s k
@@ -108,17 +108,17 @@ pub record CanReceive (s : Stage) (n : ℕ) (x : Receiving) : Type 0 where
   pub value_to : CanKeepValue s x.wanted x.value_to
   pub sender_to : CanKeepSender s x.sender_to
 
--- each of them, where n loop variables are around
+-- each item of the list can be executed with n loop variables around it
 abbrev pub Each : {X : Type 0} → (X → ℕ → Type 0) → ℕ → List X → Type 0
 Each can n [] = Unit {0}
 Each can n (x ∷ xs) = can x n × Each can n xs
 
--- the same of a block that may be missing
+-- the same for a block that may be missing
 abbrev pub EachElse : {X : Type 0} → (X → ℕ → Type 0) → ℕ → Option (List X) → Type 0
 EachElse can n None = Unit {0}
 EachElse can n (Some xs) = Each can n xs
 
--- one layer of a statement: inside of a `for` there is one loop variable more
+-- one layer of a statement: inside a `for` there is one more loop variable
 abbrev pub statement_plays :
     Stage → (X Y : Type 0) → (X → ResolvedStatement) → (Y → ResolvedBranch) → (X → ℕ → Type 0) → (Y → ℕ → Type 0)
     → o.ResolvedStatement-F X Y → ℕ → Type 0
@@ -137,28 +137,28 @@ abbrev pub branch_plays :
     → o.ResolvedBranch-F X Y → ℕ → Type 0
 branch_plays s X Y statement branch plays enters x n = CanReceive s n x.receiving × Each plays n x.block
 
--- the statement can be played where n loop variables are around it
+-- the statement can be executed with n loop variables around it
 unfoldable pub CanPlay : Stage → ℕ → ResolvedStatement → Type 0
 CanPlay s n x = rec-ResolvedStatement (ℕ → Type 0) (ℕ → Type 0) (statement_plays s) (branch_plays s) x n
 
--- the branch can be played
+-- the branch can be executed with n loop variables around it
 unfoldable pub CanEnter : Stage → ℕ → ResolvedBranch → Type 0
 CanEnter s n x = rec-ResolvedBranch (ℕ → Type 0) (ℕ → Type 0) (statement_plays s) (branch_plays s) x n
 
--- each statement of the block can be played
+-- each statement of the block can be executed
 abbrev pub CanPlayAll : Stage → ℕ → List ResolvedStatement → Type 0
 CanPlayAll s n block = Each (λ x m. CanPlay s m x) n block
 
--- each branch of the `alt` can be played
+-- each branch of the `alt` can be executed
 abbrev pub CanEnterAll : Stage → ℕ → List ResolvedBranch → Type 0
 CanEnterAll s n branches = Each (λ x m. CanEnter s m x) n branches
 
--- where a body is played that a component with so many ports and references has
+-- what the body of a component with so many ports and references can refer to
 abbrev pub stage_of : Types → ℕ → ℕ → Body → Stage
 stage_of types ports references body =
     record { types = types; ports = ports; references = references; variables = body.variables }
 
--- the body can be played by a component with so many ports, where its references name so many components
+-- a component with so many ports can execute the body, if its references name so many components
 pub record IsPlayable (types : Types) (ports references : ℕ) (body : Body) : Type 0 where
   -- no loop variable is around its statements
   pub statements : CanPlayAll (stage_of types ports references body) 0 body.statements

@@ -12,11 +12,11 @@ use Rattle.tp_play.specs.TestCases.{Made, behaviour_at}
 abbrev pub port_count : Setup → ℕ → ℕ
 port_count config k = length (ports_at config.types config.components (record { 0 = k }))
 
--- the component of this number can do this
+-- the component of this number can execute this behaviour
 pub record CanDo (config : Setup) (types : Types) (k : ℕ) (d : Behaviour) : Type 0 where
-  -- each place of which its body speaks is there, and holds what it has to
+  -- each place that its body mentions exists, and holds what it must
   pub playable : IsPlayable types (port_count config k) (length d.references) d.body
-  -- the components that its references name are those of the configuration
+  -- its references name components of the configuration
   pub known : All (λ c. c < length config.components) d.references
 
 -- the component of number 0 is `mtc`
@@ -43,6 +43,6 @@ pub record IsReady (made : Made) : Type 0 where
   -- the test system interface, if there is one, is the last component
   pub system_last : (k : ℕ) (m : Member) → slice_get made.config.components k ≡ Some m → is_system_member m ≡ true
       → k + 1 ≡ length made.config.components
-  -- there is a behaviour, or none, for each component
+  -- the list has one place for each component, with its behaviour or none
   pub everyone : length made.behaviours ≡ length made.config.components
   pub can_do : (k : ℕ) (d : Behaviour) → behaviour_at made k ≡ Some d → CanDo made.config made.types k d

@@ -1,4 +1,4 @@
--- How many statements a body has, once each `for` stands for its copies.
+-- How many statements a body has, if the block of a `for` counts once for each turn.
 use Rattle.std.specs.Prelude.{ℕ, ◌+◌, ◌*◌, ℤ, ◌-ℤ◌, List, Option, Some, None, map, sum, length, nat_lt, int_lt}
 use Rattle.std.specs.Prelude.{unsigned_abs, if◌then◌else◌}
 use Rattle.tp_play.specs.declared.body.ResolvedStatement.{ResolvedStatement}
@@ -7,15 +7,15 @@ use Rattle.tp_play.specs.declared.body.ResolvedStatement.TheFolds.{fold-Resolved
 use Rattle.tp_play.specs.declared.body.ResolvedBranch.{ResolvedBranch}
 use Rattle.tp_play.specs.declared.body.Body.{Body}
 
--- one more than the most that is allowed
+-- one more than the greatest size that is allowed
 abbrev pub size_limit : ℕ
 size_limit = 100001
 
--- a number, where more than 100,000 is one number
+-- the number itself up to 100,000, and 100,001 for every greater one
 abbrev pub capped : ℕ → ℕ
 capped n = if nat_lt n size_limit then n else size_limit
 
--- how many turns there are from the first value to the bound: none where the bound isn't above it
+-- how many turns there are from the first value to the bound: none if the bound isn't above the first value
 abbrev pub turns_between : ℤ → ℤ → ℕ
 turns_between first bound = if int_lt first bound then unsigned_abs (bound -ℤ first) else 0
 
@@ -24,7 +24,7 @@ abbrev pub else_size : Option (List ℕ) → ℕ
 else_size None = 0
 else_size (Some sizes) = sum sizes
 
--- a statement is 1; an `alt` is 1 and the statements of its blocks; a `for` is 1 and those of its block once for each
+-- a statement counts 1; an `alt` 1 and the statements of its blocks; a `for` 1 and those of its block once for each
 -- turn
 abbrev pub statement_step : o.ResolvedStatement-F ℕ ℕ → ℕ
 statement_step (o.Send x) = 1
@@ -35,7 +35,7 @@ statement_step (o.SetVerdict x) = 1
 statement_step (o.Alt branches otherwise) = 1 + (sum branches + else_size otherwise)
 statement_step (o.For first bound block) = 1 + turns_between first bound * sum block
 
--- a branch is the statements of its block
+-- a branch counts as many as the statements of its block
 abbrev pub branch_step : o.ResolvedBranch-F ℕ ℕ → ℕ
 branch_step branch = sum branch.block
 
@@ -55,6 +55,6 @@ size_of_all statements = sum (map size_of statements)
 abbrev pub size_in_all : List ResolvedBranch → ℕ
 size_in_all branches = sum (map size_in branches)
 
--- the size of a body: each of its variables is 1
+-- the size of a body: each of its variables counts 1
 abbrev pub size_of_body : Body → ℕ
 size_of_body body = length body.variables + size_of_all body.statements

@@ -12,6 +12,6 @@ pub record Made : Type 0 where
   pub types : Types
   pub behaviours : List (Option Behaviour)
 
--- the component of this number does this, or nothing where there is no such component
+-- the behaviour of the component of this number, or none if there is no such component
 abbrev pub behaviour_at : Made → ℕ → Option Behaviour
 behaviour_at made k = slice_index_or made.behaviours k None

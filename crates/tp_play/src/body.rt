@@ -33,7 +33,7 @@ pub enum RecvTemplate {
     Exact(SendValue),
     /// `?`
     Any,
-    /// `*`, which stands only among the elements of a `List`.
+    /// `*`, which is allowed only among the elements of a `List`.
     AnyOrNone,
     /// `(t1, t2, ..)`
     OneOf(Items<RecvTemplate>),
@@ -137,7 +137,7 @@ pub struct Body {
 }
 
 impl Drop for Body {
-    // Written out, so that what owns one calls this, and proves no drop of what is inside.
+    // Written out, so that an owner's drop calls this one, and needs no proof about the fields.
     fn drop(self) {
         let Body {
             variables,

@@ -53,15 +53,16 @@ fn fill_values(alloc: Global, values: &[SendValue], turns: &[i64]) -> Result<Ite
 fn read_integers(integers: &[i64])
     ensures { All (FitsSigned w64) integers.now }
 {
-    // After its read each integer is known to have 64 bits.
+    // Read, so that each integer is known to have 64 bits.
     for place in 0..integers.len() {
         let _integer = integers[place];
     }
 }
 
 /// Makes the message of a send. `turns` has the values of the loop variables around it, the
-/// outermost first: one for each loop variable in the message (ES 201 873-1, 22.2.1). For all types
-/// under which the message has its type whatever the loop variables hold, its value has it.
+/// outermost first: one for each loop variable in the message (ES 201 873-1, 22.2.1). If the
+/// message has its type in some `Types`, whatever the loop variables hold, the result has its type
+/// in these.
 pub fn fill_message(alloc: Global, message: &SendMsg, turns: &[i64]) -> Result<Message, Memory>
     requires given { needed message.now.value ≤ length turns.now }
     ensures ty { IfOk result (λ made. made.ty ≡ message.now.ty) }
@@ -132,8 +133,8 @@ fn fill_all(
 }
 
 /// Makes the wanted part of a receiving operation, as [`fill_message`] makes a message (ES 201
-/// 873-1, 15 and Annex B). For all types under which the template fits its type whatever the loop
-/// variables hold, the result fits it.
+/// 873-1, 15 and Annex B). If the template fits its type in some `Types`, whatever the loop
+/// variables hold, the result fits its type in these.
 pub fn fill_template(alloc: Global, wanted: &RecvMsg, turns: &[i64]) -> Result<MsgTemplate, Memory>
     requires given { needed_by_wanted wanted.now ≤ length turns.now }
     ensures value { IfOk result (λ made. made ≡ filled_wanted turns.now wanted.now) }

@@ -28,7 +28,7 @@ pub struct TestCase {
 }
 
 impl Drop for TestCase {
-    // Written out, so that what owns one calls this, and proves no drop of what is inside.
+    // Written out, so that an owner's drop calls this one, and needs no proof about the fields.
     fn drop(self) {
         let TestCase {
             config,
@@ -171,7 +171,7 @@ impl TestCase {
         ensures { MatchOption result (HasNoSystem self.now.config) (IsSystem self.now.config) }
     {
         let count = self.components();
-        // There is a component at least, by the clauses of `components`.
+        // There is at least one component, by the clauses of `components`.
         let last = CompId(count as u32 - 1);
         if self.config.role(last).is_system() {
             Some(last)
@@ -194,8 +194,8 @@ impl TestCase {
 
     /// What the component does: the test case's own body for `mtc`, that of its function for a
     /// component that is started, and that of `sut` for the test system interface. `None` for a
-    /// test system interface without `sut`, and if there is no such component. The component can do
-    /// it.
+    /// test system interface without `sut`, and if there is no such component. The component can
+    /// execute it.
     pub fn body(&self, comp: CompId) -> Option<Behaviour<'_>>
         ensures behaviour { option_map as_behaviour result ≡ behaviour_at self.now comp.0 }
         ensures can { IfSome result (λ c.

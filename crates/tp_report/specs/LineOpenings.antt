@@ -9,7 +9,7 @@ use Rattle.tp_report.specs.declared.opening.OpeningPieces.{OpeningPieces}
 use Rattle.tp_report.specs.declared.opening.KeptOpening.{KeptOpening}
 use Rattle.tp_report.specs.ReportWords.{component_name, full_name, port_name}
 
--- the word for what happened to a message, with the space behind it
+-- the word for what happened to a message, with the space after it
 abbrev pub fate_word : Fate → List ℕ
 fate_word fate.Came = codes "came "
 fate_word fate.Took = codes "took "
@@ -17,21 +17,21 @@ fate_word fate.Found = codes "found "
 fate_word fate.Dropped = codes "dropped "
 fate_word fate.Left = codes "left "
 
--- what a line on a message begins with
+-- the opening of a line on a message
 abbrev pub opening_text : Setup → Opening → List ℕ
 opening_text s (opening.Sent to) = codes "sent " ++ full_name s to
 opening_text s (opening.At happened port sender) = fate_word happened ++ (port_name s port ++ (codes " " ++ component_name s sender))
 
--- the pieces, one behind the other
+-- the pieces, one after the other
 abbrev pub pieces_text : OpeningPieces → List ℕ
 pieces_text p = p.word.now ++ (p.front.now ++ (p.between.now ++ p.back.now))
 
--- the ports and the component that it names are of the configuration
+-- the port and the component that the opening names belong to the configuration
 abbrev pub NamesKnown : Setup → Opening → Type 0
 NamesKnown s (opening.Sent to) = IsPort s to
 NamesKnown s (opening.At happened port sender) = IsPort s port × IsComponent s sender
 
--- the text that is kept, if any, is that of the opening it is kept of
+-- the kept text, if there is one, is the text of the kept opening
 pub record HasItsText (s : Setup) (b : KeptOpening) : Type 0 where
   pub within : b.start ≤ 128
   pub same : (o : Opening) → b.of ≡ Some o → drop b.start b.text ≡ opening_text s o

@@ -38,7 +38,7 @@ failure_line word fault = line (word ∷ decimal (label (send_refusal fault)).0 
 abbrev pub port_line : Made → List ℕ → PortRef → List ℕ
 port_line made word p = line (word ∷ port_name made.config p ∷ [])
 
--- the component that sent it
+-- the component that sent the envelope
 abbrev pub sender_of : Env Message → CompId
 sender_of e = record { 0 = e.sender }
 
@@ -57,12 +57,12 @@ sent_line made r number m =
 abbrev pub component_port : CompId → ℕ → PortRef
 component_port c port = record { comp = c; port = port }
 
--- what came to a port: no line in a report, and one in a trace
+-- an arrival at a port: no line in a report, and one in a trace
 abbrev pub arrival_text : Telling → Made → PortRef → Env Message → List ℕ
 arrival_text telling.Report made p e = []
 arrival_text telling.Trace made p e = envelope_line made (codes "came") p e
 
--- an entry of a component's history: one line, but of an arrival only in a trace
+-- an entry of a component's history: one line, but for an arrival only in a trace
 abbrev pub entry_text : Telling → Made → CompId → Entry → List ℕ
 entry_text how made c (entry.Sent route number stamped) = sent_line made route number stamped.message
 entry_text how made c (entry.Took port e branch) = envelope_line made (codes "took") (component_port c port) e

@@ -14,7 +14,7 @@ use Rattle.tp_config.specs.declared.port_type.PortRef.{PortRef}
 use Rattle.tp_config.specs.Setup.{Setup, names_of_components, port_names}
 use Rattle.tp_report.specs.Typed.{is_typed}
 
--- the rest of a line: each word behind a space, and the end of the line
+-- the rest of a line: each word after a space, and the end of the line
 abbrev pub rest_of_line : List (List ℕ) → List ℕ
 rest_of_line [] = codes "\n"
 rest_of_line (word ∷ words) = codes " " ++ (word ++ rest_of_line words)
@@ -43,7 +43,7 @@ type_name types ty.Boolean = codes "boolean"
 type_name types ty.Charstring = codes "charstring"
 type_name types (ty.Named n) = slice_index_or (value_types.names_of_types types) n []
 
--- a message: its type and its value, or `-` where the value hasn't the type
+-- a message: its type and its value, or `-` if the value doesn't have the type
 unfoldable pub message_text : Types → Message → List ℕ
 message_text types m =
     if is_typed types m.ty m.value

@@ -24,20 +24,22 @@ component_text how made x =
     ++ (verdict_line (codes "verdict") x.verdict
     ++ left_below made x.desk x.desk.ports)))
 
--- what is told of a report: its components in their order, and the overall verdict; in a trace each arrival has its line
+-- the text of a report or of its trace: the components in their order, and the overall verdict; an arrival has a line
+-- only in the trace
 unfoldable pub told_text : Telling → Made → Report → List ℕ
 told_text how made report =
     flat_map (component_text how made) report.components.items ++ verdict_line (codes "result") report.result
 
--- **the text of a report**: no arrival has a line
+-- **the text of a report**, in which no arrival has a line
 abbrev pub report_text : Made → Report → List ℕ
 report_text = told_text telling.Report
 
--- the port of the component, and the sender of the message there, are of the configuration
+-- the port of the component and the sender of the message there belong to the configuration
 abbrev pub AreOf : Setup → CompId → ℕ → Env Message → Type 0
 AreOf s c port e = IsPort s (component_port c port) × IsComponent s (sender_of e)
 
--- what an entry of the component names is of the configuration: its route's receiving port, its port, its sender
+-- everything that an entry of the component names belongs to the configuration: the receiving port of its route, its
+-- port, its sender
 abbrev pub IsKnown : Setup → CompId → Entry → Type 0
 IsKnown s c (entry.Arrive port e stamp) = AreOf s c port e
 IsKnown s c (entry.Took port e branch) = AreOf s c port e
@@ -52,17 +54,17 @@ IsKnown s c entry.Else = Unit {0}
 IsKnown s c (entry.Verdict v) = Unit {0}
 IsKnown s c (entry.Failed fault) = Unit {0}
 
--- the desk is that of the component, and its entries name what is of the configuration
+-- the desk is that of the component, and everything that its entries name belongs to the configuration
 pub record IsDeskIn (s : Setup) (c : CompId) (d : Journal) : Type 0 where
   pub comp : d.comp ≡ c
   pub ports : d.ports ≡ length (ports_at s.types s.components c)
   pub known : All (IsKnown s c) d.log
 
--- this is reported of a component of the configuration
+-- the part of a report belongs to a component of the configuration, and has its desk
 abbrev pub IsPresent : Setup → CompReport → Type 0
 IsPresent s x = IsComponent s x.desk.comp × IsDeskIn s x.desk.comp x.desk
 
--- each has the desk of the component at its place
+-- each part of the report has the desk of the component at its place
 abbrev pub AreOwn : Setup → List CompReport → Type 0
 AreOwn s xs = (c : CompId) (x : CompReport) → slice_get xs c.0 ≡ Some x → IsDeskIn s c x.desk
 

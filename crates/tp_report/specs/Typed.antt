@@ -1,4 +1,4 @@
--- Whether a value has a type, as a test that a text can depend on. It is true exactly where `HasType` holds.
+-- Whether a value has a type, as a test that a text can depend on. It is true if and only if `HasType` holds.
 use Rattle.std.specs.Prelude.{ℕ, ℤ, pos, negsuc, Bool, true, false, ◌&&◌, nat_le, nat_lt, List, [], ◌∷◌, Option, Some}
 use Rattle.std.specs.Prelude.{None}
 use Rattle.std.specs.List.{list_all}
@@ -53,7 +53,7 @@ is_list is xs (Some (type_def.Record fs)) = false
 is_list is xs (Some (type_def.ListOf t)) = list_all (λ x. is x t) xs
 is_list is xs None = false
 
--- one layer of a value, with the answers for the values inside
+-- one layer of a value, with the results for the values inside
 abbrev pub is_typed_layer : Types → v.Value-F (Ty → Bool) → Ty → Bool
 is_typed_layer types (v.Int z) t = is_integer t && is_of_64_bits z
 is_typed_layer types (v.Bool b) t = is_boolean t

@@ -11,7 +11,7 @@ use Rattle.tp_inbox.specs.declared.ending.End.{End}
 use Rattle.tp_inbox.specs.declared.ending.End.TheVariants as end
 use Rattle.tp_report.specs.declared.report.CompReport.{CompReport}
 
--- the worst of these, `none` where there are none
+-- the worst of these, or `none` if there are none
 abbrev pub worst : List Verdict → Verdict
 worst [] = verdict.None
 worst (v ∷ vs) = worse v (worst vs)

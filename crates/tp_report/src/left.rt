@@ -40,7 +40,7 @@ pub fn write_left<W: Write>(test_case: &TestCase, desk: &Desk, out: &mut Watched
     requires own { IsDeskIn test_case.now.config desk.now.comp desk.now }
     ensures { Writes W.contents out.old out.new (left_below test_case.now desk.now desk.now.ports) }
 {
-    // It says that no component has many ports.
+    // Called for its clause `lawful`: no component has more than 64 ports.
     let _lawful = test_case.config().len();
     let comp = desk.comp();
     for place in 0..desk.port_count() {

@@ -127,7 +127,7 @@ pub fn write_envelope<W: Write>(
     )
 }
 
-/// The same of an envelope in a history.
+/// Writes a line on an envelope in a history.
 pub fn write_noted<W: Write>(
     test_case: &TestCase,
     fate: Fate,

@@ -115,7 +115,7 @@ fn put_pieces(pieces: OpeningPieces<'_>, text: &mut [u8; ROOM]) -> Option<usize>
     ensures { IfSome result (λ start. (start ≤ 128) × (drop start text.new
         ≡ pieces_text pieces.entry)) }
 {
-    // From the last piece, so that the text ends at the end of the room.
+    // From the last piece to the first, so that the text ends at the end of the room.
     let back = try_put(pieces.back, text, ROOM)?;
     let between = try_put(pieces.between, text, back)?;
     let front = try_put(pieces.front, text, between)?;
@@ -138,7 +138,7 @@ pub fn write_opening<W: Write>(config: &Config, opening: Opening, out: &mut Watc
 pub struct KeptOpening {
     /// `None` before the first opening, and if the last one had no room.
     of: Option<Opening>,
-    /// The text ends with the array.
+    /// The text of the opening, at the end of the array.
     text: [u8; ROOM],
     start: usize,
 }
@@ -170,7 +170,7 @@ impl KeptOpening {
         ensures kept { HasItsText config.now self.new }
         ensures of { IsTrue result → self.new.of ≡ Some opening }
     {
-        // Until the text is whole: if it has no room, nothing is kept.
+        // Nothing is kept until the text is complete, or if there is no room for it.
         self.of = None;
         self.start = ROOM;
         match put_pieces(opening.pieces(config), &mut self.text) {
@@ -183,7 +183,7 @@ impl KeptOpening {
         }
     }
 
-    /// Returns whether the opening is kept, now if not before: there is room for its text.
+    /// Keeps this opening if it isn't kept yet. Returns false if there is no room for its text.
     pub fn holds(&mut self, config: &Config, opening: Opening) -> bool
         requires named { NamesKnown config.now opening }
         requires kept { HasItsText config.now self.old }

@@ -41,7 +41,7 @@ fn write_integer<W: Write>(opening: &[u8], number: u64, integer: i64, out: &mut 
     write_bytes(&text[start..], out)
 }
 
-/// Writes a line that begins so, that of an integer in one piece.
+/// Writes a line with this opening; a line of an integer is written in one piece.
 pub fn write_opened<W: Write>(
     opening: &[u8],
     types: &Types,

@@ -1,4 +1,4 @@
--- The outcome of mode check: what is printed of a script, and the status.
+-- The outcome of mode check: the text that it prints for a script, and the status.
 use Rattle.std.specs.Prelude.{◌≡◌, ℕ, ◌≤◌, ◌⊎◌, Option, List, length, codes, IfSome}
 use Rattle.std.specs.Io.KnownBytes.{Consumes}
 use Rattle.tp_common.specs.Reading.{IsCapacity}
@@ -17,7 +17,7 @@ use Rattle.tpr.specs.declared.checking.CheckFault.{CheckFault}
 use Rattle.tpr.specs.declared.checking.CheckFault.TheVariants as check_fault
 use Rattle.tpr.specs.FaultLines.{memory_text, refused_text, unread_text}
 
--- a text that is too long has its fault at line 0
+-- the fault of mode check for a fault of reading; that of a text that is too long is at line 0
 abbrev pub check_fault_of : ReadFault → CheckFault
 check_fault_of read_fault.Read = check_fault.Read
 check_fault_of read_fault.Limit =
@@ -28,7 +28,7 @@ abbrev pub script_fault_text : TestCaseFault → List ℕ
 script_fault_text (test_case_fault.Refused rule line) = refused_text (script_refusal rule) line
 script_fault_text (test_case_fault.Memory m) = memory_text
 
--- what is printed of a fault of mode check
+-- the line for a fault of mode check
 abbrev pub check_fault_text : CheckFault → List ℕ
 check_fault_text check_fault.Read = unread_text
 check_fault_text (check_fault.Script f) = script_fault_text f
@@ -37,39 +37,38 @@ abbrev pub script_fault_status : TestCaseFault → ℕ
 script_fault_status (test_case_fault.Refused rule line) = 2
 script_fault_status (test_case_fault.Memory m) = 3
 
--- and the status: 2 where the text was refused, 3 where the fault isn't the text's
+-- the status of a fault of mode check: 2 if the text was refused, 3 if the text isn't the cause
 abbrev pub check_fault_status : CheckFault → ℕ
 check_fault_status check_fault.Read = 2
 check_fault_status (check_fault.Script f) = script_fault_status f
 
--- what is printed of a script that is right
+-- the line for a valid script
 abbrev pub accepted_text : List ℕ
 accepted_text = codes "accepted\n"
 
--- the text is right: it is a script of a test case
+-- the text is valid: it is a script of a test case
 abbrev pub IsRight : List ℕ → Type 0
 IsRight text = (made : Made) × IsScriptOf text made
 
--- the same of a text that is read first, where reading took so many bytes of it, of a text that is too long one more
--- than the limit: memory may be wanting where the room for the text is full, whatever the text, and then for a text
--- that isn't too long
+-- the fault of a text that is read first, if so many bytes of it were read, one more than the limit if it is too long:
+-- memory may run out whenever the buffer for the text is full, whatever the text is, and after reading if the text
+-- isn't too long
 abbrev pub IsScriptFaultIn : List ℕ → ℕ → TestCaseFault → Type 0
 IsScriptFaultIn text taken (test_case_fault.Refused rule line) =
     (taken ≤ 1048577) × IsScriptFaultOf text (test_case_fault.Refused rule line)
 IsScriptFaultIn text taken (test_case_fault.Memory m) = (taken ≤ 1048576) × (IsCapacity taken ⊎ (length text ≤ 1048576))
 
--- and the reader may fail anywhere within the limit
+-- the same for mode check, in which the reader may also fail, anywhere within the limit
 abbrev pub IsCheckFaultOf : List ℕ → ℕ → CheckFault → Type 0
 IsCheckFaultOf text taken check_fault.Read = taken ≤ 1048576
 IsCheckFaultOf text taken (check_fault.Script f) = IsScriptFaultIn text taken f
 
--- the same of what the reader has, where that is known
+-- the same for the text that the reader has, if that is known
 abbrev pub HasCheckFault : Option (List ℕ) → Option (List ℕ) → CheckFault → Type 0
 HasCheckFault old new fault =
     (bytes : List ℕ) × Consumes old new bytes × IfSome old (λ text. IsCheckFaultOf text (length bytes) fault)
 
--- the line of a fault that the text has which was read, and the fault's status; it wasn't read only where the reader has
--- failed
+-- the line and the status of a fault of the text that the reader had; the fault is `Read` only if the reader has failed
 pub record IsNotAccepted {R : Type 0} (remaining : R → Option (List ℕ)) (old new : Watched R) (text : List ℕ) (status : ℕ)
     : Type 0 where
   pub fault : CheckFault
@@ -78,7 +77,7 @@ pub record IsNotAccepted {R : Type 0} (remaining : R → Option (List ℕ)) (old
   pub code : status ≡ check_fault_status fault
   pub line : text ≡ check_fault_text fault
 
--- what mode check may print: `accepted`, with status 0, for a text that is right, or the line of its fault
+-- what mode check may print: `accepted`, with status 0, for a valid text, or the line of its fault
 abbrev pub IsCheckAnswer : {R : Type 0} → (R → Option (List ℕ)) → Watched R → Watched R → List ℕ → ℕ → Type 0
 IsCheckAnswer remaining old new text status =
     ((status ≡ 0) × IfSome (reader_left remaining old) IsRight × (text ≡ accepted_text)) ⊎ IsNotAccepted remaining old new text status

@@ -1,4 +1,4 @@
--- The outcome of a mode: what is printed of a fault, and the status.
+-- The outcome of a mode: the line that it prints for a fault, and the status.
 use Rattle.std.specs.Prelude.{◌≡◌, ℕ, ◌⊎◌, Option, List, [], ◌++◌, codes, IfSome}
 use Rattle.std.specs.Fmt.{decimal}
 use Rattle.tp_common.specs.declared.watched.Watched.{Watched}
@@ -10,7 +10,7 @@ use Rattle.tp_port.specs.declared.replay.QueueFault.{QueueFault}
 use Rattle.tp_port.specs.declared.replay.QueueFault.TheVariants as queue_fault
 use Rattle.tp_port.specs.Faults.{HasFault, IsAnswerTo}
 
--- the number and the name
+-- the number and the name of a refusal
 abbrev pub label_text : Refusal → List ℕ
 label_text r = decimal (label r).0 ++ codes " " ++ (label r).1
 
@@ -23,7 +23,7 @@ unread_text = codes "refused " ++ label_text refusal.Read ++ codes "\n"
 abbrev pub memory_text : List ℕ
 memory_text = codes "fault " ++ label_text refusal.Memory ++ codes "\n"
 
--- what is printed of a fault of the queue mode
+-- the line for a fault of mode queue
 abbrev pub fault_text : QueueFault → List ℕ
 fault_text (queue_fault.BadLine line) = refused_text refusal.BadLine line
 fault_text queue_fault.Read = unread_text
@@ -31,7 +31,7 @@ fault_text queue_fault.Write = []
 fault_text queue_fault.Limit = refused_text refusal.Limit 0
 fault_text queue_fault.Memory = memory_text
 
--- and the status: 2 where the text was refused, 3 where the fault isn't the text's
+-- the status of a fault of mode queue: 2 if the text was refused, 3 if the text isn't the cause
 abbrev pub fault_status : QueueFault → ℕ
 fault_status (queue_fault.BadLine line) = 2
 fault_status queue_fault.Read = 2
@@ -39,13 +39,12 @@ fault_status queue_fault.Write = 3
 fault_status queue_fault.Limit = 2
 fault_status queue_fault.Memory = 3
 
--- a failed write has no line
+-- the fault has a line, unless it is a failed write
 abbrev pub HasLine : QueueFault → Type 0
 HasLine queue_fault.Write = ⊥
 HasLine _ = Unit {0}
 
--- the line of a fault that the text has which was read, and the fault's status; it wasn't read only where the reader has
--- failed
+-- the line and the status of a fault of the text that the reader had; the fault is `Read` only if the reader has failed
 pub record IsQueueRefused {R : Type 0} (remaining : R → Option (List ℕ)) (old new : Watched R) (text : List ℕ) (status : ℕ)
     : Type 0 where
   pub fault : QueueFault

@@ -1,4 +1,4 @@
--- What is printed of what a mode may print, and what the writer behind a buffer has got of it.
+-- How much is written of a text that a mode may print, and how much of it the writer under a buffer has got.
 use Rattle.std.specs.Prelude.{◌≡◌, ℕ, false, Option, Some, None, List, ◌++◌, MatchOption, MatchResult, Result}
 use Rattle.std.specs.Global.{Global}
 use Rattle.std.specs.declared.io.buffered.BufWriter.{BufWriter}
@@ -13,8 +13,8 @@ use Rattle.tpr.specs.declared.handing.FailedWriter.TheVariants as failed_writer
 abbrev pub IsJust : List ℕ → ℕ → List ℕ → ℕ → Type 0
 IsJust line code text status = (text ≡ line) × (status ≡ code)
 
--- one text that may be printed is written: all of it where there is a status, which is the text's; else a front of it, and
--- the writer has failed
+-- one text that may be printed is written: all of it if a status is returned, which is that of the text; otherwise a
+-- front of it, and the writer has failed
 pub record IsAnswered {W : Type 0} (contents : W → Option (List ℕ)) (may : List ℕ → ℕ → Type 0) (old new : Watched W)
     (given : Option ℕ) : Type 0 where
   pub text : List ℕ
@@ -23,31 +23,33 @@ pub record IsAnswered {W : Type 0} (contents : W → Option (List ℕ)) (may : L
   pub written : Writes contents old new text
   pub told : MatchOption given (HasFailed new) (λ s. (s ≡ status) × (new.failed ≡ false))
 
--- what is behind a buffer came to hold all that the buffer and it were to hold
+-- the writer under a buffer has got everything: what was written through the buffer before, and this text
 abbrev pub HasGot : Option (List ℕ) → Option (List ℕ) → List ℕ → Type 0
 HasGot old got text = (held : Option (List ℕ)) × Appends old held text × Keeps held got
 
--- where it is known what is held, it begins with what was got
+-- what was written begins with what the writer has got, if it is known what was written
 abbrev pub BeginsWith : Option (List ℕ) → Option (List ℕ) → Type 0
 BeginsWith None got = Unit {0}
 BeginsWith (Some held) None = ⊥
 BeginsWith (Some held) (Some got) = (rest : List ℕ) × (held ≡ got ++ rest)
 
--- what is behind a buffer came to hold a front of that
+-- the writer under a buffer has got a front of what was written through the buffer: what was before, and then a front
+-- of this text
 abbrev pub HasGotFront : Option (List ℕ) → Option (List ℕ) → List ℕ → Type 0
 HasGotFront old got text = (held : Option (List ℕ)) × AppendsFront old held text × BeginsWith held got
 
--- what the writer behind the buffer has got
+-- what the writer under the buffer has got
 abbrev pub got_by : {W : Type 0} → (W → Option (List ℕ)) → FailedWriter W → Option (List ℕ)
 got_by contents (failed_writer.Buffer b) = contents b.inner.inner
 got_by contents (failed_writer.Writer w) = contents w.inner
 
--- it answered an error, or took no byte
+-- the buffer or the writer under it returned an error, or took no byte
 abbrev pub IsFailed : {W : Type 0} → FailedWriter W → Type 0
 IsFailed (failed_writer.Buffer b) = HasFailed b
 IsFailed (failed_writer.Writer w) = HasFailed w
 
--- what the buffer held was handed on, with the status; or its writer has failed, or the buffer had, and got a front of it
+-- the writer has got everything that was written through the buffer, and the status is returned; or the writer has
+-- failed, or the buffer had failed before, and the writer has got a front of it
 abbrev pub IsFinished : {W : Type 0} → (W → Option (List ℕ)) → Watched (BufWriter W Global) → Option ℕ
     → Result (ℕ × W) (FailedWriter W) → Type 0
 IsFinished contents buffer status given = MatchResult given
@@ -55,8 +57,8 @@ IsFinished contents buffer status given = MatchResult given
     (λ failed. ((status ≡ None → HasFailed buffer) → IsFailed failed)
     × BeginsWith (writer_contents contents buffer.inner) (got_by contents failed))
 
--- one text that may be printed has come through a buffer: all of it with the text's status; or, only if the buffer or
--- its writer has failed, a front of it
+-- one text that may be printed has gone through a buffer: all of it, with the status of the text; or, only if the
+-- buffer or its writer has failed, a front of it
 pub record IsHanded {W : Type 0} (contents : W → Option (List ℕ)) (may : List ℕ → ℕ → Type 0) (old : Option (List ℕ))
     (given : Result (ℕ × W) (FailedWriter W)) : Type 0 where
   pub text : List ℕ

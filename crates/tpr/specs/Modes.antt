@@ -9,7 +9,7 @@ use Rattle.tpr.specs.FaultLines.{IsQueueAnswer}
 use Rattle.tpr.specs.Judged.{IsJudgeAnswer}
 use Rattle.tpr.specs.Ran.{IsRunAnswer, IsTraceAnswer}
 
--- the mode may print this text with this status of what was read
+-- the mode may print this text with this status for what the reader had
 abbrev pub IsAnswerOf : {R : Type 0} → Mode → (R → Option (List ℕ)) → Watched R → Watched R → List ℕ → ℕ → Type 0
 IsAnswerOf mode.Queue remaining old new text status = IsQueueAnswer remaining old new text status
 IsAnswerOf mode.Check remaining old new text status = IsCheckAnswer remaining old new text status

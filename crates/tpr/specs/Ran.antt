@@ -1,4 +1,4 @@
--- The outcome of the modes run and trace: what is printed of a test case, and the status.
+-- The outcome of the modes run and trace: the text that they print for a test case, and the status.
 use Rattle.std.specs.Prelude.{◌≡◌, ℕ, ◌⊎◌, Option, List, IfSome}
 use Rattle.tp_common.specs.declared.watched.Watched.{Watched}
 use Rattle.tp_common.specs.Watching.{reader_left}
@@ -16,8 +16,8 @@ use Rattle.tp_exec.specs.Reporting.{IsRunFault}
 use Rattle.tp_script.specs.Scripts.{IsScriptOf}
 use Rattle.tpr.specs.Checked.{IsNotAccepted}
 
--- a report of the test case, told in this way, for which **delivery** holds and which one order of all that was done
--- gives, with status 0
+-- the text in this form of a report of the test case, with status 0: **delivery** holds for the report, and one order
+-- of everything that the components did gives it
 pub record IsReported (how : Telling) (made : Made) (text : List ℕ) (status : ℕ) : Type 0 where
   pub report : Report
   pub delivery : IsReportOf made report
@@ -26,18 +26,18 @@ pub record IsReported (how : Telling) (made : Made) (text : List ℕ) (status : 
   pub code : status ≡ 0
   pub said : text ≡ told_text how made report
 
--- the line of a fault by which a run of the test case has no report, with status 3
+-- the line of a fault because of which a run of the test case has no report, with status 3
 pub record IsNotReported (made : Made) (text : List ℕ) (status : ℕ) : Type 0 where
   pub fault : RunFault
   pub why : IsRunFault made fault
   pub code : status ≡ 3
   pub line : text ≡ run_fault_text fault
 
--- what may be printed of a run of this test case
+-- what may be printed for a run of this test case
 abbrev pub IsRunOf : Telling → Made → List ℕ → ℕ → Type 0
 IsRunOf how made text status = IsReported how made text status ⊎ IsNotReported made text status
 
--- what may be printed of the text that was read: of a run of its test case, or the line of its fault
+-- what may be printed for the text that the reader had: the outcome of a run of its test case, or the line of its fault
 abbrev pub IsAnswerBy : {R : Type 0} → Telling → (R → Option (List ℕ)) → Watched R → Watched R → List ℕ → ℕ → Type 0
 IsAnswerBy how remaining old new text status =
     ((made : Made) × IfSome (reader_left remaining old) (λ script. IsScriptOf script made) × IsRunOf how made text status)

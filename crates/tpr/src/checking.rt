@@ -116,7 +116,7 @@ pub fn answer_check<R: Read, W: Write>(
     match check_script(alloc, reader) {
         Err(fault) => answer_check_fault(writer, fault),
         Ok(test_case) => {
-            // One call drops it: at the end of the arm all parts of its drop would be proved here.
+            // Dropped by one call: at the end of the arm, each part of its drop would need a proof.
             drop(test_case);
             answer_accepted(writer)
         }

@@ -19,7 +19,7 @@ use tp_play::test_case::TestCase;
 
 /// The status if a test case can have several verdicts.
 const SEVERAL: u8 = 2;
-/// The status if nothing is promised of a test case's verdicts.
+/// The status if nothing is promised about a test case's verdicts.
 const UNDECIDED: u8 = 3;
 
 fn verdicts_status(verdicts: &Verdicts) -> u8

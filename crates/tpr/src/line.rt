@@ -42,7 +42,7 @@ fn mode_of(word: &str) -> Option<Mode>
 }
 
 /// The mode and the FILE, if there is one, in the words after the program's name. `None` if they
-/// aren't a command line of the program: the usage line is then due.
+/// aren't a command line of the program: the caller then prints the usage line.
 pub fn line_of(words: &[String]) -> Option<(Mode, Option<&str>)>
     ensures { MatchOption result
         ((mode : _) (file : _) → Asks (map string_bytes words.now) mode file → ⊥)

@@ -47,7 +47,7 @@ use tp_port::replay::QueueFault;
 const USAGE: u8 = 4;
 
 fn usage<R: Eprint>(rt: &R) -> u8 {
-    // Where standard error can't be written either, the status alone says it.
+    // If standard error can't be written either, only the status reports this.
     let _ = eprintln!(rt; "usage: tpr MODE [FILE]");
     USAGE
 }

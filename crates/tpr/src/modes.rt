@@ -71,7 +71,7 @@ pub fn status_if_written<W: Write>(writer: &mut Watched<W>, status: u8) -> Optio
     ensures told { MatchOption result (HasFailed writer.new)
         (λ s. (s ≡ status) × (writer.new.failed ≡ false)) }
 {
-    // A buffer may fail as late as here, so the question comes after it.
+    // A buffer may fail as late as in this flush, so `has_failed` is called after it.
     flush(writer);
     if writer.has_failed() {
         return None;

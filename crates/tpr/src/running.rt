@@ -39,7 +39,7 @@ fn answer_test_case<T: Threads + Wait + Sync, W: Write, G: Gate>(
     match run(rt, alloc, test_case, gate) {
         Ok(report) => {
             write_report(test_case, telling, &report, writer);
-            // The process ends behind this: to drop a long history first is a tenth of a run.
+            // The process ends after this, and dropping a long history takes a tenth of a run.
             mem::forget(report);
             status_if_written(writer, ANSWERED)
         }

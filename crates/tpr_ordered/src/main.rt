@@ -37,7 +37,7 @@ const FAULTED: u8 = 3;
 const USAGE: u8 = 4;
 
 fn usage<R: Eprint>(rt: &R) -> u8 {
-    // Where standard error can't be written either, the status alone says it.
+    // If standard error can't be written either, only the status reports this.
     let _ = eprintln!(rt; "usage: tpr_ordered SCRIPT ORDERS");
     USAGE
 }
@@ -82,7 +82,7 @@ fn tell_script<R: Print>(rt: &R, fault: FileFault) -> u8 {
 }
 
 fn tell_orders<R: Eprint>(rt: &R, fault: FileFault) -> u8 {
-    // If it can't be written, the status alone says it.
+    // If standard error can't be written either, only the status reports the fault.
     let _ = eprintln!(rt; "orders: {fault}");
     file_fault_status(fault)
 }

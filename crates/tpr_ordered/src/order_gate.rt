@@ -40,7 +40,7 @@ impl OrderTurn {
     }
 }
 
-/// Holds each component before its next step until two things have happened: the order has come to
+/// Holds each component before its next step until two things have happened: the order has reached
 /// this step, and the component that the order names before it has reached its own next step,
 /// because that is all that a gate learns of the end of a step. So one step is executed after the
 /// other, and steps that the order doesn't name come after all that it names. A component that is
@@ -110,7 +110,7 @@ impl OrderGate {
         !self.gave_up.load(Ordering::SeqCst)
     }
 
-    /// The component reaches its next step, and is held until the order has come to it. If it has
+    /// The component reaches its next step, and is held until the order has reached it. If it has
     /// none, it is held until the order has ended.
     fn come_to_next(&self, part: &OrderTurn) {
         // Its last step has ended: the others may go on before this one is held.
@@ -118,7 +118,7 @@ impl OrderGate {
             self.ended
                 .store(place.number.wrapping_add(1), Ordering::SeqCst);
         }
-        // Before `met` counts this step: `next` goes by it.
+        // Before `met` counts this step, because `next` depends on it.
         let number = part.next().map_or(self.length, |place| place.number);
         part.met.fetch_add(1, Ordering::SeqCst);
         self.hold_until(number);
