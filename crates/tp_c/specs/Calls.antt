@@ -1,5 +1,5 @@
--- What each call does to the queue of a port, with what crosses to C and back. The definitions are those of tp_queue;
--- here an answer is read as what the call of the queue answered.
+-- What each call does to the queue of a port, in terms of the values that cross to C and back. The definitions are
+-- those of tp_queue; here an answer to C is read as the result of the queue's call.
 use Rattle.std.specs.Prelude.{◌≡◌, ◌↔◌, ℕ, zero, suc, Option, Some, None, [], ◌∷◌, ◌++◌, Bool, true, false, IsTrue}
 use Rattle.std.specs.Prelude.{length, slice_get}
 use Rattle.tp_common.specs.declared.event.Env.{Env}
@@ -27,15 +27,15 @@ Port port q = points_to (queue.the_row u64) port q
 abbrev pub Room : Ptr → Fml
 Room port = uninit_at (queue.the_row u64) port
 
--- the envelope that an answer has
+-- the envelope in an answer
 abbrev pub envelope : Answer → Env ℕ
 envelope answer = record { sender = answer.sender; number = answer.number; msg = answer.message }
 
--- an answer that has this envelope
+-- the answer with this outcome and this envelope
 abbrev pub answer_with : ℕ → Env ℕ → Answer
 answer_with outcome e = record { outcome = outcome; sender = e.sender; number = e.number; message = e.msg }
 
--- what a receive, a check or a look at a place found, by the outcome: nothing, or the envelope
+-- what a receive, a check or a look at a place found: by the outcome of the answer, nothing or the envelope in it
 abbrev pub found_by : ℕ → Answer → Option (Env ℕ)
 found_by zero answer = None
 found_by (suc n) answer = Some (envelope answer)
@@ -43,18 +43,18 @@ found_by (suc n) answer = Some (envelope answer)
 abbrev pub found : Answer → Option (Env ℕ)
 found answer = found_by answer.outcome answer
 
--- what a trigger did, by the outcome: nothing, or it received or discarded the envelope
+-- what a trigger did: by the outcome of the answer, nothing, or it received or discarded the envelope in it
 abbrev pub triggered_by : ℕ → Answer → TriggerAnswer ℕ
 triggered_by zero answer = trigger_answer.Nothing
 triggered_by (suc zero) answer = trigger_answer.Took (envelope answer)
 triggered_by (suc (suc n)) answer = trigger_answer.Dropped (envelope answer)
 
--- how a receive, a check or a look at a place answers: the fields of no message are 0
+-- the answer of a receive, a check or a look at a place; without a message all its fields are 0
 abbrev pub answer_to : Option (Env ℕ) → Answer
 answer_to None = record { outcome = 0; sender = 0; number = 0; message = 0 }
 answer_to (Some e) = answer_with 1 e
 
--- how a trigger answers
+-- the answer of a trigger
 abbrev pub trigger_to : TriggerAnswer ℕ → Answer
 trigger_to trigger_answer.Nothing = record { outcome = 0; sender = 0; number = 0; message = 0 }
 trigger_to (trigger_answer.Took e) = answer_with 1 e
@@ -71,7 +71,7 @@ code_of status.Started = 0
 code_of status.Halted = 1
 code_of status.Stopped = 2
 
--- a message came, or memory was refused and nothing has happened
+-- a message arrived, or an allocation was refused and nothing has happened
 abbrev pub Arrived : QueueState ℕ → ℕ → ℕ → ℕ → Bool → QueueState ℕ → Type 0
 Arrived before sender number message true after =
     AtHistory before (λ h. StandsFor after (h ++ event.Arrive (record { sender = sender; number = number; msg = message }) ∷ []))
@@ -105,7 +105,7 @@ abbrev pub Halted : QueueState ℕ → Bool → QueueState ℕ → Type 0
 Halted before effect after =
     AtHistory before (λ h. (IsTrue effect ↔ (status_of h ≡ status.Started)) × StandsFor after (h ++ event.Halted ∷ []))
 
--- a question, which changes nothing
+-- the number of deliverable messages is returned; this call and those below change nothing
 abbrev pub Ahead : QueueState ℕ → ℕ → QueueState ℕ → Type 0
 Ahead before count after = (count ≡ before.ahead) × (after ≡ before)
 

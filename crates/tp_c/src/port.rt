@@ -10,8 +10,8 @@ use tp_common::event::{Env, Status, TriggerAnswer};
 use tp_common::payload::Wanted;
 use tp_queue::queue::Queue;
 
-/// Whether the caller wants the top message. The caller has looked at it by a `check` before,
-/// because no function of the caller can cross.
+/// Whether the caller wants the top message. The caller has looked at it before, by a `check`,
+/// because a function of the caller can't cross.
 #[derive(Clone, Copy)]
 struct Fits {
     fits: bool,
@@ -84,7 +84,7 @@ pub(crate) fn new(alloc: Global) -> Queue<u64>
 /// Frees the memory of the queue. Its messages are numbers, and are lost.
 pub(crate) fn let_go(_queue: Queue<u64>) {}
 
-/// False if memory was refused: then nothing has happened.
+/// Returns false if an allocation was refused, and then nothing has happened.
 pub(crate) fn arrive(queue: &mut Queue<u64>, sender: u32, number: u64, message: u64) -> bool
     ensures { Arrived queue.old sender number message result queue.new }
 {
@@ -150,7 +150,7 @@ pub(crate) fn halt(queue: &mut Queue<u64>) -> bool
     queue.halt().is_some()
 }
 
-// This call and those below only look. They take `&mut`, as one template proves all exports.
+// This call and those below only look. They take `&mut`, because one template proves all exports.
 pub(crate) fn ahead(queue: &mut Queue<u64>) -> u64
     ensures { Ahead queue.old result queue.new }
 {

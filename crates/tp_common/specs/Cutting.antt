@@ -13,7 +13,7 @@ pub record IsFrontOf (text front : List ℕ) : Type 0 where
   pub shorter : length front ≤ length text
   pub is : front ≡ take (length front) text
 
--- the rest is left of the text where a front is cut off
+-- the text ends with the rest
 pub record IsLeftOf (text rest : List ℕ) : Type 0 where
   pub shorter : length rest ≤ length text
   pub is : rest ≡ drop (length text - length rest) text
@@ -21,11 +21,11 @@ pub record IsLeftOf (text rest : List ℕ) : Type 0 where
 abbrev pub is_space : ℕ → Bool
 is_space b = b == 32
 
--- the words of a line: what stands before, between and after its spaces
+-- the words of a line: the parts before, between and after its spaces
 abbrev pub words_of : List ℕ → List (List ℕ)
 words_of line = slice_split is_space line
 
--- the words after a first one: none where no space follows it
+-- the words after the first one, in the rest of the line after its space: none if no space follows the first word
 abbrev pub words_after : Option (List ℕ) → List (List ℕ)
 words_after None = []
 words_after (Some rest) = words_of rest
@@ -34,7 +34,7 @@ words_after (Some rest) = words_of rest
 abbrev pub lacks : ℕ → List ℕ → Bool
 lacks c bytes = list_all (λ b. not (b == c)) bytes
 
--- a space, and what stands behind it, if anything does
+-- a space and the rest of the line after it, or nothing if there is no space
 abbrev pub after_space : Option (List ℕ) → List ℕ
 after_space None = []
 after_space (Some rest) = 32 ∷ rest

@@ -1,4 +1,4 @@
--- The numbers and names of the refusals and faults, which every printed text gives.
+-- The numbers and names of the refusals and faults, as every printed text has them.
 use Rattle.std.specs.Prelude.{ℕ, List, codes}
 use Rattle.tp_common.specs.declared.refusal.Refusal.{Refusal}
 use Rattle.tp_common.specs.declared.refusal.Refusal.TheVariants as refusal

@@ -13,13 +13,13 @@ pub enum Refusal {
     Read,
     /// The answer could not be written.
     Write,
-    /// A token, or the end of the text, where it can't stand.
+    /// An unexpected token, or an unexpected end of the text.
     Syntax,
     /// An unknown name.
     Unknown,
     /// A name that is taken.
     Duplicate,
-    /// A value, template or component of another type than the place asks for.
+    /// A value, template or component of a type that isn't expected there.
     WrongType,
     /// A message type that the port doesn't send, or doesn't receive.
     Direction,

@@ -5,7 +5,7 @@ use Rattle.tp_config.specs.Setup.{Setup, PortDecl, Member, IsPort, is_system, is
 use Rattle.tp_config.specs.Setup.{mapping}
 use Rattle.tp_config.specs.Pairs.{partners}
 
--- what each port sends the other receives
+-- each of the two ports receives everything that the other sends
 abbrev pub Directed : List (List PortDecl) → List Member → PortRef → PortRef → Type 0
 Directed t m p q = All (Contains (ins t m q)) (outs t m p) × All (Contains (ins t m p)) (outs t m q)
 
@@ -13,14 +13,15 @@ Directed t m p q = All (Contains (ins t m q)) (outs t m p) × All (Contains (ins
 abbrev pub MapDirected : List (List PortDecl) → List Member → PortRef → PortRef → Type 0
 MapDirected t m p q = All (Contains (outs t m q)) (outs t m p) × All (Contains (ins t m p)) (ins t m q)
 
--- a connected pair: two different ports, none of the system, and what each sends the other receives
+-- a pair that may be connected: two different ports, neither of the test system interface, and each receives everything
+-- that the other sends
 pub record MayConnect (t : List (List PortDecl)) (m : List Member) (pair : PortRef × PortRef) : Type 0 where
   pub first_own : is_system m pair.0 ≡ false
   pub second_own : is_system m pair.1 ≡ false
   pub differ : pair.0 ≢ pair.1
   pub directed : Directed t m pair.0 pair.1
 
--- a mapped pair: exactly one is a system port, and the directions fit
+-- a pair that may be mapped: exactly one is a port of the test system interface, and the directions fit
 pub record MayMap (t : List (List PortDecl)) (m : List Member) (pair : PortRef × PortRef) : Type 0 where
   pub one_system : is_system m pair.0 ≢ is_system m pair.1
   pub to_second : is_system m pair.1 ≡ true → MapDirected t m pair.0 pair.1
@@ -33,9 +34,9 @@ pub record Allowed (s : Setup) : Type 0 where
   pub one_of_each : (p q r : PortRef) → Contains (partners s.connected p) q → Contains (partners s.connected p) r
       → q.comp ≡ r.comp → q ≡ r
   pub may_map : All (MayMap s.types s.components) s.mapped
-  -- no port stands in two mapped pairs
+  -- no port is in two mapped pairs
   pub one_mapping : (p : PortRef) → length (partners s.mapped p) ≤ 1
-  -- nor in a connected and a mapped pair
+  -- no port is in a connected pair and in a mapped one
   pub apart : (p q r : PortRef) → Contains (partners s.connected p) q → Contains (partners s.mapped p) r → ⊥
 
 -- the pair is new, and the configuration with it is allowed
@@ -50,7 +51,7 @@ CanMap s p q = ¬ Contains (partners s.mapped p) q × Allowed (mapping s p q)
 abbrev pub ArePorts : Setup → PortRef × PortRef → Type 0
 ArePorts s pair = IsPort s pair.0 × IsPort s pair.1
 
--- what holds of every configuration
+-- what holds for every configuration
 pub record IsSetup (s : Setup) : Type 0 where
   pub allowed : Allowed s
   -- each pair is of two ports of the configuration
@@ -62,8 +63,8 @@ pub record IsSetup (s : Setup) : Type 0 where
   pub few_components : length s.components ≤ 64
   -- each component's type is one of the configuration's
   pub kinds : All (λ (m : Member). m.kind < length s.types) s.components
-  -- no two components have one name
+  -- no two components have the same name
   pub names_differ : AllPairs (λ (m n : Member). m.name ≢ n.name) s.components
-  -- no two of them are test system interfaces
+  -- at most one component is the test system interface
   pub one_system :
       AllPairs (λ (m n : Member). ¬ ((is_system_member m ≡ true) × (is_system_member n ≡ true))) s.components

@@ -16,7 +16,7 @@ abbrev pub IsFirstCause : {F : Type 0} → (F → Type 0) → List F → F → T
 IsFirstCause Cause [] f = ⊥
 IsFirstCause Cause (x ∷ xs) f = ((f ≡ x) × Cause x) ⊎ ((¬ Cause x) × IsFirstCause Cause xs f)
 
--- the order in which the causes of a refused create are looked at
+-- the order in which the causes of a refused create are checked
 abbrev pub create_order : List CreateFault
 create_order = create_fault.Duplicate ∷ create_fault.Limit ∷ []
 
@@ -24,11 +24,11 @@ create_order = create_fault.Duplicate ∷ create_fault.Limit ∷ []
 abbrev pub HasSystem : List Member → Type 0
 HasSystem members = (m : Member) × Contains members m × (is_system_member m ≡ true)
 
--- a component has the name, or the test system interface is there and this would be another
+-- a component has the name, or the component would be a second test system interface
 abbrev pub IsTaken : Setup → Member → Type 0
 IsTaken s m = Contains (names_of_components s) m.name ⊎ ((is_system_member m ≡ true) × HasSystem s.components)
 
--- the cause of each refusal, whatever the others
+-- the cause of each refusal of a create, whether or not the other causes hold
 abbrev pub CreateCause : Setup → Member → CreateFault → Type 0
 CreateCause s m create_fault.Duplicate = IsTaken s m
 CreateCause s m create_fault.Limit = 64 ≤ length s.components
@@ -43,13 +43,13 @@ abbrev pub CreateRefused : Setup → Member → CreateFault → Type 0
 CreateRefused s m create_fault.Memory = CanCreate s m
 CreateRefused s m f = IsFirstCause (CreateCause s m) create_order f × ¬ CanCreate s m
 
--- the order in which the causes of a refused connect are looked at
+-- the order in which the causes of a refused connect are checked
 abbrev pub connect_order : List ConnectFault
 connect_order =
     connect_fault.SystemPort ∷ connect_fault.SamePort ∷ connect_fault.Already ∷ connect_fault.Mixed ∷
     connect_fault.TwoPortsOfOne ∷ connect_fault.Directions ∷ []
 
--- p stands in a pair of the list
+-- p is in a pair of the list
 abbrev pub IsInPair : List (PortRef × PortRef) → PortRef → Type 0
 IsInPair pairs p = (q : PortRef) × Contains (partners pairs p) q
 
@@ -57,7 +57,7 @@ IsInPair pairs p = (q : PortRef) × Contains (partners pairs p) q
 abbrev pub HasOther : List (PortRef × PortRef) → PortRef → PortRef → Type 0
 HasOther pairs p q = (r : PortRef) × Contains (partners pairs p) r × (r.comp ≡ q.comp) × (r ≢ q)
 
--- the cause of each refusal, whatever the others
+-- the cause of each refusal of a connect, whether or not the other causes hold
 abbrev pub ConnectCause : Setup → PortRef → PortRef → ConnectFault → Type 0
 ConnectCause s p q connect_fault.SystemPort = (is_system s.components p ≡ true) ⊎ (is_system s.components q ≡ true)
 ConnectCause s p q connect_fault.SamePort = p ≡ q
@@ -72,11 +72,11 @@ abbrev pub ConnectRefused : Setup → PortRef → PortRef → ConnectFault → T
 ConnectRefused s p q connect_fault.Memory = CanConnect s p q
 ConnectRefused s p q f = IsFirstCause (ConnectCause s p q) connect_order f × ¬ CanConnect s p q
 
--- the order in which the causes of a refused map are looked at
+-- the order in which the causes of a refused map are checked
 abbrev pub map_order : List MapFault
 map_order = map_fault.NotSystem ∷ map_fault.Mixed ∷ map_fault.NotOneToOne ∷ map_fault.MapDirections ∷ []
 
--- the cause of each refusal, whatever the others
+-- the cause of each refusal of a map, whether or not the other causes hold
 abbrev pub MapCause : Setup → PortRef → PortRef → MapFault → Type 0
 MapCause s p q map_fault.NotSystem = is_system s.components p ≡ is_system s.components q
 MapCause s p q map_fault.Mixed = IsInPair s.connected p ⊎ IsInPair s.connected q

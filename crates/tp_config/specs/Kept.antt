@@ -1,4 +1,4 @@
--- What the fields of a configuration have to do with each other.
+-- How the fields of a configuration depend on each other.
 use Rattle.std.specs.Prelude.{◌≡◌, List, length}
 use Rattle.tp_config.specs.declared.port_type.CompId.{CompId}
 use Rattle.tp_config.specs.declared.port_type.PortRef.{PortRef}
@@ -7,10 +7,10 @@ use Rattle.tp_config.specs.Allowed.{IsSetup}
 use Rattle.tp_config.specs.Links.{row, links_at}
 use Rattle.tp_config.specs.Routes.{beside}
 
--- the lists beside the ports are those of the configuration's pairs
+-- the lists kept for the ports agree with the pairs of the configuration
 pub record KeepsPairs (s : Setup) (links : List (List (List PortRef))) : Type 0 where
   pub setup : IsSetup s
   -- each component has a list for each of its ports
   pub shape : (c : CompId) → length (row links c) ≡ length (ports_at s.types s.components c)
-  -- which has what stands in a pair with the port
+  -- the list of a port has the ports with which it forms a pair
   pub kept : (p : PortRef) → links_at links p ≡ beside s p

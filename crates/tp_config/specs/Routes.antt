@@ -13,7 +13,7 @@ use Rattle.tp_config.specs.Setup.{Setup, ports_at}
 abbrev pub route_to : PortRef → PortRef → RouteId
 route_to p q = record { source = p.comp; to = q }
 
--- the ports with which p stands in a connected or a mapped pair, in the order of the statements
+-- the ports with which p forms a connected or a mapped pair, in the order of the statements
 unfoldable pub beside : Setup → PortRef → List PortRef
 beside s p = partners (s.connected ++ s.mapped) p
 
@@ -31,12 +31,13 @@ routes_below s c (suc n) =
 unfoldable pub routes_into : Setup → CompId → List RouteId
 routes_into s c = routes_below s c (length (ports_at s.types s.components c))
 
--- of these routes, r is the only one, or the one that goes to the component named
+-- r is the only one of these routes, or the one of them to the component named
 abbrev pub IsRouteOf : List RouteId → Option CompId → RouteId → Type 0
 IsRouteOf routes None r = routes ≡ r ∷ []
 IsRouteOf routes (Some c) r = Contains routes r × (r.to.comp ≡ c)
 
--- there is no such route: there is none at all, or none to the component named; or there are several, and none is named
+-- why there is no such route: there is none at all, or none to the component named; or there are several, and no
+-- component is named
 abbrev pub RouteCauseOf : List RouteId → Option CompId → RouteFault → Type 0
 RouteCauseOf routes None NoRoute = routes ≡ []
 RouteCauseOf routes (Some c) NoRoute = All (λ (r : RouteId). r.to.comp ≢ c) routes
@@ -47,7 +48,7 @@ RouteCauseOf routes (Some c) NeedsTo = ⊥
 abbrev pub IsRoute : Setup → PortRef → Option CompId → RouteId → Type 0
 IsRoute s p to r = IsRouteOf (routes_from s p) to r
 
--- why there is none
+-- why there is no such route
 abbrev pub RouteCause : Setup → PortRef → Option CompId → RouteFault → Type 0
 RouteCause s p to f = RouteCauseOf (routes_from s p) to f
 

@@ -14,7 +14,7 @@ pub record PortDecl : Type 0 where
   pub ins : List Ty
   pub outs : List Ty
 
--- a component: the bytes of its name, the place of its type, and what it is
+-- a component: the bytes of its name, the place of its type, and its role
 pub record Member : Type 0 where
   pub name : List ℕ
   pub kind : ℕ
@@ -27,7 +27,7 @@ pub record Setup : Type 0 where
   pub connected : List (PortRef × PortRef)
   pub mapped : List (PortRef × PortRef)
 
--- whether it is that of the test system interface
+-- whether the role is that of the test system interface
 abbrev pub is_system_role : Role → Bool
 is_system_role Test = false
 is_system_role System = true
@@ -72,7 +72,7 @@ names_of_components s = map (λ (m : Member). m.name) s.components
 abbrev pub port_names : Setup → CompId → List (List ℕ)
 port_names s c = map (λ (d : PortDecl). d.name) (ports_at s.types s.components c)
 
--- these types, no component and no pair
+-- the configuration of these types without components and pairs
 abbrev pub empty_setup : List (List PortDecl) → Setup
 empty_setup types = record { types = types; components = []; connected = []; mapped = [] }
 

@@ -26,7 +26,7 @@ member name kind role = record { name = name; kind = kind; role = role }
 unfoldable pub member_of : Component → Member
 member_of c = member (string_bytes c.name) c.kind c.role
 
--- what stands beside each port of a component
+-- the partners of each port of a component
 abbrev pub links_of : Component → List (List PortRef)
 links_of c = c.links
 

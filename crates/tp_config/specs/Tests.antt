@@ -1,4 +1,4 @@
--- The causes of refusals as tests that compute, by what stands beside the ports.
+-- The causes of refusals as tests that can be computed, from the partners of the ports.
 use Rattle.std.specs.Prelude.{ℕ, Bool, true, false, ◌||◌, ◌&&◌, not, ◌==◌, nat_le, List, length}
 use Rattle.std.specs.List.{list_any, list_all}
 use Rattle.std.specs.Str.{bytes_eq}
@@ -31,24 +31,24 @@ create_test members name role create_fault.Duplicate =
 create_test members name role create_fault.Limit = nat_le 64 (length members)
 create_test members name role create_fault.Memory = false
 
--- both or none
+-- both are true, or neither is
 abbrev pub same_bool : Bool → Bool → Bool
 same_bool true b = b
 same_bool false b = not b
 
--- q stands beside p
+-- q is a partner of p
 unfoldable pub is_beside : List (List (List PortRef)) → PortRef → PortRef → Bool
 is_beside links p q = list_any (λ r. same_port r q) (links_at links p)
 
--- another port of q's component stands beside p
+-- another port of q's component is a partner of p
 unfoldable pub has_other : List (List (List PortRef)) → PortRef → PortRef → Bool
 has_other links p q = list_any (λ r. (r.comp.0 == q.comp.0) && not (same_port r q)) (links_at links p)
 
--- p is connected: a port stands beside it, and both are of the system or none
+-- p is connected: it has a partner, and both or neither are ports of the test system interface
 unfoldable pub is_connected : List Member → List (List (List PortRef)) → PortRef → Bool
 is_connected m links p = list_any (λ r. same_bool (is_system m p) (is_system m r)) (links_at links p)
 
--- p is mapped: a port stands beside it, and exactly one of the two is of the system
+-- p is mapped: it has a partner, and exactly one of the two is a port of the test system interface
 unfoldable pub is_mapped : List Member → List (List (List PortRef)) → PortRef → Bool
 is_mapped m links p = list_any (λ r. not (same_bool (is_system m p) (is_system m r))) (links_at links p)
 
@@ -56,7 +56,7 @@ is_mapped m links p = list_any (λ r. not (same_bool (is_system m p) (is_system 
 unfoldable pub are_among : List Ty → List Ty → Bool
 are_among these those = list_all (λ ty. list_any (λ other. same_type other ty) those) these
 
--- the causes of a refused connect, each where those before it don't hold
+-- the causes of a refused connect; a test is exact if no cause before its own holds
 abbrev pub connect_test :
     List (List PortDecl) → List Member → List (List (List PortRef)) → PortRef → PortRef → ConnectFault → Bool
 connect_test t m links p q connect_fault.SystemPort = is_system m p || is_system m q

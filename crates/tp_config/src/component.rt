@@ -166,7 +166,7 @@ pub(crate) fn join_ports(
     ensures no_pair { OnErr result (pairs.new.items ≡ pairs.old.items) }
     ensures no_link { OnErr result (components.new.items ≡ components.old.items) }
 {
-    // Whatever needs memory comes first: a refusal leaves the pairs and both lists as they were.
+    // Allocations come first: if one is refused, the pairs and both lists are unchanged.
     let beside_p = with_last(alloc, beside(components.as_slice(), p), q)?;
     let beside_q = with_last(alloc, beside(components.as_slice(), q), p)?;
     pairs.push((p, q))?;

@@ -39,7 +39,7 @@ pub struct Config {
 }
 
 impl Drop for Config {
-    // Written out, so that what owns one calls this, and proves no drop of what is inside.
+    // Written out, so that an owner's drop calls this one, and needs no proof about the fields.
     fn drop(self) {
         let Config {
             types: component_types,
@@ -156,7 +156,7 @@ impl Config {
             IfErr result (λ fault. (self.new ≡ self.old) × CreateRefused self.old m fault) }
         ensures lawful { IsSetup self.new }
     {
-        // The causes come before any allocation, so that 50 never stands for one of them.
+        // The causes are checked before any allocation, so that 50 never takes precedence over one.
         if let Some(fault) = create_fault(self.components.as_slice(), name.as_str(), role) {
             return Err(fault);
         }

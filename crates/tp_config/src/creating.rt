@@ -40,7 +40,8 @@ impl CreateFault {
     }
 }
 
-// Two functions, here and below: one clause follows the code, the other one the specs.
+// Two functions for one test, here and below: the clause of the first is close to the code, that of
+// the second is the definition of `specs/`.
 fn any_named(components: &[Component], name: &str) -> bool
     ensures { result ≡ list_any (λ c. bytes_eq (string_bytes c.name) name.now) components.now }
 {

@@ -13,7 +13,7 @@ pub(crate) fn same_bool(a: bool, b: bool) -> bool
     if a { b } else { !b }
 }
 
-// Unfolded, the definition is the same test of each partner.
+// The definition, unfolded, is the same test of each partner.
 #[tactic(auto, unfolding(crate::specs::Tests::is_beside))]
 pub(crate) fn is_beside(components: &[Component], p: PortRef, q: PortRef) -> bool
     ensures { result ≡ is_beside (map links_of components.now) p q }

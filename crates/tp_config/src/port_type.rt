@@ -30,7 +30,7 @@ pub struct CompType {
 }
 
 impl Drop for CompType {
-    // Written out, so that what owns one calls this, and proves no drop of what is inside.
+    // Written out, so that an owner's drop calls this one, and needs no proof about the fields.
     fn drop(self) {
         let CompType { ports } = self;
         drop(ports);

@@ -21,12 +21,12 @@ pub record IsName (name : List ℕ) : Type 0 where
   pub alphanumeric : list_all is_ascii_alphanumeric name ≡ true
   pub short : length name ≤ 20
 
--- what a receiving operation asks of a message: its value, and its sender, if one is named
+-- the matching criteria of a receiving operation: the value of a message, and its sender, if one is named
 pub record Wish : Type 0 where
   pub value : IntegerPattern
   pub from : Option (List ℕ)
 
--- what a line says
+-- a line of a queue file
 pub data QueueLine : Type 0 where
   arrive : List ℕ → ℤ → QueueLine
   receive : Wish → QueueLine
@@ -58,7 +58,7 @@ verb_of start = verb.Start
 verb_of stop = verb.Stop
 verb_of halt = verb.Halt
 
--- the word begins as an integer in decimal does, with a digit from 1 to 9, before which a `-` may stand; or is `0`
+-- the word is `0`, or it begins like any other integer in decimal: with a digit from 1 to 9, possibly after a `-`
 abbrev pub BeginsAsInteger : List ℕ → Type 0
 BeginsAsInteger word =
     (word ≡ codes "0") ⊎ IsInRange 49 57 (get_or word 0 0) ⊎ ((get_or word 0 0 ≡ 45) × IsInRange 49 57 (get_or word 1 0))
@@ -101,7 +101,7 @@ IsWish wish = PatternFits wish.value × IfSome wish.from IsName
 abbrev pub IsArriveLine : List ℕ → ℤ → Type 0
 IsArriveLine name n = IsName name × FitsSigned w64 n
 
--- names are names, and integers have 64 signed bits
+-- the names in the line are valid, and its integers have 64 signed bits
 abbrev pub IsQueueLine : QueueLine → Type 0
 IsQueueLine (arrive name n) = IsArriveLine name n
 IsQueueLine (receive wish) = IsWish wish
@@ -124,11 +124,11 @@ IsGood text = (line : QueueLine) × Spells text line
 abbrev pub Says : List ℕ → List QueueLine → Type 0
 Says text lines = AllZip Spells (lines_of text) lines
 
--- a text says one list of lines at most
+-- a text says at most one list of lines
 abbrev pub SaysOneAtMost : Type 0
 SaysOneAtMost = (text : List ℕ) (these those : List QueueLine) → Says text these → Says text those → these ≡ those
 
--- the line of this number, from 1, is the first that is not of a queue file
+-- the line of this number, from 1, is the first that isn't valid in a queue file
 abbrev pub IsFirstBad : List (List ℕ) → ℕ → Type 0
 IsFirstBad texts n = (0 < n)
     × All IsGood (take (n - 1) texts)

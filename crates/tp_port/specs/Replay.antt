@@ -1,4 +1,4 @@
--- What a queue file answers: the senders by first occurrence, the port's history, and the text of each answer.
+-- The answers to a queue file: the senders by first occurrence, the port's history, and the text of each answer.
 use Rattle.std.specs.Prelude.{ℕ, ℤ, ◌==◌, ◌&&◌, Bool, true, false, nat_eq, if◌then◌else◌, Option, Some, None, List, []}
 use Rattle.std.specs.Prelude.{◌∷◌, ◌++◌, length, map, slice_get, codes, unwrap_or, option_and_then}
 use Rattle.std.specs.List.{flat_map, list_any, position_or_len}
@@ -15,12 +15,12 @@ use Rattle.tp_queue.specs.History.{accepted, queued, status_of, top}
 use Rattle.tp_queue.specs.Answers.{halted_count}
 use Rattle.tp_port.specs.QueueLine.{QueueLine, arrive, receive, check, trigger, clear, start, stop, halt, Wish}
 
--- how far a replay has come: the senders in the order of their first occurrence, and the port's history
+-- the progress of a replay: the senders in the order of their first occurrence, and the port's history
 pub record Progress : Type 0 where
   pub senders : List (List ℕ)
   pub history : List (Event ℤ)
 
--- the senders, once this name is seen
+-- the senders after this name was seen
 abbrev pub with_sender : List (List ℕ) → List ℕ → List (List ℕ)
 with_sender senders name = if list_any (pointwise nat_eq name) senders then senders else senders ++ name ∷ []
 
@@ -28,7 +28,7 @@ abbrev pub seen_if : List (List ℕ) → Option (List ℕ) → List (List ℕ)
 seen_if senders None = senders
 seen_if senders (Some name) = with_sender senders name
 
--- the senders, once this line is seen
+-- the senders after this line was seen
 abbrev pub seen_in : List (List ℕ) → QueueLine → List (List ℕ)
 seen_in senders (arrive name n) = with_sender senders name
 seen_in senders (receive wish) = seen_if senders wish.from
@@ -44,7 +44,7 @@ sender_number senders name = position_or_len (pointwise nat_eq name) senders
 abbrev pub sender_name : List (List ℕ) → ℕ → List ℕ
 sender_name senders number = unwrap_or (slice_get senders number) []
 
--- the envelope of an `arrive`: its number is that of the `arrive` lines before it
+-- the envelope of an `arrive`: its number is how many `arrive` lines come before it
 abbrev pub arriving : Progress → List ℕ → ℤ → Env ℤ
 arriving s name n = record { sender = sender_number s.senders name; number = length (accepted s.history); msg = n }
 
@@ -71,12 +71,12 @@ from_of s wish = option_map (sender_number s.senders) wish.from
 abbrev pub found_in : Progress → Wish → Option (Env ℤ)
 found_in s wish = found wish.value (from_of s wish) s.history
 
--- what a trigger makes of the top
+-- the event of a `trigger` that finds a top, which is wanted or not
 abbrev pub triggered : Bool → Env ℤ → Event ℤ
 triggered true e = event.Took e
 triggered false e = event.Dropped e
 
--- the events of a line, none or one, where its senders are seen already
+-- the events of a line, none or one, if its sender is already among the senders
 abbrev pub events_of : Progress → QueueLine → List (Event ℤ)
 events_of s (arrive name n) = event.Arrive (arriving s name n) ∷ []
 events_of s (receive wish) = map event.Took (option_to_list (found_in s wish))
@@ -112,7 +112,7 @@ abbrev pub halted_text : Option ℕ → List ℕ
 halted_text None = codes "unchanged\n"
 halted_text (Some n) = counted_text (codes "halted ") n
 
--- the answer to a line, where its senders are seen already
+-- the answer to a line, if its sender is already among the senders
 abbrev pub answer : Progress → QueueLine → List ℕ
 answer s (arrive name n) = codes "queued\n"
 answer s (receive wish) = envelope_or_no s.senders (codes "took ") (found_in s wish)
@@ -123,15 +123,15 @@ answer s start = counted_text (codes "cleared ") (length (queued s.history))
 answer s stop = codes "stopped\n"
 answer s halt = halted_text (halted_count (status_of s.history) s.history)
 
--- how far it has come where a line is carried out: its senders are seen
+-- the progress when a line is executed: its sender has been seen
 abbrev pub sighted : Progress → QueueLine → Progress
 sighted s line = record { senders = seen_in s.senders line; history = s.history }
 
--- how far it has come after a line
+-- the progress after a line
 abbrev pub after : Progress → QueueLine → Progress
 after s line = record { senders = seen_in s.senders line; history = s.history ++ events_of (sighted s line) line }
 
--- how many are left, and each of them
+-- the number of messages left in the queue, and each of them
 abbrev pub text_of_left : List (List ℕ) → List (Env ℤ) → List ℕ
 text_of_left senders envelopes =
     counted_text (codes "left ") (length envelopes) ++ flat_map (envelope_text senders) envelopes
@@ -140,15 +140,15 @@ text_of_left senders envelopes =
 abbrev pub left_text : List (List ℕ) → List (Event ℤ) → List ℕ
 left_text senders h = text_of_left senders (queued h)
 
--- the answers to the lines from there on, and then what is left
+-- the answers to these lines after this progress, and then what is left in the queue
 abbrev pub text_from : Progress → List QueueLine → List ℕ
 text_from s [] = left_text s.senders s.history
 text_from s (line ∷ lines) = answer (sighted s line) line ++ text_from (after s line) lines
 
--- before the first line: no sender is seen, and nothing has happened
+-- the progress before the first line: no sender has been seen, and nothing has happened
 abbrev pub first_progress : Progress
 first_progress = record { senders = []; history = [] }
 
--- the text that a queue file of these lines answers
+-- the whole answer to a queue file of these lines
 abbrev pub queue_text : List QueueLine → List ℕ
 queue_text lines = text_from first_progress lines

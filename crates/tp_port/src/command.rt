@@ -244,7 +244,7 @@ pub fn command_of(line: &[u8]) -> Option<Command<'_>>
     command_with(verb, rest)
 }
 
-/// A law without work: a text is at most one list of lines.
+/// A law, which does nothing in a run: a text says at most one list of lines.
 pub fn says_one_at_most()
     ensures { SaysOneAtMost }
 {}

@@ -61,7 +61,7 @@ impl<M: Payload> PortQueue<M> {
         ensures err { IfErr result (λ back. (back.1 ≡ env) × (self.new ≡ self.old)) }
         ensures lawful { Lawful self.new }
     {
-        // Whatever may need memory comes first: a refusal leaves queue and history as they were.
+        // Allocations come first: if one is refused, queue and history are unchanged.
         let Ok(twin) = env.copy(self.alloc) else {
             return Err((Memory, env));
         };

@@ -1,5 +1,4 @@
--- What the receiving calls of a queue answer where the history before is h, and the history that the queue stands for
--- after them.
+-- What the receiving calls of a queue return if its history is h, and which history the queue stands for after them.
 use Rattle.std.specs.Prelude.{◌≡◌, ℕ, Option, Some, None, List, [], ◌∷◌, ◌++◌, Bool, false, IsTrue, ◌↔◌, MatchOption}
 use Rattle.tp_common.specs.declared.event.Env.{Env}
 use Rattle.tp_common.specs.declared.event.Event.{Event}
@@ -11,13 +10,13 @@ use Rattle.tp_common.specs.Criteria.{Satisfies}
 use Rattle.tp_queue.specs.Answers.{Finds, FindsNone, removal}
 use Rattle.tp_queue.specs.Queues.{QueueState, StandsFor}
 
--- what `receive` answers
+-- what `receive` returns, and the queue after it
 abbrev pub ReceivesFor : {M : Type 0} → (M → Type 0) → Option ℕ → List (Event M)
     → Option (Env M) → QueueState M → Type 0
 ReceivesFor admits from h (Some e) after = Finds admits from h e × StandsFor after (h ++ event.Took e ∷ [])
 ReceivesFor admits from h None after = FindsNone admits from h × StandsFor after h
 
--- what `trigger` answers
+-- what `trigger` returns, and the queue after it
 abbrev pub TriggersFor : {M : Type 0} → (M → Type 0) → Option ℕ → List (Event M)
     → TriggerAnswer M → QueueState M → Type 0
 TriggersFor admits from h (trigger_answer.Took e) after =
@@ -26,7 +25,8 @@ TriggersFor admits from h (trigger_answer.Dropped e) after =
     (top h ≡ Some e) × ¬ Satisfies admits from e × StandsFor after (h ++ event.Dropped e ∷ [])
 TriggersFor admits from h trigger_answer.Nothing after = (top h ≡ None) × StandsFor after h
 
--- the top is taken out, if there is one: the queue is then as if it had been received, and as if it had been discarded
+-- the top is taken out, if there is one: the queue then stands for the history in which the top was received, and for
+-- the one in which it was discarded
 abbrev pub TakesOut : {M : Type 0} → List (Event M) → Option (Env M) → QueueState M → Type 0
 TakesOut h (Some e) after = (top h ≡ Some e) × ((received : Bool) → StandsFor after (h ++ removal received e ∷ []))
 TakesOut h None after = (top h ≡ None) × StandsFor after h

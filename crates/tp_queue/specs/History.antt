@@ -1,7 +1,7 @@
 -- The history of a port, and what it says: what is queued, whether the port is started, and what can be received.
 -- A history is the whole list of the port's events, the oldest first, which only grows; a definition filters, cuts and
 -- counts that list.
--- The clauses are those of ES 201 873-1; ES 201 873-4 has the same as the states of ports and their queues.
+-- The clauses are those of ES 201 873-1; ES 201 873-4 describes the same by the states of ports and their queues.
 use Rattle.std.specs.Prelude.{◌≡◌, ℕ, ◌+◌, ◌-◌, Bool, true, false, nat_lt, cond, Option, Some, None, List, length, take}
 use Rattle.std.specs.Prelude.{drop, slice_get, count_by}
 use Rattle.std.specs.List.{filter_map, list_any, after_first, after_last, before_last}
@@ -55,7 +55,7 @@ abbrev pub is_halt : {M : Type 0} → Event M → Bool
 is_halt event.Halted = true
 is_halt _ = false
 
--- the envelopes that arrived, in order: 9.1, a port queues all that comes, first in, first out
+-- the envelopes that arrived, in order: 9.1, a port queues every message that arrives, first in, first out
 unfoldable pub accepted : {M : Type 0} → List (Event M) → List (Env M)
 accepted h = filter_map arrival h
 
@@ -68,7 +68,7 @@ gone h = length (accepted (before_last is_emptying h)) + count_by is_removal (af
 unfoldable pub queued : {M : Type 0} → List (Event M) → List (Env M)
 queued h = drop (gone h) (accepted h)
 
--- the events since the last start, all of them where there was none
+-- the events since the last start, or all of them if there was none
 unfoldable pub since_start : {M : Type 0} → List (Event M) → List (Event M)
 since_start h = after_last is_start h
 
@@ -78,18 +78,19 @@ unfoldable pub status_of : {M : Type 0} → List (Event M) → Status
 status_of h = cond (list_any is_stop (since_start h)) status.Stopped
     (cond (list_any is_halt (since_start h)) status.Halted status.Started)
 
--- the events since the mark was put where it stands: since the first halt since the last start, and since the last
--- clear after that halt
+-- the events since the mark was put at its place: since the first halt after the last start, or since the last clear
+-- after that halt, if there was one
 unfoldable pub since_mark : {M : Type 0} → List (Event M) → List (Event M)
 since_mark h = after_last is_clear (after_first is_halt (since_start h))
 
--- how many envelopes arrived before the mark of a halted port: 22.5.4, a halt puts the mark behind all that is queued.
--- The event that puts the mark stands in the part that is counted, and is no arrival
+-- how many envelopes had arrived when the mark of a halted port was put at its place: 22.5.4, a halt puts the mark
+-- after all that is queued. The part of the history that is counted includes the event that put the mark, which is no
+-- arrival
 unfoldable pub mark : {M : Type 0} → List (Event M) → ℕ
 mark h = length (accepted (take (length h - length (since_mark h)) h))
 
--- how many of the envelopes that arrived may have been received, at a port of that status: 22.5.4, those ahead of the
--- mark of a halted port; 22.5.3, none more at a stopped one
+-- how many of the envelopes that arrived may have been received by now, at a port of this status: all of them at a
+-- started port; 22.5.4, those ahead of the mark at a halted port; 22.5.3, no more than are gone at a stopped port
 abbrev pub limit_at : {M : Type 0} → Status → List (Event M) → ℕ
 limit_at status.Started h = length (accepted h)
 limit_at status.Halted h = mark h
@@ -102,7 +103,7 @@ limit h = limit_at (status_of h) h
 unfoldable pub top : {M : Type 0} → List (Event M) → Option (Env M)
 top h = cond (nat_lt (gone h) (limit h)) (slice_get (accepted h) (gone h)) None
 
--- an event that receives may follow this history: it has the top
+-- the event may follow this history: if it is of a receiving operation, its envelope is the top
 abbrev pub MayFollow : {M : Type 0} → List (Event M) → Event M → Type 0
 MayFollow h (event.Took e) = top h ≡ Some e
 MayFollow h (event.Found e) = top h ≡ Some e

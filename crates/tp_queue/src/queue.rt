@@ -137,7 +137,7 @@ impl<M: Drop> Queue<M> {
         if self.ahead() == 0 {
             return None;
         }
-        // Of a port that isn't halted it says nothing.
+        // At a port that isn't halted, `ahead` has no meaning.
         self.ahead = self.ahead.saturating_sub(1);
         self.entries.pop_front()
     }

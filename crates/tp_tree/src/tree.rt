@@ -322,7 +322,7 @@ pub struct Module {
 }
 
 impl Drop for Module {
-    // Written out, so that what owns one calls this, and proves no drop of what is inside.
+    // Written out, so that an owner's drop calls this one, and needs no proof about the fields.
     fn drop(self) {
         let Module {
             line: _,

@@ -12,7 +12,7 @@ use Rattle.tp_value.specs.Types.{named}
 use Rattle.tp_value.specs.HasType.{AllHave, RecordHas, HasType}
 use Rattle.tp_value.specs.Matches.{is_many}
 
--- the lower bound is at most the upper, where there are both
+-- the lower bound is at most the upper, if both are given
 abbrev pub AreOrdered : Option ℤ → Option ℤ → Type 0
 AreOrdered (Some lo) (Some hi) = lo ≤ℤ hi
 AreOrdered (Some lo) None = Unit {0}
@@ -29,7 +29,7 @@ ListFits many fits xs (Some (type_def.ListOf t)) = ElementsFit many fits t xs
 ListFits many fits xs (Some (type_def.Record fs)) = ⊥
 ListFits many fits xs None = ⊥
 
--- one layer of a template; `fits` tells it of the templates inside
+-- the outermost layer of a template; `fits` says which types a template inside fits
 abbrev pub template_fits : Types → (X : Type 0) → (X → Template) → (X → Ty → Type 0) → t.Template-F X → Ty → Type 0
 template_fits types X template fits (t.Exact v) u = HasType types u v
 template_fits types X template fits t.Any u = Unit {0}

@@ -41,7 +41,7 @@ ListHas has xs (Some (type_def.Record fs)) = ⊥
 ListHas has xs (Some (type_def.ListOf t)) = AllHave has t xs
 ListHas has xs None = ⊥
 
--- one layer of a value; `has` tells it of the values inside
+-- the outermost layer of a value; `has` says which types a value inside has
 abbrev pub value_has : Types → (X : Type 0) → (X → Value) → (X → Ty → Type 0) → v.Value-F X → Ty → Type 0
 value_has types X value has (v.Int z) t = (t ≡ ty.Integer) × FitsSigned w64 z
 value_has types X value has (v.Bool b) t = t ≡ ty.Boolean

@@ -23,11 +23,11 @@ AdmitsChar (pattern_part.Literal c) d = d ≡ c
 AdmitsChar pattern_part.One d = Unit {0}
 AdmitsChar pattern_part.AnyOrNone d = ⊥
 
--- the piece is the literal character, one character, or any piece
+-- the piece is one of the part: the literal character, any one character, or any piece
 abbrev pub IsTextPiece : PatternPart → List ℕ → Type 0
 IsTextPiece p x = PieceOf (is_many_part p) (AdmitsChar p) x
 
--- the number of an integer
+-- the number, if the value is an integer
 abbrev pub integer_in : v.Value-F Value → Option (ℤ)
 integer_in (v.Int z) = Some z
 integer_in (v.Bool b) = None
@@ -35,7 +35,7 @@ integer_in (v.Text cs) = None
 integer_in (v.Record vs) = None
 integer_in (v.List vs) = None
 
--- the characters of a charstring
+-- the characters, if the value is a charstring
 abbrev pub charstring_in : v.Value-F Value → Option (List ℕ)
 charstring_in (v.Int z) = None
 charstring_in (v.Bool b) = None
@@ -43,7 +43,7 @@ charstring_in (v.Text cs) = Some cs
 charstring_in (v.Record vs) = None
 charstring_in (v.List vs) = None
 
--- the values of the fields of a record
+-- the values of the fields, if the value is a record
 abbrev pub fields_in : v.Value-F Value → Option (List Value)
 fields_in (v.Int z) = None
 fields_in (v.Bool b) = None
@@ -51,7 +51,7 @@ fields_in (v.Text cs) = None
 fields_in (v.Record vs) = Some vs
 fields_in (v.List vs) = None
 
--- the elements of a record of
+-- the elements, if the value is a record of
 abbrev pub elements_in : v.Value-F Value → Option (List Value)
 elements_in (v.Int z) = None
 elements_in (v.Bool b) = None
@@ -64,12 +64,12 @@ abbrev pub TextMatches : List PatternPart → Option (List ℕ) → Type 0
 TextMatches ps (Some cs) = HasCut IsTextPiece ps cs
 TextMatches ps None = ⊥
 
--- not below the bound, where there is one
+-- not below the bound, if there is one
 abbrev pub AtLeast : Option ℤ → ℤ → Type 0
 AtLeast None z = Unit {0}
 AtLeast (Some lo) z = lo ≤ℤ z
 
--- not above the bound, where there is one
+-- not above the bound, if there is one
 abbrev pub AtMost : Option ℤ → ℤ → Type 0
 AtMost None z = Unit {0}
 AtMost (Some hi) z = z ≤ℤ hi
@@ -84,7 +84,7 @@ abbrev pub SomeMatches : {X : Type 0} → (X → Value → Type 0) → List X �
 SomeMatches matches [] v = ⊥
 SomeMatches matches (x ∷ xs) v = matches x v ⊎ SomeMatches matches xs v
 
--- as many fields, and each field's template matches its field
+-- there are as many templates as fields, and each field's template matches its value
 abbrev pub FieldsMatch : {X : Type 0} → (X → Value → Type 0) → List X → List Value → Type 0
 FieldsMatch matches [] [] = Unit {0}
 FieldsMatch matches (x ∷ xs) (v ∷ vs) = matches x v × FieldsMatch matches xs vs
@@ -96,7 +96,7 @@ abbrev pub RecordMatches : {X : Type 0} → (X → Value → Type 0) → List X 
 RecordMatches matches xs (Some vs) = FieldsMatch matches xs vs
 RecordMatches matches xs None = ⊥
 
--- the layer is `*`
+-- the outermost layer of a template is `*`
 abbrev pub is_many_step : {X : Type 0} → t.Template-F X → Bool
 is_many_step t.AnyOrNone = true
 is_many_step (t.Exact v) = false
@@ -117,7 +117,7 @@ abbrev pub ListMatches : {X : Type 0} → (X → Bool) → (X → Value → Type
 ListMatches many matches xs (Some vs) = HasCut (λ x. PieceOf (many x) (matches x)) xs vs
 ListMatches many matches xs None = ⊥
 
--- one layer of a template; `matches` tells it of the templates inside
+-- the outermost layer of a template; `matches` says which values a template inside matches
 abbrev pub template_matches : (X : Type 0) → (X → Template) → (X → Value → Type 0) → t.Template-F X → Value → Type 0
 template_matches X template matches (t.Exact w) v = v ≡ w
 template_matches X template matches t.Any v = Unit {0}

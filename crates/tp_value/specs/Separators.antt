@@ -1,4 +1,4 @@
--- What stands before an item in braces, by its place.
+-- The text before an item in braces, by the item's place.
 use Rattle.std.specs.Prelude.{ℕ, zero, suc, List, [], codes}
 use Rattle.tp_value.specs.ValueText.{comma_separated, more}
 
@@ -7,7 +7,7 @@ abbrev pub separator : ℕ → List ℕ
 separator zero = []
 separator (suc n) = codes ", "
 
--- the text of items of which the first has this place
+-- the text of the last items, from the one at this place on, each after its separator
 abbrev pub listed_from : ℕ → List (List ℕ) → List ℕ
 listed_from zero xs = comma_separated xs
 listed_from (suc n) xs = more xs

@@ -11,7 +11,7 @@ use Rattle.tp_value.specs.declared.types.Types.{Types}
 abbrev pub names_of_types : Types → List (List ℕ)
 names_of_types types = map (λ t. t.0) types
 
--- the number that has the name
+-- the number of the type with this name
 abbrev pub type_number : Types → List ℕ → Option ℕ
 type_number types name = position (bytes_eq name) (names_of_types types)
 

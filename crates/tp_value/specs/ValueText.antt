@@ -18,7 +18,7 @@ abbrev pub bool_text : Bool → List ℕ
 bool_text true = codes "true"
 bool_text false = codes "false"
 
--- a quote stands twice, every other character once
+-- a quote is written twice, every other character once
 abbrev pub quote_doubled : ℕ → List ℕ
 quote_doubled c = if nat_eq c 34 then codes "\"\"" else c ∷ []
 
@@ -30,7 +30,7 @@ escaped cs = flat_map quote_doubled cs
 abbrev pub quoted : List ℕ → List ℕ
 quoted cs = codes "\"" ++ (escaped cs ++ codes "\"")
 
--- each behind a comma and a space
+-- each after a comma and a space
 abbrev pub more : List (List ℕ) → List ℕ
 more [] = []
 more (x ∷ xs) = codes ", " ++ (x ++ more xs)
@@ -44,7 +44,7 @@ comma_separated (x ∷ xs) = x ++ more xs
 abbrev pub braced_text : List (List ℕ) → List ℕ
 braced_text xs = codes "{" ++ (comma_separated xs ++ codes "}")
 
--- each field's name and value, in declared order; `text` gives the text of what is inside
+-- each field's name and value, in declared order; `text` gives the text of a value inside
 abbrev pub field_texts : {X : Type 0} → (X → Ty → List ℕ) → List Field → List X → List (List ℕ)
 field_texts text (f ∷ fs) (x ∷ xs) = (f.name ++ (codes " := " ++ text x f.ty)) ∷ field_texts text fs xs
 field_texts text [] xs = []
@@ -55,19 +55,19 @@ abbrev pub element_texts : {X : Type 0} → (X → Ty → List ℕ) → Ty → L
 element_texts text t [] = []
 element_texts text t (x ∷ xs) = text x t ∷ element_texts text t xs
 
--- a record; a value that hasn't the type has no text of its own
+-- a record; the text is empty if the type isn't a record type
 abbrev pub record_text : {X : Type 0} → (X → Ty → List ℕ) → List X → Option TypeDef → List ℕ
 record_text text xs (Some (type_def.Record fs)) = braced_text (field_texts text fs xs)
 record_text text xs (Some (type_def.ListOf t)) = []
 record_text text xs None = []
 
--- a record of
+-- a record of; the text is empty if the type isn't a record-of type
 abbrev pub list_text : {X : Type 0} → (X → Ty → List ℕ) → List X → Option TypeDef → List ℕ
 list_text text xs (Some (type_def.Record fs)) = []
 list_text text xs (Some (type_def.ListOf t)) = braced_text (element_texts text t xs)
 list_text text xs None = []
 
--- one layer of a value, with the texts of the values inside
+-- the outermost layer of a value, with the texts of the values inside
 abbrev pub text_of : Types → v.Value-F (Ty → List ℕ) → Ty → List ℕ
 text_of types (v.Int z) t = signed_decimal z
 text_of types (v.Bool b) t = bool_text b

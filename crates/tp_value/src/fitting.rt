@@ -22,7 +22,7 @@ pub fn are_ordered(lower: Option<i64>, upper: Option<i64>) -> bool
     }
 }
 
-/// Returns whether the template fits the type, so that it may stand where values of the type are
+/// Returns whether the template fits the type, so that it may be used where values of the type are
 /// matched (ES 201 873-1, 15 and B.1). `*` fits only among the elements of a record of.
 ///
 /// It calls itself once for each level of nesting.

@@ -26,8 +26,8 @@ pub enum Template {
     Exact(Value),
     /// `?`: any value (B.1.2.3).
     Any,
-    /// `*`: any number of elements, including none (B.1.3.2). It stands only among the elements of
-    /// a `List`, and by itself matches nothing.
+    /// `*`: any number of elements, including none (B.1.3.2). It fits only among the elements of a
+    /// `List`, and by itself matches nothing.
     AnyOrNone,
     /// `(t1, t2, ..)`: values that match some member (B.1.2.1).
     OneOf(Items<Template>),

@@ -69,7 +69,7 @@ pub struct Types {
 }
 
 impl Drop for Types {
-    // Written out, so that what owns one calls this, and proves no drop of what is inside.
+    // Written out, so that an owner's drop calls this one, and needs no proof about the fields.
     fn drop(self) {
         let Types { definitions } = self;
         drop(definitions);

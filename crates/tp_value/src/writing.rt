@@ -65,7 +65,7 @@ fn separate<W: Write>(place: usize, out: &mut Watched<W>)
     ensures { Writes W.contents out.old out.new (separator place) }
 {
     if place == 0 {
-        // Nothing is written, in the form that the clause has for both cases.
+        // Nothing is written, but the call has the form of the clause in both cases.
         write_bytes(b"", out)
     } else {
         write_bytes(b", ", out)
@@ -107,7 +107,7 @@ fn write_fields<W: Write>(types: &Types, declared: &[Field], values: &[Value], o
         (braced_text (field_texts (λ v t. value_text types.now t v) declared.now values.now)) }
 {
     write_bytes(b"{", out);
-    // A record of its type has as many fields; with the shorter of both lists no condition says so.
+    // A record of the type has as many values as fields. The minimum saves a `requires` for this.
     for index in 0..declared.len().min(values.len()) {
         let field = &declared[index];
         separate(index, out);
