@@ -28,8 +28,8 @@ use Rattle.tp_value.specs.declared.message.Message.{Message}
 use Rattle.tp_behaviour.specs.Held.{Actor, Values, SendsUnset, NamesUnset, IsNamed, guard_of, redirected, unset}
 use Rattle.tp_behaviour.specs.Paths.{IsPath, AreTurns, IsStarted, guards_of, own_port}
 
--- a send ends the behaviour by this fault, the first whose cause holds: the port isn't started; a variable that it
--- speaks of isn't set; and there is no route, or none to the component named, or there are several and none is named
+-- a send ends the behaviour with this fault, the first whose cause holds: the port isn't started; a variable that it
+-- uses isn't set; there is no route, or none to the component named, or there are several and none is named
 pub data IsFailure (r : Actor) (vs : Values) (x : SendOperation) (k : List Entry) : SendFault → Type 0 where
   not_started : ¬ IsStarted k x.port → IsFailure r vs x k send_fault.NotSending
   not_set : IsStarted k x.port → SendsUnset vs x.sent ⊎ NamesUnset vs x.to
@@ -42,8 +42,8 @@ pub data IsFailure (r : Actor) (vs : Values) (x : SendOperation) (k : List Entry
       → routes_from r.config (own_port r x.port) ≡ [] → IsFailure r vs x k (send_fault.Unrouted route_fault.NoRoute)
 
 mutual
-  -- the moments lead to a statement within this one, or to itself, and the behaviour stops there with this end; where
-  -- it waits, `rests` holds of the branches
+  -- the moments lead to this statement or to one within it, and the behaviour stops there with this end; if it waits,
+  -- `rests` holds for the branches
   pub data StopsWithin (r : Actor) (rests : List Guard → Type 0) : End → List ℤ → List (Option Held) → ResolvedStatement
       → List Moment → Type 0 where
     -- at a send that fails
@@ -76,14 +76,14 @@ mutual
         → IsChoice (guards_of r (record { turns = turns; variables = vs }) branches) true t None
         → Stops r rests end turns vs block ts
         → StopsWithin r rests end turns vs (statement.Alt branches (Some block)) (drops ++ t ∷ ts)
-    -- within a turn of a `for`, after n whole ones
+    -- within a turn of a `for`, after n complete ones
     within_for : (end : End) (turns : List ℤ) (vs ws : List (Option Held)) (first bound : ℤ) (block : List ResolvedStatement)
         (n : ℕ) (ts more : List Moment)
         → AreTurns r turns vs first block n ts ws → n < turns_between first bound
         → Stops r rests end (turns ++ (first +ℤ pos n) ∷ []) ws block more
         → StopsWithin r rests end turns vs (statement.For first bound block) (ts ++ more)
 
-  -- the moments are a path of the first of these statements, and then lead to a stop within the one behind them
+  -- the moments are a path of some of these statements, from the first on, and then lead to a stop within the next one
   pub data Stops (r : Actor) (rests : List Guard → Type 0) : End → List ℤ → List (Option Held) → List ResolvedStatement
       → List Moment → Type 0 where
     stops : (end : End) (turns : List ℤ) (vs ws : List (Option Held)) (xs : List ResolvedStatement) (x : ResolvedStatement)
@@ -91,7 +91,7 @@ mutual
         → IsPath r turns vs xs ts ws → StopsWithin r rests end turns ws x more
         → Stops r rests end turns vs (xs ++ x ∷ rest) (ts ++ more)
 
--- the history follows the behaviour to this end: where it waits, none of the branches is open in the whole history
+-- the history follows the behaviour to this end: if it waits, none of the branches is open in the whole history
 pub data Follows (r : Actor) (body : Body) (k : List Entry) : End → Type 0 where
   done : (vs : List (Option Held)) → IsPath r [] (unset body) body.statements (moments k) vs
       → Follows r body k ending.Done

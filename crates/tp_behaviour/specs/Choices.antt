@@ -1,5 +1,5 @@
--- Which branch of an `alt` can be chosen (ES 201 873-1, 20.2, 22.2.2 to 22.2.4). A receiving operation that stands
--- alone is an `alt` of one branch without `[else]`.
+-- Which branch of an `alt` can be chosen (ES 201 873-1, 20.2, 22.2.2, 22.2.3, 22.4). A stand-alone receiving operation
+-- is an `alt` of one branch without `[else]`.
 use Rattle.std.specs.Prelude.{◌≡◌, ◌⊎◌, ℕ, Bool, true, Option, Some, None, List, All, slice_get, take}
 use Rattle.tp_common.specs.declared.event.Env.{Env}
 use Rattle.tp_queue.specs.History.{top}
@@ -19,7 +19,7 @@ use Rattle.tp_behaviour.specs.Moments.{Moment}
 abbrev pub IsSatisfied : List Entry → Guard → Type 0
 IsSatisfied k g = (e : Env Message) × Finds (Admits g.wanted) g.sender (history_of g.port k) e
 
--- it can be chosen, or discards the top: a `trigger` of which the port has a top at all
+-- the operation can be chosen, or discards the top: it is a `trigger` whose port has a top at all
 abbrev pub IsOpen : List Entry → Guard → Type 0
 IsOpen k g = IsSatisfied k g
     ⊎ ((g.kind ≡ receive_kind.Trigger) × ((e : Env Message) × (top (history_of g.port k) ≡ Some e)))
@@ -43,7 +43,7 @@ pub data IsChoice (gs : List Guard) (has_else : Bool) : Moment → Option (ℕ �
   otherwise : (k : List Entry) → has_else ≡ true → NoneOpen k gs
       → IsChoice gs has_else (record { before = k; entry = entry.Else }) None
 
--- the entry is a message that a `trigger` discarded, no branch before it being open: the `alt` is then looked at anew
+-- the entry is a message that a `trigger` discarded, and no branch before it was open; the `alt` then looks anew
 pub data IsDrop (gs : List Guard) : Moment → Type 0 where
   dropped : (k : List Entry) (i : ℕ) (g : Guard) (e : Env Message) → slice_get gs i ≡ Some g
       → g.kind ≡ receive_kind.Trigger

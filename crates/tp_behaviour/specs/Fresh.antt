@@ -1,4 +1,4 @@
--- That an operation on its ports sees what the component has sent to itself before.
+-- An operation of a component on its ports sees what the component has sent to itself before.
 use Rattle.std.specs.Prelude.{◌≡◌, List, All, length}
 use Rattle.tp_config.specs.declared.port_type.CompId.{CompId}
 use Rattle.tp_config.specs.declared.port_type.RouteId.{RouteId}
@@ -7,7 +7,7 @@ use Rattle.tp_inbox.specs.declared.entry.Entry.TheVariants as entry
 use Rattle.tp_inbox.specs.History.{sent_on, arrived_on}
 use Rattle.tp_behaviour.specs.Moments.{Moment, moments}
 
--- the entry looks at the ports' queues, or works on one
+-- the entry looks at the ports' queues, or is an operation on a port
 abbrev pub LooksAtPorts : Entry → Type 0
 LooksAtPorts (entry.Arrive p e s) = ⊥
 LooksAtPorts (entry.Took p e b) = Unit {0}
@@ -22,10 +22,11 @@ LooksAtPorts entry.Else = Unit {0}
 LooksAtPorts (entry.Verdict v) = ⊥
 LooksAtPorts (entry.Failed c) = ⊥
 
--- as much has come to the component from itself, on each route, as it has sent to itself
+-- on each route from the component to itself, as many messages have arrived as were sent
 abbrev pub HasOwn : CompId → List Entry → Type 0
 HasOwn c k = (r : RouteId) → r.source ≡ c → r.to.comp ≡ c → length (arrived_on r k) ≡ length (sent_on r k)
 
--- so it is before each entry that looks at ports: each operation begins with a drain (22.2 to 22.5)
+-- before each entry that looks at ports, all that the component has sent to itself has arrived: each operation begins
+-- with a drain (22.2 to 22.5)
 abbrev pub Fresh : CompId → List Entry → Type 0
 Fresh c k = All (λ (t : Moment). LooksAtPorts t.entry → HasOwn c t.before) (moments k)

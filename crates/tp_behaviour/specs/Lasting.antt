@@ -1,4 +1,4 @@
--- What of a body lasts while a behaviour runs.
+-- The templates of a body that last while a behaviour runs.
 use Rattle.std.specs.Prelude.{◌≡◌, ℤ, Option, Some, None, List}
 use Rattle.std.specs.List.{AllZip}
 use Rattle.tp_value.specs.declared.message.MsgTemplate.{MsgTemplate}
@@ -15,7 +15,7 @@ abbrev pub IsWantedAlways : RecvMsg → Option MsgTemplate → Type 0
 IsWantedAlways x None = Unit {0}
 IsWantedAlways x (Some made) = (turns : List ℤ) → made ≡ filled_wanted turns x
 
--- each of a block that may be missing
+-- `lasts` holds for each statement of a block that may be missing
 abbrev pub ElseLasts : {X : Type 0} → (X → Lasting → Type 0) → Option (List X) → List Lasting → Type 0
 ElseLasts lasts None kept = Unit {0}
 ElseLasts lasts (Some xs) kept = AllZip lasts xs kept
@@ -41,22 +41,22 @@ abbrev pub branch_lasts : (X Y : Type 0) → (X → ResolvedStatement) → (Y �
 branch_lasts X Y statement branch lasts enters x kept = IsWantedAlways x.receiving.wanted (out-Lasting kept).wanted
     × AllZip lasts x.block (out-Lasting kept).block
 
--- this is what lasts of the statement
+-- these are the lasting templates of the statement
 unfoldable pub IsLasting : ResolvedStatement → Lasting → Type 0
 IsLasting x kept = rec-ResolvedStatement (Lasting → Type 0) (Lasting → Type 0) statement_lasts branch_lasts x kept
 
--- of the branch
+-- these are the lasting templates of the branch
 unfoldable pub IsLastingBranch : ResolvedBranch → Lasting → Type 0
 IsLastingBranch x kept = rec-ResolvedBranch (Lasting → Type 0) (Lasting → Type 0) statement_lasts branch_lasts x kept
 
--- of the statements of a block, one for each
+-- these are the lasting templates of the statements of a block, one element for each statement
 abbrev pub AreLasting : List ResolvedStatement → List Lasting → Type 0
 AreLasting xs kept = AllZip IsLasting xs kept
 
--- of the branches of an `alt`
+-- these are the lasting templates of the branches of an `alt`, one element for each branch
 abbrev pub AreLastingBranches : List ResolvedBranch → List Lasting → Type 0
 AreLastingBranches xs kept = AllZip IsLastingBranch xs kept
 
--- of a block that may be missing
+-- these are the lasting templates of a block that may be missing
 abbrev pub IsLastingElse : Option (List ResolvedStatement) → List Lasting → Type 0
 IsLastingElse xs kept = ElseLasts IsLasting xs kept

@@ -1,4 +1,4 @@
--- What one look at the branches of an `alt` comes to, and what the `alt` does.
+-- The outcome of one look at the branches of an `alt`, and of the whole `alt`.
 use Rattle.std.specs.Prelude.{◌≡◌, ℤ, Bool, true, false, Option, Some, None, List, [], ◌∷◌, ◌++◌, All}
 use Rattle.tp_config.specs.declared.port_type.CompId.{CompId}
 use Rattle.tp_play.specs.declared.body.ResolvedStatement.{ResolvedStatement}
@@ -17,35 +17,35 @@ use Rattle.tp_behaviour.specs.Paths.{IsStep}
 use Rattle.tp_behaviour.specs.Choices.{NoneOpen, IsChoice, IsDrop}
 use Rattle.tp_behaviour.specs.Fresh.{HasOwn}
 
--- from one history to the other the trace grew by moments of which this holds
+-- from the first history to the second, the trace grew by moments for which this holds
 abbrev pub TraceGrew : (List Moment → Type 0) → List Entry → List Entry → Type 0
 TraceGrew p before after = (ts : List Moment) × (moments after ≡ moments before ++ ts) × p ts
 
--- one moment, of which this holds
+-- there is just one moment, and this holds for it
 abbrev pub One : (Moment → Type 0) → List Moment → Type 0
 One p ts = (t : Moment) × (ts ≡ t ∷ []) × p t
 
--- one moment more: that of this entry
+-- the trace grew by one moment: that of this entry
 abbrev pub AddsEntry : Journal → Entry → Journal → Type 0
 AddsEntry before e after = moments after.log ≡ moments before.log ++ moment before e ∷ []
 
--- a path of the statement, whatever loop variables and variables hold, and they stay as they are
+-- the trace grew by a path of the statement, whatever loop variables and variables hold, and they stay as they are
 abbrev pub Carries : Actor → ResolvedStatement → Journal → Journal → Type 0
 Carries r x before after = (turns : List ℤ) (vs : List (Option Held))
     → TraceGrew (λ ts. IsStep r turns vs x ts vs) before.log after.log
 
--- what a look at the branches came to
+-- the outcome of a look at the branches
 abbrev pub Saw : CompId → List Guard → LookResult → List Entry → List Entry → Type 0
 Saw c gs (look.Taken i e) before after =
     TraceGrew (One (λ t. (has_else : Bool) → IsChoice gs has_else t (Some (i, e)))) before after
 Saw c gs look.Discarded before after = TraceGrew (One (IsDrop gs)) before after
 Saw c gs look.Nothing before after = (moments after ≡ moments before) × NoneOpen after gs × HasOwn c after
 
--- any number of messages that a `trigger` discards, and then a moment of which this holds
+-- any number of messages that a `trigger` discards, followed by a moment for which this holds
 abbrev pub Ending : List Guard → (Moment → Type 0) → List Moment → Type 0
 Ending gs p ts = (drops : List Moment) × (t : Moment) × (ts ≡ drops ++ t ∷ []) × All (IsDrop gs) drops × p t
 
--- what an `alt` came to
+-- the outcome of an `alt`
 abbrev pub Chose : List Guard → Bool → Choice → List Moment → Type 0
 Chose gs has_else (choice.Branch i e) ts = Ending gs (λ t. (any : Bool) → IsChoice gs any t (Some (i, e))) ts
 Chose gs has_else choice.Else ts = (has_else ≡ true) × Ending gs (λ t. IsChoice gs true t None) ts

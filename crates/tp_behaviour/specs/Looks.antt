@@ -1,4 +1,4 @@
--- What trying the branches of an `alt` comes to.
+-- The results of trying the branches of an `alt`.
 use Rattle.std.specs.Prelude.{◌≡◌, ℕ, Bool, Some, List}
 use Rattle.tp_common.specs.declared.event.Env.{Env}
 use Rattle.tp_queue.specs.History.{top}
@@ -16,7 +16,7 @@ use Rattle.tp_behaviour.specs.declared.choice.LookResult.TheVariants as look
 use Rattle.tp_behaviour.specs.Moments.{Moment}
 use Rattle.tp_behaviour.specs.Choices.{IsOpen, NoneOpen, IsChoice, IsDrop, chosen}
 
--- what trying the branch at place i came to, and the desk after it
+-- the result of trying the branch at place i, and the desk after it
 abbrev pub Tried : Guard → ℕ → Journal → LookResult → Journal → Type 0
 Tried g i d (look.Taken j e) after = (j ≡ i) × Finds (Admits g.wanted) g.sender (at_port d g.port) e
     × (after ≡ adding d (chosen g.kind g.port e i))
@@ -30,8 +30,8 @@ Tried g i d look.Nothing after = (¬ IsOpen d.log g) × (after ≡ d)
 abbrev pub moment : Journal → Entry → Moment
 moment d t = record { before = d.log; entry = t }
 
--- what trying all branches came to, and the desk after it: the choice of a branch, a message that a `trigger`
--- discarded, or nothing, where no branch is open
+-- the result of trying all branches, and the desk after it: the choice of a branch, a message that a `trigger`
+-- discarded, or nothing if no branch is open
 abbrev pub Looked : List Guard → Journal → LookResult → Journal → Type 0
 Looked gs d (look.Taken i e) after =
     (t : Entry) × ((has_else : Bool) → IsChoice gs has_else (moment d t) (Some (i, e))) × (after ≡ adding d t)

@@ -15,12 +15,11 @@ use Rattle.tp_behaviour.specs.declared.outbox.RoutePlace.{RoutePlace}
 abbrev pub routes_of : List SenderLedger → List RouteId
 routes_of senders = flat_map (λ (s : SenderLedger). s.routes) senders
 
--- the sender, after a message was put on this route: it is another's where the route leads to another inbox
+-- the sender after a message was put on this route: it is unchanged if the route leads to another inbox
 abbrev pub put_on : RouteId → Stamped → SenderLedger → SenderLedger
 put_on route m s = cond (s.inbox.comp.0 == route.to.comp.0) (posting s route m) s
 
--- the message was put on this route, by the sender that there is into the inbox to which the route leads, with this
--- number
+-- the message was put on this route, with this number, by a sender into the inbox to which the route leads
 abbrev pub HasPut : RouteId → Stamped → ℕ → List SenderLedger → List SenderLedger → Type 0
 HasPut route m n before after =
     ((s : SenderLedger) × Contains before s × (route.to.comp ≡ s.inbox.comp) × (n ≡ length (posted_on route s.ledger)))
@@ -35,34 +34,34 @@ IsRouteFull route senders =
 abbrev pub LeadsBack : SenderLedger → Type 0
 LeadsBack s = s.inbox.comp ≡ s.source
 
--- the places, with this one more if the sender leads back
+-- the second list of places is the first, with this place added if the sender leads back
 abbrev pub IsListed : SenderLedger → ℕ → List ℕ → List ℕ → Type 0
 IsListed s place before after = after ≡ cond (s.inbox.comp.0 == s.source.0) (before ++ place ∷ []) before
 
--- if it leads back, it leads to the component of this inbox
+-- if the sender leads back, it leads to the component of this inbox
 abbrev pub IsHome : Inbox → SenderLedger → Type 0
 IsHome inbox s = LeadsBack s → s.inbox.comp ≡ inbox.comp
 
--- its routes lead to its inbox's component
+-- the sender's routes lead to its inbox's component
 abbrev pub IsAimed : SenderLedger → Type 0
 IsAimed s = All (λ (r : RouteId). r.to.comp ≡ s.inbox.comp) s.routes
 
--- as many of the arrivals came on this route as the sender has put there
+-- as many messages arrived on this route as the sender has put there
 abbrev pub IsLevelOn : List Entry → SenderLedger → RouteId → Type 0
 IsLevelOn es s r = length (arrived_on r es) ≡ length (posted_on r s.ledger)
 
--- so it is on each of the sender's routes
+-- on each of its routes, as many messages arrived as the sender has put there
 abbrev pub IsLevel : List Entry → SenderLedger → Type 0
 IsLevel es s = All (IsLevelOn es s) s.routes
 
--- the first n of these routes are found, each at its place with the sender at this place
+-- the table finds the first n of these routes, each at its place, as routes of the sender at this place
 abbrev pub AreFiledAt : {S : Type 0} → ℕ → List RouteId → ℕ → IndexMap RouteId RoutePlace S → Type 0
 AreFiledAt n routes place places =
     (w : ℕ) (r : RouteId) → w < n → slice_get routes w ≡ Some r
     → get route_eq places r ≡ Some record { sender = place; route_index = w }
 
--- each route of each sender is found at its place; the routes of a sender lead to its inbox's component, and no two
--- senders to the same; those that lead back are listed, and no others
+-- the table finds each route of each sender at its place; the routes of a sender lead to its inbox's component, and no
+-- two senders lead to the same component; the senders that lead back are listed, and no others
 pub record AreSendersFiled {S : Type 0} (senders : List SenderLedger) (places : IndexMap RouteId RoutePlace S)
     (loops : List ℕ) : Type 0 where
   pub found : (k : ℕ) (s : SenderLedger) → slice_get senders k ≡ Some s → AreFiledAt (length s.routes) s.routes k places

@@ -1,4 +1,4 @@
--- What the parts of a statement come to: what an `alt` goes on with, the block of a branch, and the turns of a `for`.
+-- The outcomes of the parts of a statement: the decision of an `alt`, the block of a branch, and the turns of a `for`.
 use Rattle.std.specs.Prelude.{◌≡◌, ◌<◌, ℕ, ℤ, Bool, true, false, Option, Some, None, List, All, slice_get}
 use Rattle.tp_common.specs.declared.event.Env.{Env}
 use Rattle.tp_value.specs.declared.message.Message.{Message}
@@ -20,38 +20,38 @@ use Rattle.tp_behaviour.specs.Paths.{guards_of}
 use Rattle.tp_behaviour.specs.LookOutcomes.{Ending, TraceGrew}
 use Rattle.tp_behaviour.specs.Workers.{role_of, values_of}
 
--- the branches of an `alt`, by what loop variables and references stand for
+-- the branches of an `alt`, with loop variables and references replaced by their values
 abbrev pub guards_at : Task → Frame → List ResolvedBranch → List Guard
 guards_at p s branches = guards_of (role_of p) (values_of s) branches
 
--- what was taken or found by the branch at this place stands in the variables that it names
+-- what the branch at this place took or found is stored in the variables that it names
 pub record IsEntered (branches : List ResolvedBranch) (place : ℕ) (env : Env Message)
     (vs ws : List (Option Held)) : Type 0 where
   pub branch : ResolvedBranch
   pub there : slice_get branches place ≡ Some branch
   pub set : ws ≡ redirected branch.receiving env vs
 
--- after messages that `trigger` branches discard, the branch at this place was chosen, and its variables set
+-- after any messages that `trigger` branches discarded, the branch at this place was chosen, and its variables were set
 pub record Enters (branches : List ResolvedBranch) (guards : List Guard) (place : ℕ) (vs ws : List (Option Held))
     (ts : List Moment) : Type 0 where
   pub env : Env Message
   pub chosen : Ending guards (λ t. (any : Bool) → IsChoice guards any t (Some (place, env))) ts
   pub entered : IsEntered branches place env vs ws
 
--- `[else]` was chosen, after such messages
+-- after any messages that `trigger` branches discarded, `[else]` was chosen
 pub record EntersElse (guards : List Guard) (has_else : Bool) (vs ws : List (Option Held))
     (ts : List Moment) : Type 0 where
   pub there : has_else ≡ true
   pub chosen : Ending guards (λ t. IsChoice guards true t None) ts
   pub kept : ws ≡ vs
 
--- an `alt` without `[else]` waits for one of these, after such messages
+-- after any messages that `trigger` branches discarded, an `alt` without `[else]` waits for one of these branches
 pub record Rests (guards : List Guard) (has_else : Bool) (waiting : List Guard) (ts : List Moment) : Type 0 where
   pub none : has_else ≡ false
   pub drops : All (IsDrop guards) ts
   pub same : waiting ≡ guards
 
--- what an `alt` came to, up to the block that it goes on with
+-- the decision of an `alt`: what happened up to the block that it goes on with
 abbrev pub Decided : Task → List ResolvedBranch → Bool → Decision → Worker → Frame → Worker → Frame → Type 0
 Decided p branches has_else (decision.Branch place) here before there after =
     TraceGrew (Enters branches (guards_at p before branches) place before.variables.items after.variables.items)
@@ -62,29 +62,29 @@ Decided p branches has_else decision.Else here before there after =
 Decided p branches has_else (decision.Waits waiting) here before there after =
     TraceGrew (Rests (guards_at p before branches) has_else waiting.items) here.desk.log there.desk.log
 
--- the block of the branch at this place was carried out, and ended so
+-- the block of the branch at this place was executed, with this outcome
 abbrev pub ExecutedAt : Task → List ResolvedBranch → ℕ → Outcome → Worker → Frame → Worker → Frame → Type 0
 ExecutedAt p branches place o here before there after =
     (x : ResolvedBranch) × (slice_get branches place ≡ Some x) × Executed p x.block o here before there after
 
--- a block was carried out where the loop variables around it hold these values, and ended so
+-- a block was executed with these values of the loop variables around it, and had this outcome
 abbrev pub ExecutedIn : Task → List ℤ → List ResolvedStatement → Outcome → Worker → Frame → Worker → Frame → Type 0
 ExecutedIn p turns block o here before there after =
     TraceGrew (λ ts. Ends (role_of p) o turns before.variables.items block ts after.variables.items) here.desk.log
     there.desk.log
 
--- so many turns of a block, the loop variable holding this value at first, and they ended so
+-- this number of turns of a block was executed, from this value of the loop variable on, and had this outcome
 abbrev pub Turned : Task → ℤ → List ResolvedStatement → ℕ → Outcome → Worker → Frame → Worker → Frame → Type 0
 Turned p first block count o here before there after =
     TraceGrew (λ ts. EndsTurns (role_of p) o before.turns.items before.variables.items first block count ts
     after.variables.items) here.desk.log there.desk.log
 
--- the branch, if that is what the `alt` goes on with, is one of its branches
+-- if the `alt` goes on with a branch, it is one of its branches
 abbrev pub IsDecisionOf : List ResolvedBranch → Decision → Type 0
 IsDecisionOf branches (decision.Branch place) = (x : ResolvedBranch) × (slice_get branches place ≡ Some x)
 IsDecisionOf branches _ = Unit {0}
 
--- what it waits for, if it waits, are operations on the first n ports
+-- if the `alt` waits, it waits for operations on the first n ports
 abbrev pub RestsWithin : ℕ → Decision → Type 0
 RestsWithin n (decision.Waits waiting) = All (λ (g : Guard). g.port < n) waiting.items
 RestsWithin n _ = Unit {0}

@@ -1,4 +1,4 @@
--- What it means that what a component did follows its behaviour (ES 201 873-1, 19 to 24; 201 873-4 in its own words:
+-- What it means that a component's actions follow its behaviour (ES 201 873-1, 19 to 24; in the words of ES 201 873-4,
 -- the states of an entity that evaluates its statements one after the other). A path is a list of moments.
 use Rattle.std.specs.Prelude.{◌≡◌, ◌≢◌, ℕ, suc, ℤ, pos, ◌+ℤ◌, Bool, true, false, Option, Some, None, List, [], ◌∷◌}
 use Rattle.std.specs.Prelude.{◌++◌, All, length, map, slice_get}
@@ -40,7 +40,7 @@ own_port r port = record { comp = r.comp; port = port }
 abbrev pub IsStarted : List Entry → ℕ → Type 0
 IsStarted k port = status_of (history_of port k) ≡ status.Started
 
--- the message goes out on this route, with the next number, under some stamp
+-- the port is started, and the message is sent on this route, with the next number there and some stamp
 abbrev pub IsSentOn : ℕ → Message → RouteId → Moment → Type 0
 IsSentOn port m route t =
     IsStarted t.before port
@@ -66,34 +66,33 @@ pub data AreOperated (o : PortOperation) : ℕ → List Moment → Type 0 where
             operated o (suc n);
       } ∷ [])
 
--- the branches of an `alt`, once loop variables and references have their values
+-- the branches of an `alt`, with loop variables and references replaced by their values
 abbrev pub guards_of : Actor → Values → List ResolvedBranch → List Guard
 guards_of r vs branches = map (λ (x : ResolvedBranch). guard_of r vs x.receiving) branches
 
 mutual
-  -- this is a path of the statement, by which the body's variables come to hold these values
+  -- this is a path of the statement, after which the body's variables hold these values
   pub data IsStep (r : Actor) : List ℤ → List (Option Held) → ResolvedStatement → List Moment → List (Option Held)
       → Type 0 where
-    -- 22.2.1: one entry, on the route that the port has, or the one to the component that is named
+    -- 22.2.1: one entry, on the only route of the port, or on the one to the component that is named
     send : (turns : List ℤ) (vs : List (Option Held)) (x : SendOperation) (m : Message) (named : Option CompId)
         (route : RouteId) (t : Moment)
         → IsSentAs (record { turns = turns; variables = vs }) x.sent m
         → IsNamed r (record { turns = turns; variables = vs }) x.to named
         → IsRoute r.config (own_port r x.port) named route → IsSentOn x.port m route t
         → IsStep r turns vs (statement.Send x) (t ∷ []) vs
-    -- `to all component`: one entry for each route of the port, of which there is one at least, in the order of the
-    -- connections
+    -- `to all component`: one entry for each route of the port, in the order of the connections; there is at least one
     send_to_all : (turns : List ℤ) (vs : List (Option Held)) (x : SendOperation) (m : Message) (ts : List Moment)
         → IsSentAs (record { turns = turns; variables = vs }) x.sent m → x.to ≡ receiver.All → ts ≢ []
         → AllZip (IsSentOn x.port m) (routes_from r.config (own_port r x.port)) ts
         → IsStep r turns vs (statement.Send x) ts vs
-    -- 22.2.2 to 22.2.4: any number of messages that a `trigger` discards, and then the one that is taken or found
+    -- 22.2.2, 22.2.3, 22.4: any number of messages that a `trigger` discards, and then the one that is taken or found
     receive : (turns : List ℤ) (vs : List (Option Held)) (x : Receiving) (drops : List Moment) (t : Moment)
         (e : Env Message)
         → All (IsDrop (guard_of r (record { turns = turns; variables = vs }) x ∷ [])) drops
         → IsChoice (guard_of r (record { turns = turns; variables = vs }) x ∷ []) false t (Some (0, e))
         → IsStep r turns vs (statement.Receive x) (drops ++ t ∷ []) (redirected x e vs)
-    -- 22.5: one entry, also where the operation has no effect
+    -- 22.5: one entry, even if the operation has no effect
     control : (turns : List ℤ) (vs : List (Option Held)) (port : ℕ) (o : PortOperation) (k : List Entry)
         → IsStep r turns vs (statement.Control port o) (record { before = k; entry = operated o port } ∷ []) vs
     -- `all port`: one entry for each port, in declared order, with no arrival between them
@@ -133,7 +132,7 @@ mutual
         (ts more : List Moment)
         → IsPath r turns vs xs ts ws → IsStep r turns ws x more us → IsPath r turns vs (xs ++ x ∷ []) (ts ++ more) us
 
-  -- this is a path of so many turns of a block, where the loop variable begins with this value
+  -- this is a path of this number of turns of a block, if the loop variable begins with this value
   pub data AreTurns (r : Actor) : List ℤ → List (Option Held) → ℤ → List ResolvedStatement → ℕ → List Moment
       → List (Option Held) → Type 0 where
     no_turn : (turns : List ℤ) (vs : List (Option Held)) (first : ℤ) (block : List ResolvedStatement)

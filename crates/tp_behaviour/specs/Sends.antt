@@ -1,4 +1,4 @@
--- What a send comes to, and what it may speak of.
+-- The outcome of a send, and what a send may mention.
 use Rattle.std.specs.Prelude.{◌≡◌, ◌<◌, ◌≤◌, ℕ, Option, Some, None, List, length, ⊤}
 use Rattle.tp_value.specs.declared.message.Message.{Message}
 use Rattle.tp_config.specs.declared.port_type.RouteId.{RouteId}
@@ -23,29 +23,30 @@ use Rattle.tp_behaviour.specs.Paths.{IsStep}
 use Rattle.tp_behaviour.specs.LookOutcomes.{TraceGrew, One}
 use Rattle.tp_behaviour.specs.Workers.{HoldsNoMessage, HoldsMessages, role_of, values_of}
 
--- what is sent speaks of so many loop variables at most, or of a variable for messages
+-- the message to send needs at most this number of loop variables, or is a variable for messages
 abbrev pub CanFill : List (Option Held) → ℕ → Sent → Type 0
 CanFill variables turns (sent.Written m) = needed m.value ≤ turns
 CanFill variables turns (sent.Variable k) = HoldsMessages variables k
 
--- the receiver is one of so many references, or a variable for components, and not all
+-- the receiver, if one is named, is one of this number of references, or a variable for components; it isn't all
+-- components
 abbrev pub CanName : List (Option Held) → ℕ → Receiver → Type 0
 CanName variables references receiver.Nobody = ⊤
 CanName variables references (receiver.Reference k) = k < references
 CanName variables references (receiver.Variable k) = HoldsNoMessage variables k
 CanName variables references receiver.All = ⊥
 
--- a send comes to this: it is carried out, or the behaviour ends by this fault
+-- the outcome of a send: it is executed, or the behaviour ends with this fault
 abbrev pub Sends : Actor → Values → SendOperation → Option SendFault → List Entry → List Entry → Type 0
 Sends r vs x None before after =
     TraceGrew (λ ts. IsStep r vs.turns vs.variables (statement.Send x) ts vs.variables) before after
 Sends r vs x (Some fault) before after =
     TraceGrew (One (λ t. IsFailure r vs x t.before fault × (t.entry ≡ entry.Failed fault))) before after
 
--- the same of a worker, by what the behaviour keeps in mind
+-- the same for a worker, with the values of its frame
 abbrev pub SendsAt : Task → Frame → SendOperation → Worker → Worker → Option SendFault → Type 0
 SendsAt p s x here there fault = Sends (role_of p) (values_of s) x fault here.desk.log there.desk.log
 
--- the entry of a message that goes out on this route now: it has the next number there, and the next stamp
+-- the entry of a message that is sent on this route now: it has the next number there, and the next stamp
 abbrev pub next_sent : RouteId → Message → List Entry → Entry
 next_sent route m k = entry.Sent route (length (sent_on route k)) (next_of k m)

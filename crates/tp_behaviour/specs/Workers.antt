@@ -1,4 +1,4 @@
--- What the parts of a worker have to do with one another, and with the behaviour that it carries out.
+-- How the parts of a worker are related to one another, and to the behaviour that it executes.
 use Rattle.std.specs.Prelude.{◌≡◌, ◌≢◌, ℕ, Option, Some, None, List, All, Contains, length, map, slice_get, ⊤}
 use Rattle.std.specs.List.{AllZip}
 use Rattle.tp_value.specs.declared.message.Message.{Message}
@@ -22,11 +22,11 @@ use Rattle.tp_behaviour.specs.Held.{Actor, Values}
 use Rattle.tp_behaviour.specs.Outboxes.{IsAimed, routes_of}
 use Rattle.tp_behaviour.specs.Paths.{own_port}
 
--- who the behaviour is
+-- the identity of a task's behaviour
 abbrev pub role_of : Task → Actor
 role_of p = record { config = p.config.now; comp = p.comp; references = map (λ c. c.0) p.behaviour.references.now }
 
--- what it keeps in mind
+-- the values of the loop variables and the variables of a frame
 abbrev pub values_of : Frame → Values
 values_of s = record { turns = s.turns.items; variables = s.variables.items }
 
@@ -36,22 +36,22 @@ pub record AreEndsOf (r : Actor) (inbox : Inbox) (out : List RouteId) : Type 0 w
   pub ports : inbox.ports ≡ length (ports_at r.config.types r.config.components r.comp)
   -- the routes into the inbox lead to the component
   pub here : All (λ (x : RouteId). x.to.comp ≡ r.comp) inbox.routes
-  -- it has a sender on each of its routes: on those into its own inbox, and on those from its ports
+  -- the component has a sender on each of its routes: on those into its own inbox, and on those from its ports
   pub loops : All (λ (x : RouteId). x.source ≡ r.comp → Contains out x) inbox.routes
   pub from_ports : (port : ℕ) (x : RouteId) → Contains (routes_from r.config (own_port r port)) x → Contains out x
 
--- what the entry sent went out on one of these routes
+-- if the entry is a sending, it is on one of these routes
 abbrev pub IsSentBy : List RouteId → Entry → Type 0
 IsSentBy out (entry.Sent x number m) = Contains out x
 IsSentBy out _ = ⊤
 
--- an entry of which neither the inbox nor a sender knows
+-- an entry that neither the inbox nor a sender knows: no arrival, and no sending
 abbrev pub IsPlain : Entry → Type 0
 IsPlain (entry.Arrive port e stamp) = ⊥
 IsPlain (entry.Sent x number m) = ⊥
 IsPlain _ = ⊤
 
--- the sender has put what the history says was sent to the component of its inbox, over all routes, in this order
+-- the sender has put what the history says was sent to its inbox's component, over all routes, in this order
 abbrev pub IsLedgerOf : List Entry → SenderLedger → Type 0
 IsLedgerOf k s = sent_to s.inbox.comp k ≡ s.ledger
 
@@ -59,7 +59,8 @@ IsLedgerOf k s = sent_to s.inbox.comp k ≡ s.ledger
 abbrev pub IsSenderOf : CompId → SenderLedger → Type 0
 IsSenderOf c s = (s.source ≡ c) × IsAimed s
 
--- the parts of a worker say the same of what has happened, and each operation on ports so far was a fresh one
+-- the parts of a worker agree on what has happened, and each operation on ports so far has seen what the component had
+-- sent to itself
 pub record IsConsistent (r : Actor) (s : Worker) : Type 0 where
   pub ends : AreEndsOf r s.owner.inbox (routes_of s.outbox)
   pub desk : IsDeskOf s.owner.inbox s.desk
@@ -74,7 +75,7 @@ pub record KeepsInboxes (before after : Worker) : Type 0 where
   pub inbox : after.owner.inbox ≡ before.owner.inbox
   pub ends : map end_of after.outbox ≡ map end_of before.outbox
 
--- what a variable of this type holds
+-- this can be the content of a variable of this type: nothing, or a message or a component as declared
 abbrev pub IsHeldAs : VariableType → Option Held → Type 0
 IsHeldAs _ None = ⊤
 IsHeldAs (variable_type.Message u) (Some (held.Value m)) = ⊤
@@ -91,6 +92,6 @@ abbrev pub HoldsNoMessage : List (Option Held) → ℕ → Type 0
 HoldsNoMessage variables k = (x : Option Held) × (slice_get variables k ≡ Some x)
     × ((m : Message) → x ≢ Some (held.Value m))
 
--- each variable holds what its type says
+-- each variable holds what its type allows
 abbrev pub AreHeld : List VariableType → List (Option Held) → Type 0
 AreHeld types variables = AllZip IsHeldAs types variables

@@ -61,7 +61,7 @@ pub(crate) fn note(task: &Task<'_>, worker: &mut Worker, entry: Entry) -> Result
     ensures ports { OnOk result (worker.new.desk.ports ≡ worker.old.desk.ports) }
     ensures trace { OnOk result (AddsEntry worker.old.desk entry worker.new.desk) }
 {
-    // Contracts alone ask where the behaviour is carried out.
+    // Only the clauses need the task: they name the configuration and the component.
     let _task = task;
     let Ok(()) = worker.desk.note(entry) else {
         return Err(Memory);

@@ -138,7 +138,7 @@ impl Outbox {
         ensures err { OnErr result (self.new ≡ self.old) }
     {
         let place = self.senders.len();
-        // Whatever needs memory comes first: after `file` nothing is refused.
+        // Allocations come first: after `file` none can be refused.
         self.senders.reserve(1)?;
         self.loops.reserve(1)?;
         file(&mut self.places, &sender, place)?;

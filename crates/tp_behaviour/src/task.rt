@@ -10,7 +10,7 @@ use tp_value::types::Types;
 pub struct Task<'t> {
     pub alloc: Global,
     pub config: &'t Config,
-    /// The types of its messages, for contracts alone, which speak of the body by them.
+    /// The types of its messages. Only contracts use them, in what they say of the body.
     pub types: &'t Types,
     pub comp: CompId,
     /// Its body, and the components that the references of the body name.

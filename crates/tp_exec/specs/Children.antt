@@ -7,12 +7,12 @@ use Rattle.tp_exec.specs.declared.threads.Child.TheVariants as child
 use Rattle.tp_exec.specs.Returns.{HasReturned, identity_of}
 use Rattle.tp_exec.specs.Rounds.{Link}
 
--- whose inbox and whose senders have come back, or will
+-- the identity of the component's worker, which its thread has returned or will return
 abbrev pub identity_at : Child → Inbox × List Link
 identity_at (child.Running h) = identity_of h.promise.worker.value
 identity_at (child.Done p) = identity_of p.worker
 
--- the component is at what it is there for, or has done it
+-- the component executes its part of this test case, or has executed it
 abbrev pub IsChild : Made → Child → Type 0
 IsChild made (child.Running h) = h.promise.test_case.value ≡ made
 IsChild made (child.Done p) = HasReturned made p

@@ -1,4 +1,4 @@
--- What a report promises of the messages of a run.
+-- What a report promises about the messages of a run.
 use Rattle.std.specs.Prelude.{◌≡◌, ◌<◌, ℕ, List, [], ◌∷◌, Option, Some, None, Contains, length, map, slice_get}
 use Rattle.std.specs.Prelude.{string_bytes, ◌+◌, ⊤}
 use Rattle.tp_queue.specs.History.{Lawful}
@@ -31,27 +31,29 @@ pub record Correspondents (components : List CompReport) (r : RouteId) : Type 0 
   pub receiver : CompReport
   pub receiver_is : slice_get components r.to.comp.0 ≡ Some receiver
 
--- on a route, what the sender's trace says was sent is what came to the receiver, in that order and each once, numbered
--- from 0 and with its stamp, and as much as the sender counted
+-- on a route, the messages that were sent according to the sender's trace are those that arrived at the receiver, in
+-- that order and each once, numbered from 0 and with their stamps, and as many as the sender counted
 pub record IsDelivered (components : List CompReport) (r : RouteId) : Type 0 where
   pub pair : Correspondents components r
   pub same : sent_on r pair.source.desk.log ≡ arrived_on r pair.receiver.desk.log
   pub numbered : map (λ s. s.0) (sent_on r pair.source.desk.log) ≡ numbers_from 0 (sent_on r pair.source.desk.log)
   pub counted : count_of r pair.receiver.counts.items ≡ length (sent_on r pair.source.desk.log)
 
--- what came to the component d from the component c, over all ports of d, is what c sent to d, over all ports of c: all
--- of it, in the order in which it was sent and each once, at the port to which it was sent. So it is where c sends at
--- one port and then at another, and where no ports of theirs are connected or mapped: then it is nothing
+-- the messages that arrived at the component d from the component c, over all ports of d, are those that c sent to d,
+-- over all ports of c: all of them, in the order in which they were sent and each once, at the ports to which they were
+-- sent. This holds even if c sends at one port and then at another; and if none of their ports are connected or mapped,
+-- there are no such messages
 abbrev pub IsDeliveredBetween : CompId → CompId → List Entry → List Entry → Type 0
 IsDeliveredBetween c d sent came = sent_to d sent ≡ arrived_from d c came
 
--- the arrival came on a route of the configuration
+-- if the entry is an arrival, it came on a route of the configuration
 abbrev pub IsOnRoute : Setup → CompId → Entry → Type 0
 IsOnRoute s c (entry.Arrive port e stamp) =
     (r : RouteId) × Contains (routes_into s c) r × (r.to.port ≡ port) × (r.source.0 ≡ e.sender)
 IsOnRoute s c _ = ⊤
 
--- what a component with no body does: nothing, and it ends at once
+-- the history follows the behaviour of a component to this end; a component without a body does nothing, and ends at
+-- once
 abbrev pub FollowsBehaviour : Setup → CompId → Option Behaviour → List Entry → End → Type 0
 FollowsBehaviour s c (Some d) k end = Follows (record { config = s; comp = c; references = d.references }) d.body k end
 FollowsBehaviour s c None k end =
@@ -65,9 +67,9 @@ pub record IsCompReport (made : Made) (c : CompId) (x : CompReport) : Type 0 whe
   pub ports : x.desk.ports ≡ length (ports_at made.config.types made.config.components c)
   -- every port's history obeys the rules of a port
   pub lawful : (port : ℕ) → port < x.desk.ports → Lawful (at_port x.desk port)
-  -- every arrival is of a route
+  -- every arrival came on a route of the configuration
   pub routed : (k : ℕ) (e : Entry) → slice_get x.desk.log k ≡ Some e → IsOnRoute made.config c e
-  -- each message that it sent has a stamp above all that had come to it or gone from it before
+  -- each message that it sent has a stamp above those of all messages that it had got or sent before
   pub clocked : IsClocked x.desk.log
   -- the trace follows the behaviour to its end
   pub follows : FollowsBehaviour made.config c (behaviour_at made c.0) x.desk.log x.ending

@@ -1,4 +1,4 @@
--- What the entries of histories are for their order.
+-- The kinds of entries, for an order of all entries.
 use Rattle.std.specs.Prelude.{◌≡◌, ◌≤◌, ℕ, List, [], length, map}
 use Rattle.std.proofs.Common.{ap, ◌∙◌, sym, subst}
 use Rattle.std.proofs.lemmas.List.{get_or_past, length-map}
@@ -10,7 +10,7 @@ use Rattle.tp_judge.specs.declared.kind.EntryKind.TheVariants as kind
 use Rattle.tp_judge.specs.Kinds.{Kinds}
 use Rattle.tp_exec.specs.OneOrder.{log_in, logs_of}
 
--- an entry of the component of this number
+-- the kind of an entry of the component of this number
 abbrev pub kind_of : ℕ → Entry → EntryKind ℕ
 kind_of c (entry.Arrive port env stamp) = kind.Came env.sender
 kind_of c (entry.Sent r number m) = kind.Sent r.to.comp.0 c
@@ -25,11 +25,11 @@ kind_of c (entry.Stopped port) = kind.Looked
 kind_of c (entry.Halted port) = kind.Looked
 kind_of c entry.Else = kind.Looked
 
--- these histories by kinds
+-- the kinds of the entries of these histories
 abbrev pub kinds_of : List (List Entry) → Kinds ℕ
 kinds_of logs c = map (kind_of c) (log_in logs c)
 
--- there is no history of a component that isn't there
+-- a component that doesn't exist has an empty history
 pub no_more : (components : List CompReport) (c : ℕ) → length components ≤ c → kinds_of (logs_of components) c ≡ []
 no_more components c past =
     let P : ℕ → Type 0 = λ n. n ≤ c in

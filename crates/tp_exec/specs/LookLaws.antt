@@ -1,5 +1,5 @@
--- What one order says of messages: a look at ports sees the very messages that were sent before, so not both of two
--- components which each send to the other and then look can miss what the other sent.
+-- What one order says about messages: a look at ports sees exactly the messages that were sent before it. So if two
+-- components each send to the other and then look, at least one of them sees the other's message.
 use Rattle.std.specs.Prelude.{◌≡◌, ℕ, ◌<◌, ◌+◌, ◌==◌, true, cond, Option, Some, None, List, slice_get, take}
 use Rattle.std.specs.List.{filter_map}
 use Rattle.tp_config.specs.declared.port_type.CompId.{CompId}
@@ -16,21 +16,21 @@ use Rattle.tp_judge.specs.OneOrder.{IsAt}
 use Rattle.tp_exec.specs.OneOrder.{HasOneOrder, IsOrderOf, came_before, entry_at_spot, log_in, logs_of, sends_to}
 use Rattle.tp_exec.specs.OneOrder.{many, count_sent_to}
 
--- what the entry sends to the component
+-- the message that the entry sends to the component
 abbrev pub sending_in : CompId → Option Entry → Option Posted
 sending_in d (Some e) = sending_to d e
 sending_in d None = None
 
--- what is sent to the component d at this spot, where the spot is one of c
+-- the message that is sent to the component d at this spot, if the spot is one of c
 abbrev pub posted_at : List (List Entry) → CompId → CompId → Spot → Option Posted
 posted_at logs c d a = cond (c.0 == a.comp) (sending_in d (entry_at_spot logs a)) None
 
--- what c sends to d at these spots, in their order
+-- the messages that c sends to d at these spots, in their order
 abbrev pub posted_by : List (List Entry) → CompId → CompId → List Spot → List Posted
 posted_by logs c d order = filter_map (posted_at logs c d) order
 
--- in an order that gives the histories of a report: what had come to d from c before d looked at ports is what c sent to
--- d before that in the order, all of it and in its turn
+-- in an order that gives the histories of a report, the messages that had arrived at d from c before d looked at ports
+-- are those that c sent to d before that in the order: all of them, in the order of sending
 abbrev pub LooksSeeSent : Type 0
 LooksSeeSent =
     (made : Made) (report : Report) (order : List Spot) (c d : CompId) (x y : CompReport) (i place : ℕ) (e : Entry)
@@ -39,8 +39,9 @@ LooksSeeSent =
     → IsAt order i (record { comp = d.0; place = place }) → slice_get y.desk.log place ≡ Some e → LooksAtPorts e
     → arrived_from d c (take place y.desk.log) ≡ posted_by (logs_of report.components.items) c d (take i order)
 
--- c sends to d at the place p of its history, and looks at ports at the place q behind it; and the look missed what d sent
--- at its place r: fewer messages of d had come to c before it than d sends to c up to r, with what stands at r
+-- c sends to d at the place p of its history, and looks at ports at the later place q; and the look missed the message
+-- that d sent at its place r: before the look, fewer messages from d had arrived at c than d sends to c up to and
+-- including the place r
 pub record Misses (logs : List (List Entry)) (c p q d r : ℕ) : Type 0 where
   pub sent : sends_to d (entry_at_spot logs (record { comp = c; place = p })) ≡ true
   pub looks_later : p < q
@@ -49,8 +50,8 @@ pub record Misses (logs : List (List Entry)) (c p q d r : ℕ) : Type 0 where
   pub looks : LooksAtPorts look
   pub fewer : many d (came_before logs (record { comp = c; place = q })) < count_sent_to c (take (r + 1) (log_in logs d))
 
--- where one order gives the histories, not both of two components which each send to the other and then look have missed
--- what the other sent there; nor has one component which sends to itself, where c and d are the same
+-- if one order gives the histories, and two components each send to the other and then look, at least one of them sees
+-- what the other sent there. If c and d are the same, this holds for one component that sends to itself
 abbrev pub CrossedLooks : Type 0
 CrossedLooks =
     (logs : List (List Entry)) (c d p q r s : ℕ) → Misses logs c p q d r → Misses logs d r s c p → ¬ HasOneOrder logs

@@ -1,4 +1,4 @@
--- How the workers of a run come about: first each with its inbox alone, then with the senders of the links from it.
+-- How the workers of a run are made: first each with its inbox alone, then with the senders of the links from it.
 use Rattle.std.specs.Prelude.{◌≡◌, ◌≢◌, ◌<◌, ◌==◌, ◌++◌, ℕ, Bool, Some, List, [], ◌∷◌, All, AllPairs, filter, length}
 use Rattle.std.specs.Prelude.{map, slice_get, slice_set}
 use Rattle.tp_config.specs.Setup.{Setup, ports_at}
@@ -13,7 +13,7 @@ use Rattle.tp_exec.specs.Rounds.{all_links, comp_at}
 abbrev pub IsBare : Worker → Type 0
 IsBare x = x.outbox ≡ []
 
--- nothing was put by the sender
+-- the sender has put nothing
 abbrev pub IsUnused : SenderLedger → Type 0
 IsUnused y = y.ledger ≡ []
 
@@ -25,8 +25,8 @@ pub record IsOpened (s : Setup) (k : ℕ) (x : Worker) : Type 0 where
   pub drained : x.owner.drained ≡ []
   pub desk : x.desk ≡ new_desk (comp_at k) (length (ports_at s.types s.components (comp_at k)))
 
--- the workers of the first n components, of which none has a sender yet, the senders of all links into their inboxes,
--- by which nothing was put, and as many closers
+-- the workers of the first n components, none of which has a sender yet; the senders of all links into their inboxes,
+-- which have put nothing; and n closers
 pub record AreOpened (s : Setup) (n : ℕ) (o : Opened) : Type 0 where
   pub count : length o.workers.items ≡ n
   pub each : (k : ℕ) (x : Worker) → slice_get o.workers.items k ≡ Some x → IsOpened s k x
@@ -43,7 +43,7 @@ is_of k y = y.source.0 == k
 abbrev pub IsFromOneOf : List Worker → SenderLedger → Type 0
 IsFromOneOf workers y = y.source.0 < length workers
 
--- two senders of one component put into the inboxes of two
+-- if the two senders are of one component, they put into the inboxes of different components
 abbrev pub AreTwo : SenderLedger → SenderLedger → Type 0
 AreTwo y z = y.source ≡ z.source → y.inbox.comp ≢ z.inbox.comp
 
@@ -51,21 +51,21 @@ AreTwo y z = y.source ≡ z.source → y.inbox.comp ≢ z.inbox.comp
 abbrev pub AreApart : List SenderLedger → Type 0
 AreApart senders = AllPairs AreTwo senders
 
--- the worker of its component has no sender into its inbox
+-- the worker of the sender's component has no sender into the same inbox
 abbrev pub IsFirstThere : List Worker → SenderLedger → Type 0
 IsFirstThere workers y =
     (x : Worker) → slice_get workers y.source.0 ≡ Some x → All (λ (z : SenderLedger). z.inbox.comp ≢ y.inbox.comp) x.outbox
 
--- the worker with one sender more
+-- the worker with one more sender
 abbrev pub giving : Worker → SenderLedger → Worker
 giving x y = record x { outbox = x.outbox ++ y ∷ [] }
 
--- the sender has come to the worker of its component, and nothing else has changed
+-- the sender was given to the worker of its component, and nothing else has changed
 abbrev pub HasGiven : SenderLedger → List Worker → List Worker → Type 0
 HasGiven y before after =
     (x : Worker) × (slice_get before y.source.0 ≡ Some x) × (after ≡ slice_set before y.source.0 (giving x y))
 
--- what a worker has beside its senders
+-- the parts of a worker other than its senders
 abbrev pub rest_of : Worker → Draining × Journal
 rest_of x = (x.owner, x.desk)
 

@@ -1,4 +1,4 @@
--- What a report has of what a run came to, and why there is none.
+-- What a report says about the end of a run, and why there is no report.
 use Rattle.std.specs.Prelude.{◌≡◌, ◌+◌, ℕ, zero, suc, Option, Some, None, List, All, map, slice_get, string_bytes}
 use Rattle.tp_config.specs.Setup.{Setup, names_of_components}
 use Rattle.tp_inbox.specs.declared.entry.Entry.{Entry}
@@ -17,17 +17,17 @@ use Rattle.tp_exec.specs.declared.fault.RunFault.TheVariants as run_fault
 use Rattle.tp_exec.specs.OneOrder.{HasOneOrder}
 use Rattle.tp_exec.specs.Settlings.{IsOfARun, IsSoundJournal}
 
--- one, where there is something to do
+-- 1 if the component has a behaviour, 0 if it has none
 abbrev pub one_with : Option Behaviour → ℕ
 one_with (Some d) = 1
 one_with None = 0
 
--- how many of the first n components have something to do
+-- how many of the first n components have a behaviour
 abbrev pub living_below : Made → ℕ → ℕ
 living_below made zero = 0
 living_below made (suc n) = living_below made n + one_with (behaviour_at made n)
 
--- what a behaviour that ended so waits for isn't there in this history
+-- if a behaviour with this outcome waits, none of its branches is open in this history
 abbrev pub IsRest : List Entry → Outcome → Type 0
 IsRest k (outcome.Waiting guards) = NoneOpen k guards.items
 IsRest k _ = Unit {0}
@@ -42,8 +42,8 @@ end_as outcome.Done = end.Done
 end_as (outcome.Error fault) = end.Error fault
 end_as (outcome.Waiting guards) = end.Waiting
 
--- this is reported of the component: its name, its ports and its history, its end, its verdict, and the numbers of its
--- routes
+-- this is reported of the component: its name, its ports and its history, its end, its verdict, and the number of
+-- messages on each route into it
 pub record IsReportedAs (s : Setup) (e : EndedComponent) (x : CompReport) : Type 0 where
   pub name : slice_get (names_of_components s) e.desk.comp.0 ≡ Some (string_bytes x.name)
   pub desk : x.desk ≡ e.desk
@@ -56,26 +56,27 @@ pub record IsReportedAs (s : Setup) (e : EndedComponent) (x : CompReport) : Type
 abbrev pub IsWithoutOrder : List EndedComponent → Type 0
 IsWithoutOrder ended = ¬ HasOneOrder (map (λ (e : EndedComponent). e.desk.log) ended)
 
--- why there is no report of what a run came to: a behaviour waits although one of its branches is open; or none does,
--- and memory was refused, or no one order gives the histories
+-- why there is no report of a run that ended in this way: a behaviour waits although one of its branches is open; or
+-- none does, and memory was refused, or no one order gives the histories
 abbrev pub IsRefusal : List EndedComponent → RunFault → Type 0
 IsRefusal ended run_fault.NoThread = ⊥
 IsRefusal ended run_fault.Memory = All IsAtRest ended
 IsRefusal ended run_fault.Restless = ¬ All IsAtRest ended
 IsRefusal ended run_fault.NoOrder = All IsAtRest ended × IsWithoutOrder ended
 
--- there is what a run of the test case may have come to, by all that is proved of one, and a behaviour waits although
--- one of its branches is open
+-- there are components that a run of the test case may have ended with, by all that is proved of a run, and one of
+-- their behaviours waits although one of its branches is open
 abbrev pub IsRestless : Made → Type 0
 IsRestless made = (ended : List EndedComponent) × IsOfARun made ended × (¬ All IsAtRest ended)
 
--- there is what a run of the test case may have come to, by all that is proved of one; no behaviour waits although
--- one of its branches is open, and no one order gives that
+-- there are components that a run of the test case may have ended with, by all that is proved of a run; none of their
+-- behaviours waits although one of its branches is open, and no one order gives their histories
 abbrev pub IsDisordered : Made → Type 0
 IsDisordered made = (ended : List EndedComponent) × IsOfARun made ended × All IsAtRest ended × IsWithoutOrder ended
 
--- this is why a run of the test case has no report: it says that a behaviour waits although one of its branches is
--- open only if one does, and that no one order gives what the components did only if none does
+-- why a run of the test case has no report: `Restless` only if a run may have ended with a behaviour that waits
+-- although one of its branches is open, and `NoOrder` only if a run may have ended with histories that no one order
+-- gives
 abbrev pub IsRunFault : Made → RunFault → Type 0
 IsRunFault made run_fault.NoThread = Unit {0}
 IsRunFault made run_fault.Memory = Unit {0}

@@ -1,4 +1,4 @@
--- Who has which senders while they come back to their inboxes, and what is known once they have.
+-- Which component has which senders while they return to their inboxes, and what is known after that.
 use Rattle.std.specs.Prelude.{◌≡◌, ◌≢◌, ◌<◌, ◌++◌, ℕ, Some, List, [], All, filter, length, map, slice_get}
 use Rattle.std.specs.Prelude.{slice_index_or}
 use Rattle.std.specs.Global.{Global}
@@ -33,7 +33,7 @@ idle_of p = record { owner = p.worker.owner; desk = p.worker.desk; outcome = p.o
 abbrev pub outbox_of : Played → List SenderLedger
 outbox_of p = p.worker.outbox
 
--- the history of the component of this number, empty where there is no such component
+-- the history of the component of this number; empty if there is no such component
 abbrev pub log_at : List Played → ℕ → List Entry
 log_at played k = option_map_or (λ (p : Played). p.worker.desk.log) (slice_get played k) []
 
@@ -41,7 +41,7 @@ log_at played k = option_map_or (λ (p : Played). p.worker.desk.log) (slice_get 
 abbrev pub links_by : Inbox → List CompId → List Link
 links_by inbox sources = map (link_by inbox) sources
 
--- the links into the inboxes of these, inbox after inbox
+-- the links into the inboxes of these components, inbox after inbox
 abbrev pub links_to : List Idle → List Link
 links_to idles = flat_map (λ (x : Idle). links_in x.owner.inbox) idles
 
@@ -49,7 +49,7 @@ links_to idles = flat_map (λ (x : Idle). links_in x.owner.inbox) idles
 abbrev pub IsFiled : {S : Type 0} → IndexMap RouteId ℕ S → SenderLedger → RouteId → Type 0
 IsFiled counts s r = get route_eq counts r ≡ Some (length (posted_on r s.ledger))
 
--- the same of each of the sender's routes
+-- the same for each of the sender's routes
 abbrev pub AreFiledOf : {S : Type 0} → IndexMap RouteId ℕ S → SenderLedger → Type 0
 AreFiledOf counts s = All (IsFiled counts s) s.routes
 
@@ -57,12 +57,12 @@ AreFiledOf counts s = All (IsFiled counts s) s.routes
 abbrev pub ShareNone : SenderLedger → SenderLedger → Type 0
 ShareNone s t = All (λ (r : RouteId). All (λ (q : RouteId). q ≢ r) t.routes) s.routes
 
--- how many messages were put on the route is counted
+-- the route's count is the number of messages that were put on it
 abbrev pub IsCounted : List (RouteId × ℕ) → SenderLedger → RouteId → Type 0
 IsCounted counts s r = count_of r counts ≡ length (posted_on r s.ledger)
 
--- each component, whose history is this, has those of the senders on these links that are from it, in their order, and
--- has noted what they have put
+-- each component has the senders on those of these links that are from it, in their order, and its history, one of
+-- `logs`, has noted what they have put
 pub record AreAtHand (logs : ℕ → List Entry) (hands : List (IntoIter SenderLedger Global)) (links : List Link) : Type 0 where
   pub each : (k : ℕ) (d : IntoIter SenderLedger Global) → k < length hands
       → map end_of (into_iter_items (slice_index_or hands k d)) ≡ filter (comes_from k) links
@@ -70,34 +70,34 @@ pub record AreAtHand (logs : ℕ → List Entry) (hands : List (IntoIter SenderL
       → All (IsLedgerOf (logs k)) (into_iter_items (slice_index_or hands k d))
   pub within : All (λ (link : Link). link.1.0 < length hands) links
 
--- the sender is that on this link, and its component has noted what it has put
+-- the sender is that on this link, and its component's history has noted what it has put
 abbrev pub IsHandedBack : (ℕ → List Entry) → Link → SenderLedger → Type 0
 IsHandedBack logs link s = (end_of s ≡ link) × IsLedgerOf (logs link.1.0) s
 
--- whoever has senders has, first of all, those on these links
+-- the components have the senders on these links, before any others
 abbrev pub CanTake : List (IntoIter SenderLedger Global) → List Link → Type 0
 CanTake hands links = (logs : ℕ → List Entry) × (more : List Link) × AreAtHand logs hands (links ++ more)
 
--- without those on these links they have all others
+-- after the senders on these links were taken, the components still have all others
 abbrev pub Leaves : List (IntoIter SenderLedger Global) → List Link → List (IntoIter SenderLedger Global) → Type 0
 Leaves hands links after =
     (logs : ℕ → List Entry) (more : List Link) → AreAtHand logs hands (links ++ more) → AreAtHand logs after more
 
--- those on these links are these
+-- the senders on these links, which the components have before any others, are these
 abbrev pub Gives : List (IntoIter SenderLedger Global) → List Link → List SenderLedger → Type 0
 Gives hands links senders =
     (logs : ℕ → List Entry) (more : List Link) → AreAtHand logs hands (links ++ more)
     → AllZip (IsHandedBack logs) links senders
 
--- its inbox and its desk are those of one component, into which the inbox's routes lead, and what it has drained is
--- what has arrived at the desk
+-- its inbox and its desk are those of one component, the inbox's routes are those into that component, and what its
+-- owner has drained is what has arrived at the desk
 pub record IsIdleComponent (s : Setup) (x : Idle) : Type 0 where
   pub desk : IsDeskOf x.owner.inbox x.desk
   pub arrived : arrivals x.desk.log ≡ x.owner.drained
   pub routes : x.owner.inbox.routes ≡ routes_into s x.desk.comp
 
--- what has ended is this component, to which more has come, that is all; its history is a sound one, each arrival is of
--- a route into its inbox, and there is a count for each
+-- the second is the component after more messages have arrived, and nothing else has changed; its history is sound,
+-- each arrival came on a route into its inbox, and there is a count for each of these routes
 pub record IsEndingOf (x : Idle) (e : EndedComponent) : Type 0 where
   pub outcome : e.outcome ≡ x.outcome
   pub comp : e.desk.comp ≡ x.desk.comp
@@ -108,28 +108,30 @@ pub record IsEndingOf (x : Idle) (e : EndedComponent) : Type 0 where
   pub routed : All (IsArrivalOn x.owner.inbox.routes) (arrivals e.desk.log)
   pub counts : map (λ n. n.0) e.counts.items ≡ x.owner.inbox.routes
 
--- on a route all has come to this component that the history of the route's sender says was sent, and it is counted
+-- all messages that were sent on the route, according to the history of its sender, have arrived at this component, and
+-- they are counted
 pub record HasCome (logs : ℕ → List Entry) (e : EndedComponent) (r : RouteId) : Type 0 where
   pub ledger : List Stamped
   pub sent : sent_on r (logs r.source.0) ≡ numbered 0 ledger
   pub arrived : arrived_on r e.desk.log ≡ numbered 0 ledger
   pub counted : count_of r e.counts.items ≡ length ledger
 
--- over all routes into this inbox has come from that component, in its order, what its history says was sent there
+-- over all routes into this inbox, the messages that arrived from that component are those that its history says were
+-- sent there, in its order
 abbrev pub HasComeFrom : (ℕ → List Entry) → Inbox → EndedComponent → CompId → Type 0
 HasComeFrom logs inbox e c = sent_to inbox.comp (logs c.0) ≡ arrived_from inbox.comp c e.desk.log
 
--- all has come to the component: on each route into this inbox, and from each component with such routes
+-- all messages to the component have arrived: on each route into this inbox, and from each component with such routes
 pub record HasAll (logs : ℕ → List Entry) (inbox : Inbox) (e : EndedComponent) : Type 0 where
   pub routes : All (HasCome logs e) inbox.routes
   pub sources : All (HasComeFrom logs inbox e) (sources_of inbox.routes)
 
--- the component has ended, and all has come to it
+-- the component has ended, and all messages to it have arrived
 pub record HasEndedWithAll (logs : ℕ → List Entry) (x : Idle) (e : EndedComponent) : Type 0 where
   pub end : IsEndingOf x e
   pub come : HasAll logs x.owner.inbox e
 
--- all has come to the component that the senders into its inbox, of those that these have, have put
+-- all messages that were put by the senders into the component's inbox, which these components have, have arrived at it
 abbrev pub AllCome : List (IntoIter SenderLedger Global) → Idle → EndedComponent → Type 0
 AllCome hands x e =
     (logs : ℕ → List Entry) (more : List Link) → AreAtHand logs hands (links_in x.owner.inbox ++ more)

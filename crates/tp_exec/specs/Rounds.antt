@@ -1,4 +1,4 @@
--- The workers of a run: who has which inbox and which senders, before and after the threads.
+-- The workers of a run: which inbox and which senders each one has, before and after the threads.
 use Rattle.std.specs.Prelude.{◌≡◌, ℕ, Bool, ◌==◌, Option, Some, None, List, [], filter, length, map, slice_get}
 use Rattle.std.specs.List.{flat_map}
 use Rattle.tp_config.specs.declared.port_type.CompId.{CompId}
@@ -45,8 +45,8 @@ links_in inbox = map (link_by inbox) (sources_of inbox.routes)
 abbrev pub all_links : List Worker → List Link
 all_links workers = flat_map (λ (x : Worker). links_in x.owner.inbox) workers
 
--- the workers of all components, in their order: each has the inbox of its component, into which the component's
--- routes lead, and the senders of all links that come from it, in the order of the inboxes
+-- the workers of all components, in their order: each has the inbox of its component, with all routes into the
+-- component, and the senders of all links that come from it, in the order of the inboxes
 pub record AreWorkers (s : Setup) (workers : List Worker) : Type 0 where
   pub everyone : length workers ≡ length s.components
   pub worker_of : (k : ℕ) (x : Worker) → slice_get workers k ≡ Some x → IsWorkerOf s k x
@@ -54,21 +54,21 @@ pub record AreWorkers (s : Setup) (workers : List Worker) : Type 0 where
   pub senders : (k : ℕ) (x : Worker) → slice_get workers k ≡ Some x
       → map end_of x.outbox ≡ filter (comes_from k) (all_links workers)
 
--- nothing has happened there
+-- nothing has happened at the worker's desk
 abbrev pub HasNotBegun : Worker → Type 0
 HasNotBegun x = x.desk.log ≡ []
 
--- the workers of these
+-- the workers of these components
 abbrev pub workers_of : List Played → List Worker
 workers_of played = map (λ (p : Played). p.worker) played
 
--- a component with this behaviour, or with none, has ended so, with this history
+-- a component with this behaviour, or with none, has ended with this outcome and this history
 abbrev pub BehaviourEnded : Setup → CompId → Option Behaviour → Outcome → List Entry → Type 0
 BehaviourEnded s c (Some d) o k = HasEnded (record { config = s; comp = c; references = d.references }) d.body o k
 BehaviourEnded s c None o k =
     HasEnded (record { config = s; comp = c; references = [] }) (record { variables = []; statements = [] }) o k
 
--- each component has done what it is there for
+-- the component of this number has executed its behaviour, if it has one
 pub record HasPlayed (made : Made) (k : ℕ) (p : Played) : Type 0 where
   pub ended : BehaviourEnded made.config (comp_at k) (behaviour_at made k) p.outcome p.worker.desk.log
   pub within : WaitsWithin p.worker.desk.ports p.outcome

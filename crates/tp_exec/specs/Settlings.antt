@@ -1,4 +1,4 @@
--- What a run comes to once all messages have come.
+-- The components of a run after all messages have arrived.
 use Rattle.std.specs.Prelude.{◌≡◌, ◌<◌, ◌++◌, ℕ, Some, List, All, Contains, length, map, slice_get}
 use Rattle.tp_common.specs.declared.event.Env.{Env}
 use Rattle.tp_queue.specs.History.{Lawful}
@@ -21,14 +21,14 @@ use Rattle.tp_exec.specs.declared.ended.EndedComponent.{EndedComponent}
 use Rattle.tp_exec.specs.Delivery.{IsDeliveredBetween, IsOnRoute}
 use Rattle.tp_exec.specs.Rounds.{BehaviourEnded, comp_at}
 
--- each port has a lawful history, the entries name no other port, and the stamps of what was sent grow
+-- each port has a lawful history, the entries name no other port, and the stamps of the sendings grow
 pub record IsSoundJournal (d : Journal) : Type 0 where
   pub lawful : (port : ℕ) → port < d.ports → Lawful (at_port d port)
   pub within : All (IsWithin d.ports) d.log
   pub clocked : IsClocked d.log
 
--- the component is the one that played, and has done what it did; its history, a sound one, has more arrivals behind
--- it, that is all
+-- the component is the one that played, with the same outcome; its history, which is sound, has more arrivals at its
+-- end, and nothing else has changed
 pub record IsSettled (p : Played) (e : EndedComponent) : Type 0 where
   pub outcome : e.outcome ≡ p.outcome
   pub comp : e.desk.comp ≡ p.worker.desk.comp
@@ -37,8 +37,8 @@ pub record IsSettled (p : Played) (e : EndedComponent) : Type 0 where
   pub grown : e.desk.log ≡ p.worker.desk.log ++ rest_arrivals rest
   pub sound : IsSoundJournal e.desk
 
--- on a route, all that was sent has come, in its order, numbered from 0 and under its stamps, and is as much as the
--- sender has put
+-- on a route, all messages that were sent have arrived, in that order, numbered from 0 and with their stamps, and they
+-- are as many as the sender has put
 pub record IsAllThere (ended : List EndedComponent) (r : RouteId) : Type 0 where
   pub source : EndedComponent
   pub source_is : slice_get ended r.source.0 ≡ Some source
@@ -49,31 +49,31 @@ pub record IsAllThere (ended : List EndedComponent) (r : RouteId) : Type 0 where
   pub numbered : sent_on r source.desk.log ≡ numbered 0 ledger
   pub counted : count_of r receiver.counts.items ≡ length ledger
 
--- all messages of the run have come
+-- all messages of the run have arrived
 pub record HasAllCome (s : Setup) (ended : List EndedComponent) : Type 0 where
   pub everyone : length ended ≡ length s.components
-  -- each arrival is of a route
+  -- each arrival came on a route of the configuration
   pub routed : (k : ℕ) (e : EndedComponent) → slice_get ended k ≡ Some e → All (IsOnRoute s (comp_at k)) e.desk.log
   pub there : (k : ℕ) (r : RouteId) → Contains (routes_into s (comp_at k)) r → IsAllThere ended r
-  -- from each component to each, over all routes in one order
+  -- delivery from each component to each, over all routes and in one order
   pub between : (c d : CompId) (x y : EndedComponent) → slice_get ended c.0 ≡ Some x → slice_get ended d.0 ≡ Some y
       → IsDeliveredBetween c d x.desk.log y.desk.log
   pub counts : (k : ℕ) (e : EndedComponent) → slice_get ended k ≡ Some e
       → map (λ n. n.0) e.counts.items ≡ routes_into s (comp_at k)
 
--- these are what those who played came to once all messages had come
+-- these are the components that played, after all messages have arrived
 pub record AreSettled (s : Setup) (played : List Played) (ended : List EndedComponent) : Type 0 where
   pub each : (k : ℕ) (e : EndedComponent) → slice_get ended k ≡ Some e
       → (p : Played) × (slice_get played k ≡ Some p) × IsSettled p e
   pub come : HasAllCome s ended
 
--- what the entry sent went out from this component, on a route of the configuration
+-- if the entry is a sending, it is from this component, on a route of the configuration
 abbrev pub IsSentOut : Setup → CompId → Entry → Type 0
 IsSentOut s c (entry.Sent r number m) = (r.source ≡ c) × Contains (routes_into s r.to.comp) r
 IsSentOut s c _ = Unit {0}
 
--- a component of a run: it is at its place, it has done what it is there for, each operation was a fresh one, and its
--- history is a sound one
+-- a component after a run: it is at its place, it has executed its behaviour, each operation has seen what the
+-- component had sent to itself, each sending is on a route of the configuration, and its history is sound
 pub record IsEndedComponentOf (made : Made) (k : ℕ) (e : EndedComponent) : Type 0 where
   pub comp : e.desk.comp ≡ comp_at k
   pub ports : e.desk.ports ≡ length (ports_at made.config.types made.config.components (comp_at k))
@@ -83,7 +83,7 @@ pub record IsEndedComponentOf (made : Made) (k : ℕ) (e : EndedComponent) : Typ
   pub sent : All (IsSentOut made.config (comp_at k)) e.desk.log
   pub sound : IsSoundJournal e.desk
 
--- what a run of the test case came to
+-- the components after a run of the test case
 pub record IsOfARun (made : Made) (ended : List EndedComponent) : Type 0 where
   pub each : (k : ℕ) (e : EndedComponent) → slice_get ended k ≡ Some e → IsEndedComponentOf made k e
   pub come : HasAllCome made.config ended

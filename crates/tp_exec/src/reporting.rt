@@ -112,7 +112,7 @@ pub(crate) fn make_report(
     ensures rest { IfOk result (λ _. All IsAtRest ended.items) }
     ensures refusal { IfErr result (IsRefusal ended.items) }
 {
-    // It says that the configuration is a lawful one.
+    // For its clause: the configuration is lawful.
     let _lawful = test_case.components();
     if !are_at_rest(ended.as_slice()) {
         return Err(RunFault::Restless);

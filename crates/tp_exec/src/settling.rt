@@ -110,7 +110,7 @@ fn settle_one<R: Wait>(
     } = idle;
     let rest = settle(rt, owner, &desk, senders)?;
     append(&mut desk, rest)?;
-    // It says that the history is a sound one.
+    // For its clause: the history is sound.
     let _log = desk.log();
     Ok(EndedComponent {
         desk,

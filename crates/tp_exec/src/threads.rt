@@ -26,8 +26,8 @@ use tp_floor::floor::Floor;
 use tp_inbox::owner::Closer;
 use tp_play::test_case::TestCase;
 
-/// The parts that all behaviours of a run share. It owns them, because nothing is known of a
-/// closure that keeps a struct of references where the closure is called.
+/// The parts that all behaviours of a run share. It owns them: if a closure kept a struct of
+/// references, the prover would know nothing of the closure where it is called.
 #[derive(Drop)]
 pub(crate) struct RunContext {
     pub(crate) alloc: Global,

@@ -1,4 +1,4 @@
--- What contracts see of a desk, and what its calls answer and do.
+-- What contracts see of a desk, and what its calls return and do.
 use Rattle.std.specs.Prelude.{◌≡◌, ℕ, ◌<◌, Option, Some, None, List, [], ◌∷◌, ◌++◌, length, slice_index_or, All}
 use Rattle.tp_common.specs.declared.event.Env.{Env}
 use Rattle.tp_common.specs.declared.event.Event.{Event}
@@ -15,30 +15,30 @@ use Rattle.tp_inbox.specs.declared.entry.Entry.{Entry}
 use Rattle.tp_inbox.specs.declared.entry.Entry.TheVariants as entry
 use Rattle.tp_inbox.specs.History.{IsClocked, clock_of, history_of, next_of}
 
--- a desk: whose it is, how many ports that component has, and its history
+-- a desk: its component, the number of that component's ports, and its history
 pub record Journal : Type 0 where
   pub comp : CompId
   pub ports : ℕ
   pub log : List Entry
 
--- a desk with so many ports, where nothing has happened
+-- the desk of this component, with this number of ports and an empty history
 abbrev pub new_desk : CompId → ℕ → Journal
 new_desk comp ports = record { comp = comp; ports = ports; log = [] }
 
--- with one more entry, and nothing else changed
+-- the desk with this entry added at the end of its history
 abbrev pub adding : Journal → Entry → Journal
 adding d e = record d { log = d.log ++ e ∷ [] }
 
--- with these entries more, and nothing else changed
+-- the desk with these entries added at the end of its history
 abbrev pub adding_all : Journal → List Entry → Journal
 adding_all d es = record d { log = d.log ++ es }
 
--- the second desk is the first with one sending more, of some message under the stamp that is next
+-- the second desk is the first with one more entry: a sending of some message under the next stamp
 abbrev pub NotesSending : Journal → Journal → Type 0
 NotesSending d after =
     (r : RouteId) × (number : ℕ) × (m : Message) × (after ≡ adding d (entry.Sent r number (next_of d.log m)))
 
--- an entry that a behaviour makes itself: it names no port
+-- the entry names no port of its component: it is a sending, an `[else]`, a verdict, or the fault of a send
 abbrev pub NamesNoPort : Entry → Type 0
 NamesNoPort (entry.Sent r number m) = Unit {0}
 NamesNoPort entry.Else = Unit {0}
@@ -46,7 +46,7 @@ NamesNoPort (entry.Verdict v) = Unit {0}
 NamesNoPort (entry.Failed fault) = Unit {0}
 NamesNoPort _ = ⊥
 
--- an entry that names a port names one of the first n
+-- if the entry names a port of its component, the port is one of the first n
 abbrev pub IsWithin : ℕ → Entry → Type 0
 IsWithin n (entry.Arrive port env stamp) = port < n
 IsWithin n (entry.Took port env branch) = port < n
@@ -65,13 +65,13 @@ IsWithin n (entry.Failed fault) = Unit {0}
 abbrev pub at_port : Journal → ℕ → List (Event Message)
 at_port d port = history_of port d.log
 
--- what `receive` answers, and the desk after it
+-- the result of `receive`, and the desk after it
 abbrev pub ReceivesAt : (Message → Type 0) → Option ℕ → ℕ → ℕ → Journal → Option (Env Message) → Journal → Type 0
 ReceivesAt admits from port branch d (Some e) after =
     Finds admits from (at_port d port) e × (after ≡ adding d (entry.Took port e branch))
 ReceivesAt admits from port branch d None after = FindsNone admits from (at_port d port) × (after ≡ d)
 
--- what `trigger` answers, and the desk after it
+-- the result of `trigger`, and the desk after it
 abbrev pub TriggersAt : (Message → Type 0) → Option ℕ → ℕ → ℕ → Journal → TriggerAnswer Message → Journal → Type 0
 TriggersAt admits from port branch d (trigger_answer.Took e) after =
     Finds admits from (at_port d port) e × (after ≡ adding d (entry.Took port e branch))
@@ -79,13 +79,13 @@ TriggersAt admits from port branch d (trigger_answer.Dropped e) after =
     (top (at_port d port) ≡ Some e) × ¬ Satisfies admits from e × (after ≡ adding d (entry.Dropped port e branch))
 TriggersAt admits from port branch d trigger_answer.Nothing after = (top (at_port d port) ≡ None) × (after ≡ d)
 
--- the desk after a `check` that answered this
+-- the desk after a `check` with this result
 abbrev pub checked_at : ℕ → ℕ → Journal → Option (Env Message) → Journal
 checked_at port branch d (Some e) = adding d (entry.Found port e branch)
 checked_at port branch d None = d
 
--- each port's queue stands for the history that the desk's log says of it; the log names no other port; the clock is
--- that of the log, in which each sending's stamp is above all stamps before it
+-- each port's queue stands for the history that the desk's log gives for it; the log names no other port; the clock is
+-- that of the log; and in the log each sending's stamp is above all stamps before it
 pub record IsKept (queues : List (QueueState Message)) (clock : ℕ) (log : List Entry) : Type 0 where
   pub stands : (port : ℕ) → port < length queues
       → StandsFor (slice_index_or queues port (state_of [])) (history_of port log)

@@ -1,4 +1,4 @@
--- What the fields of a `Gathered` have to do with the queue.
+-- How the fields of a `Gathered` are related to the queue.
 use Rattle.std.specs.Prelude.{◌≡◌, ◌-◌, List, ◌++◌, length, map, take}
 use Rattle.std.specs.List.{AllZip}
 use Rattle.std.specs.Arc.{arc_value}
@@ -13,23 +13,24 @@ use Rattle.tp_inbox.specs.Rule.{Sound}
 use Rattle.tp_inbox.specs.Routed.{arrivals_of, rest_arrivals, posted_of}
 use Rattle.tp_inbox.specs.InboxEndFields.{AreFrom, sent_by}
 
--- the arrivals that all make which was taken out
+-- the arrivals made by all envelopes that were taken out
 abbrev pub all_arrivals : Inside → List Entry
 all_arrivals s = arrivals_of (arc_value s.channel).routes.items s.pass.me.view.client.taken
 
--- the first of these, without the rest: what was drained
+-- all of these before the rest: the arrivals that were drained
 abbrev pub front_of : Inside → List Entry
 front_of s = take (length (all_arrivals s) - length (rest_arrivals s.rest.items)) (all_arrivals s)
 
--- what the owner's pass knows of a sender is what that has put, on all routes from its component
+-- what the owner's pass knows of a sender: the places of all routes from its component, and all that it has put
 abbrev pub IsPutOf : List RouteId → Ledger → CompId × List Posted → Type 0
 IsPutOf routes x s = AreFrom s.0 routes x.0 × (s.1 ≡ map (posted_of routes) x.1)
 
--- what the senders that have joined had put
+-- for each sender that has joined, its component and what it had put
 abbrev pub all_sent : Inside → List (CompId × List Posted)
 all_sent s = sent_by (arc_value s.channel).routes.items s.sources.items s.pass.me.view.client.known
 
--- its pass is of its inbox's queue; these senders have joined; what was taken out is what was drained, then the rest
+-- its pass is a pass of its inbox's queue; these senders have joined; and what was taken out is what was drained,
+-- followed by the rest
 pub record IsGathered (s : Inside) : Type 0 where
   pub pass : IsSegPassOf (arc_value s.channel).queue s.pass
   pub sound : Sound s.pass.me.view.client

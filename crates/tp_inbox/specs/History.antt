@@ -1,5 +1,6 @@
--- The history of a component, and what it says: of each port, of each route, and of what its behaviour did.
--- A history is the whole list of the component's entries, the oldest first. It only grows; a definition filters it.
+-- The history of a component, and what it says about each port, about each route, and about the actions of the
+-- behaviour. A history is the whole list of the component's entries, the oldest first. It only grows, and the
+-- definitions filter it.
 use Rattle.std.specs.Prelude.{◌≡◌, ℕ, ◌+◌, ◌<◌, max, Bool, true, false, not, ◌&&◌, ◌==◌, cond, Option, Some, None, List}
 use Rattle.std.specs.Prelude.{[], ◌∷◌, filter, slice_get, take}
 use Rattle.std.specs.List.{filter_map}
@@ -13,7 +14,7 @@ use Rattle.tp_inbox.specs.declared.posted.Posted.{Posted}
 use Rattle.tp_inbox.specs.declared.entry.Entry.{Entry}
 use Rattle.tp_inbox.specs.declared.entry.Entry.TheVariants as entry
 
--- what an entry is at this port, if it names the port: the entry without port and branch
+-- the event of an entry at this port, if it names the port: the entry without its port, branch and stamp
 abbrev pub event_at : ℕ → Entry → Option (Event Message)
 event_at port (entry.Arrive p env stamp) = cond (port == p) (Some (event.Arrive env)) None
 event_at port (entry.Took p env branch) = cond (port == p) (Some (event.Took env)) None
@@ -36,27 +37,27 @@ abbrev pub is_arrival : Entry → Bool
 is_arrival (entry.Arrive p env stamp) = true
 is_arrival _ = false
 
--- what the component's own behaviour did: the history without the arrivals
+-- the entries of the component's own behaviour: its history without the arrivals
 unfoldable pub trace : List Entry → List Entry
 trace k = filter (λ e. not (is_arrival e)) k
 
--- what came to the component: the arrivals of its history
+-- the arrivals of a component's history
 unfoldable pub arrivals : List Entry → List Entry
 arrivals k = filter is_arrival k
 
 abbrev pub same_route : RouteId → RouteId → Bool
 same_route r q = (r.source.0 == q.source.0) && (r.to.comp.0 == q.to.comp.0) && (r.to.port == q.to.port)
 
--- the number and the stamped message, where the entry is a sending on this route
+-- the number and the stamped message, if the entry is a sending on this route
 abbrev pub sending_on : RouteId → Entry → Option (ℕ × Stamped)
 sending_on r (entry.Sent q number m) = cond (same_route r q) (Some (number, m)) None
 sending_on r _ = None
 
--- what the component sent on a route, in order, with the numbers
+-- the messages that the component sent on a route, in order, with their numbers and stamps
 unfoldable pub sent_on : RouteId → List Entry → List (ℕ × Stamped)
 sent_on r k = filter_map (sending_on r) k
 
--- the number and the stamped message, where the entry is an arrival at the route's port from the route's sender
+-- the number and the stamped message, if the entry is an arrival at the route's port from the route's sender
 abbrev pub arrival_on : RouteId → Entry → Option (ℕ × Stamped)
 arrival_on r (entry.Arrive p env stamp) =
     cond
@@ -65,11 +66,11 @@ arrival_on r (entry.Arrive p env stamp) =
     None
 arrival_on r _ = None
 
--- what came to the component on a route, in order, with the numbers
+-- the messages that arrived at the component on a route, in order, with their numbers and stamps
 unfoldable pub arrived_on : RouteId → List Entry → List (ℕ × Stamped)
 arrived_on r k = filter_map (arrival_on r) k
 
--- what an arrival at this component from that one is: its route, its number there, and the stamped message
+-- an arrival at `comp` from `source`: its route, its number there, and the stamped message
 abbrev pub arrival_from : CompId → CompId → Entry → Option Posted
 arrival_from comp source (entry.Arrive p env stamp) =
     cond
@@ -82,29 +83,29 @@ arrival_from comp source (entry.Arrive p env stamp) =
     None
 arrival_from comp source _ = None
 
--- what came to this component from that one, over all routes and in order
+-- the messages that arrived at `comp` from `source`, over all routes and in order
 unfoldable pub arrived_from : CompId → CompId → List Entry → List Posted
 arrived_from comp source k = filter_map (arrival_from comp source) k
 
--- what a sending to this component is: its route, its number there, and the stamped message
+-- a sending to this component: its route, its number there, and the stamped message
 abbrev pub sending_to : CompId → Entry → Option Posted
 sending_to comp (entry.Sent q number m) =
     cond (comp.0 == q.to.comp.0) (Some record { route = q; number = number; stamped = m }) None
 sending_to comp _ = None
 
--- what the component sent to this one, over all routes and in order
+-- the messages that were sent to this component, over all routes and in order
 unfoldable pub sent_to : CompId → List Entry → List Posted
 sent_to comp k = filter_map (sending_to comp) k
 
--- the number and the stamped message, where this was put on the route
+-- the number and the stamped message, if it was put on this route
 abbrev pub posting_on : RouteId → Posted → Option (ℕ × Stamped)
 posting_on r x = cond (same_route r x.route) (Some (x.number, x.stamped)) None
 
--- what of this was put on the route, in order, with the numbers
+-- those of these messages that were put on this route, in order, with their numbers and stamps
 unfoldable pub posted_on : RouteId → List Posted → List (ℕ × Stamped)
 posted_on r xs = filter_map (posting_on r) xs
 
--- the number that stands beside a route, 0 where none does
+-- the number that is listed with a route, or 0 if the route isn't listed
 abbrev pub count_of : RouteId → List (RouteId × ℕ) → ℕ
 count_of r [] = 0
 count_of r (c ∷ cs) = cond (same_route r c.0) c.1 (count_of r cs)
@@ -114,13 +115,13 @@ abbrev pub numbered : ℕ → List Stamped → List (ℕ × Stamped)
 numbered n [] = []
 numbered n (m ∷ ms) = (n, m) ∷ numbered (n + 1) ms
 
--- the stamp of the message that the entry says was sent or came, 0 where it says neither
+-- the stamp of the message that was sent or arrived, or 0 for any other entry
 abbrev pub stamp_of : Entry → ℕ
 stamp_of (entry.Arrive p env stamp) = stamp
 stamp_of (entry.Sent r number m) = m.stamp
 stamp_of _ = 0
 
--- the greatest stamp in a history, 0 where it has none
+-- the greatest stamp in a history, or 0 if it has none
 abbrev pub clock_of : List Entry → ℕ
 clock_of [] = 0
 clock_of (e ∷ es) = max (stamp_of e) (clock_of es)
@@ -130,10 +131,11 @@ abbrev pub IsTimely : List Entry → Entry → Type 0
 IsTimely k (entry.Sent r number m) = clock_of k < m.stamp
 IsTimely k _ = Unit {0}
 
--- each entry may follow those before it: a message is sent with a greater stamp than all that were sent or came before
+-- each entry may follow those before it: a message is sent with a greater stamp than all that were sent or arrived
+-- before
 unfoldable pub IsClocked : List Entry → Type 0
 IsClocked k = (n : ℕ) (e : Entry) → slice_get k n ≡ Some e → IsTimely (take n k) e
 
--- the message under the stamp that is next in this history
+-- the message with the next stamp after this history
 abbrev pub next_of : List Entry → Message → Stamped
 next_of k m = record { stamp = clock_of k + 1; message = m }

@@ -1,4 +1,4 @@
--- What the fields of an inbox's ends have to do with its queue.
+-- How the fields of an inbox's ends are related to its queue.
 use Rattle.std.specs.Prelude.{◌≡◌, ◌≢◌, ◌<◌, ◌≤◌, ◌==◌, ◌%◌, ◌^◌, ℕ, Option, Some, None, List, [], ◌∷◌, ◌++◌, length}
 use Rattle.std.specs.Prelude.{map, slice_index_or, vec_capacity, All, AllPairs}
 use Rattle.std.specs.Arc.{arc_value}
@@ -19,28 +19,28 @@ use Rattle.tp_inbox.specs.Routed.{arrivals_of, posted_of, route_at}
 use Rattle.tp_inbox.specs.Places.{AreFiled}
 use Rattle.tp_inbox.specs.Ledgers.{Inbox}
 
--- the inbox whose ends share this
+-- the inbox whose ends share this channel
 abbrev pub inbox_of : Channel → Inbox
 inbox_of h = record { comp = h.comp; ports = h.ports; routes = h.routes.items; queue = h.queue }
 
--- what these components have put, by what the owner's pass knows of their senders
+-- what each of these components has put, from the ledger that the owner's pass knows of its sender
 abbrev pub sent_by : List RouteId → List CompId → List Ledger → List (CompId × List Posted)
 sent_by routes [] known = []
 sent_by routes (c ∷ cs) [] = []
 sent_by routes (c ∷ cs) (x ∷ known) = (c, map (posted_of routes) x.1) ∷ sent_by routes cs known
 
--- of these routes, those at these places are those from this component
+-- a place of one of these routes is among these places if and only if the route is from this component
 abbrev pub AreFrom : CompId → List RouteId → List ℕ → Type 0
 AreFrom source routes places = (p : ℕ) → p < length routes → has places p ≡ (source.0 == (route_at routes p).source.0)
 
--- so many of these envelopes are of the routes at these places
+-- there is a count for each of these places: the number of these envelopes on the route at the place
 abbrev pub AreTold : List ℕ → List ℕ → List InboxEnvelope → Type 0
 AreTold places counts es =
     (length counts ≡ length places)
     × ((k : ℕ) → k < length places → slice_index_or counts k 0 ≡ length (of (slice_index_or places k 0) es))
 
--- a sender's pass is of its inbox's queue, and knows the places of its routes, of which no two are equal, and what it
--- has put; the counts are those of its routes
+-- a sender's pass is a pass of its inbox's queue, and knows the places of its routes, no two of which are equal, and
+-- what it has put; the counts are those of its routes
 pub record IsSender (s : sender.Inside) : Type 0 where
   pub pass : IsSegPassOf (arc_value s.channel).queue s.pass
   pub view : s.pass.me.view.client ≡ sender_pass s.places.items s.pass.me.view.client.put
@@ -49,13 +49,13 @@ pub record IsSender (s : sender.Inside) : Type 0 where
   pub routed : AreRouted (length (arc_value s.channel).routes.items) s.pass.me.view.client.put
   pub counts : AreTold s.places.items s.counts.items s.pass.me.view.client.put
 
--- what the owner has taken out is counted as the notifier counts what was announced
+-- the number of envelopes that the owner has taken out, modulo 2^64, as the notifier counts what was announced
 abbrev pub IsTakenCount : ℕ → View → Type 0
 IsTakenCount n v = n ≡ length v.taken % 2 ^ 64
 
--- an owner's pass is of its inbox's queue; what it has taken out is what was drained, and then what is in hand, and is
--- counted as the notifier counts what was announced; the counts are those of what was drained, and each route's place
--- among them is found; and there is room for each sender that comes back, and for what is in hand
+-- an owner's pass is a pass of its inbox's queue. What it has taken out is what was drained, followed by the envelope
+-- in hand, and is counted as the notifier counts what was announced. The counts are those of what was drained, and the
+-- table finds each route's place among them. There is room for each sender that returns, and for the envelope in hand.
 pub record IsOwner (s : owner.Inside) : Type 0 where
   pub pass : IsSegPassOf (arc_value s.channel).queue s.pass
   pub sound : Sound s.pass.me.view.client
@@ -73,21 +73,21 @@ pub record IsOwner (s : owner.Inside) : Type 0 where
   pub rest : s.rest.items ≡ []
   pub rest_room : 1 ≤ vec_capacity s.rest
 
--- the owner's pass is of as many routes as before, and of those that have joined it knows what it knew
+-- the owner's pass has split off as many routes as before, and knows the same of the senders that have joined
 abbrev pub KeepsRoutes : View → View → Type 0
 KeepsRoutes v w = (w.split_off ≡ v.split_off) × (w.known ≡ v.known)
 
--- one envelope more was taken out; or none, and of each route that has joined all is taken out that was put there
+-- one more envelope was taken out; or none, and for each sender that has joined, all that it has put is taken out
 abbrev pub Fetches : View → Option InboxEnvelope → View → Type 0
 Fetches v (Some e) w = w.taken ≡ v.taken ++ e ∷ []
 Fetches v None w = (w.taken ≡ v.taken) × AreWhole w.taken w.known
 
--- the envelope behind all that was drained: the one that was in hand, or one more that was taken out; or none, where
--- none was in hand
+-- the envelope after all that was drained: the one that was in hand, or one more that was taken out; or none, if none
+-- was in hand and none was taken out
 abbrev pub GivesNext : View → Option InboxEnvelope → Option InboxEnvelope → View → Type 0
 GivesNext v hand (Some e) w = w.taken ≡ envelopes_before v.taken (one_of hand) ++ e ∷ []
 GivesNext v hand None w = (hand ≡ None) × (w.taken ≡ v.taken)
 
--- what was drained
+-- the arrivals that were drained
 abbrev pub drained_of : owner.Inside → List Entry
 drained_of s = arrivals_of (arc_value s.channel).routes.items (envelopes_before s.pass.me.view.client.taken (one_of s.hand))

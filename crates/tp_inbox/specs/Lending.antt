@@ -1,4 +1,4 @@
--- What a desk ends as, once a reference into it has ended.
+-- The state of a desk after a reference into it has ended.
 use Rattle.std.specs.Prelude.{◌≡◌, ℕ, Option, Result, MatchResult, ⊤}
 use Rattle.std.specs.Option.{option_copied}
 use Rattle.std.specs.Borrow.{Fml, Bor, MutBor, follows_so}
@@ -8,7 +8,7 @@ use Rattle.tp_value.specs.declared.message.Message.{Message}
 use Rattle.tp_inbox.specs.Desks.{Journal, checked_at}
 use Rattle.tp_inbox.specs.contracts.desk.Desk.{the_row}
 
--- the desk ends as the one after a `check` that answered r
+-- when the reference has ended, the desk is the one after a `check` with the result r; an error leaves it as it was
 abbrev pub ends_checked_at : ℕ → ℕ → {E : Type 0} → MutBor Journal → Result (Option (Bor (Env Message))) E → Fml
 ends_checked_at port branch d r =
     follows_so the_row the_row d.ghost_name none (λ _ _. ⊤)

@@ -10,14 +10,14 @@ use Rattle.tp_inbox.specs.declared.note_fault.NoteFault.TheVariants as note_faul
 use Rattle.tp_inbox.specs.declared.type_kind.TypeKind.{TypeKind}
 use Rattle.tp_inbox.specs.declared.type_kind.TypeKind.TheVariants as kind
 
--- the type of this kind, and of this number where it is a named one
+-- the type of this kind; a named type has this number
 abbrev pub type_of : TypeKind → ℕ → Ty
 type_of kind.Integer named = ty.Integer
 type_of kind.Boolean named = ty.Boolean
 type_of kind.Charstring named = ty.Charstring
 type_of kind.Named named = ty.Named named
 
--- an entry has room for this type: a named one has a number of 16 bits
+-- an entry has room for this type: the number of a named type has at most 16 bits
 abbrev pub IsShortType : Ty → Type 0
 IsShortType (ty.Named number) = number < 2 ^ 16
 IsShortType _ = Unit {0}
@@ -30,7 +30,7 @@ IsShortEnvelope env = (env.sender < 2 ^ 8) × (env.number < 2 ^ 32) × IsShortTy
 abbrev pub IsShortRoute : RouteId → Type 0
 IsShortRoute route = (route.source.0 < 2 ^ 8) × (route.to.comp.0 < 2 ^ 8) × (route.to.port < 2 ^ 8)
 
--- why an envelope isn't noted: it has no room in an entry, or else its value isn't copied
+-- why an envelope isn't noted: an entry has no room for it; or there is room, and memory ran out
 abbrev pub NoteCause : Env Message → NoteFault → Type 0
 NoteCause env note_fault.NoRoom = ¬ IsShortEnvelope env
 NoteCause env note_fault.Memory = IsShortEnvelope env

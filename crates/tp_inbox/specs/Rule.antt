@@ -21,23 +21,23 @@ owner_pass split_off taken known =
 abbrev pub spent : View
 spent = record { sends = false; places = []; put = []; owns = false; split_off = 0; taken = []; known = [] }
 
--- what a sender's pass has to do with the whole: it alone has its routes, and of all envelopes so far those of its
--- routes are what it has put, in its order
+-- a sender's pass fits the whole: no other pass has its routes, and of all envelopes so far, those on its routes are
+-- what it has put, in its order
 abbrev pub FitsSender : ℕ → (ℕ → Option ℕ) → List InboxEnvelope → ℕ → View → Type 0
 FitsSender split_off holder all pass v =
     v.sends ≡ true
     → ((p : ℕ) → has v.places p ≡ true → (p < split_off) × (holder p ≡ some pass)) × (on_routes v.places all ≡ v.put)
 
--- the owner's, of which there is one: it knows what was taken out, how many routes there are, and what those put that
--- have joined, whose routes nobody has any more
+-- the owner's pass fits the whole: there is no other owner's pass; it knows what was taken out, how many routes there
+-- are, and what the senders that have joined had put, whose routes no pass has any more
 abbrev pub FitsOwner : ℕ → ℕ → (ℕ → Option ℕ) → List InboxEnvelope → List InboxEnvelope → ℕ → View → Type 0
 FitsOwner owner split_off holder taken all pass v =
     v.owns ≡ true
     → (pass ≡ owner) × (v.split_off ≡ split_off) × (v.taken ≡ taken)
     × All (λ (x : Ledger). (p : ℕ) → has x.0 p ≡ true → (p < split_off) × (holder p ≡ none)) v.known × AreWhole all v.known
 
--- for each sender the envelopes of its routes, of what was taken out and then of what is held, are what it has put, in
--- its order over all its routes; on each route they are numbered from 0, and there is no other route
+-- for each sender, the envelopes on its routes, first those taken out and then those in the queue, are what it has put,
+-- in its order over all its routes; on each route they are numbered from 0; and no envelope is on another route
 pub record Delivers (items : List InboxEnvelope) (views : List View) : Type 0 where
   pub owner : ℕ
   pub split_off : ℕ
@@ -49,7 +49,7 @@ pub record Delivers (items : List InboxEnvelope) (views : List View) : Type 0 wh
   pub owners : (pass : ℕ) (v : View) → get_elem? views pass ≡ some v
       → FitsOwner owner split_off holder taken (taken ++ items) pass v
 
--- an envelope that was taken out is the next of its route, and of a route that there is
+-- an envelope is taken out: it is on a route that exists, and is the next one there
 abbrev pub Takes : View → InboxEnvelope → View → Type 0
 Takes v e w =
     (w ≡ owner_pass v.split_off (v.taken ++ e ∷ []) v.known)
@@ -58,7 +58,8 @@ Takes v e w =
 abbrev pub PutsEnvelope : View → InboxEnvelope → View → Type 0
 PutsEnvelope v e w = w ≡ sender_pass v.places (v.put ++ e ∷ [])
 
--- of each sender that has joined, what was taken out and what the queue holds is what it has put
+-- for each sender that has joined, the envelopes on its routes, first those taken out and then those in the queue, are
+-- what it has put
 abbrev pub Knows : View → List InboxEnvelope → Type 0
 Knows v items = AreWhole (v.taken ++ items) v.known
 

@@ -105,7 +105,7 @@ pub fn gather<R: Wait>(rt: &R, owner: Owner, senders: Vec<Sender>) -> Gathered
         channel.queue.absorb::<Route>(&mut pass, other);
         sources.push_reserved(source);
     }
-    // For what it teaches: all that was put was taken out, or is in the queue.
+    // For its clause: all that was put was taken out, or is in the queue.
     channel.queue.len_as::<TakeOut, R>(rt, &mut pass);
     let rest = with_hand(&channel, rest, hand);
     Gathered {
@@ -139,7 +139,7 @@ impl Gathered {
         ensures begun { IfErr result (λ back.
             AreBegun self.inbox.comp (back.1.drained ++ back.1.kept) back.1.sent) }
     {
-        // Contracts alone speak of the desk.
+        // Only the clauses mention the desk.
         let _ = desk;
         let Gathered {
             channel,

@@ -17,18 +17,18 @@ sent_on trace route = lines_with by.Sent route trace.lines.items
 abbrev pub came_on : IndexedTrace → ℕ → List IndexedLine
 came_on trace route = lines_with by.Came route trace.lines.items
 
--- the one line happens before the other
+-- the first line happens before the second
 pub data LineHappensBefore (trace : IndexedTrace) : ℕ → ℕ → Type 0 where
-  -- it stands before it in its section
+  -- both are in one section, the first before the second
   earlier : (component j k : ℕ) (a b : IndexedLine) → component < trace.components → j < k
       → slice_get (section_of trace component) j ≡ Some a → slice_get (section_of trace component) k ≡ Some b
       → LineHappensBefore trace a.number b.number
-  -- or it is a sending, of which the other is the arrival: on its route, with its number
+  -- or the first is a sending, and the second is its arrival: on its route, with its number
   sent : (route j k : ℕ) (a b : IndexedLine) (p q : Parcel) → IsJoined trace route
       → slice_get (sent_on trace route) j ≡ Some a → slice_get (came_on trace route) k ≡ Some b
       → ParcelAt (sent_on trace route) j p → ParcelAt (came_on trace route) k q → p.number ≡ q.number
       → LineHappensBefore trace a.number b.number
-  -- or there is one between them
+  -- or there is a line between them
   between : (x y z : ℕ) → LineHappensBefore trace x y → LineHappensBefore trace y z → LineHappensBefore trace x z
 
 -- **no circle**: no line happens before itself

@@ -9,7 +9,7 @@ use Rattle.tp_judge.specs.declared.place.UnlawfulPlace.{UnlawfulPlace}
 use Rattle.tp_judge.specs.declared.trace.IndexedTrace.{IndexedTrace}
 use Rattle.tp_judge.specs.Lines.{lines_with, parcel_of}
 
--- the line names a parcel that was sent, or came
+-- the line names a parcel that was sent or arrived
 abbrev pub NamesParcel : IndexedLine → Type 0
 NamesParcel line = IsSome (parcel_of line.act)
 
@@ -25,7 +25,7 @@ ParcelAt lines k p = slice_get (parcels lines) k ≡ Some p
 abbrev pub AreParcelsNumbered : List Parcel → Type 0
 AreParcelsNumbered ps = (k : ℕ) (p : Parcel) → slice_get ps k ≡ Some p → p.number ≡ k
 
--- **a route**: what was sent is what came, in that order and each once, numbered from 0
+-- **a route**: the parcels that were sent are those that arrived, in that order and each once, numbered from 0
 pub record CameAsSent (sent came : List IndexedLine) : Type 0 where
   pub same : parcels sent ≡ parcels came
   pub numbered : AreParcelsNumbered (parcels sent)
@@ -36,18 +36,18 @@ pub record IsPlaceOfLine (lines : List IndexedLine) (k : ℕ) (place : UnlawfulP
   pub stands : slice_get lines k ≡ Some line
   pub told : place.line ≡ line.number
 
--- the first sending that has not the next number
+-- the first sending that doesn't have the next number
 pub record IsMisnumbered (sent : List IndexedLine) (k : ℕ) : Type 0 where
   pub before : (j : ℕ) (p : Parcel) → j < k → ParcelAt sent j p → p.number ≡ j
   pub parcel : Parcel
   pub at : ParcelAt sent k parcel
   pub wrong : parcel.number ≢ k
 
--- what came at the places below this one was sent there
+-- at each place below this one, the arrival is that of the parcel that was sent there
 abbrev pub AgreesBelow : List IndexedLine → List IndexedLine → ℕ → Type 0
 AgreesBelow sent came n = (k : ℕ) → k < n → slice_get (parcels sent) k ≡ slice_get (parcels came) k
 
--- the first place at which what came isn't what was sent there
+-- the first place at which the arrival differs from the sending
 pub record DiffersAt (sent came : List IndexedLine) (k : ℕ) : Type 0 where
   pub before : AgreesBelow sent came k
   pub here : slice_get (parcels sent) k ≢ slice_get (parcels came) k
@@ -56,15 +56,15 @@ pub record DiffersAt (sent came : List IndexedLine) (k : ℕ) : Type 0 where
 abbrev pub NeverSent : List IndexedLine → Parcel → Type 0
 NeverSent sent p = (j : ℕ) (q : Parcel) → ParcelAt sent j q → q.number ≢ p.number
 
--- no arrival has it
+-- no arrival has the parcel's number
 abbrev pub NeverCame : List IndexedLine → Parcel → Type 0
 NeverCame came p = (j : ℕ) (q : Parcel) → ParcelAt came j q → q.number ≢ p.number
 
--- nothing came at this place: there are no more arrivals
+-- nothing arrived at this place: there are no more arrivals
 abbrev pub NothingCame : List IndexedLine → ℕ → Type 0
 NothingCame came k = (p : Parcel) → ParcelAt came k p → ⊥
 
--- what came at the place was sent at a later one
+-- the parcel that arrived at the place was sent at a later one
 abbrev pub IsOvertaken : List IndexedLine → List IndexedLine → ℕ → Type 0
 IsOvertaken sent came k = (m : ℕ) × (p : Parcel) × (k < m) × ParcelAt sent m p × ParcelAt came k p
 
@@ -74,34 +74,35 @@ pub record IsFirstArrival (came : List IndexedLine) (number k : ℕ) (p : Parcel
   pub is : p.number ≡ number
   pub none_before : (j : ℕ) (q : Parcel) → j < k → ParcelAt came j q → q.number ≢ number
 
--- what is wrong at this place of the route, the first at which what came isn't what was sent there. It is what is wrong
--- with what came there. Where nothing came, or what was sent later, it is what became of the one that was sent there
+-- what is wrong at this place of the route, the first at which the arrival differs from the sending. It is what is
+-- wrong with the parcel that arrived there. If nothing arrived there, or a parcel that was sent later, it is what
+-- happened to the parcel that was sent there
 pub data IsWrongAt (sent came : List IndexedLine) (k : ℕ) (place : UnlawfulPlace) : Type 0 where
-  -- what was sent there never came; in its place nothing did, or what was sent later
+  -- the parcel that was sent there never arrived; in its place nothing did, or a parcel that was sent later
   lost : (p : Parcel) → place.rule ≡ rule.Lost → IsPlaceOfLine sent k place → ParcelAt sent k p → NeverCame came p
       → NothingCame came k ⊎ IsOvertaken sent came k → IsWrongAt sent came k place
-  -- what came there has a number that had come before
+  -- the parcel that arrived there has a number that had arrived before
   doubled : (j : ℕ) (p q : Parcel) → place.rule ≡ rule.Doubled → IsPlaceOfLine came k place → ParcelAt came k p
       → j < k → ParcelAt came j q → q.number ≡ p.number → IsWrongAt sent came k place
-  -- what came there was never sent
+  -- the parcel that arrived there was never sent
   invented : (p : Parcel) → place.rule ≡ rule.Invented → IsPlaceOfLine came k place → ParcelAt came k p → NeverSent sent p
       → IsWrongAt sent came k place
-  -- what came there is the first with its number, and was sent under that with another message
+  -- the parcel that arrived there is the first with its number, and under this number another message was sent
   changed : (j : ℕ) (p q : Parcel) → place.rule ≡ rule.Changed → IsPlaceOfLine came k place → ParcelAt sent j q
       → IsFirstArrival came q.number k p → q.message ≢ p.message → IsWrongAt sent came k place
-  -- what was sent there came further down with another message, and in its place what was sent later
+  -- the parcel that was sent there arrived further down, with another message, and in its place one that was sent later
   changed_later : (m : ℕ) (p q : Parcel) → place.rule ≡ rule.Changed → IsPlaceOfLine came m place → IsOvertaken sent came k
       → ParcelAt sent k q → k < m → IsFirstArrival came q.number m p → q.message ≢ p.message → IsWrongAt sent came k place
-  -- what was sent there came further down, and in its place what was sent later
+  -- the parcel that was sent there arrived further down, and in its place one that was sent later
   reordered : (m : ℕ) (p : Parcel) → place.rule ≡ rule.Reordered → IsPlaceOfLine came m place → IsOvertaken sent came k
       → ParcelAt sent k p → k < m → IsFirstArrival came p.number m p → IsWrongAt sent came k place
 
--- the first place where the route isn't lawful. Each of these lines names one parcel
+-- the first place at which the route isn't lawful. Each of these lines names one parcel
 pub data IsUnlawfulRoute (sent came : List IndexedLine) (place : UnlawfulPlace) : Type 0 where
-  -- a sending has not the next number
+  -- a sending doesn't have the next number
   numbering : (k : ℕ) → place.rule ≡ rule.Numbering → IsPlaceOfLine sent k place → IsMisnumbered sent k
       → IsUnlawfulRoute sent came place
-  -- or each has, and what came differs from what was sent
+  -- or each has it, and the arrivals differ from the sendings
   different : (k : ℕ) → AreParcelsNumbered (parcels sent) → DiffersAt sent came k → IsWrongAt sent came k place
       → IsUnlawfulRoute sent came place
 
@@ -114,7 +115,7 @@ abbrev pub IsDeliveredAt : IndexedTrace → ℕ → Type 0
 IsDeliveredAt trace route = IsJoined trace route
     → CameAsSent (lines_with by.Sent route trace.lines.items) (lines_with by.Came route trace.lines.items)
 
--- where it isn't
+-- the place at which the route isn't lawful
 pub record IsUnlawfulOn (trace : IndexedTrace) (route : ℕ) (place : UnlawfulPlace) : Type 0 where
   pub joined : IsJoined trace route
   pub broken : IsUnlawfulRoute (lines_with by.Sent route trace.lines.items)
@@ -124,6 +125,6 @@ pub record IsUnlawfulOn (trace : IndexedTrace) (route : ℕ) (place : UnlawfulPl
 abbrev pub Delivered : IndexedTrace → Type 0
 Delivered trace = (route : ℕ) → route < length trace.joined.items → IsDeliveredAt trace route
 
--- the first place at which some route isn't
+-- the first place at which some route isn't lawful
 abbrev pub IsRoutePlace : IndexedTrace → UnlawfulPlace → Type 0
 IsRoutePlace trace place = (route : ℕ) × (route < length trace.joined.items) × IsUnlawfulOn trace route place

@@ -1,4 +1,4 @@
--- What an order of the lines has to meet.
+-- The demands that an order of the lines must meet.
 use Rattle.std.specs.Prelude.{ℕ, zero, suc, Bool, true, false, Option, Some, None, List, [], ◌∷◌, ◌++◌, drop, length}
 use Rattle.std.specs.Prelude.{slice_get}
 use Rattle.tp_judge.specs.declared.demand.Demand.{Demand}
@@ -6,13 +6,13 @@ use Rattle.tp_judge.specs.declared.line.IndexedLine.{IndexedLine}
 use Rattle.tp_judge.specs.declared.trace.IndexedTrace.{IndexedTrace}
 use Rattle.tp_judge.specs.Before.{section_of, sent_on, came_on}
 
--- each of the first lines comes before the one at its place among the others
+-- the demands that each of the first lines comes before the one at the same place among the others
 abbrev pub pairs : List IndexedLine → List IndexedLine → List Demand
 pairs [] bs = []
 pairs (a ∷ as') [] = []
 pairs (a ∷ as') (b ∷ bs) = record { before = a.number; after = b.number } ∷ pairs as' bs
 
--- what the numbers below n give, one after another
+-- the demands of the numbers below n, one list after another
 abbrev pub from_each : (ℕ → List Demand) → ℕ → List Demand
 from_each f zero = []
 from_each f (suc n) = from_each f n ++ f n
@@ -26,7 +26,7 @@ where_joined (Some true) demands = demands
 where_joined (Some false) demands = []
 where_joined None demands = []
 
--- each sending comes before its arrival
+-- each sending on the route comes before its arrival, if both ends of the route have a section
 abbrev pub route_demands : IndexedTrace → ℕ → List Demand
 route_demands trace route =
     where_joined (slice_get trace.joined.items route) (pairs (sent_on trace route) (came_on trace route))

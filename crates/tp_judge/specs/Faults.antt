@@ -1,4 +1,4 @@
--- How the lines of a text are taken, and when each fault comes.
+-- How the lines of a text are taken, and when each fault is returned.
 use Rattle.std.specs.Prelude.{◌≡◌, ℕ, ◌<◌, ◌≤◌, Bool, true, false, List, [], ◌∷◌, ◌++◌, length}
 use Rattle.tp_common.specs.Cutting.{lines_of}
 use Rattle.tp_judge.specs.declared.referee.form.TracePosition.{TracePosition}
@@ -7,12 +7,12 @@ use Rattle.tp_judge.specs.declared.referee.reading.TraceFault.TheVariants as tra
 use Rattle.tp_judge.specs.LineTexts.{Told, Spells}
 use Rattle.tp_judge.specs.Tree.{IsFirstBad, IsNewName, MayStandAt, names_of, place_after}
 
--- the name of a section that begins there, where one does, is new and noted; or it isn't new
+-- if the line begins a section, the name of the section is new and was noted; or it isn't new
 abbrev pub Notes : List (List ℕ) → List (List ℕ) → Told → Bool → Type 0
 Notes old new told true = IsNewName old told × (new ≡ old ++ names_of (told ∷ []))
 Notes old new told false = ¬ IsNewName old told
 
--- the line tells something that may stand in this place, behind lines that have begun the sections of the old names
+-- the line says something that is allowed at this place, after lines that began the sections of the old names
 pub record TakesPlace (line : List ℕ) (place : TracePosition) (old new : List (List ℕ)) (after : TracePosition) : Type 0 where
   pub told : Told
   pub spelled : Spells line told
@@ -20,7 +20,8 @@ pub record TakesPlace (line : List ℕ) (place : TracePosition) (old new : List 
   pub noted : new ≡ old ++ names_of (told ∷ [])
   pub behind : after ≡ place_after told
 
--- within the limit the first bad line; out of memory says nothing of the text
+-- a text within the limit has this first bad line; or the text is beyond the limit; running out of memory says nothing
+-- about the text
 abbrev pub IsFaultOf : List ℕ → TraceFault → Type 0
 IsFaultOf text (trace_fault.BadLine n) = (length text ≤ 268435456) × IsFirstBad (lines_of text) n
 IsFaultOf text trace_fault.Limit = 268435456 < length text

@@ -8,7 +8,7 @@ use Rattle.tp_judge.specs.Circles.{IsCirclePlace}
 use Rattle.tp_judge.specs.Delivered.{Delivered, IsRoutePlace}
 use Rattle.tp_judge.specs.Lawful.{IsPortPlace, LawfulPorts}
 
--- what was sent came, and no line happens before itself
+-- all routes are lawful, and no line happens before itself
 pub record IsOrderly (trace : IndexedTrace) : Type 0 where
   pub delivered : Delivered trace
   pub no_circle : NoCircle trace
@@ -18,11 +18,11 @@ pub record IsLawful (trace : IndexedTrace) : Type 0 where
   pub ports : LawfulPorts trace
   pub orderly : IsOrderly trace
 
--- a place where one of the latter two is broken
+-- a place where the rule on delivery or the one on circles is broken
 abbrev pub IsOrderPlace : IndexedTrace → UnlawfulPlace → Type 0
 IsOrderPlace trace place = IsRoutePlace trace place ⊎ IsCirclePlace trace place
 
--- by their lines, in the order of the text
+-- the places are in the order of their lines
 abbrev pub AreInOrder : List UnlawfulPlace → Type 0
 AreInOrder places = IsNonDecreasingBy (λ place. place.line) places
 

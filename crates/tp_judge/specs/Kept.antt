@@ -1,11 +1,11 @@
 -- Lists that only grow at their end.
 use Rattle.std.specs.Prelude.{◌≡◌, ◌⊎◌, ℕ, Some, List, Contains, slice_get}
 
--- what stands at a place stands there still
+-- each element of the first list is at the same place in the second
 abbrev pub Keeps : {X : Type 0} → List X → List X → Type 0
 Keeps {X} old new = (k : ℕ) (x : X) → slice_get old k ≡ Some x → slice_get new k ≡ Some x
 
--- what stands there now stood there before, or is this
+-- each element of the second list was at the same place in the first, or is this one
 abbrev pub AddsOnly : {X : Type 0} → List X → X → List X → Type 0
 AddsOnly {X} old x new = (k : ℕ) (y : X) → slice_get new k ≡ Some y → (slice_get old k ≡ Some y) ⊎ (x ≡ y)
 

@@ -23,12 +23,12 @@ is_own {M} kind.Looked = true
 is_own {M} kind.Quiet = true
 is_own {M} kind.Nothing = false
 
--- what came by the entry
+-- the message of an arrival
 abbrev pub came_of : {M : Type 0} → EntryKind M → Option M
 came_of {M} (kind.Came m) = Some m
 came_of {M} _ = None
 
--- what came by these entries
+-- the messages of the arrivals among these entries
 abbrev pub came_in : {M : Type 0} → List (EntryKind M) → List M
 came_in {M} k = filter_map came_of k
 
@@ -37,30 +37,30 @@ abbrev pub sends : {M : Type 0} → ℕ → EntryKind M → Bool
 sends {M} d (kind.Sent to m) = d == to
 sends {M} d _ = false
 
--- what it sends to it
+-- the message that the entry sends to the component of this number
 abbrev pub sent_of : {M : Type 0} → ℕ → EntryKind M → Option M
 sent_of {M} d (kind.Sent to m) = cond (d == to) (Some m) None
 sent_of {M} d _ = None
 
--- what stands at the spot
+-- the kind of the entry at the spot
 abbrev pub kind_at : {M : Type 0} → Kinds M → Spot → Option (EntryKind M)
 kind_at {M} kinds a = slice_get (kinds a.comp) a.place
 
--- at the spot stands what its component did itself
+-- the entry at the spot is something that its component did itself
 pub record IsOwn {M : Type 0} (kinds : Kinds M) (a : Spot) : Type 0 where
   pub act : EntryKind M
   pub stands : kind_at kinds a ≡ Some act
   pub own : is_own act ≡ true
 
--- what is sent at the spot to the component
+-- the message that is sent at the spot to the component
 abbrev pub sent_from : {M : Type 0} → Kinds M → ℕ → Spot → Option M
 sent_from {M} kinds d a = option_and_then (sent_of d) (kind_at kinds a)
 
--- what is sent to it at these spots, in their order
+-- the messages that are sent to the component at these spots, in their order
 abbrev pub sent_by : {M : Type 0} → Kinds M → ℕ → List Spot → List M
 sent_by {M} kinds d order = filter_map (sent_from kinds d) order
 
--- what had come to the component before the spot
+-- the messages that had arrived at the component before the spot
 abbrev pub came_before : {M : Type 0} → Kinds M → Spot → List M
 came_before {M} kinds a = came_in (take a.place (kinds a.comp))
 
@@ -80,7 +80,7 @@ histories_of {M} kinds = record {
   came = λ c. came_in (kinds c);
 }
 
--- messages that are compared alike are sent by one component
+-- messages that compare as equal are sent by one component
 abbrev pub AreOwnedBy : {M : Type 0} → Kinds M → (M → ℕ) → Type 0
 AreOwnedBy {M} kinds owner =
     (c p d : ℕ) (m : M) → slice_get (kinds c) p ≡ Some (kind.Sent d m) → owner m ≡ c

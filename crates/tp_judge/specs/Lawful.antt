@@ -15,20 +15,20 @@ use Rattle.tp_judge.specs.declared.trace.IndexedTrace.{IndexedTrace}
 use Rattle.tp_judge.specs.Lines.{HasKeyBelow, left_of, lines_with}
 use Rattle.tp_judge.specs.Rules.{history_of, left_in, IsBroken}
 
--- where the section is closed, what is told as left is what is queued
+-- if the section is closed, the messages reported as left are those that are queued
 abbrev pub IsToldLeft : List (Event MessageId) → List IndexedLine → List IndexedLine → Type 0
 IsToldLeft h left closing = OnSome (slice_get closing 0) (left_in left ≡ queued h)
 
--- **a port**: what happened there is a lawful history, and what is told as left is what that says
+-- **a port**: its events are a lawful history, and the messages reported as left are those that this history leaves
 pub record IsLawfulPort (events left closing : List IndexedLine) : Type 0 where
   pub lawful : Lawful (history_of events)
   pub told_left : IsToldLeft (history_of events) left closing
 
--- what these lines tell as left is what is queued first
+-- the messages that these lines report as left are the first of those that are queued
 abbrev pub IsToldFirst : List (Event MessageId) → List IndexedLine → Type 0
 IsToldFirst h left = (rest : List (Env MessageId)) × (left_in left ++ rest ≡ queued h)
 
--- the first line that tells as left what isn't queued at its place
+-- the first line that reports as left a message that isn't queued at its place
 pub record IsLeftWrong (h : List (Event MessageId)) (left closing : List IndexedLine) (place : UnlawfulPlace) : Type 0 where
   pub closer : IndexedLine
   pub closed : slice_get closing 0 ≡ Some closer
@@ -45,7 +45,7 @@ pub record IsLeftWrong (h : List (Event MessageId)) (left closing : List Indexed
 abbrev pub IsNoEndBefore : List IndexedLine → ℕ → Type 0
 IsNoEndBefore closing end = (k : ℕ) (line : IndexedLine) → k < end → slice_get closing k ≡ Some line → line.act ≢ act.End
 
--- the first line that says that the component ended, or the last line where none does
+-- the first line that says that the component ended, or the last line if none does
 pub record IsCloser (closing : List IndexedLine) (line : IndexedLine) : Type 0 where
   pub place : ℕ
   pub at : slice_get closing place ≡ Some line
@@ -55,24 +55,25 @@ pub record IsCloser (closing : List IndexedLine) (line : IndexedLine) : Type 0 w
 abbrev pub IsCloserNumber : List IndexedLine → ℕ → Type 0
 IsCloserNumber closing number = (line : IndexedLine) × IsCloser closing line × (number ≡ line.number)
 
--- none where the section is open
+-- the number of the line that closes the section; none if the section is open
 abbrev pub IsCloserOf : List IndexedLine → Option ℕ → Type 0
 IsCloserOf closing None = closing ≡ []
 IsCloserOf closing (Some number) = IsCloserNumber closing number
 
--- what is told as left is queued, but not all that is: this is told at the line that closes the section
+-- the messages reported as left are queued, and more are queued than these; the place is the line that closes the
+-- section
 pub record IsLeftMissing (h : List (Event MessageId)) (left closing : List IndexedLine) (place : UnlawfulPlace) : Type 0 where
   pub closes : IsCloserNumber closing place.line
   pub right : IsToldFirst h left
   pub missing : length (left_in left) < length (queued h)
 
--- what is left is told wrongly
+-- the messages left are reported wrongly
 pub record IsLeftBroken (h : List (Event MessageId)) (left closing : List IndexedLine) (place : UnlawfulPlace) : Type 0 where
   pub rule_is : place.rule ≡ rule.Left
   pub how : IsLeftWrong h left closing place ⊎ IsLeftMissing h left closing place
 
--- the first place where the port isn't lawful: the first line that breaks a rule; or where there is none, the first at
--- which what is left is told wrongly
+-- the first place at which the port isn't lawful: the first line that breaks a rule; or, if there is none, the first at
+-- which the messages left are reported wrongly
 abbrev pub IsUnlawfulPort : List IndexedLine → List IndexedLine → List IndexedLine → UnlawfulPlace → Type 0
 IsUnlawfulPort events left closing place =
     IsBroken events place ⊎ (Lawful (history_of events) × IsLeftBroken (history_of events) left closing place)
@@ -89,8 +90,8 @@ pub record AreWithin (trace : IndexedTrace) : Type 0 where
   pub numbers : All (λ line. line.number < trace.numbers) trace.lines.items
   pub few : trace.numbers < 2 ^ 32
 
--- a line names a route with the port at the route's end, and what came to a port came to the component that it
--- belongs to. `ports` has of each route the port at its end
+-- a sending or an arrival names a route with the port at the route's end, and an arrival is in the section of the
+-- component that the port belongs to. `ports` has the port at the end of each route
 abbrev pub IsRoutedAct : IndexedTrace → List ℕ → ℕ → Act → Type 0
 IsRoutedAct trace ports component (act.Sent m) = m.port ≡ slice_index ports m.route
 IsRoutedAct trace ports component (act.Came m) =
@@ -100,12 +101,12 @@ IsRoutedAct trace ports component _ = ⊤
 abbrev pub IsRouted : IndexedTrace → List ℕ → IndexedLine → Type 0
 IsRouted trace ports line = IsRoutedAct trace ports line.component line.act
 
--- each line does
+-- each line names its route and port in this way
 pub record AreLinesRouted (trace : IndexedTrace) : Type 0 where
   pub ports : List ℕ
   pub each : All (IsRouted trace ports) trace.lines.items
 
--- the lines of a port, what they tell as left, and what closes the section that they are in
+-- the port is lawful, by its events, its lines of messages left, and the lines that close its component's section
 abbrev pub IsLawfulAt : IndexedTrace → ℕ → Type 0
 IsLawfulAt trace port = IsLawfulPort (lines_with by.Port port trace.lines.items)
     (lines_with by.Left port trace.lines.items)
@@ -120,6 +121,6 @@ IsUnlawfulAt trace port place = IsUnlawfulPort (lines_with by.Port port trace.li
 abbrev pub LawfulPorts : IndexedTrace → Type 0
 LawfulPorts trace = (port : ℕ) → port < length trace.owners.items → IsLawfulAt trace port
 
--- the first place at which some port isn't
+-- the first place at which some port isn't lawful
 abbrev pub IsPortPlace : IndexedTrace → UnlawfulPlace → Type 0
 IsPortPlace trace place = (port : ℕ) × (port < length trace.owners.items) × IsUnlawfulAt trace port place

@@ -1,4 +1,4 @@
--- The lines of a trace: what each one tells, and how it is spelled.
+-- The lines of a trace: what each one says, and how it is spelled.
 use Rattle.std.specs.Prelude.{◌≡◌, ℕ, ◌<◌, ◌^◌, ◌==◌, ◌&&◌, ◌⊎◌, Bool, true, not, Option, Some, None, List, ◌∷◌, ◌++◌}
 use Rattle.std.specs.Prelude.{length, codes}
 use Rattle.std.specs.List.{list_all, AllZip}
@@ -16,14 +16,14 @@ use Rattle.tp_judge.specs.declared.referee.line.Remark.TheVariants as remark
 use Rattle.tp_judge.specs.declared.referee.line.Verb.{Verb}
 use Rattle.tp_judge.specs.declared.referee.line.Verb.TheVariants as verb
 
--- a message: the component at its other end, the port that it is for, its number on its route, and what it says
+-- a message: the component at its other end, the port that it is for, its number on its route, and its text
 pub record Letter : Type 0 where
   pub component : List ℕ
   pub port : List ℕ
   pub number : ℕ
   pub text : List ℕ
 
--- what a line tells
+-- what a line says
 pub data Told : Type 0 where
   begins : List ℕ → Told
   passed : MessageVerb → Letter → Told
@@ -57,7 +57,7 @@ IsVerdictWord word =
 abbrev pub IsTraceNumber : List ℕ → Type 0
 IsTraceNumber word = (n : ℕ) × (n < 2 ^ 63) × (word ≡ decimal n)
 
--- its names are names, its number is below 2^63, and it has a byte at least
+-- the names of a message are valid, its number is below 2^63, and its text has at least one byte
 pub record IsLetter (letter : Letter) : Type 0 where
   pub component : IsComponentName letter.component
   pub port : IsPortName letter.port
@@ -69,7 +69,7 @@ IsRemark remark.Set word = IsVerdictWord word
 IsRemark remark.Failed word = IsTraceNumber word
 IsRemark remark.Verdict word = IsVerdictWord word
 
--- what is told can be told: each name, number and verdict is one
+-- a line can say this: each name, number and verdict is valid
 abbrev pub IsTold : Told → Type 0
 IsTold (begins name) = IsComponentName name
 IsTold (passed fate letter) = IsLetter letter
@@ -117,17 +117,17 @@ verb_of (remarked remark word) = verb.Remark remark
 verb_of (ended words) = verb.End
 verb_of (resulted word) = verb.Result
 
--- a message's number and what it says, with a space between them
+-- a message's number and its text, with a space between them
 abbrev pub contents : Letter → List ℕ
 contents letter = decimal letter.number ++ (32 ∷ letter.text)
 
--- behind `sent` the receiving component and its port, with a `.` between them; behind any other word the port and the
--- sending component, with a space between them
+-- after `sent`, the receiving component and its port, with a `.` between them; after any other word, the port and the
+-- sending component, with a space between them; then the number and the text
 abbrev pub letter_text : MessageVerb → Letter → List ℕ
 letter_text fate.Sent letter = (letter.component ++ (46 ∷ letter.port)) ++ (32 ∷ contents letter)
 letter_text _ letter = letter.port ++ (32 ∷ (letter.component ++ (32 ∷ contents letter)))
 
--- what stands behind the first word of a line
+-- the part of a line after its first word, if there is one
 abbrev pub operands : Told → Option (List ℕ)
 operands (begins name) = Some name
 operands (passed fate letter) = Some (letter_text fate letter)
@@ -140,10 +140,10 @@ operands (resulted word) = Some word
 abbrev pub spelling : Told → List ℕ
 spelling told = verb_text (verb_of told) ++ after_space (operands told)
 
--- the line tells this
+-- the line says this
 abbrev pub Spells : List ℕ → Told → Type 0
 Spells line told = (line ≡ spelling told) × IsTold told
 
--- the lines of the text tell these, in order
+-- the lines of the text say these, in order
 abbrev pub Says : List ℕ → List Told → Type 0
 Says text tolds = AllZip Spells (lines_of text) tolds

@@ -43,7 +43,7 @@ abbrev pub left_port : Act → Option ℕ
 left_port (act.Left m) = Some m.port
 left_port _ = None
 
--- the component, where the line tells what was left, or that it ended
+-- the component, if the line says what was left, or that the component ended
 abbrev pub closed_by : ℕ → Act → Option ℕ
 closed_by component (act.Left m) = Some component
 closed_by component act.End = Some component
@@ -66,15 +66,15 @@ is_number key (Some n) = n == key
 abbrev pub lines_with : By → ℕ → List IndexedLine → List IndexedLine
 lines_with by key lines = filter (λ line. is_number key (key_of by line)) lines
 
--- the line's number by that is below the count, if it has one
+-- the number by which the line is gathered, if it has one, is below the count
 abbrev pub HasKeyBelow : By → ℕ → IndexedLine → Type 0
 HasKeyBelow by count line = IfSome (key_of by line) (λ key. key < count)
 
--- a message as a port's queue has it: its sender there is known by the route
+-- a message as a port's queue has it: the number of its route takes the place of its sender
 abbrev pub envelope_of : Mention → Env MessageId
 envelope_of m = record { sender = m.route; number = m.parcel.number; msg = m.parcel.message }
 
--- what happened at a port
+-- the event at a port
 abbrev pub event_of : Act → Option (Event MessageId)
 event_of (act.Came m) = Some (event.Arrive (envelope_of m))
 event_of (act.Took m) = Some (event.Took (envelope_of m))
@@ -90,18 +90,18 @@ event_of act.Else = None
 event_of act.End = None
 event_of act.Other = None
 
--- what was left in a queue
+-- the message that was left in a queue
 abbrev pub left_of : Act → Option (Env MessageId)
 left_of (act.Left m) = Some (envelope_of m)
 left_of _ = None
 
--- what was sent, or came
+-- the parcel that was sent or arrived
 abbrev pub parcel_of : Act → Option Parcel
 parcel_of (act.Sent m) = Some m.parcel
 parcel_of (act.Came m) = Some m.parcel
 parcel_of _ = None
 
--- what was taken out, or found
+-- the message that was taken, found or discarded
 abbrev pub looked_at : Act → Option (Env MessageId)
 looked_at (act.Took m) = Some (envelope_of m)
 looked_at (act.Found m) = Some (envelope_of m)

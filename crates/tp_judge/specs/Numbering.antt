@@ -17,14 +17,14 @@ use Rattle.tp_judge.specs.declared.referee.tables.PortKey.{PortKey}
 use Rattle.tp_judge.specs.declared.referee.tables.RouteKey.{RouteKey}
 use Rattle.tp_judge.specs.declared.referee.tables.Tables.{Tables}
 
--- a line of a section: whose section it is, its number in the text, from 1, and what it tells
+-- a line of a section: the component of the section, the line's number in the text, from 1, and what it says
 pub record Stand : Type 0 where
   pub component : List ℕ
   pub number : ℕ
   pub told : Told
 
--- the lines of the sections among these lines, of which the first has this number, and stands in this component's
--- section if it begins none
+-- those of these lines that are in sections; the first line has this number, and is in this component's section if it
+-- begins none
 abbrev pub stands_from : List ℕ → ℕ → List Told → List Stand
 stands_from name n [] = []
 stands_from name n (begins other ∷ tolds) = stands_from other (n + 1) tolds
@@ -32,7 +32,7 @@ stands_from name n (resulted word ∷ tolds) = stands_from name (n + 1) tolds
 stands_from name n (told ∷ tolds) =
     record { component = name; number = n; told = told } ∷ stands_from name (n + 1) tolds
 
--- the lines of the sections of a trace, in which only the result stands before the first section
+-- the lines of the sections of a trace; only the result can come before the first section
 abbrev pub stands_of : List Told → List Stand
 stands_of tolds = stands_from [] 1 tolds
 
@@ -40,13 +40,14 @@ stands_of tolds = stands_from [] 1 tolds
 abbrev pub IsComponentNumber : Tables → ℕ → List ℕ → Type 0
 IsComponentNumber t component name = slice_get t.components component ≡ Some name
 
--- the port of this number is that of the component of that number which has this name
+-- the port of the first number is that of the component of the second number, and has this name
 pub record IsPortNumber (t : Tables) (port component : ℕ) (name : List ℕ) : Type 0 where
   pub word : ℕ
   pub there : slice_get t.ports.keys port ≡ Some (record { component = component; name = word })
   pub named : slice_get t.names word ≡ Some name
 
--- the message that is told of, between the components of these numbers: its route is that from the sender to the port
+-- the message that a line mentions, between the components of these numbers: its route is that from the sender to the
+-- port
 pub record IsMention (t : Tables) (sender receiver : ℕ) (letter : Letter) (m : Mention) : Type 0 where
   pub port : IsPortNumber t m.port receiver letter.port
   pub route : slice_get t.routes.keys m.route ≡ Some (record { sender = sender; port = m.port })
@@ -67,17 +68,17 @@ operation_act operation.Stop port = act.Stopped port
 operation_act operation.Halt port = act.Halted port
 operation_act operation.Clear port = act.Cleared port
 
--- who sent it, where it is told here of a message from or to the other
+-- the sender of a message that a line mentions in the section of `here`, with `other` at the other end
 abbrev pub sender_of : MessageVerb → ℕ → ℕ → ℕ
 sender_of fate.Sent here other = here
 sender_of _ here other = other
 
--- and whose port it is for
+-- the receiver of such a message
 abbrev pub receiver_of : MessageVerb → ℕ → ℕ → ℕ
 receiver_of fate.Sent here other = other
 receiver_of _ here other = here
 
--- what became of a message, told in the section of the component of this number
+-- what a line in the section of the component of this number says about a message
 pub record IsPassed (t : Tables) (here : ℕ) (fate : MessageVerb) (letter : Letter) (a : Act) : Type 0 where
   pub mention : Mention
   pub is : a ≡ act_of fate mention
@@ -91,7 +92,7 @@ pub record IsOperated (t : Tables) (here : ℕ) (operation : PortOperation) (nam
   pub is : a ≡ operation_act operation port
   pub there : IsPortNumber t port here name
 
--- what a line tells, in the section of the component of this number
+-- what a line says, in the section of the component of this number
 abbrev pub IsAct : Tables → ℕ → Told → Act → Type 0
 IsAct t here (passed fate letter) a = IsPassed t here fate letter a
 IsAct t here (operated operation name) a = IsOperated t here operation name a
@@ -105,7 +106,7 @@ pub record IsLine (t : Tables) (stand : Stand) (line : IndexedLine) : Type 0 whe
   pub section : IsComponentNumber t line.component stand.component
   pub says : IsAct t line.component stand.told line.act
 
--- nothing has two numbers
+-- no component, name, port, route or message has two numbers
 pub record AreTablesDistinct (t : Tables) : Type 0 where
   pub components : AllPairs (λ a b. a ≢ b) t.components
   pub names : AllPairs (λ a b. a ≢ b) t.names
@@ -113,7 +114,7 @@ pub record AreTablesDistinct (t : Tables) : Type 0 where
   pub routes : AllPairs (λ a b. a ≢ b) t.routes.keys
   pub messages : AllPairs (λ a b. a ≢ b) t.messages
 
--- of each route whether both ends have a section
+-- for each route, whether both ends have a section
 abbrev pub AreJoined : Tables → List Told → IndexedTrace → Type 0
 AreJoined t tolds trace = (k : ℕ) (route : RouteKey) (port : PortKey) (sender receiver : List ℕ)
     → slice_get t.routes.keys k ≡ Some route → slice_get t.ports.keys route.port ≡ Some port

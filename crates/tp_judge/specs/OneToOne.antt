@@ -1,4 +1,4 @@
--- A numbering is one to one: two lines have one number exactly where they name the same.
+-- A numbering is one to one: two lines have the same number if and only if they name the same.
 use Rattle.std.specs.Prelude.{◌≡◌, ◌↔◌, ℕ, Option, Some, None, List, slice_get}
 use Rattle.tp_judge.specs.declared.referee.line.MessageVerb.{MessageVerb}
 use Rattle.tp_judge.specs.declared.referee.line.MessageVerb.TheVariants as fate
@@ -20,7 +20,7 @@ pub record RouteName : Type 0 where
   pub sender : List ℕ
   pub port : PortName
 
--- the route of a message that is told of in a section
+-- the route of a message that a line of this component's section mentions
 abbrev pub route_between : List ℕ → MessageVerb → Letter → RouteName
 route_between here fate.Sent letter =
     record { sender = here; port = record { component = letter.component; name = letter.port } }
@@ -41,7 +41,7 @@ abbrev pub message_named : Told → Option (List ℕ)
 message_named (passed fate letter) = Some letter.text
 message_named _ = None
 
--- and what a line in numbers mentions
+-- the message that a line in numbers mentions
 abbrev pub mention_of : Act → Option Mention
 mention_of (act.Sent m) = Some m
 mention_of (act.Came m) = Some m
@@ -74,7 +74,7 @@ port_of_act act.Else = None
 port_of_act act.End = None
 port_of_act act.Other = None
 
--- the two have one number exactly where they name the same
+-- the two lines have the same number for a component, port, route or message if and only if they name the same one
 pub record AreNumberedAlike (s u : Stand) (l m : IndexedLine) : Type 0 where
   pub section : (l.component ≡ m.component) ↔ (s.component ≡ u.component)
   pub port : (port_of_act l.act ≡ port_of_act m.act) ↔ (port_in_line s.component s.told ≡ port_in_line u.component u.told)
@@ -82,7 +82,7 @@ pub record AreNumberedAlike (s u : Stand) (l m : IndexedLine) : Type 0 where
       ↔ (route_in s.component s.told ≡ route_in u.component u.told)
   pub message : (message_number (mention_of l.act) ≡ message_number (mention_of m.act)) ↔ (message_named s.told ≡ message_named u.told)
 
--- of any two lines of a numbering
+-- this holds for any two lines of a numbering
 abbrev pub IsOneToOne : Type 0
 IsOneToOne = (tolds : List Told) (trace : IndexedTrace) (j k : ℕ) (s u : Stand) (l m : IndexedLine) → IsNumberingOf tolds trace
     → slice_get (stands_of tolds) j ≡ Some s → slice_get trace.lines.items j ≡ Some l

@@ -11,7 +11,7 @@ use Rattle.tp_judge.specs.declared.ports.PortRows.{PortRows}
 use Rattle.tp_judge.specs.LinesByNumber.{AreGathered, lines_at}
 use Rattle.tp_judge.specs.Lawful.{IsCloserOf}
 
--- of each section the number of the line that closes it, none where it is open
+-- for each section, the number of the line that closes it; none if it is open
 abbrev pub AreClosers : List (Vec (Bor IndexedLine) Global) → List (Option ℕ) → Type 0
 AreClosers rows closers = AllZip (λ row closer. IsCloserOf (lines_at row.items) closer) rows closers
 

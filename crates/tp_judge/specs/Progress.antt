@@ -12,7 +12,7 @@ pub record AreFree (waits order : List ℕ) : Type 0 where
   pub free : (i x : ℕ) → IsNumberAt order i x → slice_index waits x ≡ 0
   pub listed : (x : ℕ) → x < length waits → slice_index waits x ≡ 0 → (i : ℕ) × IsNumberAt order i x
 
--- before each number of the list stands all that a demand wants there
+-- before each number of the list are all numbers that come before it by a demand
 abbrev pub AreMet : List Demand → List ℕ → Type 0
 AreMet demands order = (k i : ℕ) → k < length demands → IsNumberAt order i (after_at demands k)
     → (j : ℕ) × (j < i) × IsNumberAt order j (before_at demands k)

@@ -1,4 +1,4 @@
--- Replays.
+-- The replay of a port's lines.
 use Rattle.std.specs.Prelude.{List}
 use Rattle.tp_queue.specs.Queues.{StandsFor}
 use Rattle.tp_judge.specs.declared.line.IndexedLine.{IndexedLine}

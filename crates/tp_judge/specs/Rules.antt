@@ -16,27 +16,27 @@ use Rattle.tp_judge.specs.declared.place.Rule.TheVariants as rule
 use Rattle.tp_judge.specs.declared.place.UnlawfulPlace.{UnlawfulPlace}
 use Rattle.tp_judge.specs.Lines.{event_of, left_of, looked_at}
 
--- the history that these lines tell
+-- the history of a port, according to these lines
 abbrev pub history_of : List IndexedLine → List (Event MessageId)
 history_of lines = filter_map (λ line. event_of line.act) lines
 
--- what these lines tell as left
+-- the messages that these lines report as left
 abbrev pub left_in : List IndexedLine → List (Env MessageId)
 left_in lines = filter_map (λ line. left_of line.act) lines
 
--- it is queued, and not ahead of the mark
+-- the message is queued, and not ahead of the mark
 abbrev pub IsBehind : List (Event MessageId) → Env MessageId → Type 0
 IsBehind h e = (k : ℕ) × (limit h - gone h ≤ k) × (slice_get (queued h) k ≡ Some e)
 
--- why what isn't the top can't be taken, found or discarded: the port is stopped; or it is halted, and this stands
--- behind the mark; or neither
+-- why a message that isn't the top can't be taken, found or discarded: the port is stopped; or it is halted, and the
+-- message is after the mark; or neither
 abbrev pub IsReason : Rule → List (Event MessageId) → Env MessageId → Type 0
 IsReason rule.Stopped h e = status_of h ≡ status.Stopped
 IsReason rule.Behind h e = (status_of h ≡ status.Halted) × IsBehind h e
 IsReason rule.NotTop h e = (status_of h ≢ status.Stopped) × (status_of h ≡ status.Halted → IsBehind h e → ⊥)
 IsReason _ h e = ⊥
 
--- the line takes, finds or discards what isn't the top, for this reason
+-- the line takes, finds or discards a message that isn't the top, for this reason
 abbrev pub Breaks : Rule → List (Event MessageId) → Act → Type 0
 Breaks broken h a = MatchOption (looked_at a) ⊥ (λ e. (top h ≢ Some e) × IsReason broken h e)
 
@@ -48,13 +48,14 @@ IsOperation (act.Found m) = ⊥
 IsOperation (act.Dropped m) = ⊥
 IsOperation _ = ⊤
 
--- one line more behind this history: it happens, and this is the queue after it; or it breaks a rule
+-- one more line after this history: either its event is lawful, and this is the queue after it; or the line breaks a
+-- rule
 abbrev pub Replays : List (Event MessageId) → Act → QueueState MessageId → Option Rule → Type 0
 Replays h a after None = StandsFor after (h ++ option_to_list (event_of a))
 Replays h a after (Some broken) = Breaks broken h a
 
--- the first of the port's lines that breaks a rule: those before it are a lawful history, and behind that it breaks this
--- one
+-- the first of the port's lines that breaks a rule: those before it are a lawful history, and after that it breaks this
+-- rule
 pub record IsBroken (events : List IndexedLine) (place : UnlawfulPlace) : Type 0 where
   pub before : ℕ
   pub line : IndexedLine

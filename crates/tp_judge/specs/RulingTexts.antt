@@ -1,4 +1,4 @@
--- The text of what is said of a trace, and the status.
+-- The text of a ruling on a trace, and the exit status.
 use Rattle.std.specs.Prelude.{ℕ, List, ◌++◌, codes}
 use Rattle.std.specs.List.{flat_map}
 use Rattle.std.specs.Fmt.{decimal}
@@ -23,7 +23,7 @@ rule_text rule.Changed = codes "Changed"
 rule_text rule.Reordered = codes "Reordered"
 rule_text rule.Circle = codes "Circle"
 
--- the line of a place
+-- the line that is printed for a place
 abbrev pub place_text : UnlawfulPlace → List ℕ
 place_text place = codes "unlawful " ++ rule_text place.rule ++ codes " line " ++ decimal place.line ++ codes "\n"
 

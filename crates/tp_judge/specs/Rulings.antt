@@ -1,4 +1,4 @@
--- What is said of a trace, and of a text.
+-- The ruling on a trace, and on a text.
 use Rattle.std.specs.Prelude.{◌≢◌, ℕ, List, [], All}
 use Rattle.tp_judge.specs.LineTexts.{Told}
 use Rattle.tp_judge.specs.Tree.{IsTraceOf}
@@ -11,8 +11,8 @@ use Rattle.tp_judge.specs.declared.referee.ruling.Ruling.{Ruling}
 use Rattle.tp_judge.specs.declared.referee.ruling.Ruling.TheVariants as ruling
 use Rattle.tp_judge.specs.Numbering.{IsNumberingOf}
 
--- a rule is broken at each of the places, one or more, in the order of their lines: they are all that is told of the
--- trace
+-- a rule is broken at each of the places, which are one or more, in the order of their lines: they are all places that
+-- are reported for the trace
 pub record IsUnlawful (trace : IndexedTrace) (places : List UnlawfulPlace) : Type 0 where
   pub some : places ≢ []
   pub unlawful : IsLawful trace → ⊥
@@ -20,8 +20,8 @@ pub record IsUnlawful (trace : IndexedTrace) (places : List UnlawfulPlace) : Typ
   pub in_order : AreInOrder places
   pub all : AreToldOf trace places
 
--- **lawful exactly where the trace is**, and then one run exactly where it is one; where it isn't lawful each place is
--- true, and none is left out or told twice. Of a port or a route no other could be told
+-- **lawful if and only if the trace is**, and then one run if and only if the trace is one; if it isn't lawful, each
+-- place is true, and none is left out or reported twice. For a port or a route no other place could be reported
 abbrev pub IsRulingOn : IndexedTrace → Ruling → Type 0
 IsRulingOn trace (ruling.Lawful run) = IsLawful trace × IsOneRunAnswer trace run
 IsRulingOn trace (ruling.Unlawful places) = IsUnlawful trace places.items
@@ -32,7 +32,7 @@ pub record IsNumberedText (text : List ℕ) (trace : IndexedTrace) : Type 0 wher
   pub read : IsTraceOf text tolds
   pub numbered : IsNumberingOf tolds trace
 
--- what is said of a text is said of its trace
+-- the ruling on a text is the ruling on its trace
 pub record IsRulingOf (text : List ℕ) (ruling : Ruling) : Type 0 where
   pub trace : IndexedTrace
   pub numbered : IsNumberedText text trace

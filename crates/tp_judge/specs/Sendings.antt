@@ -12,25 +12,25 @@ use Rattle.tp_judge.specs.declared.line.IndexedLine.{IndexedLine}
 use Rattle.tp_judge.specs.declared.trace.IndexedTrace.{IndexedTrace}
 use Rattle.tp_judge.specs.OneRun.{ComesAt, LineAt}
 
--- what a line sends on this route
+-- the parcel that a line sends on this route
 abbrev pub sent_parcel : ℕ → Act → Option Parcel
 sent_parcel route (act.Sent m) = cond (m.route == route) (Some m.parcel) None
 sent_parcel route _ = None
 
--- what comes by it on this route
+-- the parcel that arrives on this route by a line
 abbrev pub came_parcel : ℕ → Act → Option Parcel
 came_parcel route (act.Came m) = cond (m.route == route) (Some m.parcel) None
 came_parcel route _ = None
 
--- all that these lines send on it
+-- all parcels that these lines send on the route
 abbrev pub sent_parcels : ℕ → List IndexedLine → List Parcel
 sent_parcels route lines = filter_map (λ line. sent_parcel route line.act) lines
 
--- all that comes by them on it
+-- all parcels that arrive on the route by these lines
 abbrev pub came_parcels : ℕ → List IndexedLine → List Parcel
 came_parcels route lines = filter_map (λ line. came_parcel route line.act) lines
 
--- the line at this place sends on the route, behind so many others
+-- the line at this place sends on the route, after this number of other sendings
 pub record IsNextSending (trace : IndexedTrace) (route before place : ℕ) : Type 0 where
   pub line : IndexedLine
   pub at : LineAt trace place line
@@ -49,6 +49,6 @@ pub record AreSendingRows (trace : IndexedTrace) (end : ℕ) (rows : List (Vec �
   pub each : (route : ℕ) (row : Vec ℕ Global) → route < length trace.joined.items
       → IsSendingsRow trace end route (slice_index_or rows route row).items
 
--- the message came, by a route whose ends both have a section
+-- the message arrived, on a route whose ends both have a section
 abbrev pub HasCome : IndexedTrace → Mention → Type 0
 HasCome trace m = (component : ℕ) × (place : ℕ) × ComesAt trace component place m

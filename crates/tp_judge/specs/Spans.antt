@@ -4,14 +4,14 @@ use Rattle.std.specs.List.{slice_range}
 use Rattle.tp_judge.specs.declared.referee.tree.Span.{Span}
 use Rattle.tp_judge.specs.Tree.{HoldsTrace}
 
--- what lies there
+-- the part of the text at the span
 abbrev pub span_text : List ℕ → Span → List ℕ
 span_text text span = slice_range text span.start span.end
 
 abbrev pub span_texts : List ℕ → List Span → List (List ℕ)
 span_texts text spans = map (λ span. span_text text span) spans
 
--- it lies in a text of this size
+-- the span lies in a text of this size
 pub record IsSpanOf (size : ℕ) (span : Span) : Type 0 where
   pub forth : span.start ≤ span.end
   pub within : span.end ≤ size

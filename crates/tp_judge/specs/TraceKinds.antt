@@ -15,7 +15,7 @@ use Rattle.tp_judge.specs.declared.trace.IndexedTrace.{IndexedTrace}
 use Rattle.tp_judge.specs.Kinds.{Kinds}
 use Rattle.tp_judge.specs.OneRun.{LineAt, is_joined}
 
--- what the line of a component is for the order
+-- the kind of a component's line, for the order
 abbrev pub kind_of : IndexedTrace → Act → EntryKind Mention
 kind_of trace (act.Sent m) = if is_joined trace m then kind.Sent (slice_index trace.owners.items m.port) m else kind.Quiet
 kind_of trace (act.Came m) = if is_joined trace m then kind.Came m else kind.Nothing
@@ -24,11 +24,11 @@ kind_of trace act.End = kind.Quiet
 kind_of trace act.Other = kind.Quiet
 kind_of trace _ = kind.Looked
 
--- in the history of a component the lines of the others are nothing
+-- the kind of a line in the history of a component: the lines of other components are `Nothing`
 abbrev pub kind_in : IndexedTrace → ℕ → IndexedLine → EntryKind Mention
 kind_in trace component line = if line.component == component then kind_of trace line.act else kind.Nothing
 
--- where no section is
+-- the section of a component that has none
 abbrev pub no_section : Section
 no_section = record { begin = 0; end = 0 }
 
@@ -52,7 +52,7 @@ pub record AreSections (trace : IndexedTrace) (end : ℕ) (sections : List Secti
   pub lines : (place : ℕ) (line : IndexedLine) → place < end → LineAt trace place line
       → ((section_at sections line.component).begin ≤ place) × (place < (section_at sections line.component).end)
 
--- there is no history of a component that has no section
+-- the history of a component after the end of the list of sections is empty
 pub no_more : (trace : IndexedTrace) (sections : List Section) (c : ℕ) → length sections ≤ c → kinds_of trace sections c ≡ []
 no_more trace sections c past =
     ap (λ (s : Section). take s.end (map (kind_in trace c) trace.lines.items)) (get_or_past sections c no_section past)

@@ -1,4 +1,4 @@
--- What the lines of a trace tell, and which lines are a trace.
+-- What the lines of a trace say, and which lines are a trace.
 use Rattle.std.specs.Prelude.{◌≡◌, ℕ, ◌+◌, ◌-◌, ◌<◌, Bool, true, false, Option, Some, None, List, [], ◌∷◌, take}
 use Rattle.std.specs.Prelude.{position, slice_get, All, fold, if◌then◌else◌, Contains, map}
 use Rattle.std.specs.List.{AllZip, before_first, after_first}
@@ -23,7 +23,7 @@ use Rattle.tp_judge.specs.LineTexts.{Says, verb_text}
 abbrev pub letter_of : MessageWords → Letter
 letter_of m = record { component = m.component.now; port = m.port.now; number = m.number; text = m.text.now }
 
--- what a line tells, without where its words lie in memory
+-- what a line says, wherever its words are in memory
 abbrev pub told_of : Line → Told
 told_of (line.Component name) = begins name.now
 told_of (line.Message fate m) = passed fate (letter_of m)
@@ -33,12 +33,12 @@ told_of (line.Remark remark word) = remarked remark word.now
 told_of (line.End words) = ended words.now
 told_of (line.Result word) = resulted word.now
 
--- what stands before the last `.`
+-- the bytes before the last `.`
 abbrev pub before_dot : List ℕ → List ℕ
 before_dot [] = []
 before_dot (b ∷ bs) = if lacks 46 bs then [] else b ∷ before_dot bs
 
--- what stands behind it
+-- the bytes after the last `.`
 abbrev pub after_dot : List ℕ → List ℕ
 after_dot [] = []
 after_dot (b ∷ bs) = if lacks 46 bs then bs else after_dot bs
@@ -59,7 +59,7 @@ abbrev pub first_spelled : List ℕ → List Verb → Option Verb
 first_spelled word [] = None
 first_spelled word (v ∷ vs) = if bytes_eq word (verb_text v) then Some v else first_spelled word vs
 
--- the letter that is told of behind a verb, where one is
+-- the message after a verb, if there is one
 abbrev pub letter_in : MessageVerb → List ℕ → Letter
 letter_in fate.Sent rest =
     let place = before_first is_space rest in
@@ -80,7 +80,7 @@ letter_in _ rest =
       text = after_first is_space last;
     }
 
--- what is told by a verb and what stands behind it, where something is
+-- what a verb says with the part of the line after it, if they say anything
 abbrev pub told_by : Option Verb → List ℕ → Told
 told_by (Some verb.Component) rest = begins rest
 told_by (Some (verb.Message fate)) rest = passed fate (letter_in fate rest)
@@ -90,7 +90,7 @@ told_by (Some verb.End) rest = ended rest
 told_by (Some verb.Result) rest = resulted rest
 told_by _ rest = otherwise
 
--- what a line tells, where it tells anything: only that matters of this definition
+-- what a line says, if it says anything; otherwise the value of this definition doesn't matter
 abbrev pub told_in : List ℕ → Told
 told_in bytes = told_by (first_spelled (before_first is_space bytes) verbs) (after_first is_space bytes)
 
@@ -100,7 +100,7 @@ names_of [] = []
 names_of (begins name ∷ tolds) = name ∷ names_of tolds
 names_of (_ ∷ tolds) = names_of tolds
 
--- which section is that of a component, numbered from 0
+-- the number of a component's section, from 0
 abbrev pub section_named : List (List ℕ) → List ℕ → Option ℕ
 section_named names name = position (bytes_eq name) names
 
@@ -110,12 +110,12 @@ place_after (passed fate.Left letter) = place.Left
 place_after (resulted word) = place.Behind
 place_after _ = place.Section
 
--- the place behind these lines
+-- the place after these lines
 abbrev pub place_behind : List Told → TracePosition
 place_behind tolds = fold (λ _ told. place_after told) place.Front tolds
 
--- in front of all a section begins or the result stands; in a section any line stands; behind a `left` another `left`
--- stands, a section begins or the result stands; behind the result nothing does
+-- at the front a section begins or the result follows; in a section any line follows; after a `left` another `left`
+-- follows, a section begins or the result follows; after the result nothing does
 abbrev pub may_stand : TracePosition → Told → Bool
 may_stand place.Front (begins name) = true
 may_stand place.Front (resulted word) = true
@@ -127,33 +127,33 @@ may_stand place.Left (resulted word) = true
 may_stand place.Left _ = false
 may_stand place.Behind _ = false
 
--- a section is of a component that has none before
+-- if the line begins a section, its component had none before
 abbrev pub IsNewName : List (List ℕ) → Told → Type 0
 IsNewName names (begins name) = ¬ Contains names name
 IsNewName names _ = Unit {0}
 
--- the line may stand in this place, behind lines that have begun the sections of these names
+-- the line is allowed at this place, after lines that began the sections of these names
 pub record MayStandAt (place : TracePosition) (names : List (List ℕ)) (told : Told) : Type 0 where
   pub fits : may_stand place told ≡ true
   pub new : IsNewName names told
 
--- the line may stand behind these
+-- the line is allowed after these
 abbrev pub MayStand : List Told → Told → Type 0
 MayStand before told = MayStandAt (place_behind before) (names_of before) told
 
--- each line may stand behind those before it
+-- each line is allowed after those before it
 abbrev pub IsTrace : List Told → Type 0
 IsTrace tolds = (k : ℕ) (told : Told) → slice_get tolds k ≡ Some told → MayStand (take k tolds) told
 
--- the text is a trace that tells these lines
+-- the text is a trace, and its lines say these
 abbrev pub IsTraceOf : List ℕ → List Told → Type 0
 IsTraceOf text tolds = Says text tolds × IsTrace tolds
 
--- a text tells one list of lines at most
+-- a text says at most one list of lines
 abbrev pub SaysOneAtMost : Type 0
 SaysOneAtMost = (text : List ℕ) (these those : List Told) → Says text these → Says text those → these ≡ those
 
--- the line tells something
+-- the line says something
 abbrev pub TellsSomething : List ℕ → Type 0
 TellsSomething line = (told : Told) × Spells line told
 
@@ -163,13 +163,13 @@ pub record HoldsTrace (lines names : List (List ℕ)) : Type 0 where
   pub trace : IsTrace (map told_in lines)
   pub named : names ≡ names_of (map told_in lines)
 
--- a section of a trace: its component, the number of the line where it begins, from 1, and what its lines tell
+-- a section of a trace: its component, the number of the line where it begins, from 1, and what its lines say
 pub record Section : Type 0 where
   pub name : List ℕ
   pub number : ℕ
   pub tolds : List Told
 
--- the lines up to where the next section begins, or the result stands
+-- the lines before the next section or the result
 abbrev pub section_part : List Told → List Told
 section_part [] = []
 section_part (begins name ∷ tolds) = []
@@ -187,8 +187,8 @@ sections_from n (_ ∷ tolds) = sections_from (n + 1) tolds
 abbrev pub sections_of : List Told → List Section
 sections_of tolds = sections_from 1 tolds
 
--- the line of this number, from 1, is the first of another form than a trace has: the lines before it are those of a
--- trace, and it tells nothing that may stand behind them
+-- the line of this number, from 1, is the first bad one: the lines before it are those of a trace, and it says nothing
+-- that is allowed after them
 pub record IsFirstBad (lines : List (List ℕ)) (n : ℕ) : Type 0 where
   pub some : 0 < n
   pub before : List Told
@@ -198,7 +198,8 @@ pub record IsFirstBad (lines : List (List ℕ)) (n : ℕ) : Type 0 where
   pub there : slice_get lines (n - 1) ≡ Some line
   pub bad : (told : Told) → Spells line told → MayStand before told → ⊥
 
--- where a line is the first bad one of a text, no text that begins with the same lines up to there is a trace
+-- if a line is the first bad one of a text, no text that begins with the same lines, up to and including that one, is a
+-- trace
 abbrev pub BadLinesStayBad : Type 0
 BadLinesStayBad =
     (text other : List ℕ) (n : ℕ) (tolds : List Told) → IsFirstBad (lines_of text) n

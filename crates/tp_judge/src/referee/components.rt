@@ -18,7 +18,7 @@ pub struct Components<'t> {
 }
 
 impl Drop for Components<'_> {
-    // Written out, so that what owns one calls this, and proves no drop of what is inside.
+    // Written out, so that the drop of an owner calls this one and proves no drop of the parts.
     fn drop(self) {
         let Components { trace: _, others } = self;
         drop(others);

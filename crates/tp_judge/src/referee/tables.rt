@@ -40,7 +40,7 @@ pub struct Tables<'t> {
 }
 
 impl Drop for Tables<'_> {
-    // Written out, so that what owns one calls this, and proves no drop of what is inside.
+    // Written out, so that the drop of an owner calls this one and proves no drop of the parts.
     fn drop(self) {
         let Tables {
             components,

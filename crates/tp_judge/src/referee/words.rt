@@ -15,7 +15,7 @@ pub struct NumberedWords<'t> {
 }
 
 impl Drop for NumberedWords<'_> {
-    // Written out, so that what owns one calls this, and proves no drop of what is inside.
+    // Written out, so that the drop of an owner calls this one and proves no drop of the parts.
     fn drop(self) {
         let NumberedWords { words } = self;
         drop(words);
