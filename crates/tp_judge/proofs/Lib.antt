@@ -32,14 +32,9 @@ pub mod TraceSections
 pub mod TraceRunsByKinds
 pub mod SendersOfMentions
 pub mod SendingOfEachArrival
-pub mod OwnLinesInOrder
-pub mod MetDemandsMakeRuns
-pub mod LatestLinesAndDemands
-pub mod NextLineDemands
-pub mod DemandMakingGrowth
+pub mod StuckLines
 pub mod SendingRowsGrowth
 pub mod NumbersLieOnCircles
-pub mod OneRunDecision
 pub mod UniqueByteCuts
 pub mod MessagePartsFromBytes
 pub mod UniqueLineMeanings

@@ -3,11 +3,14 @@ use Rattle.std.proofs.Common.{◌≡◌, ◌⊎◌, inl, inr, ℕ, zero, suc, �
 use Rattle.std.proofs.Common.{add-zero, arith}
 use Rattle.std.specs.Prelude.{slice_index}
 use Rattle.tp_judge.specs.declared.demand.Demand.{Demand}
-use Rattle.tp_judge.specs.Circle.{IsCircle, LiesOnCircle}
-use Rattle.tp_judge.specs.Latest.{DemandsLead}
+use Rattle.tp_judge.specs.Circle.{IsCircle, LeadsThrough, LiesOnCircle}
 use Rattle.tp_judge.proofs.HappensBeforeByDemands.{leads_on}
 
--- it is the other, or the demands lead there
+-- the demands lead from the one to the other
+abbrev DemandsLead : List Demand → ℕ → ℕ → Type 0
+DemandsLead demands x y = (further : ℕ) × LeadsThrough demands further x y
+
+-- it is the other, or they lead there
 Reaches : List Demand → ℕ → ℕ → Type 0
 Reaches demands x y = (x ≡ y) ⊎ DemandsLead demands x y
 

@@ -277,7 +277,7 @@ all_within kinds n progress size was =
     places_within kinds was.0 progress.places.items progress.came.items progress.sent.items n size.places was.2
 
 -- at first nothing is gone by
-zeros : (n x : ℕ) → slice_index (replicate n 0) x ≡ 0
+pub zeros : (n x : ℕ) → slice_index (replicate n 0) x ≡ 0
 zeros n x = elim (cases_lt x n) [
   | inl low ↦ get_or-replicate n x 0 0 low
   | inr past ↦ let e : length (replicate n 0) ≡ n = length-replicate {A = ℕ} n 0 in get_or_past (replicate n 0) x 0 (omega (arith, e, past))

@@ -1,10 +1,9 @@
 -- Places in a list, and in what a part of its elements gives.
-use Rattle.std.proofs.Common.{◌≡◌, inl, inr, ℕ, zero, suc, ◌<◌, ◌≤◌, Option, Some, None, List, [], ◌∷◌, ◌++◌, length}
-use Rattle.std.proofs.Common.{take, drop, refl, ap, sym, ◌∙◌, subst, arith}
+use Rattle.std.proofs.Common.{◌≡◌, inl, inr, ℕ, zero, suc, ◌<◌, Option, Some, None, List, [], ◌∷◌, ◌++◌, length}
+use Rattle.std.proofs.Common.{take, refl, ap, ◌∙◌, arith}
 use Rattle.std.specs.Prelude.{slice_get}
 use Rattle.std.specs.List.{filter_map, cons_option}
-use Rattle.std.proofs.lemmas.List.{length-append, take-append-drop, take-take, take_at}
-use Rattle.std.proofs.lemmas.List.Elements.{filter_map-append}
+use Rattle.std.proofs.lemmas.List.{take-take}
 use Rattle.std.proofs.lemmas.Bool.{cases_order}
 use Rattle.std.proofs.lemmas.Option.{slice_get_within, none-some}
 use Rattle.tp_judge.proofs.ReferencedLinesGrowth.{at_seam}
@@ -101,28 +100,6 @@ rank_rises f xs i j x y below at gives =
     let same : rank_of f (take j xs) i ≡ rank_of f xs i = ap (λ l. length (filter_map f l)) (take-take i j xs (omega arith)) in
     omega arith
 
--- what the first elements give is the front of what all give
-pub front_given : {X Y : Type 0} (f : X → Option Y) (xs : List X) (i : ℕ)
-    → take (rank_of f xs i) (filter_map f xs) ≡ filter_map f (take i xs)
-front_given f xs i =
-    ap (take (rank_of f xs i)) (ap (filter_map f) (sym (take-append-drop i xs)) ∙ filter_map-append f (take i xs) (drop i xs))
-    ∙ take_at (filter_map f (take i xs)) (filter_map f (drop i xs)) (rank_of f xs i) refl
-
--- more elements give no less
-pub rank_grows : {X Y : Type 0} (f : X → Option Y) (xs : List X) (i j : ℕ) → i ≤ j → rank_of f xs i ≤ rank_of f xs j
-rank_grows f xs i j below =
-    let front = ap (λ l. length (filter_map f l)) (take-take i j xs below) in
-    let whole = ap length (ap (filter_map f) (sym (take-append-drop i (take j xs))) ∙ filter_map-append f (take i (take j xs)) (drop i (take j xs))) in
-    let parts = length-append (filter_map f (take i (take j xs))) (filter_map f (drop i (take j xs))) in
-    omega arith
-
--- and the whole list no less than a front
-pub rank_within : {X Y : Type 0} (f : X → Option Y) (xs : List X) (i : ℕ) → rank_of f xs i ≤ length (filter_map f xs)
-rank_within f xs i =
-    let whole = ap length (ap (filter_map f) (sym (take-append-drop i xs)) ∙ filter_map-append f (take i xs) (drop i xs)) in
-    let parts = length-append (filter_map f (take i xs)) (filter_map f (drop i xs)) in
-    omega arith
-
 -- two elements that give something have two ranks
 pub same_rank : {X Y : Type 0} (f : X → Option Y) (xs : List X) (i j : ℕ) (x z : X) (y v : Y) → slice_get xs i ≡ Some x
     → slice_get xs j ≡ Some z → f x ≡ Some y → f z ≡ Some v → rank_of f xs i ≡ rank_of f xs j → i ≡ j
@@ -139,72 +116,3 @@ pub slice_there : {X : Type 0} (xs : List X) (i : ℕ) → i < length xs → (x 
 slice_there [] i below = absurd (omega arith)
 slice_there (x ∷ xs) zero below = (x, refl)
 slice_there (x ∷ xs) (suc i) below = slice_there xs i (omega arith)
-
--- two lists that agree at each place
-pub same_by_places : {X : Type 0} (xs ys : List X) → ((k : ℕ) → k < length ys → slice_get xs k ≡ slice_get ys k)
-    → length xs ≤ length ys → xs ≡ ys
-same_by_places [] [] agree short = refl
-same_by_places [] (y ∷ ys) agree short = absurd (none-some y (agree 0 (omega arith)))
-same_by_places (x ∷ xs) [] agree short = absurd (omega arith)
-same_by_places (x ∷ xs) (y ∷ ys) agree short =
-    let first = agree 0 (omega arith) in
-    let same : x ≡ y = cc in
-    ap (λ z. z ∷ xs) same
-    ∙ ap (λ l. y ∷ l) (same_by_places xs ys (λ k below. agree (suc k) (omega arith)) (omega arith))
-
--- a relation of numbers below a and below b that is whole on both sides and keeps their order
-pub record KeepsOrder (R : ℕ → ℕ → Type 0) (a b : ℕ) : Type 0 where
-  pub first : (i j : ℕ) → R i j → i < a
-  pub second : (i j : ℕ) → R i j → j < b
-  pub total : (i : ℕ) → i < a → (j : ℕ) × R i j
-  pub onto : (j : ℕ) → j < b → (i : ℕ) × R i j
-  pub rises : (i j k l : ℕ) → R i j → R k l → i < k → j < l
-  pub one : (i j k : ℕ) → R i j → R i k → j ≡ k
-
--- it is equality
-agree_more : (R : ℕ → ℕ → Type 0) (a b bound : ℕ) → KeepsOrder R a b → ((k l : ℕ) → k < bound → R k l → k ≡ l)
-    → (i j : ℕ) → i < suc bound → R i j → i ≡ j
-agree_more R a b bound keeps before i j below is = elim (cases_order i j) [
-  | inl same ↦ same
-  | inr apart ↦ elim apart [
-    | inl low ↦
-        let large = keeps.second i j is in
-        let other = keeps.onto i (omega arith) in
-        elim (cases_order other.0 i) [
-          | inl here ↦ absurd (let same = keeps.one i j i is (subst (λ (n : ℕ). R n i) here other.1) in omega arith)
-          | inr beside ↦ elim beside [
-            | inl less ↦ absurd (let same = before other.0 i (omega arith) other.1 in omega arith)
-            | inr more ↦ absurd (let less = keeps.rises i j other.0 i is other.1 more in omega arith)
-          ]
-        ]
-    | inr low ↦
-        let large = keeps.first i j is in
-        let other = keeps.total j (omega arith) in
-        let same = before j other.0 (omega arith) other.1 in
-        absurd (let less = keeps.rises j other.0 i j other.1 is low in omega arith)
-  ]
-]
-
-agree_below : (R : ℕ → ℕ → Type 0) (a b bound : ℕ) → KeepsOrder R a b → (i j : ℕ) → i < bound → R i j → i ≡ j
-agree_below R a b zero keeps i j below is = absurd (omega arith)
-agree_below R a b (suc bound) keeps i j below is =
-    agree_more R a b bound keeps (λ k l low there. agree_below R a b bound keeps k l low there) i j below is
-
-pub keeps_agree : (R : ℕ → ℕ → Type 0) (a b : ℕ) → KeepsOrder R a b → (i j : ℕ) → R i j → i ≡ j
-keeps_agree R a b keeps i j is = agree_below R a b (suc i) keeps i j (omega arith) is
-
--- and there are as many on both sides
-pub keeps_count : (R : ℕ → ℕ → Type 0) (a b : ℕ) → KeepsOrder R a b → a ≡ b
-keeps_count R a b keeps = elim (cases_order a b) [
-  | inl same ↦ same
-  | inr apart ↦ elim apart [
-    | inl low ↦
-        let other = keeps.onto a low in
-        let same = keeps_agree R a b keeps other.0 a other.1 in
-        absurd (let below = keeps.first other.0 a other.1 in omega arith)
-    | inr low ↦
-        let other = keeps.total b low in
-        let same = keeps_agree R a b keeps b other.0 other.1 in
-        absurd (let below = keeps.second b other.0 other.1 in omega arith)
-  ]
-]

@@ -66,8 +66,11 @@ owner_is m c (l ∷ lines) all (suc p) line at such =
     (λ none. owner_is m c lines (λ q x there is. all (suc q) x there is) p line at such)
 
 sent_joined : (b : Bool) (n m : Mention) (d e : ℕ) → (let k : EntryKind Mention = if b then kind.Sent e n else kind.Quiet in k) ≡ kind.Sent d m
-    → (b ≡ true) × (n ≡ m)
-sent_joined true n m d e is = let same : n ≡ m = cc in (refl, same)
+    → (b ≡ true) × (n ≡ m) × (e ≡ d)
+sent_joined true n m d e is =
+    let same : n ≡ m = cc in
+    let to : e ≡ d = cc in
+    (refl, same, to)
 sent_joined false n m d e is = absurd (cc)
 
 came_unsent : (b : Bool) (n m : Mention) (d : ℕ) → (let k : EntryKind Mention = if b then kind.Came n else kind.Nothing in k) ≡ kind.Sent d m → ⊥
@@ -75,10 +78,14 @@ came_unsent true n m d is = cc
 came_unsent false n m d is = cc
 
 -- what the kind sends, the line sends on a route whose ends both have a section
-kind_sent : (trace : IndexedTrace) (a : Act) (d : ℕ) (m : Mention) → kind_of trace a ≡ kind.Sent d m → (a ≡ act.Sent m) × IsJoined trace m.route
+pub kind_sent : (trace : IndexedTrace) (a : Act) (d : ℕ) (m : Mention) → kind_of trace a ≡ kind.Sent d m
+    → (a ≡ act.Sent m) × IsJoined trace m.route × (slice_index trace.owners.items m.port ≡ d)
 kind_sent trace (act.Sent n) d m is =
-    let both = sent_joined (is_joined trace n) n m d (slice_index trace.owners.items n.port) is in
-    (ap act.Sent both.1, subst (λ (x : Mention). IsJoined trace x.route) both.1 (true_there (slice_get trace.joined.items n.route) both.0))
+    let all = sent_joined (is_joined trace n) n m d (slice_index trace.owners.items n.port) is in (
+      ap act.Sent all.1,
+      subst (λ (x : Mention). IsJoined trace x.route) all.1 (true_there (slice_get trace.joined.items n.route) all.0),
+      ap (λ (x : Mention). slice_index trace.owners.items x.port) (sym all.1) ∙ all.2,
+    )
 kind_sent trace (act.Came n) d m is = absurd (came_unsent (is_joined trace n) n m d is)
 kind_sent trace (act.Left n) d m is = absurd (cc)
 kind_sent trace act.End d m is = absurd (cc)

@@ -1,9 +1,9 @@
 -- What came, and where it was sent.
-use Rattle.std.proofs.Common.{◌≡◌, ℕ, ◌<◌, ◌==◌, ◌&&◌, Bool, true, false, cond, Option, Some, None, List, [], ◌∷◌}
+use Rattle.std.proofs.Common.{◌≡◌, ℕ, ◌<◌, ◌==◌, Bool, true, false, cond, Option, Some, None, List, [], ◌∷◌}
 use Rattle.std.proofs.Common.{length, refl, ap, sym, ◌∙◌, subst, eq-eqb, arith}
-use Rattle.std.specs.Prelude.{All, slice_get, slice_index, unwrap_or, option_and_then}
+use Rattle.std.specs.Prelude.{All, slice_get, slice_index, unwrap_or}
 use Rattle.std.specs.List.{cons_option}
-use Rattle.std.proofs.lemmas.Bool.{and_parts, and_from, cond-true, eqb-true, false≢true}
+use Rattle.std.proofs.lemmas.Bool.{cond-true, eqb-true, false≢true}
 use Rattle.std.proofs.lemmas.List.{take_all}
 use Rattle.std.proofs.lemmas.Option.{cond_some, none-some, get_or_from_slice_get, slice_get-get_or, slice_get_within}
 use Rattle.tp_judge.specs.declared.line.Parcel.{Parcel}
@@ -16,7 +16,7 @@ use Rattle.tp_judge.specs.declared.trace.IndexedTrace.{IndexedTrace}
 use Rattle.tp_judge.specs.Lines.{came_route, is_number, lines_with, parcel_of, sent_route}
 use Rattle.tp_judge.specs.Lawful.{AreLinesRouted, IsRouted, IsRoutedAct}
 use Rattle.tp_judge.specs.Delivered.{AreParcelsNumbered, Delivered, IsJoined, parcels}
-use Rattle.tp_judge.specs.OneRun.{came_mention, came_to, kept_for, is_joined, sent_mention, sent_to, ComesAt, IsSentAt}
+use Rattle.tp_judge.specs.OneRun.{ComesAt, IsSentAt}
 use Rattle.tp_judge.specs.OneRun.{LineAt}
 use Rattle.tp_judge.specs.Sendings.{came_parcel, came_parcels, sent_parcel, sent_parcels, HasCome, IsSendingsRow}
 use Rattle.tp_judge.proofs.RanksOfGivenElements.{rank_of, ranked, same_rank, unranked}
@@ -29,76 +29,6 @@ all_at P xs k x all at =
 pub true_there : (o : Option Bool) → unwrap_or o false ≡ true → o ≡ Some true
 true_there None is = absurd (false≢true is)
 true_there (Some b) is = ap Some is
-
--- a message that is kept for a component
-pub record IsKept (trace : IndexedTrace) (component receiver : ℕ) (m n : Mention) : Type 0 where
-  pub same : m ≡ n
-  pub joined : IsJoined trace n.route
-  pub for : receiver ≡ component
-
-kept_some : (trace : IndexedTrace) (component receiver : ℕ) (m n : Mention) → kept_for trace component receiver m ≡ Some n
-    → IsKept trace component receiver m n
-kept_some trace component receiver m n is =
-    let both = cond_some (is_joined trace m && (receiver == component)) m n is in
-    let parts = and_parts (is_joined trace m) (receiver == component) both.0 in
-    record {
-      same = both.1;
-      joined = subst (λ (l : Mention). IsJoined trace l.route) both.1 (true_there (slice_get trace.joined.items m.route) parts.0);
-      for = eqb-true receiver component parts.1;
-    }
-
-kept_from : (trace : IndexedTrace) (component receiver : ℕ) (m : Mention) → IsJoined trace m.route → receiver ≡ component
-    → kept_for trace component receiver m ≡ Some m
-kept_from trace component receiver m joined is =
-    cond-true (is_joined trace m && (receiver == component)) (Some m) None
-    (and_from (is_joined trace m) (receiver == component) (ap (λ o. unwrap_or o false) joined) (eq-eqb receiver component is))
-
--- what is sent to a component
-pub record IsSending (trace : IndexedTrace) (component : ℕ) (a : Act) (m : Mention) : Type 0 where
-  pub is : a ≡ act.Sent m
-  pub joined : IsJoined trace m.route
-  pub for : slice_index trace.owners.items m.port ≡ component
-
-sending_act : (trace : IndexedTrace) (component : ℕ) (a : Act) (m : Mention)
-    → option_and_then (λ n. kept_for trace component (slice_index trace.owners.items n.port) n) (sent_mention a) ≡ Some m
-    → IsSending trace component a m
-sending_act trace component (act.Sent n) m is =
-    let kept = kept_some trace component (slice_index trace.owners.items n.port) n m is in
-    record {
-      is = ap act.Sent kept.same;
-      joined = kept.joined;
-      for = ap (λ (l : Mention). slice_index trace.owners.items l.port) (sym kept.same) ∙ kept.for;
-    }
-sending_act trace component _ m is = absurd (none-some m is)
-
-pub sent_to_some : (trace : IndexedTrace) (component : ℕ) (line : IndexedLine) (m : Mention) → sent_to trace component line ≡ Some m
-    → IsSending trace component line.act m
-sent_to_some trace component line m is = sending_act trace component line.act m is
-
-pub sent_to_from : (trace : IndexedTrace) (component : ℕ) (line : IndexedLine) (m : Mention) → line.act ≡ act.Sent m → IsJoined trace m.route
-    → slice_index trace.owners.items m.port ≡ component → sent_to trace component line ≡ Some m
-sent_to_from trace component line m is joined for =
-    ap (λ a. option_and_then (λ n. kept_for trace component (slice_index trace.owners.items n.port) n) (sent_mention a)) is
-    ∙ kept_from trace component (slice_index trace.owners.items m.port) m joined for
-
-came_act : (trace : IndexedTrace) (component place : ℕ) (line : IndexedLine) (a : Act) (m : Mention) → LineAt trace place line → line.act ≡ a
-    → option_and_then (λ n. kept_for trace component line.component n) (came_mention a) ≡ Some m
-    → ComesAt trace component place m
-came_act trace component place line (act.Came n) m at says is =
-    let kept = kept_some trace component line.component n m is in
-    record { line = line; at = at; within = kept.for; is = (says ∙ ap act.Came kept.same, kept.joined) }
-came_act trace component place line _ m at says is = absurd (none-some m is)
-
--- what came to it
-pub came_to_some : (trace : IndexedTrace) (component place : ℕ) (line : IndexedLine) (m : Mention) → LineAt trace place line
-    → came_to trace component line ≡ Some m → ComesAt trace component place m
-came_to_some trace component place line m at is = came_act trace component place line line.act m at refl is
-
-pub came_to_from : (trace : IndexedTrace) (component place : ℕ) (m : Mention) (c : ComesAt trace component place m)
-    → came_to trace component c.line ≡ Some m
-came_to_from trace component place m c =
-    ap (λ a. option_and_then (λ n. kept_for trace component c.line.component n) (came_mention a)) c.is.0
-    ∙ kept_from trace component c.line.component m c.is.1 c.within
 
 -- the parcels of a route, by its lines and by all lines
 filter_parcels : (b : Bool) (line : IndexedLine) (lines : List IndexedLine)
@@ -186,6 +116,13 @@ sent_once trace s t m delivered joined first second =
     first.at second.at (sent_gives m first.line.act first.is) (sent_gives m second.line.act second.is)
     (sym (sent_number trace s m delivered joined first) ∙ sent_number trace t m delivered joined second)
 
+-- and comes once
+pub comes_once : (trace : IndexedTrace) (c d j k : ℕ) (m : Mention) → Delivered trace → ComesAt trace c j m → ComesAt trace d k m → j ≡ k
+comes_once trace c d j k m delivered first second =
+    same_rank (λ (line : IndexedLine). came_parcel m.route line.act) trace.lines.items j k first.line second.line m.parcel m.parcel
+    first.at second.at (came_gives m first.line.act first.is.0) (came_gives m second.line.act second.is.0)
+    (sym (came_number trace c j m delivered first) ∙ came_number trace d k m delivered second)
+
 -- what an act that sends a parcel on a route is
 sent_inverse : (route : ℕ) (a : Act) (p : Parcel) → sent_parcel route a ≡ Some p
     → (m : Mention) × (a ≡ act.Sent m) × (m.route ≡ route) × (m.parcel ≡ p)
@@ -235,16 +172,7 @@ sends_it trace component place sending m line r c at is =
     let port = first ∙ ap (slice_index r.ports) n.2 ∙ sym second in
     record { line = line; at = at; is = n.1 ∙ ap act.Sent (same_mention n.0 m port n.2 n.3) }
 
--- what came was sent
-pub sent_there : (trace : IndexedTrace) (component place : ℕ) (m : Mention) → AreLinesRouted trace → Delivered trace
-    → ComesAt trace component place m → (s : ℕ) × IsSentAt trace s m
-sent_there trace component place m r delivered c =
-    let found = unranked (λ (line : IndexedLine). sent_parcel m.route line.act) trace.lines.items
-    (rank_of (λ (line : IndexedLine). came_parcel m.route line.act) trace.lines.items place) m.parcel
-    (came_there trace component place m delivered c) in
-    (found.place, sends_it trace component place found.place m found.element r c found.at found.gives)
-
--- and what was sent comes, to the component that it's for
+-- what was sent comes, to the component that it's for
 pub comes_there : (trace : IndexedTrace) (component place : ℕ) (m : Mention) → AreLinesRouted trace → Delivered trace → IsJoined trace m.route
     → slice_index trace.owners.items m.port ≡ component → IsSentAt trace place m → (k : ℕ) × ComesAt trace component k m
 comes_there trace component place m r delivered joined for s =

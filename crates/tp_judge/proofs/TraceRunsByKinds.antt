@@ -48,7 +48,7 @@ came_no_look : (b : Bool) (m : Mention) → (let k : EntryKind Mention = if b th
 came_no_look true m is = cc
 came_no_look false m is = cc
 
-looks_of : (trace : IndexedTrace) (a : Act) → kind_of trace a ≡ kind.Looked → is_looking a ≡ true
+pub looks_of : (trace : IndexedTrace) (a : Act) → kind_of trace a ≡ kind.Looked → is_looking a ≡ true
 looks_of trace (act.Sent m) is = absurd (sent_no_look (is_joined trace m) (slice_index trace.owners.items m.port) m is)
 looks_of trace (act.Came m) is = absurd (came_no_look (is_joined trace m) m is)
 looks_of trace (act.Left m) is = absurd (cc)
@@ -158,7 +158,7 @@ module _ (trace : IndexedTrace) (sections : List Section) (are : AreSections tra
       let P : ℕ → Type 0 = λ x. p < end x in
       subst P same h.1
 
-  there : (c p : ℕ) (line : IndexedLine) → LineAt trace p line → line.component ≡ c → slice_get (kinds c) p ≡ Some (kind_of trace line.act)
+  pub there : (c p : ℕ) (line : IndexedLine) → LineAt trace p line → line.component ≡ c → slice_get (kinds c) p ≡ Some (kind_of trace line.act)
   there c p line at same =
       kind_there trace sections c p line at (low_line c p line at same) ∙ ap Some (in_own trace c line same)
 

@@ -1,26 +1,41 @@
 -- The ends of each section, line by line.
 use Rattle.std.proofs.Common.{◌≡◌, inl, inr, ℕ, ◌+◌, ◌<◌, ◌≤◌, ◌==◌, Bool, true, false, Some, List, length, set, map, take}
-use Rattle.std.proofs.Common.{get_or, replicate, refl, sym, ap, ◌∙◌, subst, arith, if◌then◌else◌}
-use Rattle.std.specs.Prelude.{slice_get, slice_index_or}
+use Rattle.std.proofs.Common.{get_or, replicate, sym, ap, ◌∙◌, subst, arith, if◌then◌else◌}
+use Rattle.std.specs.Prelude.{slice_get}
 use Rattle.std.proofs.lemmas.Bool.{cases_eq, cases_lt, ne_eqb}
 use Rattle.std.proofs.lemmas.List.{get_or_default, get_or_past, get_or-replicate, get_or-set_same, get_or-set_other, length-map, length-replicate}
 use Rattle.std.proofs.lemmas.List.{length-set, length-take-le}
-use Rattle.std.proofs.lemmas.Option.{same_Some}
+use Rattle.std.proofs.lemmas.Option.{same_Some, slice_get-get_or}
 use Rattle.tp_judge.specs.declared.kind.EntryKind.{EntryKind}
 use Rattle.tp_judge.specs.declared.kind.EntryKind.TheVariants as kind
 use Rattle.tp_judge.specs.declared.line.Mention.{Mention}
 use Rattle.tp_judge.specs.declared.line.IndexedLine.{IndexedLine}
+use Rattle.tp_judge.specs.declared.line.By.TheVariants as by
 use Rattle.tp_judge.specs.declared.sections.Section.{Section}
 use Rattle.tp_judge.specs.declared.trace.IndexedTrace.{IndexedTrace}
+use Rattle.tp_judge.specs.Lawful.{AreWithin}
+use Rattle.tp_judge.specs.Lines.{HasKeyBelow}
 use Rattle.tp_judge.specs.OneRun.{LineAt}
 use Rattle.tp_judge.specs.OrderProgress.{BeginSo}
 use Rattle.tp_judge.specs.TraceKinds.{AreSections, extended, kind_in, kind_of, kinds_of, no_section, section_at}
 use Rattle.tp_judge.proofs.RanksOfGivenElements.{in_front, slice_there}
 use Rattle.tp_judge.proofs.RenamedHistories.{at_map}
+use Rattle.tp_judge.proofs.SendingOfEachArrival.{all_at}
 
 -- as many lines as were counted
 pub count_is : (trace : IndexedTrace) (n : ℕ) → n ≡ trace.lines.len → length trace.lines.items ≡ n
 count_is trace n is = let same = trace.lines.ok in omega arith
+
+-- what is read at a place
+pub line_read : (trace : IndexedTrace) (place : ℕ) (line : IndexedLine) → place < length trace.lines.items → line ≡ get_or trace.lines.items place line
+    → LineAt trace place line
+line_read trace place line below is = slice_get-get_or trace.lines.items place line below ∙ ap Some (sym is)
+
+-- each line is of a component
+pub component_below : (trace : IndexedTrace) (place : ℕ) (line : IndexedLine) → AreWithin trace → LineAt trace place line
+    → line.component < trace.components
+component_below trace place line within at =
+    all_at (HasKeyBelow by.Component trace.components) trace.lines.items place line within.sections at
 
 -- the section that is read
 pub section_read : (sections : List Section) (c : ℕ) (s : Section) → c < length sections → s ≡ get_or sections c s → s ≡ section_at sections c

@@ -6,7 +6,7 @@ use Rattle.tp_judge.specs.declared.progress.OrderProgress.{OrderProgress}
 use Rattle.tp_judge.specs.declared.kind.EntryKind.{EntryKind}
 use Rattle.tp_judge.specs.declared.kind.EntryKind.TheVariants as kind
 use Rattle.tp_judge.specs.Kinds.{AreOwnedBy, Kinds, Spot, came_in, sent_by, sends}
-use Rattle.tp_judge.specs.OrderProgress.{IsGone}
+use Rattle.tp_judge.specs.OrderProgress.{HasSize, IsGone}
 
 -- how many messages are sent to the component in this history
 abbrev pub count_sent_to : {M : Type 0} → ℕ → List (EntryKind M) → ℕ
@@ -59,6 +59,13 @@ CannotGoOn {M} kinds at came out c =
 -- none can
 abbrev pub IsStuck : {M : Type 0} → Kinds M → (ℕ → ℕ) → (ℕ → ℕ) → (ℕ → ℕ) → Type 0
 IsStuck {M} kinds at came out = (c : ℕ) → CannotGoOn kinds at came out c
+
+-- the histories of so many components are gone through so far, and none can go on
+pub record IsStuckSearch {M : Type 0} (kinds : Kinds M) (size : ℕ) (progress : OrderProgress) : Type 0 where
+  pub size_is : HasSize progress size
+  pub gone : IsProgress kinds progress
+  pub stuck : IsStuck kinds (slice_index progress.places.items) (slice_index progress.came.items)
+      (slice_index progress.sent.items)
 
 -- the sum of the first so many of these
 abbrev pub sum_below : (ℕ → ℕ) → ℕ → ℕ

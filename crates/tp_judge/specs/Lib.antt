@@ -26,7 +26,7 @@ pub mod Demands
 pub mod OneRun
 pub mod TraceKinds
 pub mod Sendings
-pub mod Latest
+pub mod Stuck
 pub mod Circles
 pub mod Judged
 pub mod ToldOf

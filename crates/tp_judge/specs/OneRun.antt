@@ -26,9 +26,10 @@
 --     0  b  else                     One run, by the order 0 2: the `else` looked before the call was sent.
 --     1  b  came p a 0 call
 --     2  a  sent b.p 0 call
-use Rattle.std.specs.Prelude.{◌≡◌, ◌<◌, ◌≤◌, ◌+◌, ◌-◌, ◌==◌, ◌&&◌, ℕ, Bool, true, false, Option, Some, None, List}
+use Rattle.std.specs.Prelude.{◌≡◌, ◌<◌, ◌≤◌, ◌==◌, ◌&&◌, ℕ, Bool, true, false, Option, Some, None, List}
 use Rattle.std.specs.Prelude.{All, Contains, cond, length, take, slice_get, slice_index, option_and_then, unwrap_or}
 use Rattle.std.specs.List.{filter_map}
+use Rattle.tp_judge.specs.Circle.{IsCircleOf}
 use Rattle.tp_judge.specs.OneOrder.{HasOneOrder, Histories, IsOrderOf}
 use Rattle.tp_judge.specs.declared.line.Mention.{Mention}
 use Rattle.tp_judge.specs.declared.line.Act.{Act}
@@ -94,10 +95,6 @@ LineAt trace place line = slice_get trace.lines.items place ≡ Some line
 -- what the line at this place sends to the component
 abbrev pub sent_from : IndexedTrace → ℕ → ℕ → Option Mention
 sent_from trace component place = option_and_then (sent_to trace component) (slice_get trace.lines.items place)
-
--- what the lines at these places send to it, in their order
-abbrev pub all_sent_to : IndexedTrace → ℕ → List ℕ → List Mention
-all_sent_to trace component places = filter_map (sent_from trace component) places
 
 -- what came in the component's section before this place
 abbrev pub all_came_to : IndexedTrace → ℕ → ℕ → List Mention
@@ -180,11 +177,8 @@ abbrev pub IsLeastOf : List ℕ → ℕ → Type 0
 IsLeastOf xs least = Contains xs least × All (λ x. least ≤ x) xs
 
 -- a circle of the demands: each of these places has to stand before the next, and the last before the first
-pub record IsDemandCircle (trace : IndexedTrace) (circle : List ℕ) : Type 0 where
-  pub some : 0 < length circle
-  pub next : (i : ℕ) → i + 1 < length circle
-      → IsDemanded trace (slice_index circle i) (slice_index circle (i + 1))
-  pub round : IsDemanded trace (slice_index circle (length circle - 1)) (slice_index circle 0)
+abbrev pub IsDemandCircle : IndexedTrace → List ℕ → Type 0
+IsDemandCircle trace circle = IsCircleOf (IsDemanded trace) circle
 
 -- the trace isn't one run, and the line of this number is the first, in the order of the text, of a circle of the
 -- demands

@@ -23,7 +23,11 @@ fn held_up(alloc: Global, demands: &[Demand], waits: &[usize]) -> Result<Vec<usi
     Ok(from)
 }
 
-fn back_from(alloc: Global, path: &[usize], place: usize) -> Result<Vec<usize>, AllocError>
+pub(crate) fn back_from(
+    alloc: Global,
+    path: &[usize],
+    place: usize,
+) -> Result<Vec<usize>, AllocError>
     requires { place ≤ length path.now }
     ensures { IfOk result (λ v. v.items ≡ reverse (drop place path.now)) }
 {

@@ -1,6 +1,6 @@
 //! The lines of a trace, with numbers instead of names and messages.
 ghost use Rattle.std.specs.Prelude.{◌≡◌};
-ghost use Rattle.tp_judge.specs.OneRun.{is_looking};
+ghost use Rattle.tp_judge.specs.OneRun.{is_own};
 ghost use Rattle.tp_judge.specs.Lines.{came_route, event_port, key_of, left_port, parcel_of, sent_route};
 
 /// Two messages have the same number if and only if their bytes are the same.
@@ -134,19 +134,23 @@ impl Act {
         }
     }
 
-    pub(crate) fn is_looking(self) -> bool
-        ensures { result ≡ is_looking self }
+    /// Whether the component did this itself.
+    pub(crate) fn is_own(self) -> bool
+        ensures { result ≡ is_own self }
     {
         match self {
-            Act::Took(_)
+            Act::Came(_) | Act::Left(_) => false,
+            Act::Sent(_)
+            | Act::Took(_)
             | Act::Found(_)
             | Act::Dropped(_)
             | Act::Cleared(_)
             | Act::Started(_)
             | Act::Stopped(_)
             | Act::Halted(_)
-            | Act::Else => true,
-            Act::Sent(_) | Act::Came(_) | Act::Left(_) | Act::End | Act::Other => false,
+            | Act::Else
+            | Act::End
+            | Act::Other => true,
         }
     }
 

@@ -6,13 +6,14 @@ ghost use Rattle.tp_judge.specs.OneOrder.{HasOneOrder};
 ghost use Rattle.tp_judge.specs.Kinds.{AreOwned, came_in, histories_of};
 ghost use Rattle.tp_judge.specs.OrderProgress.{AreBegun, BeginSo, HasSpace, HasSize, affected};
 ghost use Rattle.tp_judge.specs.OrderProgress.{came_then, sent_then};
-ghost use Rattle.tp_judge.specs.Greedy.{CanHappen, CannotGoOn, IsProgress, IsStuck, MaySend};
+ghost use Rattle.tp_judge.specs.Greedy.{CanHappen, CannotGoOn, IsProgress, IsStuck, IsStuckSearch};
+ghost use Rattle.tp_judge.specs.Greedy.{MaySend};
 ghost use Rattle.tp_judge.specs.Cursors.{AreCursorsOf, HasPassedLooks, IsAfterLooks, IsCursorOf};
 ghost use Rattle.tp_judge.specs.Cursors.{cursor_at};
 
 use crate::histories::Histories;
 use crate::kind::EntryKind;
-use crate::progress::{ArrivalCursor, OrderProgress};
+use crate::progress::{ArrivalCursor, OrderProgress, Search};
 use std::alloc::Global;
 use tp_common::memory::Memory;
 
@@ -51,7 +52,7 @@ fn find_arrival<H: Histories>(
 }
 
 /// The next message that is to be sent to the component, if another one came there.
-fn next_message<H: Histories>(
+pub(crate) fn next_message<H: Histories>(
     histories: &H,
     progress: &OrderProgress,
     cursors: &mut Vec<ArrivalCursor>,
@@ -383,17 +384,21 @@ fn pass_until_stuck<H: Histories>(
     Ok(())
 }
 
-fn is_ended<H: Histories>(histories: &H, progress: &OrderProgress) -> bool
-    requires { HasSize progress.now (H.size histories.now) }
-    ensures { IsTrue result ↔ ((c : ℕ) → c < H.size histories.now
-        → slice_index progress.now.places.items c ≡ length (H.kinds histories.now c)) }
+/// A component that isn't at the end of its history when the search is stuck; `None` if and only if
+/// there is one order.
+pub(crate) fn unfinished<H: Histories>(histories: &H, progress: &OrderProgress) -> Option<usize>
+    requires { IsStuckSearch (H.kinds histories.now) (H.size histories.now) progress.now }
+    ensures ended { IfNone result (HasOneOrder (histories_of (H.kinds histories.now))) }
+    ensures none { IfSome result (λ _. HasOneOrder (histories_of (H.kinds histories.now)) → ⊥) }
+    ensures unfinished { IfSome result (λ c. (c < H.size histories.now)
+        × (slice_index progress.now.places.items c < length (H.kinds histories.now c))) }
 {
     for c in 0..histories.size() {
-        if progress.places[c] != histories.end(c) {
-            return false;
+        if progress.places[c] < histories.end(c) {
+            return Some(c);
         }
     }
-    true
+    None
 }
 
 fn first_places<H: Histories>(alloc: Global, histories: &H) -> Result<Vec<usize>, Memory>
@@ -437,6 +442,22 @@ fn begin<H: Histories>(alloc: Global, histories: &H) -> Result<OrderProgress, Me
     Ok(OrderProgress { places, came, sent })
 }
 
+/// Goes through the histories as far as one order of everything that the components did goes.
+pub(crate) fn search_order<H: Histories>(alloc: Global, histories: &H) -> Result<Search, Memory>
+    requires owned { AreOwned (H.kinds histories.now) }
+    requires begun { BeginSo (H.kinds histories.now) (H.size histories.now)
+        (H.begin histories.now) }
+    ensures stuck { IfOk result (λ found.
+        IsStuckSearch (H.kinds histories.now) (H.size histories.now) found.progress) }
+    ensures cursors { IfOk result (λ found. AreCursorsOf (H.kinds histories.now)
+        (H.size histories.now) found.progress found.cursors.items) }
+{
+    let mut progress = begin(alloc, histories)?;
+    let mut cursors = cursors_at(alloc, &progress.places)?;
+    pass_until_stuck(alloc, histories, &mut progress, &mut cursors)?;
+    Ok(Search { progress, cursors })
+}
+
 /// Returns whether there is one order of everything that the components did that gives their
 /// histories, with each message in its queue as soon as it is sent. It takes time linear in the
 /// histories if `wake` forgets no component; no clause says so.
@@ -446,8 +467,6 @@ pub fn has_one_order<H: Histories>(alloc: Global, histories: &H) -> Result<bool,
         (H.begin histories.now) }
     ensures { IfOk result (λ is. IsTrue is ↔ HasOneOrder (histories_of (H.kinds histories.now))) }
 {
-    let mut progress = begin(alloc, histories)?;
-    let mut cursors = cursors_at(alloc, &progress.places)?;
-    pass_until_stuck(alloc, histories, &mut progress, &mut cursors)?;
-    Ok(is_ended(histories, &progress))
+    let found = search_order(alloc, histories)?;
+    Ok(unfinished(histories, &found.progress).is_none())
 }

@@ -1,15 +1,14 @@
 //! Decides whether a trace is one run.
-ghost use Rattle.std.specs.Prelude.{◌↔◌, IfOk, IsTrue};
+ghost use Rattle.std.specs.Prelude.{IfOk};
 ghost use Rattle.tp_judge.specs.Delivered.{Delivered};
 ghost use Rattle.tp_judge.specs.Lawful.{AreLinesRouted, AreWithin};
-ghost use Rattle.tp_judge.specs.OneRun.{IsOneRun, IsOneRunAnswer};
+ghost use Rattle.tp_judge.specs.OneRun.{IsOneRunAnswer};
 
-use crate::answer::Answer;
 use crate::circles::least;
-use crate::one_order::has_one_order;
-use crate::order::order_or_circle;
-use crate::run_demands::make_run_demands;
+use crate::one_order::{search_order, unfinished};
+use crate::progress::Search;
 use crate::sections::trace_histories;
+use crate::stuck::demand_circle;
 use crate::trace::IndexedTrace;
 use std::alloc::Global;
 use tp_common::memory::Memory;
@@ -24,15 +23,6 @@ pub enum OneRun {
     Delayed(u32),
 }
 
-fn is_one_run(alloc: Global, trace: &IndexedTrace) -> Result<bool, Memory>
-    requires within { AreWithin trace.now }
-    requires delivered { Delivered trace.now }
-    ensures { IfOk result (λ is. IsTrue is ↔ IsOneRun trace.now) }
-{
-    let histories = trace_histories(alloc, trace)?;
-    has_one_order(alloc, &histories)
-}
-
 /// Decides whether a trace whose routes are lawful is one run (ES 201 873-4), in time linear in the
 /// numbers of its lines, components and routes. Its numbers are below its counts, and each line's
 /// port is the one at the end of its route.
@@ -42,14 +32,16 @@ pub fn one_run(alloc: Global, trace: &IndexedTrace) -> Result<OneRun, Memory>
     requires delivered { Delivered trace.now }
     ensures { IfOk result (IsOneRunAnswer trace.now) }
 {
-    if is_one_run(alloc, trace)? {
-        return Ok(OneRun::OneRun);
-    }
-    // Only a circle needs the demands.
-    let demands = make_run_demands(alloc, trace)?;
-    match order_or_circle(alloc, trace.lines.len(), &demands)? {
-        // It never comes to this: an order that meets the demands is one run, and there is none.
-        Answer::Ordered(_) => Ok(OneRun::OneRun),
-        Answer::Circle(circle) => Ok(OneRun::Delayed(trace.lines[least(&circle)].number)),
+    let histories = trace_histories(alloc, trace)?;
+    let Search {
+        progress,
+        mut cursors,
+    } = search_order(alloc, &histories)?;
+    match unfinished(&histories, &progress) {
+        None => Ok(OneRun::OneRun),
+        Some(c) => {
+            let circle = demand_circle(alloc, &histories, &progress, &mut cursors, c)?;
+            Ok(OneRun::Delayed(trace.lines[least(&circle)].number))
+        }
     }
 }

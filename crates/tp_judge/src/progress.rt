@@ -19,3 +19,10 @@ pub(crate) struct ArrivalCursor {
     /// The place after the last look before it, or 0 if there is none.
     pub(crate) after: usize,
 }
+
+/// A search that can go on nowhere.
+#[derive(Drop)]
+pub(crate) struct Search {
+    pub(crate) progress: OrderProgress,
+    pub(crate) cursors: Vec<ArrivalCursor>,
+}

@@ -21,7 +21,7 @@ pub(crate) struct Section {
 
 #[derive(Drop)]
 pub(crate) struct TraceHistories<'t> {
-    trace: &'t IndexedTrace,
+    pub(crate) trace: &'t IndexedTrace,
     sections: Vec<Section>,
     /// For each route a component that sends on it.
     senders: Vec<u32>,

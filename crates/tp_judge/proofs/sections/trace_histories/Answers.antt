@@ -2,8 +2,7 @@
 use Rattle.std.proofs.Common.{◌≡◌, ◌<◌, ◌+◌, length, set, sym, ap, ◌∙◌, subst, arith}
 use Rattle.tp_judge.specs.declared.sections.Section.{Section}
 use Rattle.tp_judge.specs.TraceKinds.{AreSections, extended}
-use Rattle.tp_judge.proofs.DemandMakingGrowth.{component_below, line_read}
-use Rattle.tp_judge.proofs.TraceSections.{count_is, section_read, sections_more, sections_none}
+use Rattle.tp_judge.proofs.TraceSections.{component_below, count_is, line_read, section_read, sections_more, sections_none}
 use Rattle.tp_judge.proofs.sections.trace_histories.Goals as goal
 
 pub loop-place-init : goal.loop-place-init
