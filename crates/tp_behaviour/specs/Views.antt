@@ -11,7 +11,7 @@ use Rattle.tp_behaviour.specs.declared.choice.TemplateView.TheVariants as templa
 -- the template, wherever it stands
 abbrev pub template_in : TemplateView → MsgTemplate
 template_in (template_view.Lasting x) = x.now
-template_in (template_view.Filled x) = x
+template_in (template_view.Filled x) = x.value
 
 -- the messages that it wants
 abbrev pub Seeks : TemplateView → Message → Type 0

@@ -60,6 +60,7 @@ pub fn behave<R: Wait, G: Gate>(
         lasting: lasting.as_slice(),
     };
     let execution = Execution { rt, gate, task };
-    let outcome = execute(&execution, &mut *worker, &mut frame, block)?;
+    let mut outcome = Outcome::Done;
+    execute(&execution, &mut *worker, &mut frame, block, &mut outcome)?;
     Ok(outcome)
 }

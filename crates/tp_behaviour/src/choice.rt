@@ -27,8 +27,9 @@ pub struct Guard {
 pub enum TemplateView<'t> {
     /// A template without a loop variable: it was filled once for the whole behaviour.
     Lasting(&'t MsgTemplate),
-    /// A template filled for this turn of the loop.
-    Filled(MsgTemplate),
+    /// A template filled for this turn of the loop. Boxed, because few are, and each look at a
+    /// branch moves a view.
+    Filled(Box<MsgTemplate>),
 }
 
 impl Wanted<Message> for TemplateView<'_> {

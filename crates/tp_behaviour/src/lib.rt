@@ -18,7 +18,6 @@ mod lasting;
 mod looking;
 pub mod outbox;
 pub mod outcome;
-mod playing;
 mod receiving;
 mod sending;
 mod statements;

@@ -55,11 +55,13 @@ fn view_template<'t>(
         Some(template) => Ok(TemplateView::Lasting(template)),
         None => {
             let made = fill_template(alloc, wanted, turns)?;
-            Ok(TemplateView::Filled(made))
+            Ok(TemplateView::Filled(Box::new(alloc, made)?))
         }
     }
 }
 
+// A call would copy the view once more for each receiving operation.
+#[inline(always)]
 fn view_guard<'t>(
     task: &Task<'_>,
     frame: &Frame,
@@ -144,6 +146,7 @@ fn keep(variables: &mut Vec<Option<Held>>, place: Option<usize>, held: Held)
 
 /// Stores what was taken or found in the variables that the operation names: first the value, then
 /// the sender (ES 201 873-1, 22.2.2).
+#[inline(always)]
 pub(crate) fn redirect(task: &Task<'_>, frame: &mut Frame, receiving: &Receiving, env: Env<Message>)
     requires can { CanReceive (stage_at task.now) (depth_of frame.old) receiving.now }
     requires held { HoldsAsDeclared task.now frame.old }
@@ -174,31 +177,34 @@ pub(crate) fn receive<R: Wait, G: Gate>(
     frame: &mut Frame,
     receiving: &Receiving,
     lasting: &Option<MsgTemplate>,
-) -> Result<Outcome, Memory>
+    outcome: &mut Outcome,
+) -> Result<(), Memory>
     requires consistent { IsConsistent (role_of execution.now.task.now) worker.old }
     requires held { HoldsAsDeclared execution.now.task.now frame.old }
     requires can { CanReceive (stage_at execution.now.task.now) (depth_of frame.old) receiving.now }
     requires lasting { IsWantedAlways receiving.now.wanted lasting.now }
+    requires goes_on { outcome.old ≡ Outcome.Done }
     ensures consistent { OnOk result (IsConsistent (role_of execution.now.task.now) worker.new) }
     ensures same { OnOk result (KeepsInboxes worker.old worker.new) }
     ensures held { OnOk result (HoldsAsDeclared execution.now.task.now frame.new) }
     ensures turns { OnOk result (frame.new.turns.items ≡ frame.old.turns.items) }
-    ensures ended { IfOk result (λ o.
-        Stepped execution.now.task.now (statement.Receive receiving.now) o
+    ensures ended { OnOk result
+        (Stepped execution.now.task.now (statement.Receive receiving.now) outcome.new
         worker.old frame.old worker.new frame.new) }
-    ensures within { IfOk result (WaitsWithin worker.old.desk.ports) }
+    ensures within { OnOk result (WaitsWithin worker.old.desk.ports outcome.new) }
 {
     let view = view_guard(execution.task, &*frame, receiving, lasting)?;
     match choose(execution, &mut *worker, &[view], false)? {
         Choice::Branch(_, env) => {
             redirect(execution.task, &mut *frame, receiving, env);
-            Ok(Outcome::Done)
+            Ok(())
         }
         Choice::Waits => {
             let guard = fill_guard(execution.task, &*frame, receiving)?;
             let mut guards = Vec::with_capacity(execution.task.alloc, 1)?;
             guards.push_reserved(guard);
-            Ok(Outcome::Waiting(guards))
+            *outcome = Outcome::Waiting(guards);
+            Ok(())
         }
         // There is no `[else]` beside it.
         Choice::Else => unreachable!(),

@@ -2,11 +2,12 @@
 ghost use Rattle.std.specs.Prelude.{◌≡◌, ◌++◌, ◌∷◌, [], ℕ, All, Contains, IfOk, OnOk, length};
 ghost use Rattle.std.specs.List.{AllZip};
 ghost use Rattle.tp_play.specs.declared.body.Receiver.TheVariants as receiver;
+ghost use Rattle.tp_play.specs.declared.body.ResolvedStatement.TheVariants as statement;
 ghost use Rattle.tp_play.specs.Playable.{CanSend};
 ghost use Rattle.tp_behaviour.specs.BehaviourEnds.{IsFailure};
 ghost use Rattle.tp_behaviour.specs.Held.{IsNamed, IsSentAs};
 ghost use Rattle.tp_behaviour.specs.Outboxes.{routes_of};
-ghost use Rattle.tp_behaviour.specs.Outcomes.{HoldsAsDeclared, depth_of, stage_at};
+ghost use Rattle.tp_behaviour.specs.Outcomes.{HoldsAsDeclared, Stepped, WaitsWithin, depth_of, stage_at};
 ghost use Rattle.tp_behaviour.specs.Paths.{IsSentOn, IsStarted};
 ghost use Rattle.tp_behaviour.specs.LookOutcomes.{AddsEntry, TraceGrew};
 ghost use Rattle.tp_behaviour.specs.Sends.{CanName, SendsAt, next_sent};
@@ -15,6 +16,7 @@ ghost use Rattle.tp_behaviour.specs.Workers.{IsConsistent, KeepsInboxes, role_of
 use crate::execution::Execution;
 use crate::gate::Gate;
 use crate::looking::note;
+use crate::outcome::Outcome;
 use crate::task::Task;
 use crate::values::{message_of, named_of};
 use crate::worker::{Frame, Worker};
@@ -215,7 +217,7 @@ fn send_started<R: Wait, G: Gate>(
 /// is one: 40 `NotSending` if the port isn't started; else 43 `UnsetVariable` if a variable of the
 /// send isn't set; else 41 `NoRoute` if there is no route, or none to the component named, or 42
 /// `NeedsTo` if there are several and no component is named.
-pub(crate) fn send<R: Wait, G: Gate>(
+fn send<R: Wait, G: Gate>(
     execution: &Execution<'_, R, G>,
     worker: &mut Worker,
     frame: &Frame,
@@ -239,5 +241,33 @@ pub(crate) fn send<R: Wait, G: Gate>(
             sending,
             SendFault::NotSending,
         )
+    }
+}
+
+/// Executes a send as a statement, and stores the fault that ends the behaviour, if there is one.
+pub(crate) fn play_send<R: Wait, G: Gate>(
+    execution: &Execution<'_, R, G>,
+    worker: &mut Worker,
+    frame: &Frame,
+    sending: &SendOperation,
+    outcome: &mut Outcome,
+) -> Result<(), Memory>
+    requires consistent { IsConsistent (role_of execution.now.task.now) worker.old }
+    requires held { HoldsAsDeclared execution.now.task.now frame.now }
+    requires can { CanSend (stage_at execution.now.task.now) (depth_of frame.now) sending.now }
+    requires goes_on { outcome.old ≡ Outcome.Done }
+    ensures consistent { OnOk result (IsConsistent (role_of execution.now.task.now) worker.new) }
+    ensures same { OnOk result (KeepsInboxes worker.old worker.new) }
+    ensures ended { OnOk result
+        (Stepped execution.now.task.now (statement.Send sending.now) outcome.new
+        worker.old frame.now worker.new frame.now) }
+    ensures within { OnOk result (WaitsWithin worker.old.desk.ports outcome.new) }
+{
+    match send(execution, &mut *worker, frame, sending)? {
+        None => Ok(()),
+        Some(fault) => {
+            *outcome = Outcome::Error(fault);
+            Ok(())
+        }
     }
 }

@@ -23,12 +23,12 @@ execute-requires-clause-lasting g c κs within = subst (AreLasting c.as_slice-st
 
 pub returns-clause-ended : goal.returns-clause-ended
 returns-clause-ended g c =
-    has_ended (role_of c.args.task.now) c.args.task.now.behaviour.body.now c.in_ok-outcome.outcome c.in_ok-frame.frame.turns.items
+    has_ended (role_of c.args.task.now) c.args.task.now.behaviour.body.now c.execute.new.outcome c.in_ok-frame.frame.turns.items
     c.in_ok-frame.frame.variables.items
     c.as_slice-statements.result.now c.execute.new.frame.variables.items c.args.worker.now.desk.log c.execute.new.worker.desk.log
-    c.in_ok-frame.ensures.turns c.in_ok-frame.ensures.variables c.as_slice-statements.ensures c.requires.begun c.in_ok-outcome.ensures.ended
+    c.in_ok-frame.ensures.turns c.in_ok-frame.ensures.variables c.as_slice-statements.ensures c.requires.begun c.in_ok-execute.ensures.ended
 
 pub returns-clause-within : goal.returns-clause-within
 returns-clause-within g c =
-    waits_from c.args.task.now c.execute.new.worker c.args.worker.now c.in_ok-outcome.outcome c.in_ok-outcome.ensures.consistent c.requires.consistent
-    c.in_ok-outcome.ensures.within
+    waits_from c.args.task.now c.execute.new.worker c.args.worker.now c.execute.new.outcome c.in_ok-execute.ensures.consistent c.requires.consistent
+    c.in_ok-execute.ensures.within

@@ -8,6 +8,7 @@ use Rattle.tp_behaviour.specs.declared.held.Held.{Held}
 use Rattle.tp_behaviour.specs.Held.{guard_of}
 use Rattle.tp_behaviour.specs.Paths.{IsStep}
 use Rattle.tp_behaviour.specs.LookOutcomes.{Chose, TraceGrew}
+use Rattle.tp_behaviour.specs.Outcomes.{EndsStep}
 use Rattle.tp_behaviour.specs.Workers.{role_of, values_of}
 use Rattle.tp_behaviour.specs.Views.{viewed}
 use Rattle.tp_behaviour.proofs.ReceiveOutcomes.{received, waits_for}
@@ -22,8 +23,9 @@ returns-in-Branch-clause-ended g c =
     let k = c.args.worker.now.desk.log in
     let n = c.choose.new.worker.desk.log in
     let chose = rw c.in-Branch.is at c.in_ok-env.ensures.chose in
-    subst (λ (ws : List (Option Held)). TraceGrew (λ ts. IsStep r turns vs (b.Receive x) ts ws) k n) (sym c.redirect.ensures.set)
-    (received r turns vs x (viewed c.in_ok-view.view ∷ []) c.in-Branch.field-0 c.in-Branch.env k n (ap (λ (y : Guard). y ∷ []) c.in_ok-view.ensures) chose)
+    subst (λ o. TraceGrew (λ ts. EndsStep r o turns vs (b.Receive x) ts c.redirect.new.frame.variables.items) k n) (sym c.requires.goes_on)
+    (subst (λ (ws : List (Option Held)). TraceGrew (λ ts. IsStep r turns vs (b.Receive x) ts ws) k n) (sym c.redirect.ensures.set)
+    (received r turns vs x (viewed c.in_ok-view.view ∷ []) c.in-Branch.field-0 c.in-Branch.env k n (ap (λ (y : Guard). y ∷ []) c.in_ok-view.ensures) chose))
 
 pub returns-in-Waits-clause-ended : goal.returns-in-Waits-clause-ended
 returns-in-Waits-clause-ended g c =

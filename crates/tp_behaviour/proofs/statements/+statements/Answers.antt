@@ -2,7 +2,7 @@
 use Rattle.std.proofs.Common.{◌≡◌, ◌∙◌, ◌+◌, ◌+ℤ◌, ◌<ℤ◌, ◌≤ℤ◌, ◌++◌, ◌∷◌, [], get_or, length, of_z, pos, refl, to_z, w64, ap, sym, subst, SFits, arith, rules}
 use Rattle.std.proofs.lemmas.Int.{ints, to_z-of_z}
 use Rattle.std.proofs.lemmas.Option.{slice_get-get_or, slice_get_within}
-use Rattle.std.proofs.lemmas.Result.{IfOk-weaker}
+use Rattle.std.proofs.lemmas.Result.{on_ok_weaker}
 use Rattle.std.specs.Prelude.{List}
 use Rattle.tp_play.specs.declared.body.ResolvedStatement.{ResolvedStatement}
 use Rattle.tp_play.specs.declared.body.ResolvedStatement.TheVariants as b
@@ -20,7 +20,8 @@ use Rattle.tp_behaviour.proofs.BlockPathGrowth.{passed_all, passed_more, passed_
 use Rattle.tp_behaviour.proofs.LastingStatementRules.{lasts_alt, lasts_block, lasts_else, lasts_for, lasts_receive, zipped_get, zipped_long}
 use Rattle.tp_behaviour.proofs.WorkerInvariantOnArrivals.{same_then}
 use Rattle.tp_behaviour.proofs.PlayableBlocksAndBranches.{plays_at, plays_block}
-use Rattle.tp_behaviour.proofs.UnchangedWorkerPorts.{waits_from}
+use Rattle.tp_behaviour.proofs.StatementOutcomes.{carried}
+use Rattle.tp_behaviour.proofs.UnchangedWorkerPorts.{ports_there, waits_from}
 use Rattle.tp_behaviour.proofs.BlockTurnGrowth.{made_all, made_start, made_more, made_stop, none_there, turned_as, turned_empty}
 use Rattle.tp_behaviour.proofs.statements.+statements.Goals as goal
 
@@ -31,6 +32,7 @@ execute-loop-place-init g t c = record {
   same = record { inbox = refl; ends = refl };
   held = c.requires.held;
   turns = refl;
+  goes_on = c.requires.goes_on;
   passed = passed_start c.args.execution.now.task.now c.args.block.statements.now c.args.worker.now c.args.frame.now;
 }
 
@@ -42,7 +44,7 @@ execute-step-requires-clause-can g t c κs within =
 
 pub execute-loop-place-preserved : goal.execute-loop-place-preserved
 execute-loop-place-preserved g t c =
-    let step = c.in_ok-stop.ensures in
+    let step = c.in_ok-step.ensures in
     let done : Stepped c.args.execution.now.task.now c.statement-item.result outcome.Done c.loop-place.worker c.loop-place.frame c.step.new.worker
     c.step.new.frame = rw c.in-Done.is at step.ended in
     record {
@@ -50,6 +52,7 @@ execute-loop-place-preserved g t c =
       same = same_then c.args.worker.now c.loop-place.worker c.step.new.worker c.loop-place.invariant.same step.same;
       held = step.held;
       turns = step.turns ∙ c.loop-place.invariant.turns;
+      goes_on = c.in-Done.is;
       passed =
           passed_more c.args.execution.now.task.now c.args.block.statements.now c.loop-place.place c.statement-item.result c.args.worker.now c.args.frame.now
           c.loop-place.worker c.loop-place.frame
@@ -58,22 +61,24 @@ execute-loop-place-preserved g t c =
 
 pub execute-returns-in_default-clause-ended : goal.execute-returns-in_default-clause-ended
 execute-returns-in_default-clause-ended g t c =
-    passed_stop c.args.execution.now.task.now c.args.block.statements.now c.loop-place.place c.statement-item.result c.in_ok-stop.stop c.args.worker.now
+    passed_stop c.args.execution.now.task.now c.args.block.statements.now c.loop-place.place c.statement-item.result c.step.new.outcome c.args.worker.now
     c.args.frame.now
     c.loop-place.worker c.loop-place.frame c.step.new.worker c.step.new.frame c.in_default.not-Done
-    c.loop-place.invariant.turns c.loop-place-test.true c.statement-item.is c.loop-place.invariant.passed c.in_ok-stop.ensures.ended
+    c.loop-place.invariant.turns c.loop-place-test.true c.statement-item.is c.loop-place.invariant.passed c.in_ok-step.ensures.ended
 
 pub execute-returns-clause-ended : goal.execute-returns-clause-ended
 execute-returns-clause-ended g t c =
-    passed_all c.args.execution.now.task.now c.args.block.statements.now c.loop-place.place c.args.worker.now c.args.frame.now c.loop-place.worker
+    subst (λ o. Executed c.args.execution.now.task.now c.args.block.statements.now o c.args.worker.now c.args.frame.now c.loop-place.worker c.loop-place.frame)
+    (sym c.loop-place.invariant.goes_on)
+    (passed_all c.args.execution.now.task.now c.args.block.statements.now c.loop-place.place c.args.worker.now c.args.frame.now c.loop-place.worker
     c.loop-place.frame
-    c.loop-place-test.false c.loop-place.invariant.passed
+    c.loop-place-test.false c.loop-place.invariant.passed)
 
 -- the ports are the same throughout
 pub execute-returns-in_default-clause-within : goal.execute-returns-in_default-clause-within
 execute-returns-in_default-clause-within g t c =
-    waits_from c.args.execution.now.task.now c.args.worker.now c.loop-place.worker c.in_ok-stop.stop c.requires.consistent c.loop-place.invariant.consistent
-    c.in_ok-stop.ensures.within
+    waits_from c.args.execution.now.task.now c.args.worker.now c.loop-place.worker c.step.new.outcome c.requires.consistent c.loop-place.invariant.consistent
+    c.in_ok-step.ensures.within
 
 -- the block of a branch
 pub branch-execute-requires-clause-can : goal.branch-execute-requires-clause-can
@@ -85,11 +90,12 @@ branch-execute-requires-clause-can g t c κs within =
 pub branch-returns-clause-ended : goal.branch-returns-clause-ended
 branch-returns-clause-ended g t c =
     let x = get_or c.args.alt.branches.now c.args.place c.index-alt-place.result in
-    IfOk-weaker c.execute.result _ _
-    (λ o h. (
+    on_ok_weaker c.execute.result
+    (λ h. (
       x,
       slice_get-get_or c.args.alt.branches.now c.args.place c.index-alt-place.result c.requires.within,
-      subst (λ (l : List ResolvedStatement). Executed c.args.execution.now.task.now l o c.args.worker.now c.args.frame.now c.execute.new.worker c.execute.new.frame)
+      subst (λ (l : List ResolvedStatement). Executed c.args.execution.now.task.now l c.execute.new.outcome c.args.worker.now c.args.frame.now c.execute.new.worker
+          c.execute.new.frame)
           c.as_slice.ensures h,
     ))
     c.execute.ensures.ended
@@ -103,10 +109,13 @@ pub step-receive-requires-clause-can : goal.step-receive-requires-clause-can
 step-receive-requires-clause-can g t c κs within =
     plays_receive (stage_at c.args.execution.now.task.now) (depth_of c.args.frame.now) c.args.statement.now c.in-Receive.receiving c.in-Receive.is c.requires.can
 
-pub step-play_control-requires-clause-within : goal.step-play_control-requires-clause-within
-step-play_control-requires-clause-within g t c κs within =
-    plays_control (stage_at c.args.execution.now.task.now) (depth_of c.args.frame.now) c.args.statement.now c.in-Control.port c.in-Control.operation
-    c.in-Control.is c.requires.can
+pub step-control-requires-clause-within : goal.step-control-requires-clause-within
+step-control-requires-clause-within g t c κs within =
+    let p = c.args.execution.now.task.now in
+    let there = ports_there p c.args.worker.now c.requires.consistent in
+    let below = plays_control (stage_at p) (depth_of c.args.frame.now) c.args.statement.now c.in-Control.port c.in-Control.operation c.in-Control.is
+    c.requires.can in
+    omega (arith, there, below)
 
 pub step-play_alt-requires-clause-can : goal.step-play_alt-requires-clause-can
 step-play_alt-requires-clause-can g t c κs within = rw c.in-Alt.is at c.requires.can
@@ -159,19 +168,38 @@ step-turns-requires-clause-lasting g t c κs within =
     (lasts_for c.args.statement.now c.args.lasting.now c.in-For.first c.in-For.bound c.in-For.block c.in-For.is c.requires.lasting))
 
 -- what each statement comes to
+pub step-returns-in-Control-clause-ended : goal.step-returns-in-Control-clause-ended
+step-returns-in-Control-clause-ended g t c =
+    on_ok_weaker c.control.result
+    (carried c.args.execution.now.task.now c.args.statement.now (b.Control c.in-Control.port c.in-Control.operation) c.args.outcome.now c.args.worker.now
+    c.control.new.worker c.args.frame.now c.in-Control.is c.requires.goes_on)
+    c.control.ensures.stepped
+
+pub step-returns-in-AllPorts-clause-ended : goal.step-returns-in-AllPorts-clause-ended
+step-returns-in-AllPorts-clause-ended g t c =
+    on_ok_weaker c.all_ports.result
+    (carried c.args.execution.now.task.now c.args.statement.now (b.AllPorts c.in-AllPorts.operation) c.args.outcome.now c.args.worker.now
+    c.all_ports.new.worker c.args.frame.now c.in-AllPorts.is c.requires.goes_on)
+    c.all_ports.ensures.stepped
+
+pub step-returns-in-SetVerdict-clause-ended : goal.step-returns-in-SetVerdict-clause-ended
+step-returns-in-SetVerdict-clause-ended g t c =
+    on_ok_weaker c.set_verdict.result
+    (carried c.args.execution.now.task.now c.args.statement.now (b.SetVerdict c.in-SetVerdict.verdict) c.args.outcome.now c.args.worker.now
+    c.set_verdict.new.worker c.args.frame.now c.in-SetVerdict.is c.requires.goes_on)
+    c.set_verdict.ensures.stepped
+
 pub step-returns-in-For-clause-ended : goal.step-returns-in-For-clause-ended
 step-returns-in-For-clause-ended g t c =
     let low : SFits w64 c.in-For.first = search rules in
     let high : SFits w64 c.in-For.bound = search rules in
     let first = to_z w64 (of_z w64 c.in-For.first) in
     let bound = to_z w64 (of_z w64 c.in-For.bound) in
-    IfOk-weaker c.turns.result
-    (λ o. Turned c.args.execution.now.task.now first c.as_slice.result.now (turns_between first bound) o c.args.worker.now c.args.frame.now
-    c.turns.new.worker c.turns.new.frame)
-    (λ o. Stepped c.args.execution.now.task.now c.args.statement.now o c.args.worker.now c.args.frame.now c.turns.new.worker c.turns.new.frame)
-    (λ o h. step_for c.args.execution.now.task.now c.args.statement.now c.in-For.first c.in-For.bound first bound c.in-For.block c.as_slice.result.now o
+    on_ok_weaker c.turns.result
+    (step_for c.args.execution.now.task.now c.args.statement.now c.in-For.first c.in-For.bound first bound c.in-For.block c.as_slice.result.now
+    c.turns.new.outcome
     c.args.worker.now c.args.frame.now c.turns.new.worker c.turns.new.frame c.in-For.is (to_z-of_z w64 c.in-For.first low)
-    (to_z-of_z w64 c.in-For.bound high) c.as_slice.ensures h)
+    (to_z-of_z w64 c.in-For.bound high) c.as_slice.ensures)
     c.turns.ensures.ended
 
 -- an `alt`
@@ -226,11 +254,11 @@ play_alt-returns-in-Branch-clause-ended g t c =
     (decision.Branch c.in-Branch.place) c.args.worker.now c.args.frame.now
     c.decide.new.worker c.decide.new.frame
     = rw c.in-Branch.is at decide.decided in
-    IfOk-weaker c.branch-execution.result _ _
-    (λ o h. step_branch c.args.execution.now.task.now (b.Alt c.args.branches.now c.args.otherwise.now) c.args.branches.now c.as_slice.result.now c.args.otherwise.now c.is_some.result
-    c.in-Branch.place o
+    on_ok_weaker c.branch-execution.result
+    (step_branch c.args.execution.now.task.now (b.Alt c.args.branches.now c.args.otherwise.now) c.args.branches.now c.as_slice.result.now c.args.otherwise.now c.is_some.result
+    c.in-Branch.place c.branch-execution.new.outcome
     c.args.worker.now c.args.frame.now c.decide.new.worker c.decide.new.frame c.branch-execution.new.worker c.branch-execution.new.frame
-    refl c.as_slice.ensures decide.turns decided h)
+    refl c.as_slice.ensures decide.turns decided)
     c.branch-execution.ensures.ended
 
 pub play_alt-returns-in-Some-clause-ended : goal.play_alt-returns-in-Some-clause-ended
@@ -240,11 +268,11 @@ play_alt-returns-in-Some-clause-ended g t c =
     c.decide.new.worker
     c.decide.new.frame
     = rw c.in-Else.is at decide.decided in
-    IfOk-weaker c.execute.result _ _
-    (λ o h. step_else c.args.execution.now.task.now (b.Alt c.args.branches.now c.args.otherwise.now) c.args.branches.now c.as_slice.result.now c.args.otherwise.now c.in-Some.block
-    c.as_slice-in-Some.result.now c.is_some.result o
+    on_ok_weaker c.execute.result
+    (step_else c.args.execution.now.task.now (b.Alt c.args.branches.now c.args.otherwise.now) c.args.branches.now c.as_slice.result.now c.args.otherwise.now c.in-Some.block
+    c.as_slice-in-Some.result.now c.is_some.result c.execute.new.outcome
     c.args.worker.now c.args.frame.now c.decide.new.worker c.decide.new.frame c.execute.new.worker c.execute.new.frame
-    refl c.in-Some.is c.as_slice.ensures c.as_slice-in-Some.ensures decide.turns decided h)
+    refl c.in-Some.is c.as_slice.ensures c.as_slice-in-Some.ensures decide.turns decided)
     c.execute.ensures.ended
 
 pub play_alt-returns-in-Waits-clause-ended : goal.play_alt-returns-in-Waits-clause-ended
@@ -260,8 +288,11 @@ play_alt-returns-in-Waits-clause-ended g t c =
 -- the turns of a `for`
 pub turns-returns-then-is_empty-clause-ended : goal.turns-returns-then-is_empty-clause-ended
 turns-returns-then-is_empty-clause-ended g t c =
-    turned_empty c.args.execution.now.task.now c.args.values.start c.args.block.statements.now (turns_between c.args.values.start c.args.values.end)
-    c.args.worker.now c.args.frame.now (none_there c.args.block.statements.now c.if-is_empty.ensures)
+    subst (λ o. Turned c.args.execution.now.task.now c.args.values.start c.args.block.statements.now (turns_between c.args.values.start c.args.values.end) o
+    c.args.worker.now c.args.frame.now c.args.worker.now c.args.frame.now)
+    (sym c.requires.goes_on)
+    (turned_empty c.args.execution.now.task.now c.args.values.start c.args.block.statements.now (turns_between c.args.values.start c.args.values.end)
+    c.args.worker.now c.args.frame.now (none_there c.args.block.statements.now c.if-is_empty.ensures))
 
 pub turns-loop-value-init : goal.turns-loop-value-init
 turns-loop-value-init g t c = record {
@@ -269,12 +300,13 @@ turns-loop-value-init g t c = record {
   same = record { inbox = refl; ends = refl };
   held = c.requires.held;
   turns = refl;
+  goes_on = c.requires.goes_on;
   made = made_start c.args.execution.now.task.now _ _ c.args.block.statements.now c.args.worker.now c.args.frame.now;
 }
 
 pub turns-loop-value-preserved : goal.turns-loop-value-preserved
 turns-loop-value-preserved g t c =
-    let turn = c.in_ok-outcome.ensures in
+    let turn = c.in_ok-turn.ensures in
     let first = to_z w64 (of_z w64 c.args.values.start) in
     let bound = to_z w64 (of_z w64 c.args.values.end) in
     let value = to_z w64 c.loop-value.value-bits in
@@ -289,6 +321,7 @@ turns-loop-value-preserved g t c =
       same = same_then c.args.worker.now c.loop-value.worker c.turn.new.worker c.loop-value.invariant.same turn.same;
       held = turn.held;
       turns = turn.turns ∙ c.loop-value.invariant.turns;
+      goes_on = c.in-Done.is;
       made =
           made_more c.args.execution.now.task.now first value bound next c.args.block.statements.now c.args.worker.now c.args.frame.now c.loop-value.worker
           c.loop-value.frame c.turn.new.worker c.turn.new.frame
@@ -297,10 +330,10 @@ turns-loop-value-preserved g t c =
 
 pub turns-returns-in_default-clause-same : goal.turns-returns-in_default-clause-same
 turns-returns-in_default-clause-same g t c =
-    same_then c.args.worker.now c.loop-value.worker c.turn.new.worker c.loop-value.invariant.same c.in_ok-outcome.ensures.same
+    same_then c.args.worker.now c.loop-value.worker c.turn.new.worker c.loop-value.invariant.same c.in_ok-turn.ensures.same
 
 pub turns-returns-in_default-clause-turns : goal.turns-returns-in_default-clause-turns
-turns-returns-in_default-clause-turns g t c = c.in_ok-outcome.ensures.turns ∙ c.loop-value.invariant.turns
+turns-returns-in_default-clause-turns g t c = c.in_ok-turn.ensures.turns ∙ c.loop-value.invariant.turns
 
 pub turns-returns-in_default-clause-ended : goal.turns-returns-in_default-clause-ended
 turns-returns-in_default-clause-ended g t c =
@@ -310,17 +343,17 @@ turns-returns-in_default-clause-ended g t c =
     let high : SFits w64 c.args.values.end = search rules in
     let value = to_z w64 c.loop-value.value-bits in
     let below : value <ℤ bound = grind (arith, ints) in
-    turned_as c.args.execution.now.task.now c.in_ok-outcome.outcome c.args.block.statements.now first c.args.values.start bound c.args.values.end
+    turned_as c.args.execution.now.task.now c.turn.new.outcome c.args.block.statements.now first c.args.values.start bound c.args.values.end
     c.args.worker.now c.args.frame.now c.turn.new.worker c.turn.new.frame
     (to_z-of_z w64 c.args.values.start low) (to_z-of_z w64 c.args.values.end high)
-    (made_stop c.args.execution.now.task.now first value bound c.args.block.statements.now c.in_ok-outcome.outcome c.args.worker.now c.args.frame.now
+    (made_stop c.args.execution.now.task.now first value bound c.args.block.statements.now c.turn.new.outcome c.args.worker.now c.args.frame.now
     c.loop-value.worker c.loop-value.frame
-    c.turn.new.worker c.turn.new.frame c.in_default.not-Done c.loop-value.invariant.turns below c.loop-value.invariant.made c.in_ok-outcome.ensures.ended)
+    c.turn.new.worker c.turn.new.frame c.in_default.not-Done c.loop-value.invariant.turns below c.loop-value.invariant.made c.in_ok-turn.ensures.ended)
 
 pub turns-returns-in_default-clause-within : goal.turns-returns-in_default-clause-within
 turns-returns-in_default-clause-within g t c =
-    waits_from c.args.execution.now.task.now c.args.worker.now c.loop-value.worker c.in_ok-outcome.outcome c.requires.consistent c.loop-value.invariant.consistent
-    c.in_ok-outcome.ensures.within
+    waits_from c.args.execution.now.task.now c.args.worker.now c.loop-value.worker c.turn.new.outcome c.requires.consistent c.loop-value.invariant.consistent
+    c.in_ok-turn.ensures.within
 
 pub turns-returns-clause-ended : goal.turns-returns-clause-ended
 turns-returns-clause-ended g t c =
@@ -330,8 +363,11 @@ turns-returns-clause-ended g t c =
     let high : SFits w64 c.args.values.end = search rules in
     let value = to_z w64 c.loop-value.value-bits in
     let above : bound ≤ℤ value = grind (arith, ints) in
-    turned_as c.args.execution.now.task.now outcome.Done c.args.block.statements.now first c.args.values.start bound c.args.values.end c.args.worker.now
+    subst (λ o. Turned c.args.execution.now.task.now c.args.values.start c.args.block.statements.now (turns_between c.args.values.start c.args.values.end) o
+    c.args.worker.now c.args.frame.now c.loop-value.worker c.loop-value.frame)
+    (sym c.loop-value.invariant.goes_on)
+    (turned_as c.args.execution.now.task.now outcome.Done c.args.block.statements.now first c.args.values.start bound c.args.values.end c.args.worker.now
     c.args.frame.now c.loop-value.worker c.loop-value.frame
     (to_z-of_z w64 c.args.values.start low) (to_z-of_z w64 c.args.values.end high)
     (made_all c.args.execution.now.task.now first value bound c.args.block.statements.now c.args.worker.now c.args.frame.now c.loop-value.worker
-    c.loop-value.frame above c.loop-value.invariant.made)
+    c.loop-value.frame above c.loop-value.invariant.made))

@@ -4,6 +4,7 @@ use denote.Param.Weighed.{most}
 use Rattle.tp_play.specs.declared.body.ResolvedStatement.TheVariants as statement
 use Rattle.tp_play.proofs.body.ResolvedBranch.TheLaws.{the_size as branch_size}
 use Rattle.tp_play.proofs.body.ResolvedStatement.TheLaws.{the_size}
+use Rattle.tp_behaviour.specs.declared.outcome.Outcome.TheVariants as outcome
 use Rattle.tp_behaviour.specs.Outcomes.{HoldsAsDeclared}
 use Rattle.tp_behaviour.specs.Workers.{IsConsistent, KeepsInboxes, role_of}
 use Rattle.tp_behaviour.proofs.BlockPathGrowth.{Passed}
@@ -36,6 +37,7 @@ invariant-execute-loop-place g l = record {
   same : KeepsInboxes l.initial.worker l.worker;
   held : HoldsAsDeclared l.execution.task.now l.frame;
   turns : l.frame.turns.items ≡ l.initial.frame.turns.items;
+  goes_on : l.outcome ≡ outcome.Done;
   passed : Passed l.execution.task.now l.block.statements.now l.place l.initial.worker l.initial.frame l.worker l.frame;
 }
 
@@ -46,6 +48,7 @@ invariant-turns-loop-value g l = record {
   same : KeepsInboxes l.initial.worker l.worker;
   held : HoldsAsDeclared l.execution.task.now l.frame;
   turns : l.frame.turns.items ≡ l.initial.frame.turns.items;
+  goes_on : l.outcome ≡ outcome.Done;
   made : TurnsMade l.execution.task.now (to_z w64 (of_z w64 l.fn.values.start)) l.value (to_z w64 (of_z w64 l.fn.values.end)) l.block.statements.now
       l.initial.worker l.initial.frame l.worker l.frame;
 }
