@@ -16,13 +16,12 @@ LeadsThrough demands (suc further) x y =
 abbrev pub LiesOnCircle : List Demand → ℕ → Type 0
 LiesOnCircle demands x = (further : ℕ) × LeadsThrough demands further x x
 
--- a circle of what R says comes before what: each of these numbers comes before the next one, and the last one before the
--- first
+-- the numbers form a circle: by R each comes before the next one, and the last one before the first
 pub record IsCircleOf (R : ℕ → ℕ → Type 0) (circle : List ℕ) : Type 0 where
   pub some : 0 < length circle
   pub next : (i : ℕ) → i + 1 < length circle → R (slice_index circle i) (slice_index circle (i + 1))
   pub round : R (slice_index circle (length circle - 1)) (slice_index circle 0)
 
--- one of the demands
+-- the numbers form a circle of these demands
 abbrev pub IsCircle : List Demand → List ℕ → Type 0
 IsCircle demands circle = IsCircleOf (IsDemandedBefore demands) circle

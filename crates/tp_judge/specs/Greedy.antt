@@ -60,7 +60,7 @@ CannotGoOn {M} kinds at came out c =
 abbrev pub IsStuck : {M : Type 0} → Kinds M → (ℕ → ℕ) → (ℕ → ℕ) → (ℕ → ℕ) → Type 0
 IsStuck {M} kinds at came out = (c : ℕ) → CannotGoOn kinds at came out c
 
--- the histories of so many components are gone through so far, and none can go on
+-- the search has reached this progress in the histories of so many components, and none of them can advance
 pub record IsStuckSearch {M : Type 0} (kinds : Kinds M) (size : ℕ) (progress : OrderProgress) : Type 0 where
   pub size_is : HasSize progress size
   pub gone : IsProgress kinds progress

@@ -1,5 +1,5 @@
--- Where the search for one order of the lines of a trace is stuck. A line is ahead if the search hasn't passed it: it
--- stands in its section at the place that is reached there, or after it.
+-- What holds when the search for one order of the lines of a trace is stuck. A line is ahead if the search hasn't passed
+-- it: it is at the place reached in its section, or after this place.
 use Rattle.std.specs.Prelude.{ℕ, ◌<◌, ◌≤◌, List, length, slice_index, take}
 use Rattle.std.specs.declared.vec.Vec.{Vec}
 use Rattle.std.specs.declared.alloc.Global.{Global}
@@ -41,7 +41,7 @@ pub record IsAhead (histories : TraceHistories) (progress : OrderProgress) (plac
   pub own : IsOwnAt histories.trace.now component place
   pub from : slice_index progress.places.items component ≤ place
 
--- the message comes to the component, after all that the lines so far sent there
+-- the message comes to the component, after everything that the passed lines sent there
 pub record IsDue (histories : TraceHistories) (progress : OrderProgress) (component : ℕ) (m : Mention) : Type 0 where
   pub place : ℕ
   pub comes : ComesAt histories.trace.now component place m
@@ -53,7 +53,7 @@ pub record IsNextOwn (trace : IndexedTrace) (component from next : ℕ) : Type 0
   pub low : from ≤ next
   pub none : (q : ℕ) → from ≤ q → q < next → IsOwnAt trace component q → ⊥
 
--- the line is ahead, and has to stand before the next that says what the component did itself
+-- the line is ahead, and must come before the component's next line that says what it did itself
 pub record HoldsBack (histories : TraceHistories) (progress : OrderProgress) (place component : ℕ) : Type 0 where
   pub ahead : IsAhead histories progress place
   pub before : (next : ℕ) → IsNextOwn histories.trace.now component (slice_index progress.places.items component) next

@@ -20,7 +20,7 @@ pub(crate) struct ArrivalCursor {
     pub(crate) after: usize,
 }
 
-/// A search that can go on nowhere.
+/// A search that is stuck: no component can advance.
 #[derive(Drop)]
 pub(crate) struct Search {
     pub(crate) progress: OrderProgress,

@@ -54,6 +54,7 @@ fn before_sending(
     ensures demanded { (sending : ℕ) → IsSentAt histories.now.trace.now sending message
         → IsDemanded histories.now.trace.now result sending }
 {
+    // The message itself is still to come, so there is a next one.
     let Some(next) = next_message(histories, progress, &mut *cursors, to) else {
         unreachable!()
     };
@@ -85,7 +86,7 @@ fn before_next_own(
         EntryKind::Sent(to, message) => {
             before_sending(histories, rows, progress, cursors, to as usize, message)
         }
-        // The search passes these.
+        // The search passes these without waiting, so it is never stuck at one.
         EntryKind::Looked | EntryKind::Quiet | EntryKind::Nothing => unreachable!(),
     }
 }
@@ -140,7 +141,7 @@ pub(crate) fn demand_circle(
     let mut places = vec![in alloc; 0; histories.trace.lines.len()]?;
     let mut path = Vec::new(alloc);
     let mut x = before_next_own(histories, &rows, progress, &mut *cursors, c);
-    // The way back stays among the lines ahead, so it meets itself.
+    // Only lines ahead are visited, and these are finitely many, so one is reached again.
     while places[x] == 0 {
         path.push(x)?;
         places[x] = path.len();
