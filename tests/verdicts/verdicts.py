@@ -26,7 +26,7 @@ import random
 import subprocess
 import sys
 import tempfile
-from collections.abc import Iterable, Iterator
+from collections.abc import Iterable, Iterator, Sequence
 from concurrent.futures import ProcessPoolExecutor
 from functools import partial
 from itertools import count, islice
@@ -253,8 +253,10 @@ def numbered(program: str, path: Path, number: int) -> str:
 
 
 # Designs whose states would be many more if each kept what nobody looks at again, each with its largest allowed number
-# of states: eight clients with two questions each to a server whose variable holds the last client that asked; and four
-# senders to a port that is halted, and drained, by a receiver that once distinguished their messages.
+# of states: eight clients with two questions each to a server whose variable holds the last client that asked; four
+# senders to a port that is halted, and drained, by a receiver that once distinguished their messages; four workers of a
+# pool whose last results arrive in an order that makes no difference; and four subscribers that acknowledge three
+# messages each, and would send something else after a wrong one.
 SERVED = """p.send(integer:1);
         alt { [] p.receive(integer:2) { setverdict(pass); } [] p.receive { setverdict(fail); } }"""
 SERVING = "for (var integer i := 0; i < 16; i := i + 1) { p.receive(integer:1) -> sender w; p.send(integer:2) to w; }"
@@ -263,6 +265,16 @@ DRAINING = """p.receive(integer:1); p.halt;
         for (var integer i := 0; i < 8; i := i + 1) { alt { [] p.receive { } [else] { } } }
         p.start; q.send(integer:5) to all component;
         for (var integer i := 0; i < 4; i := i + 1) { p.trigger(integer:3); } setverdict(pass);"""
+POOLING = """var C w; p.send(integer:1) to all component;
+        for (var integer i := 0; i < {0}; i := i + 1) {{ p.receive(integer:2) -> sender w; p.send(integer:1) to w; }}
+        for (var integer i := 0; i < {1}; i := i + 1) {{ p.receive(integer:2); }}
+        p.send(integer:9) to all component; setverdict(pass);"""
+ACKNOWLEDGING = """alt {
+            [] p.receive(integer:i) { q.send(integer:5); } [] p.receive { setverdict(fail); q.send(integer:6); }
+        }"""
+COLLECTING = """for (var integer i := 0; i < {0}; i := i + 1) {{
+            alt {{ [] q.receive(integer:5) {{ }} [] q.receive {{ setverdict(fail); }} }}
+        }} setverdict(pass);"""
 DESIGN = """module Design {{
     type port P message {{ inout integer; }}
     type component C {{ port P p, q; }}
@@ -278,31 +290,49 @@ DESIGN = """module Design {{
 """
 
 
-def served(number: int) -> str:
+def design(each: str, server: str, number: int, ends: Sequence[str], body: str = "") -> str:
+    """A script with a server `s` and so many components that run `each`. Each of these ends, as `s:p` or `self:q`, is
+    connected with the same port of each component."""
     names = [f"c{at}" for at in range(number)]
     return DESIGN.format(
-        each=f"for (var integer i := 0; i < 2; i := i + 1) {{ {SERVED} }}",
-        server=f"var C w; {SERVING}",
+        each=each,
+        server=server,
         created=" ".join(f"var C {it} := C.create;" for it in ("s", *names)),
-        connected=" ".join(f"connect(s:p, {it}:p);" for it in names),
+        connected=" ".join(f"connect({end}, {it}:{end[-1]});" for end in ends for it in names),
         started=" ".join(("s.start(server());", *(f"{it}.start(each());" for it in names))),
-        body="",
+        body=body,
     )
+
+
+def served(number: int) -> str:
+    each = f"for (var integer i := 0; i < 2; i := i + 1) {{ {SERVED} }}"
+    return design(each, f"var C w; {SERVING}", number, ["s:p"])
 
 
 def drained(number: int) -> str:
-    names = [f"c{at}" for at in range(number)]
-    return DESIGN.format(
-        each=SENDING,
-        server="setverdict(pass);",
-        created=" ".join(f"var C {it} := C.create;" for it in names),
-        connected=" ".join(f"connect(self:{port}, {it}:{port});" for port in "pq" for it in names),
-        started=" ".join(f"{it}.start(each());" for it in names),
-        body=DRAINING,
-    )
+    return design(SENDING, "setverdict(pass);", number, ["self:p", "self:q"], DRAINING)
 
 
-FORGETTING = (("8 clients", served(8), 50), ("4 senders to a halted port", drained(4), 150))
+def pooled(number: int, jobs: int) -> str:
+    done = "[] p.receive(integer:9) { setverdict(pass); }"
+    each = f"alt {{ {done} }}"
+    for _ in range(jobs - number + 1):
+        each = f"alt {{ [] p.receive(integer:1) {{ p.send(integer:2); {each} }} {done} }}"
+    return design(each, "setverdict(pass);", number, ["self:p"], POOLING.format(jobs - number, number))
+
+
+def published(number: int) -> str:
+    taking = "for (var integer i := 0; i < 3; i := i + 1)"
+    sending = f"{taking} {{ p.send(i) to all component; }}"
+    return design(f"{taking} {{ {ACKNOWLEDGING} }}", sending, number, ["s:p", "self:q"], COLLECTING.format(3 * number))
+
+
+FORGETTING = (
+    ("8 clients", served(8), 50),
+    ("4 senders to a halted port", drained(4), 150),
+    ("4 workers of a pool", pooled(4, 6), 11),
+    ("4 subscribers", published(4), 10),
+)
 
 
 def forgotten(program: str, path: Path, name: str, script: str, most: int) -> str:
