@@ -103,7 +103,7 @@ def look(top: int, parts: dict[Part, Seen]) -> float:
 def at_work(parts: dict[Part, Seen], now: float, output: str, last: dict[str, int]) -> str:
     """The line on the parts that were seen just now, or an empty text."""
     text = Path(output).read_text(errors="replace") if os.path.exists(output) else ""
-    proved = len(re.findall(r"^rt: \w+ proved$", text, re.M))
+    proved = len(re.findall(r"^rt: \w+ (?:proved$|is kept: )", text, re.M))
     names = [" of ".join(it) for it, seen in parts.items() if seen.last == now]
     told = ", ".join(it + f" ({last.get(it)} s the last time)" * (it in last) for it in names)
     return told and f"test: {proved} of {len(crates())} crates proved; at work: {told}\n"
