@@ -179,6 +179,7 @@ WORKS = {
     "60 senders, answered by name": answered_by_name(60),
     "two groups of 30, answered by name": two_groups(30),
     "60 senders of two questions": questions(60, 2, True),
+    "60 senders of three questions": questions(60, 3, True),
     "8 senders of two questions, each with its own number": questions(8, 2, False),
     "20 senders of one question, each with its own number": questions(20, 1, False),
     "60 components at three barriers": barriers(60, 3),

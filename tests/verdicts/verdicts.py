@@ -255,8 +255,9 @@ def numbered(program: str, path: Path, number: int) -> str:
 # Designs whose states would be many more if each kept what nobody looks at again, each with its largest allowed number
 # of states: eight clients with two questions each to a server whose variable holds the last client that asked; four
 # senders to a port that is halted, and drained, by a receiver that once distinguished their messages; four workers of a
-# pool whose last results arrive in an order that makes no difference; and four subscribers that acknowledge three
-# messages each, and would send something else after a wrong one.
+# pool whose last results arrive in an order that makes no difference; four subscribers that acknowledge three messages
+# each, and would send something else after a wrong one; and four senders whose messages a receiver may distinguish, but
+# only in its first look.
 SERVED = """p.send(integer:1);
         alt { [] p.receive(integer:2) { setverdict(pass); } [] p.receive { setverdict(fail); } }"""
 SERVING = "for (var integer i := 0; i < 16; i := i + 1) { p.receive(integer:1) -> sender w; p.send(integer:2) to w; }"
@@ -275,10 +276,23 @@ ACKNOWLEDGING = """alt {
 COLLECTING = """for (var integer i := 0; i < {0}; i := i + 1) {{
             alt {{ [] q.receive(integer:5) {{ }} [] q.receive {{ setverdict(fail); }} }}
         }} setverdict(pass);"""
+RETURNING = "p.receive(integer:?) -> value n sender w; p.send(n) to w;"
+DISTINGUISHING = f"""var integer n; var C w;
+        alt {{
+            [] p.check(receive(integer:0)) {{ {RETURNING} }}
+            [] p.check(receive(integer:1)) {{ {RETURNING} }}
+            [else] {{ setverdict(inconc); }}
+        }}
+        p.trigger(integer:9); p.halt;
+        for (var integer i := 0; i < 4; i := i + 1) {{
+            alt {{ [] p.receive(integer:?) -> value n sender w {{ p.send(n) to w; }} [else] {{ }} }}
+        }}
+        p.start; alt {{ [] p.receive(integer:9) {{ setverdict(pass); }} [else] {{ p.clear; }} }} all port.stop;"""
+NO_SERVER = "setverdict(pass);"
 DESIGN = """module Design {{
     type port P message {{ inout integer; }}
     type component C {{ port P p, q; }}
-    function each() runs on C {{ {each} }}
+    {bodies}
     function server() runs on C {{ {server} }}
     testcase t() runs on C {{
         {created}
@@ -290,27 +304,27 @@ DESIGN = """module Design {{
 """
 
 
-def design(each: str, server: str, number: int, ends: Sequence[str], body: str = "") -> str:
-    """A script with a server `s` and so many components that run `each`. Each of these ends, as `s:p` or `self:q`, is
+def design(bodies: Sequence[str], server: str, ends: Sequence[str], body: str = "") -> str:
+    """A script with a server `s` and a component for each of the bodies. Each of these ends, as `s:p` or `self:q`, is
     connected with the same port of each component."""
-    names = [f"c{at}" for at in range(number)]
+    names = [f"c{at}" for at in range(len(bodies))]
     return DESIGN.format(
-        each=each,
+        bodies=" ".join(f"function of_{name}() runs on C {{ {it} }}" for name, it in zip(names, bodies)),
         server=server,
         created=" ".join(f"var C {it} := C.create;" for it in ("s", *names)),
         connected=" ".join(f"connect({end}, {it}:{end[-1]});" for end in ends for it in names),
-        started=" ".join(("s.start(server());", *(f"{it}.start(each());" for it in names))),
+        started=" ".join(("s.start(server());", *(f"{it}.start(of_{it}());" for it in names))),
         body=body,
     )
 
 
 def served(number: int) -> str:
     each = f"for (var integer i := 0; i < 2; i := i + 1) {{ {SERVED} }}"
-    return design(each, f"var C w; {SERVING}", number, ["s:p"])
+    return design([each] * number, f"var C w; {SERVING}", ["s:p"])
 
 
 def drained(number: int) -> str:
-    return design(SENDING, "setverdict(pass);", number, ["self:p", "self:q"], DRAINING)
+    return design([SENDING] * number, NO_SERVER, ["self:p", "self:q"], DRAINING)
 
 
 def pooled(number: int, jobs: int) -> str:
@@ -318,31 +332,48 @@ def pooled(number: int, jobs: int) -> str:
     each = f"alt {{ {done} }}"
     for _ in range(jobs - number + 1):
         each = f"alt {{ [] p.receive(integer:1) {{ p.send(integer:2); {each} }} {done} }}"
-    return design(each, "setverdict(pass);", number, ["self:p"], POOLING.format(jobs - number, number))
+    return design([each] * number, NO_SERVER, ["self:p"], POOLING.format(jobs - number, number))
 
 
 def published(number: int) -> str:
     taking = "for (var integer i := 0; i < 3; i := i + 1)"
     sending = f"{taking} {{ p.send(i) to all component; }}"
-    return design(f"{taking} {{ {ACKNOWLEDGING} }}", sending, number, ["s:p", "self:q"], COLLECTING.format(3 * number))
+    each = f"{taking} {{ {ACKNOWLEDGING} }}"
+    return design([each] * number, sending, ["s:p", "self:q"], COLLECTING.format(3 * number))
+
+
+def distinguished(number: int) -> str:
+    bodies = [f"p.send(integer:{at}); p.send(integer:9);" for at in range(number)]
+    return design(bodies, "", ["self:p"], DISTINGUISHING)
+
+
+class Design(NamedTuple):
+    """A script, the largest number of states that it may have, and its verdicts."""
+
+    name: str
+    script: str
+    most: int
+    verdicts: tuple[str, ...] = ("pass",)
 
 
 FORGETTING = (
-    ("8 clients", served(8), 50),
-    ("4 senders to a halted port", drained(4), 150),
-    ("4 workers of a pool", pooled(4, 6), 11),
-    ("4 subscribers", published(4), 10),
+    Design("8 clients", served(8), 50),
+    Design("4 senders to a halted port", drained(4), 150),
+    Design("4 workers of a pool", pooled(4, 6), 11),
+    Design("4 subscribers", published(4), 10),
+    Design("4 senders of their own messages", distinguished(4), 530, ("none", "pass", "inconc", "error")),
 )
 
 
-def forgotten(program: str, path: Path, name: str, script: str, most: int) -> str:
-    """The result of a design with at most this many states."""
-    path.write_text(script, encoding="latin-1")
+def forgotten(program: str, path: Path, wanted: Design) -> str:
+    """The result of a design."""
+    path.write_text(wanted.script, encoding="latin-1")
     status, printed = printed_of(program, path)
     answer = read_answer(printed)
-    if answer is None or (answer.verdicts, answer.decided, status) != (("pass",), True, 0) or answer.states > most:
-        return f"FAILED: of {name} the status is {status}, and it says {printed[:200]}"
-    return f"passed of {name}"
+    said = (wanted.verdicts, True, 0 if len(wanted.verdicts) == 1 else 2)
+    if answer is None or (answer.verdicts, answer.decided, status) != said or answer.states > wanted.most:
+        return f"FAILED: of {wanted.name} the status is {status}, and it says {printed[:200]}"
+    return f"passed of {wanted.name}"
 
 
 # Impossible answers
@@ -419,8 +450,8 @@ def tell_made(asked: argparse.Namespace, folder: str) -> None:
             print(paired(asked.program, Path(folder, "turning.ttcn"), value, turns, pairs), flush=True)
         for number in CLIENTS:
             print(numbered(asked.program, Path(folder, "asked.ttcn"), number), flush=True)
-        for design in FORGETTING:
-            print(forgotten(asked.program, Path(folder, "design.ttcn"), *design), flush=True)
+        for each in FORGETTING:
+            print(forgotten(asked.program, Path(folder, "design.ttcn"), each), flush=True)
         return
     tell_each(asked.program, made_by_chance(asked.what, asked.seed, asked.number, folder))
 
