@@ -9,7 +9,7 @@ The first form tries all, the N that were last refused the longest ago, or those
 and writes tests/wrong_bodies/seen. `of_a_run` tries those of a run of the gate after `rt ci`, which has proved the
 crates: the blocks with one star or a `!`, others by turns (wrong_body_seen.py), and one right body, so that a trial
 that refuses everything fails. `stale_libraries` is called before `rt ci`, which restores the libraries that it found:
-it removes those that are older than their sources.
+it removes all if one is missing, or older than its sources.
 
 A trial checks the edited function in a copy of the crate, over the libraries of the crates below. It tries up to 16
 edits of different functions at once: a function is proved from the contracts of the functions that it calls, so one
@@ -87,9 +87,12 @@ def is_stale(crate: str, uses: dict[str, list[str]]) -> bool:
 
 
 def remove_stale_libraries() -> None:
+    """Removes all libraries if one that others need is stale. Otherwise `rt ci` would leave some of its own beside some
+    that it restores, which were proved over other builds, and no check could use them together."""
     uses = crates()
-    for crate in uses:
-        if is_stale(crate, uses):
+    needed = {it for crate in uses for it in below(crate, uses)}
+    if any(is_stale(it, uses) for it in needed):
+        for crate in uses:
             shutil.rmtree(os.path.dirname(library(crate)), ignore_errors=True)
 
 

@@ -22,7 +22,7 @@ verdicts_of_alike_by_chance() {
 
 every_verdict() {
     at_least 25 told "$room/answers" tests/verdicts/verdicts.py answers
-    at_least 12 told "$room/limit" tests/verdicts/verdicts.py limit "$tpr"
+    at_least 13 told "$room/limit" tests/verdicts/verdicts.py limit "$tpr"
     at_least $((right_examples + small_scripts + 7)) verdicts_of_each
     set_up "every order of $least_whole scripts is gone through" [ "$(sum_of 2 "$room/verdicts")" -ge "$least_whole" ]
     at_least "$verdicts_by_chance" verdicts_made_by_chance
