@@ -28,5 +28,5 @@ looked gs d i g (look.Taken j e) after is none t not = (
   t.2,
 )
 looked gs d i g look.Discarded after is none t not =
-    (entry.Dropped g.port t.0 i, IsDrop.dropped d.log i g t.0 is t.1 t.2 t.3 none, t.4)
+    (entry.Dropped g.port i t.0, IsDrop.dropped d.log i g t.0 is t.1 t.2 t.3 none, t.4)
 looked gs d i g look.Nothing after is none t not = absurd (not refl)

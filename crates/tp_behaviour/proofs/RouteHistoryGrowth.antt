@@ -16,10 +16,10 @@ use Rattle.tp_inbox.proofs.SenderPutInvariants.{route_same}
 
 -- what is no arrival came on no route
 pub no_arrival : (q : RouteId) (e : Entry) → is_arrival e ≡ false → arrival_on q e ≡ None
-no_arrival q (entry.Arrive p env stamp) is = absurd (true≢false is)
-no_arrival q (entry.Took p env i) is = refl
-no_arrival q (entry.Found p env i) is = refl
-no_arrival q (entry.Dropped p env i) is = refl
+no_arrival q (entry.Arrive p stamp env) is = absurd (true≢false is)
+no_arrival q (entry.Took p i env) is = refl
+no_arrival q (entry.Found p i env) is = refl
+no_arrival q (entry.Dropped p i env) is = refl
 no_arrival q (entry.Cleared p) is = refl
 no_arrival q (entry.Started p) is = refl
 no_arrival q (entry.Stopped p) is = refl
@@ -31,10 +31,10 @@ no_arrival q (entry.Failed c) is = refl
 
 -- what comes on a route of these is an arrival
 pub arrives : (routes : List RouteId) (e : Entry) → IsArrivalOn routes e → is_arrival e ≡ true
-arrives routes (entry.Arrive p env stamp) h = refl
-arrives routes (entry.Took p env i) h = absurd h
-arrives routes (entry.Found p env i) h = absurd h
-arrives routes (entry.Dropped p env i) h = absurd h
+arrives routes (entry.Arrive p stamp env) h = refl
+arrives routes (entry.Took p i env) h = absurd h
+arrives routes (entry.Found p i env) h = absurd h
+arrives routes (entry.Dropped p i env) h = absurd h
 arrives routes (entry.Cleared p) h = absurd h
 arrives routes (entry.Started p) h = absurd h
 arrives routes (entry.Stopped p) h = absurd h
@@ -46,10 +46,10 @@ arrives routes (entry.Failed c) h = absurd h
 
 -- an arrival sends nothing
 pub unsent : (out : List RouteId) (e : Entry) → is_arrival e ≡ true → IsSentBy out e
-unsent out (entry.Arrive p env stamp) is = tt
-unsent out (entry.Took p env i) is = tt
-unsent out (entry.Found p env i) is = tt
-unsent out (entry.Dropped p env i) is = tt
+unsent out (entry.Arrive p stamp env) is = tt
+unsent out (entry.Took p i env) is = tt
+unsent out (entry.Found p i env) is = tt
+unsent out (entry.Dropped p i env) is = tt
 unsent out (entry.Cleared p) is = tt
 unsent out (entry.Started p) is = tt
 unsent out (entry.Stopped p) is = tt
@@ -61,10 +61,10 @@ unsent out (entry.Failed c) is = tt
 
 -- nor is it sent to any component
 unsent_to : (c : CompId) (e : Entry) → is_arrival e ≡ true → sending_to c e ≡ None
-unsent_to c (entry.Arrive p env stamp) is = refl
-unsent_to c (entry.Took p env i) is = refl
-unsent_to c (entry.Found p env i) is = refl
-unsent_to c (entry.Dropped p env i) is = refl
+unsent_to c (entry.Arrive p stamp env) is = refl
+unsent_to c (entry.Took p i env) is = refl
+unsent_to c (entry.Found p i env) is = refl
+unsent_to c (entry.Dropped p i env) is = refl
 unsent_to c (entry.Cleared p) is = refl
 unsent_to c (entry.Started p) is = refl
 unsent_to c (entry.Stopped p) is = refl
@@ -76,10 +76,10 @@ unsent_to c (entry.Failed x) is = refl
 
 -- what goes out on these routes doesn't go out on another
 no_sending : (q : RouteId) (out : List RouteId) (e : Entry) → (Contains out q → ⊥) → IsSentBy out e → sending_on q e ≡ None
-no_sending q out (entry.Arrive p env stamp) not by = refl
-no_sending q out (entry.Took p env i) not by = refl
-no_sending q out (entry.Found p env i) not by = refl
-no_sending q out (entry.Dropped p env i) not by = refl
+no_sending q out (entry.Arrive p stamp env) not by = refl
+no_sending q out (entry.Took p i env) not by = refl
+no_sending q out (entry.Found p i env) not by = refl
+no_sending q out (entry.Dropped p i env) not by = refl
 no_sending q out (entry.Cleared p) not by = refl
 no_sending q out (entry.Started p) not by = refl
 no_sending q out (entry.Stopped p) not by = refl
@@ -95,7 +95,7 @@ no_sending q out (entry.Failed c) not by = refl
 -- what comes on these routes doesn't come on another route to their component
 no_coming : (c : CompId) (q : RouteId) (routes : List RouteId) (e : Entry) → q.to.comp ≡ c → All (λ (x : RouteId). x.to.comp ≡ c) routes
     → ((x : RouteId) → Contains routes x → x ≡ q → ⊥) → IsArrivalOn routes e → arrival_on q e ≡ None
-no_coming c q routes (entry.Arrive p env stamp) to here not h = at ((q.to.port == p) && (q.source.0 == env.sender)) refl where
+no_coming c q routes (entry.Arrive p stamp env) to here not h = at ((q.to.port == p) && (q.source.0 == env.sender)) refl where
   at : (b : Bool) → ((q.to.port == p) && (q.source.0 == env.sender)) ≡ b
       → cond {A = Option (ℕ × Stamped)} b (Some (env.number, record { stamp = stamp; message = env.msg })) None ≡ None
   at true e =
@@ -105,9 +105,9 @@ no_coming c q routes (entry.Arrive p env stamp) to here not h = at ((q.to.port =
       let comp : h.0.to.comp ≡ q.to.comp = All-contains (λ (x : RouteId). x.to.comp ≡ c) routes h.0 here h.1 ∙ sym to in
       absurd (not h.0 h.1 (λ i. record { source = record { 0 = source i }; to = record { comp = comp i; port = port i } }))
   at false e = refl
-no_coming c q routes (entry.Took p env i) to here not h = refl
-no_coming c q routes (entry.Found p env i) to here not h = refl
-no_coming c q routes (entry.Dropped p env i) to here not h = refl
+no_coming c q routes (entry.Took p i env) to here not h = refl
+no_coming c q routes (entry.Found p i env) to here not h = refl
+no_coming c q routes (entry.Dropped p i env) to here not h = refl
 no_coming c q routes (entry.Cleared p) to here not h = refl
 no_coming c q routes (entry.Started p) to here not h = refl
 no_coming c q routes (entry.Stopped p) to here not h = refl

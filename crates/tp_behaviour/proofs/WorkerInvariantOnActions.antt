@@ -39,10 +39,10 @@ pub record Quiet (e : Entry) : Type 0 where
   pub by_none : (out : List RouteId) → IsSentBy out e
 
 pub quiet : (e : Entry) → IsPlain e → Quiet e
-quiet (entry.Arrive p env stamp) h = absurd h
-quiet (entry.Took p env i) h = record { here = refl; unsent = λ c. refl; by_none = λ out. tt }
-quiet (entry.Found p env i) h = record { here = refl; unsent = λ c. refl; by_none = λ out. tt }
-quiet (entry.Dropped p env i) h = record { here = refl; unsent = λ c. refl; by_none = λ out. tt }
+quiet (entry.Arrive p stamp env) h = absurd h
+quiet (entry.Took p i env) h = record { here = refl; unsent = λ c. refl; by_none = λ out. tt }
+quiet (entry.Found p i env) h = record { here = refl; unsent = λ c. refl; by_none = λ out. tt }
+quiet (entry.Dropped p i env) h = record { here = refl; unsent = λ c. refl; by_none = λ out. tt }
 quiet (entry.Cleared p) h = record { here = refl; unsent = λ c. refl; by_none = λ out. tt }
 quiet (entry.Started p) h = record { here = refl; unsent = λ c. refl; by_none = λ out. tt }
 quiet (entry.Stopped p) h = record { here = refl; unsent = λ c. refl; by_none = λ out. tt }
@@ -54,10 +54,10 @@ quiet (entry.Failed c) h = record { here = refl; unsent = λ c. refl; by_none = 
 
 -- it has no stamp that could come too late
 pub plain_timely : (k : List Entry) (e : Entry) → IsPlain e → IsTimely k e
-plain_timely k (entry.Arrive p env stamp) h = absurd h
-plain_timely k (entry.Took p env i) h = tt
-plain_timely k (entry.Found p env i) h = tt
-plain_timely k (entry.Dropped p env i) h = tt
+plain_timely k (entry.Arrive p stamp env) h = absurd h
+plain_timely k (entry.Took p i env) h = tt
+plain_timely k (entry.Found p i env) h = tt
+plain_timely k (entry.Dropped p i env) h = tt
 plain_timely k (entry.Cleared p) h = tt
 plain_timely k (entry.Started p) h = tt
 plain_timely k (entry.Stopped p) h = tt

@@ -30,9 +30,9 @@ NoneOpen k gs = All (λ g. ¬ IsOpen k g) gs
 
 -- the entry of a message that is taken out, or, by a `check`, found
 abbrev pub chosen : ReceiveKind → ℕ → Env Message → ℕ → Entry
-chosen receive_kind.Receive port e i = entry.Took port e i
-chosen receive_kind.Trigger port e i = entry.Took port e i
-chosen receive_kind.Check port e i = entry.Found port e i
+chosen receive_kind.Receive port e i = entry.Took port i e
+chosen receive_kind.Trigger port e i = entry.Took port i e
+chosen receive_kind.Check port e i = entry.Found port i e
 
 -- the entry is the choice of the branch at this place, by which this envelope was taken or found, or of `[else]`; no
 -- branch before it was open
@@ -48,4 +48,4 @@ pub data IsDrop (gs : List Guard) : Moment → Type 0 where
   dropped : (k : List Entry) (i : ℕ) (g : Guard) (e : Env Message) → slice_get gs i ≡ Some g
       → g.kind ≡ receive_kind.Trigger
       → top (history_of g.port k) ≡ Some e → ¬ Satisfies (Admits g.wanted) g.sender e → NoneOpen k (take i gs)
-      → IsDrop gs (record { before = k; entry = entry.Dropped g.port e i })
+      → IsDrop gs (record { before = k; entry = entry.Dropped g.port i e })

@@ -9,10 +9,10 @@ use Rattle.tp_behaviour.specs.Moments.{Moment, moments}
 
 -- the entry looks at the ports' queues, or is an operation on a port
 abbrev pub LooksAtPorts : Entry → Type 0
-LooksAtPorts (entry.Arrive p e s) = ⊥
-LooksAtPorts (entry.Took p e b) = Unit {0}
-LooksAtPorts (entry.Found p e b) = Unit {0}
-LooksAtPorts (entry.Dropped p e b) = Unit {0}
+LooksAtPorts (entry.Arrive p s e) = ⊥
+LooksAtPorts (entry.Took p b e) = Unit {0}
+LooksAtPorts (entry.Found p b e) = Unit {0}
+LooksAtPorts (entry.Dropped p b e) = Unit {0}
 LooksAtPorts (entry.Cleared p) = Unit {0}
 LooksAtPorts (entry.Started p) = Unit {0}
 LooksAtPorts (entry.Stopped p) = Unit {0}

@@ -23,7 +23,7 @@ Tried g i d (look.Taken j e) after = (j ≡ i) × Finds (Admits g.wanted) g.send
 Tried g i d look.Discarded after =
     (e : Env Message) × (g.kind ≡ receive_kind.Trigger) × (top (at_port d g.port) ≡ Some e)
     × ¬ Satisfies (Admits g.wanted) g.sender e
-    × (after ≡ adding d (entry.Dropped g.port e i))
+    × (after ≡ adding d (entry.Dropped g.port i e))
 Tried g i d look.Nothing after = (¬ IsOpen d.log g) × (after ≡ d)
 
 -- the moment of an entry that is added to this desk

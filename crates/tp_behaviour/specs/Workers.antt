@@ -47,7 +47,7 @@ IsSentBy out _ = ⊤
 
 -- an entry that neither the inbox nor a sender knows: no arrival, and no sending
 abbrev pub IsPlain : Entry → Type 0
-IsPlain (entry.Arrive port e stamp) = ⊥
+IsPlain (entry.Arrive port stamp e) = ⊥
 IsPlain (entry.Sent x number m) = ⊥
 IsPlain _ = ⊤
 

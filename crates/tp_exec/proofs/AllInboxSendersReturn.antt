@@ -132,7 +132,7 @@ module _ (logs : ℕ → List Entry) (i : Inbox) (e : EndedComponent) (ss : List
 arrivals_rest : (rest : List (ℕ × Env Message × ℕ)) → arrivals (rest_arrivals rest) ≡ rest_arrivals rest
 unfolding arrivals
 arrivals_rest [] = refl
-arrivals_rest (x ∷ rest) = ap (λ l. entry.Arrive x.0 x.1 x.2 ∷ l) (arrivals_rest rest)
+arrivals_rest (x ∷ rest) = ap (λ l. entry.Arrive x.0 x.2 x.1 ∷ l) (arrivals_rest rest)
 
 -- what had arrived and what is appended came on these routes
 pub all_routed : (routes : List RouteId) (k drained : List Entry) (rest : List (ℕ × Env Message × ℕ)) → arrivals k ≡ drained → All (IsArrivalOn routes) drained

@@ -61,7 +61,7 @@ merged {Y} (z ∷ zs) (w ∷ ws) whose_is each =
 
 -- what came, with its sender
 abbrev came_by : CompId → Entry → Option (ℕ × Posted)
-came_by d (entry.Arrive port env stamp) =
+came_by d (entry.Arrive port stamp env) =
     Some (
       env.sender,
       record {
@@ -74,17 +74,17 @@ came_by d _ = None
 
 came_whose : (d : CompId) (e : Entry) (zs : List (ℕ × Posted))
     → filter_map whose (cons_option (came_by d e) zs) ≡ cons_option (source_of e) (filter_map whose zs)
-came_whose d (entry.Arrive p v t) zs = refl
+came_whose d (entry.Arrive p t v) zs = refl
 came_whose d _ zs = refl
 
 came_what : (d : CompId) (e : Entry) (zs : List (ℕ × Posted))
     → filter_map what (cons_option (came_by d e) zs) ≡ cons_option (came_to d e) (filter_map what zs)
-came_what d (entry.Arrive p v t) zs = refl
+came_what d (entry.Arrive p t v) zs = refl
 came_what d _ zs = refl
 
 came_each : (c d : CompId) (e : Entry) (zs : List (ℕ × Posted))
     → filter_map (what_of c.0) (cons_option (came_by d e) zs) ≡ cons_option (arrival_from d c e) (filter_map (what_of c.0) zs)
-came_each c d (entry.Arrive p v t) zs = by (c.0 == v.sender) refl
+came_each c d (entry.Arrive p t v) zs = by (c.0 == v.sender) refl
   where
     rest : List Posted
     rest = filter_map (what_of c.0) zs

@@ -33,7 +33,7 @@ use Rattle.tp_exec.proofs.HistoryEntries.{came_grows}
 
 -- as many come, or are sent, as have a sender
 came_alike : (d : CompId) (e : Entry) → length (cons_option (came_to d e) []) ≡ length (cons_option (source_of e) [])
-came_alike d (entry.Arrive p v t) = refl
+came_alike d (entry.Arrive p t v) = refl
 came_alike d _ = refl
 
 either_alike : {X Y : Type 0} (b : Bool) (x : X) (y : Y) → length (cons_option (cond b (Some x) None) []) ≡ length (cons_option (cond b (Some y) None) [])
@@ -47,11 +47,11 @@ sent_alike d n (Some _) = refl
 
 -- which entry it is that is an arrival of this route, with this number
 abbrev IsArrivalOf : RouteId → ℕ → Entry → Type 0
-IsArrivalOf r number e = (stamp : ℕ) × (env : Env Message) × (e ≡ entry.Arrive r.to.port env stamp) × (env.sender ≡ r.source.0) × (env.number ≡ number)
+IsArrivalOf r number e = (stamp : ℕ) × (env : Env Message) × (e ≡ entry.Arrive r.to.port stamp env) × (env.sender ≡ r.source.0) × (env.number ≡ number)
 
 is_arrival_of : (r : RouteId) (number : ℕ) (m : Stamped) (d : CompId) (e : Entry)
     → came_to d e ≡ Some record { route = r; number = number; stamped = m } → IsArrivalOf r number e
-is_arrival_of r number m d (entry.Arrive p env stamp) is =
+is_arrival_of r number m d (entry.Arrive p stamp env) is =
     let got : Posted = record {
       route = record { source = record { 0 = env.sender }; to = record { comp = d; port = p } };
       number = env.number;
@@ -60,7 +60,7 @@ is_arrival_of r number m d (entry.Arrive p env stamp) is =
     let same = same_Some got (record { route = r; number = number; stamped = m }) is in (
       stamp,
       env,
-      ap (λ (x : Posted). entry.Arrive x.route.to.port env stamp) same,
+      ap (λ (x : Posted). entry.Arrive x.route.to.port stamp env) same,
       ap (λ (x : Posted). x.route.source.0) same,
       ap (λ (x : Posted). x.number) same,
     )
@@ -71,7 +71,7 @@ came_at : (report : Report) (r : RouteId) (d : CompId) (y : CompReport) (place n
 came_at report r d y place number e (stamp, env, is, from, same) to receiver stands = record {
   arrived = env;
   stamp = stamp;
-  stands = in_report report r d y place (entry.Arrive r.to.port env stamp) to receiver (stands ∙ ap (λ x. Some x) is);
+  stands = in_report report r d y place (entry.Arrive r.to.port stamp env) to receiver (stands ∙ ap (λ x. Some x) is);
   sender = from;
   numbered = same;
 }
@@ -126,18 +126,18 @@ module _ (made : Made) (report : Report) (order : List Spot) (h : IsReportOf mad
   -- the message that came at this place of the receiver's history was sent before
   sent_earlier : (r : RouteId) (j k number stamp n : ℕ) (m : Stamped) (env : Env Message)
       → StandsAt report (spot r.source.0 j) (entry.Sent r number m)
-      → StandsAt report (spot r.to.comp.0 k) (entry.Arrive r.to.port env stamp) → env.sender ≡ r.source.0 → env.number ≡ number
+      → StandsAt report (spot r.to.comp.0 k) (entry.Arrive r.to.port stamp env) → env.sender ≡ r.source.0 → env.number ≡ number
       → AreBefore n (spot r.to.comp.0 k) → (i : ℕ) × (i < n) × IsAt order i (spot r.source.0 j)
   sent_earlier r j k number stamp n m env out into from same before =
       let d = r.to.comp in
-      let x = reported (slice_get components d.0) k (entry.Arrive r.to.port env stamp) into in
+      let x = reported (slice_get components d.0) k (entry.Arrive r.to.port stamp env) into in
       let log = x.0.desk.log in
       let i = is.each (spot r.source.0 j) (own_sending r j number m out) in
-      let came : slice_get log k ≡ Some (entry.Arrive r.to.port env stamp) = ap (λ o. slice_get (log_of o) k) (sym x.1) ∙ into in
+      let came : slice_get log k ≡ Some (entry.Arrive r.to.port stamp env) = ap (λ o. slice_get (log_of o) k) (sym x.1) ∙ into in
       let sends : entry_at_spot logs (spot r.source.0 j) ≡ Some (entry.Sent r env.number m) =
       stands_in r.source.0 j (entry.Sent r number m) out ∙ ap (λ o. Some (entry.Sent r o m)) (sym same) in
       let so = as_much_before made report order h is d x.0 x.1 r i.0 k stamp (spot r.source.0 j) env m refl from came i.1 sends in
-      let one = one_more_given (came_to d) log k (entry.Arrive r.to.port env stamp) (posted r env stamp) came (came_is d r env stamp refl from) in
+      let one = one_more_given (came_to d) log k (entry.Arrive r.to.port stamp env) (posted r env stamp) came (came_is d r env stamp refl from) in
       let alike = given_alike (came_to d) source_of (came_alike d) (take (k + 1) log) in
       let here = ap (λ l. so_much source_of l (k + 1)) (log_here components d.0 ∙ ap log_of x.1) in
       let also = given_alike (sent_at d) (sender_to logs d.0) (λ a. sent_alike d a.comp (entry_at_spot logs a)) (take n order) in
@@ -182,9 +182,9 @@ module _ (made : Made) (report : Report) (order : List Spot) (h : IsReportOf mad
       → CameAt report b q o → (a : ℕ) × (a < b) × CameAt report a r n
   comes_before r q i j u v n o b m w to less out next at there into =
       let d = q.to.comp in
-      let x = reported (slice_get components d.0) b (entry.Arrive q.to.port into.arrived into.stamp) into.stands in
+      let x = reported (slice_get components d.0) b (entry.Arrive q.to.port into.stamp into.arrived) into.stands in
       let log = x.0.desk.log in
-      let came : slice_get log b ≡ Some (entry.Arrive q.to.port into.arrived into.stamp) = ap (λ o. slice_get (log_of o) b) (sym x.1) ∙ into.stands in
+      let came : slice_get log b ≡ Some (entry.Arrive q.to.port into.stamp into.arrived) = ap (λ o. slice_get (log_of o) b) (sym x.1) ∙ into.stands in
       let sends : entry_at_spot logs (spot q.source.0 j) ≡ Some (entry.Sent q into.arrived.number w) =
       stands_in q.source.0 j (entry.Sent q o w) next ∙ ap (λ s. Some (entry.Sent q s w)) (sym into.numbered) in
       let so = as_much_before made report order h is d x.0 x.1 q v b into.stamp (spot q.source.0 j) into.arrived w refl into.sender came there sends in

@@ -24,7 +24,7 @@ use Rattle.tp_judge.proofs.NoOrderWhereStuck.{many_here, sum_one, unit}
 
 -- a sending is what its component did itself
 send_own : (d : ℕ) (e : Entry) → sends_to d (Some e) ≡ true → is_arrival e ≡ false
-send_own d (entry.Arrive p v t) met = absurd (cc)
+send_own d (entry.Arrive p t v) met = absurd (cc)
 send_own d _ met = refl
 
 sending : (d : ℕ) (o : Option Entry) → sends_to d o ≡ true → (e : Entry) × (o ≡ Some e) × (is_arrival e ≡ false)

@@ -37,11 +37,11 @@ came_grows k n m most =
     omega (arith, ap length whole, sizes, same)
 
 pub own_none : (e : Entry) → is_arrival e ≡ false → source_of e ≡ None
-own_none (entry.Arrive p v s) own = absurd (cc)
+own_none (entry.Arrive p s v) own = absurd (cc)
 own_none _ own = refl
 
 pub look_own : (e : Entry) → LooksAtPorts e → is_arrival e ≡ false
-look_own (entry.Arrive p v t) look = absurd look
+look_own (entry.Arrive p t v) look = absurd look
 look_own _ look = refl
 
 pub many_sent : (c x : ℕ) (b : Bool) → many x (cons_option (cond b (Some c) None) []) ≡ cond b (unit (c == x)) 0

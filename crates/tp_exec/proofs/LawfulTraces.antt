@@ -44,16 +44,16 @@ met false x z e = absurd (cc)
 
 -- the entry is an arrival on the route
 abbrev IsArrivalOf : RouteId → Entry → Type 0
-IsArrivalOf r e = (stamp : ℕ) × (env : Env Message) × (e ≡ entry.Arrive r.to.port env stamp) × (env.sender ≡ r.source.0)
+IsArrivalOf r e = (stamp : ℕ) × (env : Env Message) × (e ≡ entry.Arrive r.to.port stamp env) × (env.sender ≡ r.source.0)
 
 arrives : (r : RouteId) (e : Entry) (z : ℕ × Stamped) → arrival_on r e ≡ Some z → IsArrivalOf r e
-arrives r (entry.Arrive p env stamp) z is =
+arrives r (entry.Arrive p stamp env) z is =
     let both = and_parts (r.to.port == p) (r.source.0 == env.sender)
     (met ((r.to.port == p) && (r.source.0 == env.sender)) (env.number, record { stamp = stamp; message = env.msg }) z is) in
-    (stamp, env, ap (λ q. entry.Arrive q env stamp) (sym (eqb-true r.to.port p both.0)), sym (eqb-true r.source.0 env.sender both.1))
-arrives r (entry.Took p env branch) z is = absurd (cc)
-arrives r (entry.Found p env branch) z is = absurd (cc)
-arrives r (entry.Dropped p env branch) z is = absurd (cc)
+    (stamp, env, ap (λ q. entry.Arrive q stamp env) (sym (eqb-true r.to.port p both.0)), sym (eqb-true r.source.0 env.sender both.1))
+arrives r (entry.Took p branch env) z is = absurd (cc)
+arrives r (entry.Found p branch env) z is = absurd (cc)
+arrives r (entry.Dropped p branch env) z is = absurd (cc)
 arrives r (entry.Cleared p) z is = absurd (cc)
 arrives r (entry.Started p) z is = absurd (cc)
 arrives r (entry.Stopped p) z is = absurd (cc)
@@ -78,7 +78,7 @@ module _ (made : Made) (report : Report) (h : IsReportOf made report) (r : Route
   numbered (z ∷ zs) is =
       let at = given_first (arrival_on r) y.desk.log z zs is in
       let came = arrives r at.1 z at.3 in
-      let into : slice_get (log_of (slice_get report.components.items r.to.comp.0)) at.0 ≡ Some (entry.Arrive r.to.port came.1 came.0) =
+      let into : slice_get (log_of (slice_get report.components.items r.to.comp.0)) at.0 ≡ Some (entry.Arrive r.to.port came.0 came.1) =
       ap (λ o. slice_get (log_of o) at.0) receiver ∙ at.2 ∙ ap Some came.2 in
       let d = on_route made report h r at.0 came.0 came.1 into came.3 in
       subst (λ (s : CompReport). AreNumbered (sent_on r s.desk.log)) (same_Some d.pair.source x (sym d.pair.source_is ∙ source)) d.numbered

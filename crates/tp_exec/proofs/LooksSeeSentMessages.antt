@@ -97,7 +97,7 @@ size_none true = refl
 size_none false = refl
 
 pub arrival_size : (c d : CompId) (e : Entry) → length (cons_option (arrival_from d c e) []) ≡ many c.0 (cons_option (source_of e) [])
-arrival_size c d (entry.Arrive p v t) =
+arrival_size c d (entry.Arrive p t v) =
     let one = many_sent v.sender c.0 true in
     size_if (c.0 == v.sender) _ ∙ ap unit (turned c.0 v.sender) ∙ sym one
 arrival_size c d _ = refl

@@ -45,7 +45,7 @@ both_ways false false y zs = refl
 
 came_one : (d : CompId) (r : RouteId) → r.to.comp ≡ d → (e : Entry) (xs : List Posted)
     → filter_map (posting_on r) (cons_option (came_to d e) xs) ≡ cons_option (arrival_on r e) (filter_map (posting_on r) xs)
-came_one d r here (entry.Arrive p env stamp) xs =
+came_one d r here (entry.Arrive p stamp env) xs =
     let y : ℕ × Stamped = (env.number, record { stamp = stamp; message = env.msg }) in
     let zs = filter_map (posting_on r) xs in
     let a = r.source.0 == env.sender in
@@ -60,7 +60,7 @@ on_route_of_all d r here k = given_twice (came_to d) (posting_on r) (arrival_on 
 
 -- what an arrival of a route is
 pub came_is : (d : CompId) (r : RouteId) (env : Env Message) (stamp : ℕ) → r.to.comp ≡ d → env.sender ≡ r.source.0
-    → came_to d (entry.Arrive r.to.port env stamp) ≡ Some (posted r env stamp)
+    → came_to d (entry.Arrive r.to.port stamp env) ≡ Some (posted r env stamp)
 came_is d r env stamp here from =
     let same : record { source = record { 0 = env.sender }; to = record { comp = d; port = r.to.port } } ≡ r = λ i. record {
       source = record { 0 = from i };
@@ -70,7 +70,7 @@ came_is d r env stamp here from =
 
 -- the message that the entry lets into the queue of the port
 abbrev enters : ℕ → Entry → Option (Env Message)
-enters port (entry.Arrive p env stamp) = cond (port == p) (Some env) None
+enters port (entry.Arrive p stamp env) = cond (port == p) (Some env) None
 enters port _ = None
 
 let_in : (b : Bool) (env : Env Message) (vs : List (Event Message))
@@ -85,10 +85,10 @@ left_out false v vs none = refl
 
 enters_one : (port : ℕ) (e : Entry) (vs : List (Event Message))
     → filter_map arrival (cons_option (event_at port e) vs) ≡ cons_option (enters port e) (filter_map arrival vs)
-enters_one port (entry.Arrive p env stamp) vs = let_in (port == p) env vs
-enters_one port (entry.Took p env b) vs = left_out (port == p) (event.Took env) vs refl
-enters_one port (entry.Found p env b) vs = left_out (port == p) (event.Found env) vs refl
-enters_one port (entry.Dropped p env b) vs = left_out (port == p) (event.Dropped env) vs refl
+enters_one port (entry.Arrive p stamp env) vs = let_in (port == p) env vs
+enters_one port (entry.Took p b env) vs = left_out (port == p) (event.Took env) vs refl
+enters_one port (entry.Found p b env) vs = left_out (port == p) (event.Found env) vs refl
+enters_one port (entry.Dropped p b env) vs = left_out (port == p) (event.Dropped env) vs refl
 enters_one port (entry.Cleared p) vs = left_out (port == p) event.Cleared vs refl
 enters_one port (entry.Started p) vs = left_out (port == p) event.Started vs refl
 enters_one port (entry.Stopped p) vs = left_out (port == p) event.Stopped vs refl
@@ -104,13 +104,13 @@ accepted_are port k = given_twice (event_at port) arrival (enters port) (enters_
 
 -- it is an arrival at the port
 abbrev IsArrivalAt : ℕ → Env Message → Entry → Type 0
-IsArrivalAt port env e = (stamp : ℕ) × (e ≡ entry.Arrive port env stamp)
+IsArrivalAt port env e = (stamp : ℕ) × (e ≡ entry.Arrive port stamp env)
 
 entered : (port : ℕ) (env : Env Message) (e : Entry) → enters port e ≡ Some env → IsArrivalAt port env e
-entered port env (entry.Arrive p v stamp) is = by (port == p) refl is
+entered port env (entry.Arrive p stamp v) is = by (port == p) refl is
   where
-    by : (b : Bool) → (port == p) ≡ b → cond b (Some v) None ≡ Some env → IsArrivalAt port env (entry.Arrive p v stamp)
-    by true same at = (stamp, λ i. entry.Arrive (sym (eqb-true port p same) i) (same_Some v env at i) stamp)
+    by : (b : Bool) → (port == p) ≡ b → cond b (Some v) None ≡ Some env → IsArrivalAt port env (entry.Arrive p stamp v)
+    by true same at = (stamp, λ i. entry.Arrive (sym (eqb-true port p same) i) stamp (same_Some v env at i))
     by false same at = absurd (none-some env at)
 entered port env _ is = absurd (none-some env is)
 
@@ -122,14 +122,14 @@ at_itself : (port p : ℕ) (v : Event Message) → p ≡ port → cond (port == 
 at_itself port p v same = ap (λ b. cond b (Some v) None) (eq-eqb port p (sym same))
 
 tells_top : (port : ℕ) (env : Env Message) (e : Entry) → HadOnTop port env e → TellsTop port env e
-tells_top port env (entry.Took p v b) had = (event.Took v, at_itself port p (event.Took v) had.0, λ k may. may ∙ ap Some had.1)
-tells_top port env (entry.Found p v b) had = (event.Found v, at_itself port p (event.Found v) had.0, λ k may. may ∙ ap Some had.1)
-tells_top port env (entry.Dropped p v b) had = (event.Dropped v, at_itself port p (event.Dropped v) had.0, λ k may. may ∙ ap Some had.1)
+tells_top port env (entry.Took p b v) had = (event.Took v, at_itself port p (event.Took v) had.0, λ k may. may ∙ ap Some had.1)
+tells_top port env (entry.Found p b v) had = (event.Found v, at_itself port p (event.Found v) had.0, λ k may. may ∙ ap Some had.1)
+tells_top port env (entry.Dropped p b v) had = (event.Dropped v, at_itself port p (event.Dropped v) had.0, λ k may. may ∙ ap Some had.1)
 tells_top port env _ had = absurd had
 
 -- what was on top of the queue had arrived
 abbrev ArrivedBefore : ℕ → Env Message → List Entry → ℕ → Type 0
-ArrivedBefore port env k place = (n : ℕ) × (stamp : ℕ) × (n < place) × (slice_get k n ≡ Some (entry.Arrive port env stamp))
+ArrivedBefore port env k place = (n : ℕ) × (stamp : ℕ) × (n < place) × (slice_get k n ≡ Some (entry.Arrive port stamp env))
 
 arrived_before : (port : ℕ) (env : Env Message) (k : List Entry) (place : ℕ) (e : Entry) → Lawful (history_of port k) → slice_get k place ≡ Some e
     → HadOnTop port env e → ArrivedBefore port env k place
@@ -180,24 +180,24 @@ module _ (made : Made) (report : Report) (order : List Spot) (h : IsReportOf mad
 
   -- as much is sent before a message as comes before it
   pub as_much_before : (r : RouteId) (i b stamp : ℕ) (a : Spot) (env : Env Message) (m : Stamped) → r.to.comp ≡ d → env.sender ≡ r.source.0
-      → slice_get y.desk.log b ≡ Some (entry.Arrive r.to.port env stamp) → IsAt order i a → entry_at_spot logs a ≡ Some (entry.Sent r env.number m)
+      → slice_get y.desk.log b ≡ Some (entry.Arrive r.to.port stamp env) → IsAt order i a → entry_at_spot logs a ≡ Some (entry.Sent r env.number m)
       → so_much sent_at order i ≡ so_much (came_to d) y.desk.log b
   as_much_before r i b stamp a env m here from came at sends =
       let put : Posted = record { route = r; number = env.number; stamped = m } in
       let got = posted r env stamp in
-      let into = in_report report r d y b (entry.Arrive r.to.port env stamp) here receiver came in
+      let into = in_report report r d y b (entry.Arrive r.to.port stamp env) here receiver came in
       let first : slice_get (all_sent_to logs d order) (so_much sent_at order i) ≡ Some put =
       given_at sent_at order i a put at (ap (sending_in d) sends ∙ sent_as d env.number r m here) in
       let one : slice_get (all_came_to d y.desk.log) (so_much sent_at order i) ≡ Some put =
       ap (λ xs. slice_get xs (so_much sent_at order i)) (come_as_sent made report order h is d y receiver) ∙ first in
       let other : slice_get (all_came_to d y.desk.log) (so_much (came_to d) y.desk.log b) ≡ Some got =
-      given_at (came_to d) y.desk.log b (entry.Arrive r.to.port env stamp) got came (came_is d r env stamp here from) in
+      given_at (came_to d) y.desk.log b (entry.Arrive r.to.port stamp env) got came (came_is d r env stamp here from) in
       one_place_of made report h r d y (so_much sent_at order i) (so_much (came_to d) y.desk.log b) put got (on_route made report h r b stamp env into from)
       here receiver one other refl refl refl
 
   -- so what was sent up to a message has come before each place behind it
   come_before : (r : RouteId) (i b place stamp : ℕ) (a : Spot) (env : Env Message) (m : Stamped) → r.to.comp ≡ d → env.sender ≡ r.source.0
-      → slice_get y.desk.log b ≡ Some (entry.Arrive r.to.port env stamp) → b < place → IsAt order i a → entry_at_spot logs a ≡ Some (entry.Sent r env.number m)
+      → slice_get y.desk.log b ≡ Some (entry.Arrive r.to.port stamp env) → b < place → IsAt order i a → entry_at_spot logs a ≡ Some (entry.Sent r env.number m)
       → IsFrontOf (all_sent_to logs d (take (i + 1) order)) (all_came_to d (take place y.desk.log))
   come_before r i b place stamp a env m here from came less at sends =
       let log = y.desk.log in
@@ -206,7 +206,7 @@ module _ (made : Made) (report : Report) (order : List Spot) (h : IsReportOf mad
       let n = so_much sent_at order (i + 1) in
       let len = so_much (came_to d) log place in
       let one = one_more_given sent_at order i a put at (ap (sending_in d) sends ∙ sent_as d env.number r m here) in
-      let other = one_more_given (came_to d) log b (entry.Arrive r.to.port env stamp) (posted r env stamp) came (came_is d r env stamp here from) in
+      let other = one_more_given (came_to d) log b (entry.Arrive r.to.port stamp env) (posted r env stamp) came (came_is d r env stamp here from) in
       let grown = given_grows (came_to d) log (b + 1) place (omega (arith, less)) in
       let most : n ≤ len = omega (arith, so, one, other, grown) in
       let came_so_far = all_came_to d (take place log) in

@@ -58,10 +58,10 @@ time k n = 2 * clock_of (take (suc n) k) + late_at (slice_get k n)
 
 low_late : (o : Option Entry) → late_at o ≤ 1
 low_late None = omega arith
-low_late (Some (entry.Arrive p e s)) = omega arith
-low_late (Some (entry.Took p e b)) = omega arith
-low_late (Some (entry.Found p e b)) = omega arith
-low_late (Some (entry.Dropped p e b)) = omega arith
+low_late (Some (entry.Arrive p s e)) = omega arith
+low_late (Some (entry.Took p b e)) = omega arith
+low_late (Some (entry.Found p b e)) = omega arith
+low_late (Some (entry.Dropped p b e)) = omega arith
 low_late (Some (entry.Cleared p)) = omega arith
 low_late (Some (entry.Started p)) = omega arith
 low_late (Some (entry.Stopped p)) = omega arith
@@ -75,10 +75,10 @@ low_late (Some (entry.Failed c)) = omega arith
 moves : (before after : ℕ) (e : Entry) → before ≤ after → ((r : _) (number : ℕ) (m : _) → e ≡ entry.Sent r number m → before < after)
     → 2 * before + 1 ≤ 2 * after + late e
 moves before after (entry.Sent r number m) low up = let more = up r number m refl in omega (arith, more)
-moves before after (entry.Arrive p e s) low up = omega (arith, low)
-moves before after (entry.Took p e b) low up = omega (arith, low)
-moves before after (entry.Found p e b) low up = omega (arith, low)
-moves before after (entry.Dropped p e b) low up = omega (arith, low)
+moves before after (entry.Arrive p s e) low up = omega (arith, low)
+moves before after (entry.Took p b e) low up = omega (arith, low)
+moves before after (entry.Found p b e) low up = omega (arith, low)
+moves before after (entry.Dropped p b e) low up = omega (arith, low)
 moves before after (entry.Cleared p) low up = omega (arith, low)
 moves before after (entry.Started p) low up = omega (arith, low)
 moves before after (entry.Stopped p) low up = omega (arith, low)
@@ -102,11 +102,11 @@ later_in_history k i j e clocked low is =
 
 -- an arrival happened later than the sending that has its stamp
 sent_before : (k l : List Entry) (i j : ℕ) (r : RouteId) (number port stamp : ℕ) (m : Stamped) (env : Env Message) → IsClocked k
-    → slice_get k i ≡ Some (entry.Sent r number m) → slice_get l j ≡ Some (entry.Arrive port env stamp) → stamp ≡ m.stamp → time k i < time l j
+    → slice_get k i ≡ Some (entry.Sent r number m) → slice_get l j ≡ Some (entry.Arrive port stamp env) → stamp ≡ m.stamp → time k i < time l j
 unfolding IsClocked
 sent_before k l i j r number port stamp m env clocked out into same =
     let above : clock_of (take i k) < m.stamp = clocked i (entry.Sent r number m) out in
-    omega (arith, above, clock_after k i (entry.Sent r number m) out, clock_after l j (entry.Arrive port env stamp) into, ap late_at out, ap late_at into, same)
+    omega (arith, above, clock_after k i (entry.Sent r number m) out, clock_after l j (entry.Arrive port stamp env) into, ap late_at out, ap late_at into, same)
 
 -- one time is before another one: the number is less, or it is no greater and the place is less
 abbrev Less : ℕ × ℕ → ℕ × ℕ → Type 0
@@ -144,14 +144,14 @@ among_sent : (r : RouteId) (k : List Entry) (n number : ℕ) (m : Stamped) → s
 unfolding sent_on
 among_sent r k n number m is = given (sending_on r) k n (entry.Sent r number m) (number, m) is (ap (λ b. cond b (Some (number, m)) None) (itself r))
 
-among_arrived : (r : RouteId) (k : List Entry) (n stamp : ℕ) (env : Env Message) → slice_get k n ≡ Some (entry.Arrive r.to.port env stamp)
+among_arrived : (r : RouteId) (k : List Entry) (n stamp : ℕ) (env : Env Message) → slice_get k n ≡ Some (entry.Arrive r.to.port stamp env)
     → env.sender ≡ r.source.0
     → (i : ℕ) × (slice_get (arrived_on r k) i ≡ Some (env.number, record { stamp = stamp; message = env.msg }))
 unfolding arrived_on
 among_arrived r k n stamp env is from =
     let x : ℕ × Stamped = (env.number, record { stamp = stamp; message = env.msg }) in
     let met = and_from (r.to.port == r.to.port) (r.source.0 == env.sender) (eq-eqb r.to.port r.to.port refl) (eq-eqb r.source.0 env.sender (sym from)) in
-    given (arrival_on r) k n (entry.Arrive r.to.port env stamp) x is (ap (λ b. cond b (Some x) None) met)
+    given (arrival_on r) k n (entry.Arrive r.to.port stamp env) x is (ap (λ b. cond b (Some x) None) met)
 
 -- in a list that is numbered the number tells the place
 pub number_is : (n : ℕ) (xs : List (ℕ × Stamped)) → map (λ x. x.0) xs ≡ numbers_from n xs → (i : ℕ) (y : ℕ × Stamped) → slice_get xs i ≡ Some y → y.0 ≡ n + i
@@ -183,10 +183,10 @@ all_clocked made report h c (Some x) is = (h.each c x is).clocked
 
 -- what arrives is delivered
 pub on_route : (made : Made) (report : Report) → IsReportOf made report → (r : RouteId) (k stamp : ℕ) (env : Env Message)
-    → slice_get (history report r.to.comp.0) k ≡ Some (entry.Arrive r.to.port env stamp) → env.sender ≡ r.source.0 → IsDelivered report.components.items r
+    → slice_get (history report r.to.comp.0) k ≡ Some (entry.Arrive r.to.port stamp env) → env.sender ≡ r.source.0 → IsDelivered report.components.items r
 on_route made report h r k stamp env into from =
-    let x = reported (slice_get report.components.items r.to.comp.0) k (entry.Arrive r.to.port env stamp) into in
-    let on = (h.each r.to.comp x.0 x.1).routed k (entry.Arrive r.to.port env stamp) (ap (λ o. slice_get (log_of o) k) (sym x.1) ∙ into) in
+    let x = reported (slice_get report.components.items r.to.comp.0) k (entry.Arrive r.to.port stamp env) into in
+    let on = (h.each r.to.comp x.0 x.1).routed k (entry.Arrive r.to.port stamp env) (ap (λ o. slice_get (log_of o) k) (sym x.1) ∙ into) in
     let here : on.0.to.comp ≡ r.to.comp = All-contains (λ (q : RouteId). q.to.comp ≡ r.to.comp) (routes_into made.config r.to.comp) on.0
     (routes_here made.config r.to.comp) on.1 in
     let source : on.0.source.0 ≡ r.source.0 = on.3 ∙ from in
@@ -196,7 +196,7 @@ on_route made report h r k stamp env into from =
 -- and has the stamp of its sending
 same_stamp : (made : Made) (report : Report) → IsReportOf made report → (r : RouteId) (j k number stamp : ℕ) (m : Stamped) (env : Env Message)
     → slice_get (history report r.source.0) j ≡ Some (entry.Sent r number m) → slice_get (history report r.to.comp.0) k ≡ Some
-    (entry.Arrive r.to.port env stamp)
+    (entry.Arrive r.to.port stamp env)
     → env.sender ≡ r.source.0 → env.number ≡ number → stamp ≡ m.stamp
 same_stamp made report h r j k number stamp m env out into from same =
     let d = on_route made report h r k stamp env into from in

@@ -55,7 +55,7 @@ abbrev pub posted : RouteId → Env Message → ℕ → Posted
 posted r e stamp = record { route = r; number = e.number; stamped = record { stamp = stamp; message = e.msg } }
 
 came_as : (c d : CompId) (r : RouteId) (e : Env Message) (stamp : ℕ) → r.source ≡ c → r.to.comp ≡ d → e.sender ≡ r.source.0
-    → arrival_from d c (entry.Arrive r.to.port e stamp) ≡ Some (posted r e stamp)
+    → arrival_from d c (entry.Arrive r.to.port stamp e) ≡ Some (posted r e stamp)
 came_as c d r e stamp from to sender =
     let same : record { source = c; to = record { comp = d; port = r.to.port } } ≡ r = λ i. record {
       source = sym from i;
@@ -77,7 +77,7 @@ module _ (made : Made) (report : Report) (h : IsReportOf made report) where
       → CameAt report a r number → sent r.source r.to.comp ≡ came r.source r.to.comp
   all_came r i a number m out into =
       let x = reported (slice_get report.components.items r.source.0) i (entry.Sent r number m) out in
-      let y = reported (slice_get report.components.items r.to.comp.0) a (entry.Arrive r.to.port into.arrived into.stamp) into.stands in
+      let y = reported (slice_get report.components.items r.to.comp.0) a (entry.Arrive r.to.port into.stamp into.arrived) into.stands in
       ap (λ o. sent_to r.to.comp (log_of o)) x.1 ∙ h.between r.source r.to.comp x.0 y.0 x.1 y.1
       ∙ ap (λ o. arrived_from r.to.comp r.source (log_of o)) (sym y.1)
 
@@ -104,7 +104,7 @@ module _ (made : Made) (report : Report) (h : IsReportOf made report) where
       let at : slice_get (sent c d) (so_much (sending_to d) k i) ≡ Some put =
       given_at (sending_to d) k i (entry.Sent r number m) put out (sent_as d number r m refl) in
       let there : slice_get (came c d) (so_much (arrival_from d c) l a) ≡ Some got =
-      given_at (arrival_from d c) l a (entry.Arrive r.to.port into.arrived into.stamp) got into.stands
+      given_at (arrival_from d c) l a (entry.Arrive r.to.port into.stamp into.arrived) got into.stands
       (came_as c d r into.arrived into.stamp refl refl into.sender) in
       one_place r (sent c d) (numbered_on r a number into) (so_much (arrival_from d c) l a) (so_much (sending_to d) k i) got put
       (ap (λ s. slice_get s (so_much (arrival_from d c) l a)) (all_came r i a number m out into) ∙ there) at refl refl into.numbered
@@ -117,7 +117,7 @@ module _ (made : Made) (report : Report) (h : IsReportOf made report) where
       let k = history report c.0 in
       let l = history report d.0 in
       let later : slice_get k j ≡ Some (entry.Sent q o w) = ap (λ (e : CompId). slice_get (history report e.0) j) source ∙ next in
-      let stands : slice_get l b ≡ Some (entry.Arrive q.to.port after.arrived after.stamp) =
+      let stands : slice_get l b ≡ Some (entry.Arrive q.to.port after.stamp after.arrived) =
       ap (λ (e : CompId). slice_get (history report e.0) b) to ∙ after.stands in
       let one : so_much (arrival_from d c) l a ≡ so_much (sending_to d) k i = place_is r i a n m out into in
       let other : so_much (arrival_from d c) l b ≡ so_much (sending_to d) k j =

@@ -55,10 +55,10 @@ module _ (d : CompId) (out : List RouteId) (none : (r : RouteId) → Contains ou
     by : ((d.0 == r.to.comp.0) ≡ true) ⊎ ((d.0 == r.to.comp.0) ≡ false) → cond (d.0 == r.to.comp.0) (Some x) None ≡ None
     by (inl e) = absurd (none r h (λ i. record { 0 = sym (eqb-true d.0 r.to.comp.0 e) i }))
     by (inr e) = ap (λ b. cond b (Some x) None) e
-  not_sent (entry.Arrive p e stamp) h = refl
-  not_sent (entry.Took p e b) h = refl
-  not_sent (entry.Found p e b) h = refl
-  not_sent (entry.Dropped p e b) h = refl
+  not_sent (entry.Arrive p stamp e) h = refl
+  not_sent (entry.Took p b e) h = refl
+  not_sent (entry.Found p b e) h = refl
+  not_sent (entry.Dropped p b e) h = refl
   not_sent (entry.Cleared p) h = refl
   not_sent (entry.Started p) h = refl
   not_sent (entry.Stopped p) h = refl
@@ -76,7 +76,7 @@ module _ (d : CompId) (out : List RouteId) (none : (r : RouteId) → Contains ou
 -- and where none of these routes comes from a component, nothing comes from it
 module _ (d c : CompId) (routes : List RouteId) (none : (r : RouteId) → Contains routes r → r.source ≢ c) where
   not_come : (e : Entry) → IsArrivalOn routes e → arrival_from d c e ≡ None
-  not_come (entry.Arrive p env stamp) h = by (cases_Bool (c.0 == env.sender)) where
+  not_come (entry.Arrive p stamp env) h = by (cases_Bool (c.0 == env.sender)) where
     x : Posted
     x = record {
       route = record { source = c; to = record { comp = d; port = p } };
@@ -87,9 +87,9 @@ module _ (d c : CompId) (routes : List RouteId) (none : (r : RouteId) → Contai
     by : ((c.0 == env.sender) ≡ true) ⊎ ((c.0 == env.sender) ≡ false) → cond (c.0 == env.sender) (Some x) None ≡ None
     by (inl e) = absurd (none h.0 h.1 (λ i. record { 0 = (h.3 ∙ sym (eqb-true c.0 env.sender e)) i }))
     by (inr e) = ap (λ b. cond b (Some x) None) e
-  not_come (entry.Took p e b) h = absurd h
-  not_come (entry.Found p e b) h = absurd h
-  not_come (entry.Dropped p e b) h = absurd h
+  not_come (entry.Took p b e) h = absurd h
+  not_come (entry.Found p b e) h = absurd h
+  not_come (entry.Dropped p b e) h = absurd h
   not_come (entry.Cleared p) h = absurd h
   not_come (entry.Started p) h = absurd h
   not_come (entry.Stopped p) h = absurd h

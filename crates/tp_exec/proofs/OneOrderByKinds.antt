@@ -19,18 +19,18 @@ use Rattle.tp_exec.specs.EntryKinds.{kind_of, kinds_of}
 use Rattle.tp_exec.specs.OneOrder.{HasOneOrder, IsOwn, came_before, entry_at_spot, histories_of, log_in, sender_to, sends_to, source_of, sources}
 
 own_is : (c : ℕ) (e : Entry) → is_own (kind_of c e) ≡ not (is_arrival e)
-own_is c (entry.Arrive p v s) = refl
+own_is c (entry.Arrive p s v) = refl
 own_is c _ = refl
 
 own_of : (c : ℕ) (e : Entry) → is_arrival e ≡ false → is_own (kind_of c e) ≡ true
 own_of c e own = own_is c e ∙ ap not own
 
 of_own : (e : Entry) → not (is_arrival e) ≡ true → is_arrival e ≡ false
-of_own (entry.Arrive p v s) own = absurd (false≢true own)
+of_own (entry.Arrive p s v) own = absurd (false≢true own)
 of_own _ own = refl
 
 came_is : (c : ℕ) (e : Entry) → source_of e ≡ came_of (kind_of c e)
-came_is c (entry.Arrive p v s) = refl
+came_is c (entry.Arrive p s v) = refl
 came_is c _ = refl
 
 sent_is : (c d : ℕ) (e : Entry) → cond (sends_to d (Some e)) (Some c) None ≡ sent_of d (kind_of c e)
@@ -38,14 +38,14 @@ sent_is c d (entry.Sent r n m) = refl
 sent_is c d _ = refl
 
 look_is : (c : ℕ) (e : Entry) → LooksAtPorts e → kind_of c e ≡ kind.Looked
-look_is c (entry.Arrive p v s) look = absurd look
+look_is c (entry.Arrive p s v) look = absurd look
 look_is c (entry.Sent r n m) look = absurd look
 look_is c (entry.Verdict v) look = absurd look
 look_is c (entry.Failed f) look = absurd look
 look_is c _ look = refl
 
 is_look : (c : ℕ) (e : Entry) → kind_of c e ≡ kind.Looked → LooksAtPorts e
-is_look c (entry.Arrive p v s) is = absurd (cc)
+is_look c (entry.Arrive p s v) is = absurd (cc)
 is_look c (entry.Sent r n m) is = absurd (cc)
 is_look c (entry.Verdict v) is = absurd (cc)
 is_look c (entry.Failed f) is = absurd (cc)
@@ -54,12 +54,12 @@ is_look c _ is = tt
 -- each message is of its sender
 sender_is : (c d m : ℕ) (e : Entry) → kind_of c e ≡ kind.Sent d m → m ≡ c
 sender_is c d m (entry.Sent r n w) is = cc
-sender_is c d m (entry.Arrive p v s) is = absurd (cc)
+sender_is c d m (entry.Arrive p s v) is = absurd (cc)
 sender_is c d m (entry.Verdict v) is = absurd (cc)
 sender_is c d m (entry.Failed f) is = absurd (cc)
-sender_is c d m (entry.Took p v b) is = absurd (cc)
-sender_is c d m (entry.Found p v b) is = absurd (cc)
-sender_is c d m (entry.Dropped p v b) is = absurd (cc)
+sender_is c d m (entry.Took p b v) is = absurd (cc)
+sender_is c d m (entry.Found p b v) is = absurd (cc)
+sender_is c d m (entry.Dropped p b v) is = absurd (cc)
 sender_is c d m (entry.Cleared p) is = absurd (cc)
 sender_is c d m (entry.Started p) is = absurd (cc)
 sender_is c d m (entry.Stopped p) is = absurd (cc)

@@ -100,11 +100,11 @@ module _ (s : Setup) (c : CompId) (port : ℕ) where
   event_lets rest v false h all = all
 
   entry_lets : (e : Entry) (rest : List (Event Message)) → IsSetup s → IsOnRoute s c e → All LetsIn rest → All LetsIn (cons_option (event_at port e) rest)
-  entry_lets (entry.Arrive p env stamp) rest l on all =
+  entry_lets (entry.Arrive p stamp env) rest l on all =
       event_lets rest (event.Arrive env) (port == p) (subst (λ n. n < length s.components) on.3 (into_source s l c on.0 on.1)) all
-  entry_lets (entry.Took p env b) rest l on all = event_lets rest (event.Took env) (port == p) tt all
-  entry_lets (entry.Found p env b) rest l on all = event_lets rest (event.Found env) (port == p) tt all
-  entry_lets (entry.Dropped p env b) rest l on all = event_lets rest (event.Dropped env) (port == p) tt all
+  entry_lets (entry.Took p b env) rest l on all = event_lets rest (event.Took env) (port == p) tt all
+  entry_lets (entry.Found p b env) rest l on all = event_lets rest (event.Found env) (port == p) tt all
+  entry_lets (entry.Dropped p b env) rest l on all = event_lets rest (event.Dropped env) (port == p) tt all
   entry_lets (entry.Cleared p) rest l on all = event_lets rest event.Cleared (port == p) tt all
   entry_lets (entry.Started p) rest l on all = event_lets rest event.Started (port == p) tt all
   entry_lets (entry.Stopped p) rest l on all = event_lets rest event.Stopped (port == p) tt all
@@ -143,13 +143,13 @@ module _ (s : Setup) (l : IsSetup s) (c : CompId) (d : Journal) (ports : d.ports
   itself port v = ap (λ b. cond b (Some v) None) (eq-eqb port port refl)
 
   known_at : (n : ℕ) (x : Entry) → slice_get d.log n ≡ Some x → IsWithin d.ports x → IsOnRoute s c x → IsSentOut s c x → IsKnown s c x
-  known_at n (entry.Arrive p e stamp) at within on out = (there p within, subst (λ m. m < length s.components) on.3 (into_source s l c on.0 on.1))
-  known_at n (entry.Took p e b) at within on out =
-      (there p within, seen p n (entry.Took p e b) (event.Took e) e within at (itself p (event.Took e)) (λ h may. may))
-  known_at n (entry.Found p e b) at within on out =
-      (there p within, seen p n (entry.Found p e b) (event.Found e) e within at (itself p (event.Found e)) (λ h may. may))
-  known_at n (entry.Dropped p e b) at within on out =
-      (there p within, seen p n (entry.Dropped p e b) (event.Dropped e) e within at (itself p (event.Dropped e)) (λ h may. may))
+  known_at n (entry.Arrive p stamp e) at within on out = (there p within, subst (λ m. m < length s.components) on.3 (into_source s l c on.0 on.1))
+  known_at n (entry.Took p b e) at within on out =
+      (there p within, seen p n (entry.Took p b e) (event.Took e) e within at (itself p (event.Took e)) (λ h may. may))
+  known_at n (entry.Found p b e) at within on out =
+      (there p within, seen p n (entry.Found p b e) (event.Found e) e within at (itself p (event.Found e)) (λ h may. may))
+  known_at n (entry.Dropped p b e) at within on out =
+      (there p within, seen p n (entry.Dropped p b e) (event.Dropped e) e within at (itself p (event.Dropped e)) (λ h may. may))
   known_at n (entry.Cleared p) at within on out = there p within
   known_at n (entry.Started p) at within on out = there p within
   known_at n (entry.Stopped p) at within on out = there p within

@@ -63,10 +63,10 @@ module _ (P : Entry → Type 0) where
 -- what was sent out
 module _ (out : List RouteId) where
   quiet : (e : Entry) → is_arrival e ≡ true → IsSentBy out e
-  quiet (entry.Arrive p e s) is = tt
-  quiet (entry.Took p e b) is = tt
-  quiet (entry.Found p e b) is = tt
-  quiet (entry.Dropped p e b) is = tt
+  quiet (entry.Arrive p s e) is = tt
+  quiet (entry.Took p b e) is = tt
+  quiet (entry.Found p b e) is = tt
+  quiet (entry.Dropped p b e) is = tt
   quiet (entry.Cleared p) is = tt
   quiet (entry.Started p) is = tt
   quiet (entry.Stopped p) is = tt
@@ -78,10 +78,10 @@ module _ (out : List RouteId) where
 
   gone_out : (s : Setup) (c : CompId) → ((r : RouteId) → Contains out r → IsOut s c r) → (e : Entry) → IsSentBy out e → IsSentOut s c e
   gone_out s c links (entry.Sent r n m) h = links r h
-  gone_out s c links (entry.Arrive p e stamp) h = tt
-  gone_out s c links (entry.Took p e b) h = tt
-  gone_out s c links (entry.Found p e b) h = tt
-  gone_out s c links (entry.Dropped p e b) h = tt
+  gone_out s c links (entry.Arrive p stamp e) h = tt
+  gone_out s c links (entry.Took p b e) h = tt
+  gone_out s c links (entry.Found p b e) h = tt
+  gone_out s c links (entry.Dropped p b e) h = tt
   gone_out s c links (entry.Cleared p) h = tt
   gone_out s c links (entry.Started p) h = tt
   gone_out s c links (entry.Stopped p) h = tt

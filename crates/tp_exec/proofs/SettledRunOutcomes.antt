@@ -56,20 +56,20 @@ rest_arrives : (rest : List (ℕ × Env Message × ℕ)) (e : Entry) → Contain
 rest_arrives rest e is = All-contains (λ x. is_arrival x ≡ true) (rest_arrivals rest) e (each rest) is where
   each : (xs : List (ℕ × Env Message × ℕ)) → All (λ x. is_arrival x ≡ true) (rest_arrivals xs)
   each [] = All-nil (λ x. is_arrival x ≡ true)
-  each (x ∷ xs) = All-cons (λ x. is_arrival x ≡ true) (entry.Arrive x.0 x.1 x.2) (rest_arrivals xs) refl (each xs)
+  each (x ∷ xs) = All-cons (λ x. is_arrival x ≡ true) (entry.Arrive x.0 x.2 x.1) (rest_arrivals xs) refl (each xs)
 
 -- an entry before these arrivals, where it and they are of routes into the component
 entry_on : (s : Setup) (c : CompId) (e : Entry) (es : List Entry) (b : Bool) → is_arrival e ≡ b → All (IsArrivalOn (routes_into s c)) (cond b (e ∷ es) es)
     → IsOnRoute s c e × All (IsArrivalOn (routes_into s c)) es
-entry_on s c (entry.Arrive port env stamp) es true is all = (
-  All-head (IsArrivalOn (routes_into s c)) (entry.Arrive port env stamp) es all,
+entry_on s c (entry.Arrive port stamp env) es true is all = (
+  All-head (IsArrivalOn (routes_into s c)) (entry.Arrive port stamp env) es all,
   All-tail (IsArrivalOn (routes_into s c))
-      (entry.Arrive port env stamp) es all,
+      (entry.Arrive port stamp env) es all,
 )
-entry_on s c (entry.Arrive port env stamp) es false is all = absurd (cc)
-entry_on s c (entry.Took port env branch) es false is all = (tt, all)
-entry_on s c (entry.Found port env branch) es false is all = (tt, all)
-entry_on s c (entry.Dropped port env branch) es false is all = (tt, all)
+entry_on s c (entry.Arrive port stamp env) es false is all = absurd (cc)
+entry_on s c (entry.Took port branch env) es false is all = (tt, all)
+entry_on s c (entry.Found port branch env) es false is all = (tt, all)
+entry_on s c (entry.Dropped port branch env) es false is all = (tt, all)
 entry_on s c (entry.Cleared port) es false is all = (tt, all)
 entry_on s c (entry.Started port) es false is all = (tt, all)
 entry_on s c (entry.Stopped port) es false is all = (tt, all)

@@ -31,7 +31,7 @@ pub data HappensBefore (report : Report) : Spot → Spot → Type 0 where
   -- or the first is a sending, and the second is its arrival: on its route, with its number
   sent : (r : RouteId) (j k number stamp : ℕ) (m : Stamped) (e : Env Message)
       → StandsAt report (record { comp = r.source.0; place = j }) (entry.Sent r number m)
-      → StandsAt report (record { comp = r.to.comp.0; place = k }) (entry.Arrive r.to.port e stamp)
+      → StandsAt report (record { comp = r.to.comp.0; place = k }) (entry.Arrive r.to.port stamp e)
       → e.sender ≡ r.source.0 → e.number ≡ number
       → HappensBefore report (record { comp = r.source.0; place = j }) (record { comp = r.to.comp.0; place = k })
   -- or there is an entry between them
@@ -45,7 +45,7 @@ NoCircle report = (a : Spot) → ¬ HappensBefore report a a
 pub record CameAt (report : Report) (a : ℕ) (r : RouteId) (number : ℕ) : Type 0 where
   pub arrived : Env Message
   pub stamp : ℕ
-  pub stands : StandsAt report (record { comp = r.to.comp.0; place = a }) (entry.Arrive r.to.port arrived stamp)
+  pub stands : StandsAt report (record { comp = r.to.comp.0; place = a }) (entry.Arrive r.to.port stamp arrived)
   pub sender : arrived.sender ≡ r.source.0
   pub numbered : arrived.number ≡ number
 

@@ -48,7 +48,7 @@ IsDeliveredBetween c d sent came = sent_to d sent ≡ arrived_from d c came
 
 -- if the entry is an arrival, it came on a route of the configuration
 abbrev pub IsOnRoute : Setup → CompId → Entry → Type 0
-IsOnRoute s c (entry.Arrive port e stamp) =
+IsOnRoute s c (entry.Arrive port stamp e) =
     (r : RouteId) × Contains (routes_into s c) r × (r.to.port ≡ port) × (r.source.0 ≡ e.sender)
 IsOnRoute s c _ = ⊤
 

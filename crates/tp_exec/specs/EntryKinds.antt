@@ -12,13 +12,13 @@ use Rattle.tp_exec.specs.OneOrder.{log_in, logs_of}
 
 -- the kind of an entry of the component of this number
 abbrev pub kind_of : ℕ → Entry → EntryKind ℕ
-kind_of c (entry.Arrive port env stamp) = kind.Came env.sender
+kind_of c (entry.Arrive port stamp env) = kind.Came env.sender
 kind_of c (entry.Sent r number m) = kind.Sent r.to.comp.0 c
 kind_of c (entry.Verdict v) = kind.Quiet
 kind_of c (entry.Failed fault) = kind.Quiet
-kind_of c (entry.Took port env branch) = kind.Looked
-kind_of c (entry.Found port env branch) = kind.Looked
-kind_of c (entry.Dropped port env branch) = kind.Looked
+kind_of c (entry.Took port branch env) = kind.Looked
+kind_of c (entry.Found port branch env) = kind.Looked
+kind_of c (entry.Dropped port branch env) = kind.Looked
 kind_of c (entry.Cleared port) = kind.Looked
 kind_of c (entry.Started port) = kind.Looked
 kind_of c (entry.Stopped port) = kind.Looked

@@ -21,7 +21,7 @@ use Rattle.tp_exec.specs.LookLaws.{sending_in}
 
 -- an arrival at the component: its route, its number there, and the stamped message
 abbrev pub came_to : CompId → Entry → Option Posted
-came_to d (entry.Arrive port env stamp) =
+came_to d (entry.Arrive port stamp env) =
     Some record {
       route = record { source = record { 0 = env.sender }; to = record { comp = d; port = port } };
       number = env.number;
@@ -39,9 +39,9 @@ all_sent_to logs d order = filter_map (λ a. sending_in d (entry_at_spot logs a)
 
 -- this message was on top of the queue of the port: it was received there, found or discarded
 abbrev pub HadOnTop : ℕ → Env Message → Entry → Type 0
-HadOnTop port env (entry.Took p e branch) = (p ≡ port) × (e ≡ env)
-HadOnTop port env (entry.Found p e branch) = (p ≡ port) × (e ≡ env)
-HadOnTop port env (entry.Dropped p e branch) = (p ≡ port) × (e ≡ env)
+HadOnTop port env (entry.Took p branch e) = (p ≡ port) × (e ≡ env)
+HadOnTop port env (entry.Found p branch e) = (p ≡ port) × (e ≡ env)
+HadOnTop port env (entry.Dropped p branch e) = (p ≡ port) × (e ≡ env)
 HadOnTop port env _ = ⊥
 
 -- the messages to the component d, whose report this is, arrive as they are sent in the order

@@ -33,7 +33,7 @@ pub record IsOwn (logs : List (List Entry)) (a : Spot) : Type 0 where
 
 -- the sender of the message that arrived, if the entry is an arrival
 abbrev pub source_of : Entry → Option ℕ
-source_of (entry.Arrive port env stamp) = Some env.sender
+source_of (entry.Arrive port stamp env) = Some env.sender
 source_of _ = None
 
 -- the senders of the messages that arrived, in the order of arrival

@@ -21,7 +21,7 @@ fn kind_of(component: usize, entry: &Entry) -> EntryKind<usize>
     ensures { result ≡ kind_of_entry component entry.now }
 {
     match entry {
-        Entry::Arrive(_, env, _) => EntryKind::Came(env.sender() as usize),
+        Entry::Arrive(_, _, env) => EntryKind::Came(env.sender() as usize),
         Entry::Sent(route, _, _) => EntryKind::Sent(route.id().to.comp.0, component),
         Entry::Verdict(_) | Entry::Failed(_) => EntryKind::Quiet,
         Entry::Took(..) | Entry::Found(..) | Entry::Dropped(..) | Entry::Else => EntryKind::Looked,

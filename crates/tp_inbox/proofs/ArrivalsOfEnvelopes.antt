@@ -116,7 +116,7 @@ on_none comp ports routes r q to apart (e ∷ es) of_these =
         absurd (apart e.place of_these.0 (sym (meeting comp q p to (r.here e.place absent_route of_these.0) same.0 same.1)))
     none (inr not_met) = not_met
 
-pub arrivals_one : (port : ℕ) (env : Env Message) (stamp : ℕ) → arrivals (entry.Arrive port env stamp ∷ []) ≡ entry.Arrive port env stamp ∷ []
+pub arrivals_one : (port : ℕ) (env : Env Message) (stamp : ℕ) → arrivals (entry.Arrive port stamp env ∷ []) ≡ entry.Arrive port stamp env ∷ []
 unfolding arrivals
 arrivals_one port env stamp = refl
 
@@ -129,10 +129,10 @@ unfolding arrived_on
 arrived_on-append r xs ys = filter_map-append (arrival_on r) xs ys
 
 no_arrival : (r : RouteId) (e : Entry) → is_arrival e ≡ false → arrival_on r e ≡ None
-no_arrival r (entry.Arrive p env stamp) n = absurd (cc)
-no_arrival r (entry.Took p env b) n = refl
-no_arrival r (entry.Found p env b) n = refl
-no_arrival r (entry.Dropped p env b) n = refl
+no_arrival r (entry.Arrive p stamp env) n = absurd (cc)
+no_arrival r (entry.Took p b env) n = refl
+no_arrival r (entry.Found p b env) n = refl
+no_arrival r (entry.Dropped p b env) n = refl
 no_arrival r (entry.Cleared p) n = refl
 no_arrival r (entry.Started p) n = refl
 no_arrival r (entry.Stopped p) n = refl
@@ -159,10 +159,10 @@ unfolding arrived_from
 arrived_from-append comp source xs ys = filter_map-append (arrival_from comp source) xs ys
 
 none_arrived : (comp source : CompId) (e : Entry) → is_arrival e ≡ false → arrival_from comp source e ≡ None
-none_arrived comp source (entry.Arrive p env stamp) n = absurd (cc)
-none_arrived comp source (entry.Took p env b) n = refl
-none_arrived comp source (entry.Found p env b) n = refl
-none_arrived comp source (entry.Dropped p env b) n = refl
+none_arrived comp source (entry.Arrive p stamp env) n = absurd (cc)
+none_arrived comp source (entry.Took p b env) n = refl
+none_arrived comp source (entry.Found p b env) n = refl
+none_arrived comp source (entry.Dropped p b env) n = refl
 none_arrived comp source (entry.Cleared p) n = refl
 none_arrived comp source (entry.Started p) n = refl
 none_arrived comp source (entry.Stopped p) n = refl

@@ -28,14 +28,14 @@ same_port r comp port here =
 
 came_one : (comp : CompId) (r : RouteId) → r.to.comp ≡ comp → (e : Entry) (xs : List Posted)
     → filter_map (posting_on r) (cons_option (arrival_from comp r.source e) xs) ≡ cons_option (arrival_on r e) (filter_map (posting_on r) xs)
-came_one comp r here (entry.Arrive p env stamp) xs =
+came_one comp r here (entry.Arrive p stamp env) xs =
     let m : Stamped = record { stamp = stamp; message = env.msg } in
     kept_or_not r (eqb r.source.0 env.sender) (eqb r.to.port p)
     record { route = record { source = r.source; to = record { comp = comp; port = p } }; number = env.number; stamped = m } (env.number, m) xs
     (ap (λ b. cond b (Some (env.number, m)) None) (same_port r comp p here))
-came_one comp r here (entry.Took p env b) xs = refl
-came_one comp r here (entry.Found p env b) xs = refl
-came_one comp r here (entry.Dropped p env b) xs = refl
+came_one comp r here (entry.Took p b env) xs = refl
+came_one comp r here (entry.Found p b env) xs = refl
+came_one comp r here (entry.Dropped p b env) xs = refl
 came_one comp r here (entry.Cleared p) xs = refl
 came_one comp r here (entry.Started p) xs = refl
 came_one comp r here (entry.Stopped p) xs = refl
@@ -72,10 +72,10 @@ sent_or_not comp r q here false true is same n m xs =
 sent_one : (comp : CompId) (r : RouteId) → r.to.comp ≡ comp → (e : Entry) (xs : List Posted)
     → filter_map (posting_on r) (cons_option (sending_to comp e) xs) ≡ cons_option (sending_on r e) (filter_map (posting_on r) xs)
 sent_one comp r here (entry.Sent q number m) xs = sent_or_not comp r q here (eqb comp.0 q.to.comp.0) (same_route r q) refl refl number m xs
-sent_one comp r here (entry.Arrive p env stamp) xs = refl
-sent_one comp r here (entry.Took p env b) xs = refl
-sent_one comp r here (entry.Found p env b) xs = refl
-sent_one comp r here (entry.Dropped p env b) xs = refl
+sent_one comp r here (entry.Arrive p stamp env) xs = refl
+sent_one comp r here (entry.Took p b env) xs = refl
+sent_one comp r here (entry.Found p b env) xs = refl
+sent_one comp r here (entry.Dropped p b env) xs = refl
 sent_one comp r here (entry.Cleared p) xs = refl
 sent_one comp r here (entry.Started p) xs = refl
 sent_one comp r here (entry.Stopped p) xs = refl

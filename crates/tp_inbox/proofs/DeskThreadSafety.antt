@@ -5,6 +5,8 @@ use Rattle.std.proofs.Crossing.{crosses}
 use Rattle.tp_value.proofs.value.Value.TheLaws.TheKnot.{crosses_both as knot}
 use Rattle.tp_value.specs.contracts.message.Message as message
 use Rattle.tp_inbox.specs.contracts.stamped.Stamped as stamped
+use Rattle.tp_inbox.specs.contracts.noted.NotedEnvelope as noted_envelope
+use Rattle.tp_inbox.specs.contracts.noted_message.NotedMessage as noted_message
 use Rattle.tp_inbox.specs.contracts.entry.Entry as entry
 use Rattle.tp_inbox.specs.contracts.desk.Desk as desk
 use Rattle.tp_inbox.specs.contracts.desk.Desk.TheInside as desk_inside
@@ -20,8 +22,15 @@ message_field_send = search (sendable, crosses, knot) depth 20
 pub stamped_field_send : IsSend (stamped.the_field).row
 stamped_field_send = search (sendable, crosses, message_field_send) depth 20
 
+-- an envelope and a message of a history, as they stand in an entry
+noted_envelope_field_send : IsSend (noted_envelope.the_field).row
+noted_envelope_field_send = search (sendable, crosses, knot) depth 20
+
+noted_message_field_send : IsSend (noted_message.the_field).row
+noted_message_field_send = search (sendable, crosses, knot) depth 20
+
 pub entry_send : IsSend entry.the_row
-entry_send = search (sendable, crosses, knot, stamped_field_send) depth 40 fits 20000
+entry_send = search (sendable, crosses, noted_envelope_field_send, noted_message_field_send) depth 40 fits 20000
 
 desk_inside_send : IsSend desk_inside.the_row
 desk_inside_send = search (sendable, crosses, knot, message_send, entry_send) depth 40 fits 20000

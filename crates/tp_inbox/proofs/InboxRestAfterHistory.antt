@@ -21,10 +21,10 @@ pub rest_within : (comp : CompId) (ports : ℕ) (routes : List RouteId) (rest : 
     → All (IsArrivalOn routes) (rest_arrivals rest) → All (λ (x : Rest). x.0 < ports) rest
 rest_within comp ports routes [] are on = All-nil (λ (x : Rest). x.0 < ports)
 rest_within comp ports routes (x ∷ rest) are on =
-    let first : IsArrivalOn routes (entry.Arrive x.0 x.1 x.2) = All-head (IsArrivalOn routes) (entry.Arrive x.0 x.1 x.2) (rest_arrivals rest) on in
+    let first : IsArrivalOn routes (entry.Arrive x.0 x.2 x.1) = All-head (IsArrivalOn routes) (entry.Arrive x.0 x.2 x.1) (rest_arrivals rest) on in
     let low : first.0.to.port < ports = All-contains (λ (r : RouteId). r.to.port < ports) routes first.0 are.within first.1 in
     All-cons (λ (y : Rest). y.0 < ports) x rest (subst (λ p. p < ports) first.2 low)
-    (rest_within comp ports routes rest are (All-tail (IsArrivalOn routes) (entry.Arrive x.0 x.1 x.2) (rest_arrivals rest) on))
+    (rest_within comp ports routes rest are (All-tail (IsArrivalOn routes) (entry.Arrive x.0 x.2 x.1) (rest_arrivals rest) on))
 
 -- nothing of it was sent
 none_sent : (r : RouteId) (rest : List Rest) → filter_map (sending_on r) (rest_arrivals rest) ≡ []

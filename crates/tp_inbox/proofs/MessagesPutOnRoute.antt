@@ -26,11 +26,11 @@ kept_or_not false n m xs = refl
 
 in_entry : (r : RouteId) (e : Entry) (xs : List (ℕ × Stamped))
     → map message_in (cons_option (arrival_on r e) xs) ≡ message_of_entry r e ++ map message_in xs
-in_entry r (entry.Arrive p env stamp) xs =
+in_entry r (entry.Arrive p stamp env) xs =
     kept_or_not ((r.to.port == p) && (r.source.0 == env.sender)) env.number record { stamp = stamp; message = env.msg } xs
-in_entry r (entry.Took p env b) xs = refl
-in_entry r (entry.Found p env b) xs = refl
-in_entry r (entry.Dropped p env b) xs = refl
+in_entry r (entry.Took p b env) xs = refl
+in_entry r (entry.Found p b env) xs = refl
+in_entry r (entry.Dropped p b env) xs = refl
 in_entry r (entry.Cleared p) xs = refl
 in_entry r (entry.Started p) xs = refl
 in_entry r (entry.Stopped p) xs = refl

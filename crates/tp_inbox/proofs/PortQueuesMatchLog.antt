@@ -40,10 +40,10 @@ names_none port (entry.Sent r number m) note = refl
 names_none port entry.Else note = refl
 names_none port (entry.Verdict v) note = refl
 names_none port (entry.Failed fault) note = refl
-names_none port (entry.Arrive p env stamp) note = absurd note
-names_none port (entry.Took p env branch) note = absurd note
-names_none port (entry.Found p env branch) note = absurd note
-names_none port (entry.Dropped p env branch) note = absurd note
+names_none port (entry.Arrive p stamp env) note = absurd note
+names_none port (entry.Took p branch env) note = absurd note
+names_none port (entry.Found p branch env) note = absurd note
+names_none port (entry.Dropped p branch env) note = absurd note
 names_none port (entry.Cleared p) note = absurd note
 names_none port (entry.Started p) note = absurd note
 names_none port (entry.Stopped p) note = absurd note
@@ -55,10 +55,10 @@ within_note n (entry.Sent r number m) note = tt
 within_note n entry.Else note = tt
 within_note n (entry.Verdict v) note = tt
 within_note n (entry.Failed fault) note = tt
-within_note n (entry.Arrive p env stamp) note = absurd note
-within_note n (entry.Took p env branch) note = absurd note
-within_note n (entry.Found p env branch) note = absurd note
-within_note n (entry.Dropped p env branch) note = absurd note
+within_note n (entry.Arrive p stamp env) note = absurd note
+within_note n (entry.Took p branch env) note = absurd note
+within_note n (entry.Found p branch env) note = absurd note
+within_note n (entry.Dropped p branch env) note = absurd note
 within_note n (entry.Cleared p) note = absurd note
 within_note n (entry.Started p) note = absurd note
 within_note n (entry.Stopped p) note = absurd note
@@ -71,10 +71,10 @@ named_port n port p x y low is =
 
 -- nor does an entry that is something at a port that there is
 within_event : (n port : ℕ) (e : Entry) (y : Event Message) → port < n → event_at port e ≡ Some y → IsWithin n e
-within_event n port (entry.Arrive p env stamp) y low is = named_port n port p (event.Arrive env) y low is
-within_event n port (entry.Took p env branch) y low is = named_port n port p (event.Took env) y low is
-within_event n port (entry.Found p env branch) y low is = named_port n port p (event.Found env) y low is
-within_event n port (entry.Dropped p env branch) y low is = named_port n port p (event.Dropped env) y low is
+within_event n port (entry.Arrive p stamp env) y low is = named_port n port p (event.Arrive env) y low is
+within_event n port (entry.Took p branch env) y low is = named_port n port p (event.Took env) y low is
+within_event n port (entry.Found p branch env) y low is = named_port n port p (event.Found env) y low is
+within_event n port (entry.Dropped p branch env) y low is = named_port n port p (event.Dropped env) y low is
 within_event n port (entry.Cleared p) y low is = named_port n port p event.Cleared y low is
 within_event n port (entry.Started p) y low is = named_port n port p event.Started y low is
 within_event n port (entry.Stopped p) y low is = named_port n port p event.Stopped y low is
@@ -219,10 +219,10 @@ kept_at queues clock log after port e event old new k low at more names timely n
 -- a message that was found stays in the port's queue
 pub kept_by_find : (queues : List (QueueState Message)) (clock : ℕ) (log after : List Entry) (port branch : ℕ) (e : Env Message) (old : QueueState Message)
     → IsKept queues clock log → port < length queues → old ≡ get_or queues port old
-    → AtHistory old (λ h. StandsFor old (h ++ event.Found e ∷ [])) → after ≡ log ++ entry.Found port e branch ∷ [] → IsKept queues clock after
+    → AtHistory old (λ h. StandsFor old (h ++ event.Found e ∷ [])) → after ≡ log ++ entry.Found port branch e ∷ [] → IsKept queues clock after
 kept_by_find queues clock log after port branch e old k low at more grown =
     subst (λ (qs : List (QueueState Message)). IsKept qs clock after) (ap (set queues port) at ∙ set-get_or queues port old)
-    (kept_at queues clock log after port (entry.Found port e branch) (event.Found e) old old k low at more (λ p. refl) tt refl grown)
+    (kept_at queues clock log after port (entry.Found port branch e) (event.Found e) old old k low at more (λ p. refl) tt refl grown)
 
 -- the log after an entry, which the code has as another value that is equal
 pub grown_by : (now was before : List Entry) (e f : Entry) → now ≡ was ++ f ∷ [] → was ≡ before → f ≡ e → now ≡ before ++ e ∷ []
@@ -261,7 +261,7 @@ taken_is admits from h after e (Some f) finds out =
     (ap (λ x. Some x) same, subst (λ (x : Env Message). StandsFor after (h ++ event.Took x ∷ [])) same (out.1 true))
 
 pub receives_at : (admits : Message → Type 0) (from : Option ℕ) (port branch : ℕ) (d after : Journal) (e : Env Message) (r : Option (Env Message))
-    → Finds admits from (at_port d port) e → r ≡ Some e → after ≡ adding d (entry.Took port e branch) → ReceivesAt admits from port branch d r after
+    → Finds admits from (at_port d port) e → r ≡ Some e → after ≡ adding d (entry.Took port branch e) → ReceivesAt admits from port branch d r after
 receives_at admits from port branch d after e r finds is grown = rw is (finds, grown)
 
 -- the desk with one more entry, from its fields

@@ -48,10 +48,10 @@ NamesNoPort _ = ⊥
 
 -- if the entry names a port of its component, the port is one of the first n
 abbrev pub IsWithin : ℕ → Entry → Type 0
-IsWithin n (entry.Arrive port env stamp) = port < n
-IsWithin n (entry.Took port env branch) = port < n
-IsWithin n (entry.Found port env branch) = port < n
-IsWithin n (entry.Dropped port env branch) = port < n
+IsWithin n (entry.Arrive port stamp env) = port < n
+IsWithin n (entry.Took port branch env) = port < n
+IsWithin n (entry.Found port branch env) = port < n
+IsWithin n (entry.Dropped port branch env) = port < n
 IsWithin n (entry.Cleared port) = port < n
 IsWithin n (entry.Started port) = port < n
 IsWithin n (entry.Stopped port) = port < n
@@ -68,20 +68,20 @@ at_port d port = history_of port d.log
 -- the result of `receive`, and the desk after it
 abbrev pub ReceivesAt : (Message → Type 0) → Option ℕ → ℕ → ℕ → Journal → Option (Env Message) → Journal → Type 0
 ReceivesAt admits from port branch d (Some e) after =
-    Finds admits from (at_port d port) e × (after ≡ adding d (entry.Took port e branch))
+    Finds admits from (at_port d port) e × (after ≡ adding d (entry.Took port branch e))
 ReceivesAt admits from port branch d None after = FindsNone admits from (at_port d port) × (after ≡ d)
 
 -- the result of `trigger`, and the desk after it
 abbrev pub TriggersAt : (Message → Type 0) → Option ℕ → ℕ → ℕ → Journal → TriggerAnswer Message → Journal → Type 0
 TriggersAt admits from port branch d (trigger_answer.Took e) after =
-    Finds admits from (at_port d port) e × (after ≡ adding d (entry.Took port e branch))
+    Finds admits from (at_port d port) e × (after ≡ adding d (entry.Took port branch e))
 TriggersAt admits from port branch d (trigger_answer.Dropped e) after =
-    (top (at_port d port) ≡ Some e) × ¬ Satisfies admits from e × (after ≡ adding d (entry.Dropped port e branch))
+    (top (at_port d port) ≡ Some e) × ¬ Satisfies admits from e × (after ≡ adding d (entry.Dropped port branch e))
 TriggersAt admits from port branch d trigger_answer.Nothing after = (top (at_port d port) ≡ None) × (after ≡ d)
 
 -- the desk after a `check` with this result
 abbrev pub checked_at : ℕ → ℕ → Journal → Option (Env Message) → Journal
-checked_at port branch d (Some e) = adding d (entry.Found port e branch)
+checked_at port branch d (Some e) = adding d (entry.Found port branch e)
 checked_at port branch d None = d
 
 -- each port's queue stands for the history that the desk's log gives for it; the log names no other port; the clock is

@@ -16,10 +16,10 @@ use Rattle.tp_inbox.specs.declared.entry.Entry.TheVariants as entry
 
 -- the event of an entry at this port, if it names the port: the entry without its port, branch and stamp
 abbrev pub event_at : ℕ → Entry → Option (Event Message)
-event_at port (entry.Arrive p env stamp) = cond (port == p) (Some (event.Arrive env)) None
-event_at port (entry.Took p env branch) = cond (port == p) (Some (event.Took env)) None
-event_at port (entry.Found p env branch) = cond (port == p) (Some (event.Found env)) None
-event_at port (entry.Dropped p env branch) = cond (port == p) (Some (event.Dropped env)) None
+event_at port (entry.Arrive p stamp env) = cond (port == p) (Some (event.Arrive env)) None
+event_at port (entry.Took p branch env) = cond (port == p) (Some (event.Took env)) None
+event_at port (entry.Found p branch env) = cond (port == p) (Some (event.Found env)) None
+event_at port (entry.Dropped p branch env) = cond (port == p) (Some (event.Dropped env)) None
 event_at port (entry.Cleared p) = cond (port == p) (Some event.Cleared) None
 event_at port (entry.Started p) = cond (port == p) (Some event.Started) None
 event_at port (entry.Stopped p) = cond (port == p) (Some event.Stopped) None
@@ -34,7 +34,7 @@ unfoldable pub history_of : ℕ → List Entry → List (Event Message)
 history_of port k = filter_map (event_at port) k
 
 abbrev pub is_arrival : Entry → Bool
-is_arrival (entry.Arrive p env stamp) = true
+is_arrival (entry.Arrive p stamp env) = true
 is_arrival _ = false
 
 -- the entries of the component's own behaviour: its history without the arrivals
@@ -59,7 +59,7 @@ sent_on r k = filter_map (sending_on r) k
 
 -- the number and the stamped message, if the entry is an arrival at the route's port from the route's sender
 abbrev pub arrival_on : RouteId → Entry → Option (ℕ × Stamped)
-arrival_on r (entry.Arrive p env stamp) =
+arrival_on r (entry.Arrive p stamp env) =
     cond
     ((r.to.port == p) && (r.source.0 == env.sender))
     (Some (env.number, record { stamp = stamp; message = env.msg }))
@@ -72,7 +72,7 @@ arrived_on r k = filter_map (arrival_on r) k
 
 -- an arrival at `comp` from `source`: its route, its number there, and the stamped message
 abbrev pub arrival_from : CompId → CompId → Entry → Option Posted
-arrival_from comp source (entry.Arrive p env stamp) =
+arrival_from comp source (entry.Arrive p stamp env) =
     cond
     (source.0 == env.sender)
     (Some record {
@@ -117,7 +117,7 @@ numbered n (m ∷ ms) = (n, m) ∷ numbered (n + 1) ms
 
 -- the stamp of the message that was sent or arrived, or 0 for any other entry
 abbrev pub stamp_of : Entry → ℕ
-stamp_of (entry.Arrive p env stamp) = stamp
+stamp_of (entry.Arrive p stamp env) = stamp
 stamp_of (entry.Sent r number m) = m.stamp
 stamp_of _ = 0
 

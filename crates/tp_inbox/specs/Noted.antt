@@ -1,4 +1,4 @@
--- What an entry keeps of an envelope's type, and which envelopes and routes it has room for.
+-- What an entry keeps of a message's type, and which envelopes, types and routes it has room for.
 use Rattle.std.specs.Prelude.{ℕ, ◌<◌, ◌^◌}
 use Rattle.tp_common.specs.declared.event.Env.{Env}
 use Rattle.tp_value.specs.declared.message.Message.{Message}
@@ -34,3 +34,8 @@ IsShortRoute route = (route.source.0 < 2 ^ 8) × (route.to.comp.0 < 2 ^ 8) × (r
 abbrev pub NoteCause : Env Message → NoteFault → Type 0
 NoteCause env note_fault.NoRoom = ¬ IsShortEnvelope env
 NoteCause env note_fault.Memory = IsShortEnvelope env
+
+-- why a message of this type isn't noted: an entry has no room for the type; or there is room, and memory ran out
+abbrev pub TypeCause : Ty → NoteFault → Type 0
+TypeCause type note_fault.NoRoom = ¬ IsShortType type
+TypeCause type note_fault.Memory = IsShortType type

@@ -18,5 +18,5 @@ arrived_message r port sender m = cond ((r.to.port == port) && (r.source.0 == se
 
 -- the message of an entry, if it is an arrival on this route
 abbrev pub message_of_entry : RouteId → Entry → List Message
-message_of_entry r (entry.Arrive port env stamp) = arrived_message r port env.sender env.msg
+message_of_entry r (entry.Arrive port stamp env) = arrived_message r port env.sender env.msg
 message_of_entry r _ = []

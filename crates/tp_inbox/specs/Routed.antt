@@ -55,18 +55,18 @@ env_of routes e = record { sender = (route_at routes e.place).source.0; number =
 
 -- the entry of this arrival
 abbrev pub arrival_of : List RouteId → InboxEnvelope → Entry
-arrival_of routes e = entry.Arrive (route_at routes e.place).to.port (env_of routes e) e.stamped.stamp
+arrival_of routes e = entry.Arrive (route_at routes e.place).to.port e.stamped.stamp (env_of routes e)
 
 abbrev pub arrivals_of : List RouteId → List InboxEnvelope → List Entry
 arrivals_of routes es = map (arrival_of routes) es
 
 -- the entries of the arrivals in the rest of an inbox
 abbrev pub rest_arrivals : List (ℕ × Env Message × ℕ) → List Entry
-rest_arrivals rest = map (λ x. entry.Arrive x.0 x.1 x.2) rest
+rest_arrivals rest = map (λ x. entry.Arrive x.0 x.2 x.1) rest
 
 -- an arrival on one of these routes
 abbrev pub IsArrivalOn : List RouteId → Entry → Type 0
-IsArrivalOn routes (entry.Arrive port env stamp) =
+IsArrivalOn routes (entry.Arrive port stamp env) =
     (r : RouteId) × Contains routes r × (r.to.port ≡ port) × (r.source.0 ≡ env.sender)
 IsArrivalOn routes _ = ⊥
 

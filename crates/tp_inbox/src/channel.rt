@@ -100,7 +100,7 @@ impl Channel {
         notifier.woken(taken)
     }
 
-    pub(crate) fn addressed(&self, envelope: InboxEnvelope) -> (u32, Env<Message>, u64)
+    pub(crate) fn addressed(&self, envelope: InboxEnvelope) -> (u32, Env<Message>, u32)
         requires { envelope.place < length self.now.routes.items }
         ensures port { result.0 ≡ (route_at self.now.routes.items envelope.place).to.port }
         ensures env { result.1 ≡ env_of self.now.routes.items envelope }

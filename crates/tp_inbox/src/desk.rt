@@ -15,6 +15,7 @@ ghost use Rattle.tp_inbox.specs.Lending.{ends_checked_at};
 
 use crate::entry::Entry;
 use crate::noted::{NotedEnvelope, NotedRoute};
+use crate::noted_message::NotedMessage;
 use crate::stamped::Stamped;
 use std::alloc::Global;
 use std::marker::Model;
@@ -36,7 +37,7 @@ pub struct Desk {
     ports: Vec<Queue<Message>>,
     log: Vec<Entry>,
     /// The greatest stamp in the history.
-    clock: u64,
+    clock: u32,
     alloc: Global,
 }
 
@@ -58,7 +59,7 @@ impl Model for Desk {
 /// A history of so many entries gets room for [`MANY_ENTRIES`].
 const FEW_ENTRIES: usize = 32;
 
-/// 5 MiB of entries, which cost nothing until they are used.
+/// 4 MiB of entries, which cost nothing until they are used.
 const MANY_ENTRIES: usize = 131_072;
 
 /// Makes room for another entry. A history is moved once on its way to [`MANY_ENTRIES`], unless so
@@ -78,6 +79,18 @@ fn reserve_entry(log: &mut Vec<Entry>) -> Result<(), Memory>
     }
     log.reserve(1)?;
     Ok(())
+}
+
+/// A port and a branch as an entry keeps them. 50 `Memory` if and only if the port has a number of
+/// 256 or more, or the branch one of 2^32 or more: no script within the limits has either.
+fn short_place(port: u32, branch: usize) -> Result<(u8, u32), Memory>
+    ensures ok { IfOk result (λ place. (place.0 ≡ port) × (place.1 ≡ branch)) }
+    ensures err { OnErr result (¬ ((port < 2 ^ 8) × (branch < 2 ^ 32))) }
+{
+    let (Ok(port), Ok(branch)) = (u8::try_from(port), u32::try_from(branch)) else {
+        return Err(Memory);
+    };
+    Ok((port, branch))
 }
 
 impl Desk {
@@ -110,17 +123,22 @@ impl Desk {
     }
 
     /// A message arrives at this port, with the stamp of its sending: [`Queue::arrive`] there, and
-    /// an `Arrive` in the history.
+    /// an `Arrive` in the history. 50 `Memory` also if a number has no room in the entry.
+    // A call would pass the envelope, and room to hand it back, through memory for each message.
+    #[inline(always)]
     pub fn arrive(
         &mut self,
         port: u32,
         env: Env<Message>,
-        stamp: u64,
+        stamp: u32,
     ) -> Result<(), (Memory, Env<Message>)>
         requires { port < self.old.ports }
-        ensures ok { OnOk result (self.new ≡ adding self.old (entry.Arrive port env stamp)) }
+        ensures ok { OnOk result (self.new ≡ adding self.old (entry.Arrive port stamp env)) }
         ensures err { IfErr result (λ back. (back.1 ≡ env) × (self.new ≡ self.old)) }
     {
+        let Ok(place) = u8::try_from(port) else {
+            return Err((Memory, env));
+        };
         if reserve_entry(&mut self.log).is_err() {
             return Err((Memory, env));
         }
@@ -128,13 +146,14 @@ impl Desk {
             return Err((Memory, env));
         };
         self.ports[port as usize].arrive(env)?;
-        self.log.push_reserved(Entry::Arrive(port, noted, stamp));
+        self.log.push_reserved(Entry::Arrive(place, stamp, noted));
         // So that what the component sends from now on has a later stamp.
         self.clock = self.clock.max(stamp);
         Ok(())
     }
 
-    /// [`Queue::receive`] at this port, in this branch. The history notes what it took.
+    /// [`Queue::receive`] at this port, in this branch. The history notes what it took. 50 `Memory`
+    /// also if a number has no room in the entry, as for `trigger` and `check`.
     pub fn receive<W: Wanted<Message>>(
         &mut self,
         port: u32,
@@ -147,6 +166,7 @@ impl Desk {
             ReceivesAt (W.admits wanted.now) from port branch self.old answer self.new) }
         ensures err { OnErr result (self.new ≡ self.old) }
     {
+        let (place, branch) = short_place(port, branch)?;
         reserve_entry(&mut self.log)?;
         let queue = &mut self.ports[port as usize];
         let noted = match queue.check(wanted, from) {
@@ -154,7 +174,7 @@ impl Desk {
             Some(env) => NotedEnvelope::copy_of(self.alloc, env)?,
         };
         let taken = queue.take_top();
-        self.log.push_reserved(Entry::Took(port, noted, branch));
+        self.log.push_reserved(Entry::Took(place, branch, noted));
         Ok(taken)
     }
 
@@ -172,6 +192,7 @@ impl Desk {
             TriggersAt (W.admits wanted.now) from port branch self.old answer self.new) }
         ensures err { OnErr result (self.new ≡ self.old) }
     {
+        let (place, branch) = short_place(port, branch)?;
         reserve_entry(&mut self.log)?;
         let queue = &mut self.ports[port as usize];
         let noted = match queue.top() {
@@ -180,11 +201,11 @@ impl Desk {
         };
         match queue.trigger(wanted, from) {
             TriggerAnswer::Took(env) => {
-                self.log.push_reserved(Entry::Took(port, noted, branch));
+                self.log.push_reserved(Entry::Took(place, branch, noted));
                 Ok(TriggerAnswer::Took(env))
             }
             TriggerAnswer::Dropped(env) => {
-                self.log.push_reserved(Entry::Dropped(port, noted, branch));
+                self.log.push_reserved(Entry::Dropped(place, branch, noted));
                 Ok(TriggerAnswer::Dropped(env))
             }
             // There is a top: it was copied just now.
@@ -206,12 +227,13 @@ impl Desk {
         ensures found { IfOk result (λ answer.
             Checks (W.admits wanted.now) from (at_port self.old port) (option_copied answer)) }
     {
+        let (place, branch) = short_place(port, branch)?;
         reserve_entry(&mut self.log)?;
         let Some(env) = self.ports[port as usize].check(wanted, from) else {
             return Ok(None);
         };
         let noted = NotedEnvelope::copy_of(self.alloc, env)?;
-        self.log.push_reserved(Entry::Found(port, noted, branch));
+        self.log.push_reserved(Entry::Found(place, branch, noted));
         Ok(Some(env))
     }
 
@@ -309,7 +331,7 @@ impl Desk {
             return Err((Memory, message));
         }
         let put = Stamped { stamp, message };
-        let Ok(noted) = put.copy(self.alloc) else {
+        let Ok(noted) = NotedMessage::copy_of(self.alloc, &put) else {
             return Err((Memory, put.message));
         };
         self.log.push_reserved(Entry::Sent(way, short, noted));
@@ -330,8 +352,8 @@ impl Desk {
     }
 
     /// The next stamp, one above the greatest in the history. `None` if the numbers are used up.
-    pub fn stamp(&self) -> Option<u64>
-        ensures { SomeIff result (clock_of self.now.log + 1 < 2 ^ 64) (clock_of self.now.log + 1) }
+    pub fn stamp(&self) -> Option<u32>
+        ensures { SomeIff result (clock_of self.now.log + 1 < 2 ^ 32) (clock_of self.now.log + 1) }
     {
         self.clock.checked_add(1)
     }

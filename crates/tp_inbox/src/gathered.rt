@@ -23,7 +23,7 @@ use tp_config::port_type::CompId;
 use tp_value::message::Message;
 
 /// The messages left in an inbox, in order: the port of arrival, the arrival, its stamp.
-pub type Rest = Vec<(u32, Env<Message>, u64)>;
+pub type Rest = Vec<(u32, Env<Message>, u32)>;
 
 /// An owner with its senders, all of which have ended. Contracts see it as its inbox, the arrivals
 /// that the owner has drained, those that were taken out after that and are kept here, and what

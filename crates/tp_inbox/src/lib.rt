@@ -16,6 +16,7 @@ pub mod gathered;
 pub mod making;
 pub mod note_fault;
 pub mod noted;
+pub mod noted_message;
 pub mod owner;
 pub mod posted;
 mod rule;

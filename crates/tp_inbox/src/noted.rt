@@ -1,9 +1,9 @@
 //! Envelopes and routes as an entry keeps them, in less room.
-ghost use Rattle.std.specs.Prelude.{◌≡◌, IfErr, IfOk, MatchOption, SomeIff};
-ghost use Rattle.tp_inbox.specs.Noted.{IsShortRoute, IsShortType, NoteCause, type_of};
+ghost use Rattle.std.specs.Prelude.{◌≡◌, IfErr, IfOk, SomeIff};
+ghost use Rattle.tp_inbox.specs.Noted.{IsShortRoute, NoteCause};
 
 use crate::note_fault::NoteFault;
-use crate::type_kind::TypeKind;
+use crate::type_kind::{TypeKind, kind_of, type_of_kind};
 use std::alloc::Global;
 use std::marker::Model;
 use tp_common::event::Env;
@@ -43,25 +43,11 @@ impl Model for NotedEnvelope {
     } };
 }
 
-/// The kind of a type, and the number of a named one. `None` if that is 65,536 or more.
-fn kind_of(ty: Ty) -> Option<(TypeKind, u16)>
-    ensures { MatchOption result (¬ IsShortType ty)
-        (λ kept. IsShortType ty × (type_of kept.0 kept.1 ≡ ty)) }
-{
-    match ty {
-        Ty::Integer => Some((TypeKind::Integer, 0)),
-        Ty::Boolean => Some((TypeKind::Boolean, 0)),
-        Ty::Charstring => Some((TypeKind::Charstring, 0)),
-        Ty::Named(number) => match u16::try_from(number) {
-            Ok(named) => Some((TypeKind::Named, named)),
-            Err(_) => None,
-        },
-    }
-}
-
 impl NotedEnvelope {
     /// A copy of an envelope. `NoRoom` if and only if its sender's number is 256 or more, its own
     /// number 2^32 or more, or the number of its type 65,536 or more.
+    // A call would return the copy through memory for each message.
+    #[inline(always)]
     pub fn copy_of(alloc: Global, env: &Env<Message>) -> Result<NotedEnvelope, NoteFault>
         ensures ok { IfOk result (λ noted. noted ≡ env.now) }
         ensures err { IfErr result (NoteCause env.now) }
@@ -100,12 +86,7 @@ impl NotedEnvelope {
     pub fn ty(&self) -> Ty
         ensures { result ≡ self.now.msg.ty }
     {
-        match self.kind {
-            TypeKind::Integer => Ty::Integer,
-            TypeKind::Boolean => Ty::Boolean,
-            TypeKind::Charstring => Ty::Charstring,
-            TypeKind::Named => Ty::Named(self.named as u32),
-        }
+        type_of_kind(self.kind, self.named)
     }
 
     /// The value of its message.

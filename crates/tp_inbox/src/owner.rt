@@ -41,7 +41,7 @@ pub struct Owner {
     /// Room for the components whose senders come back.
     pub(crate) sources: Vec<CompId>,
     /// Room for what is left in the inbox at the end.
-    pub(crate) rest: Vec<(u32, Env<Message>, u64)>,
+    pub(crate) rest: Vec<(u32, Env<Message>, u32)>,
 }
 
 impl Model for Owner {

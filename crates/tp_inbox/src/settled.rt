@@ -45,11 +45,11 @@ fn add_entry(
         ≡ messages.old.items ++ message_of_entry route entry.now) }
 {
     match entry {
-        Entry::Arrive(port, env, _) => {
+        Entry::Arrive(port, _, env) => {
             add_message(
                 alloc,
                 route,
-                *port,
+                *port as u32,
                 env.sender(),
                 env.ty(),
                 env.value(),
@@ -76,7 +76,7 @@ fn messages_of(alloc: Global, route: RouteId, log: &[Entry]) -> Result<Vec<Messa
 pub fn put_on_route(
     alloc: Global,
     desk: &Desk,
-    rest: &[(u32, Env<Message>, u64)],
+    rest: &[(u32, Env<Message>, u32)],
     route: RouteId,
 ) -> Result<Vec<Message>, Memory>
     requires { route.to.comp ≡ desk.now.comp }

@@ -9,7 +9,7 @@ use tp_value::message::Message;
 /// got before. So a message has a greater stamp than each message that it depends on.
 #[derive(Debug, Drop)]
 pub struct Stamped {
-    pub stamp: u64,
+    pub stamp: u32,
     pub message: Message,
 }
 

@@ -65,9 +65,9 @@ arrival_text telling.Trace made p e = envelope_line made (codes "came") p e
 -- an entry of a component's history: one line, but for an arrival only in a trace
 abbrev pub entry_text : Telling → Made → CompId → Entry → List ℕ
 entry_text how made c (entry.Sent route number stamped) = sent_line made route number stamped.message
-entry_text how made c (entry.Took port e branch) = envelope_line made (codes "took") (component_port c port) e
-entry_text how made c (entry.Found port e branch) = envelope_line made (codes "found") (component_port c port) e
-entry_text how made c (entry.Dropped port e branch) = envelope_line made (codes "dropped") (component_port c port) e
+entry_text how made c (entry.Took port branch e) = envelope_line made (codes "took") (component_port c port) e
+entry_text how made c (entry.Found port branch e) = envelope_line made (codes "found") (component_port c port) e
+entry_text how made c (entry.Dropped port branch e) = envelope_line made (codes "dropped") (component_port c port) e
 entry_text how made c (entry.Cleared port) = port_line made (codes "cleared") (component_port c port)
 entry_text how made c (entry.Started port) = port_line made (codes "started") (component_port c port)
 entry_text how made c (entry.Stopped port) = port_line made (codes "stopped") (component_port c port)
@@ -75,7 +75,7 @@ entry_text how made c (entry.Halted port) = port_line made (codes "halted") (com
 entry_text how made c entry.Else = line (codes "else" ∷ [])
 entry_text how made c (entry.Verdict v) = verdict_line (codes "set") v
 entry_text how made c (entry.Failed fault) = failure_line (codes "failed") fault
-entry_text how made c (entry.Arrive port e stamp) = arrival_text how made (component_port c port) e
+entry_text how made c (entry.Arrive port stamp e) = arrival_text how made (component_port c port) e
 
 -- how the behaviour ended
 abbrev pub end_text : End → List ℕ

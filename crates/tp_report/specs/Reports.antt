@@ -41,10 +41,10 @@ AreOf s c port e = IsPort s (component_port c port) × IsComponent s (sender_of 
 -- everything that an entry of the component names belongs to the configuration: the receiving port of its route, its
 -- port, its sender
 abbrev pub IsKnown : Setup → CompId → Entry → Type 0
-IsKnown s c (entry.Arrive port e stamp) = AreOf s c port e
-IsKnown s c (entry.Took port e branch) = AreOf s c port e
-IsKnown s c (entry.Found port e branch) = AreOf s c port e
-IsKnown s c (entry.Dropped port e branch) = AreOf s c port e
+IsKnown s c (entry.Arrive port stamp e) = AreOf s c port e
+IsKnown s c (entry.Took port branch e) = AreOf s c port e
+IsKnown s c (entry.Found port branch e) = AreOf s c port e
+IsKnown s c (entry.Dropped port branch e) = AreOf s c port e
 IsKnown s c (entry.Cleared port) = IsPort s (component_port c port)
 IsKnown s c (entry.Started port) = IsPort s (component_port c port)
 IsKnown s c (entry.Stopped port) = IsPort s (component_port c port)

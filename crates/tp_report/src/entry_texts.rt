@@ -17,10 +17,17 @@ use tp_inbox::entry::Entry;
 use tp_inbox::noted::NotedEnvelope;
 use tp_play::test_case::TestCase;
 
-fn at(comp: CompId, port: u32) -> PortRef
+fn port_at(comp: CompId, port: u32) -> PortRef
     ensures { result ≡ component_port comp port }
 {
     PortRef { comp, port }
+}
+
+/// The port of a message, which an entry keeps in less room.
+fn at(comp: CompId, port: u8) -> PortRef
+    ensures { result ≡ component_port comp port }
+{
+    port_at(comp, port as u32)
 }
 
 fn write_arrival<W: Write>(
@@ -64,33 +71,26 @@ fn write_entry<W: Write>(
     let sent = &mut kept.sent;
     let noted = &mut kept.received;
     match entry {
-        Entry::Sent(route, number, stamped) => {
-            write_sent(
-                test_case,
-                route.id(),
-                *number as u64,
-                &stamped.message,
-                sent,
-                out,
-            )
+        Entry::Sent(route, number, message) => {
+            write_sent(test_case, route.id(), *number as u64, message, sent, out)
         }
-        Entry::Took(port, env, _) => {
+        Entry::Took(port, _, env) => {
             write_noted(test_case, Fate::Took, at(comp, *port), env, noted, out)
         }
-        Entry::Found(port, env, _) => {
+        Entry::Found(port, _, env) => {
             write_noted(test_case, Fate::Found, at(comp, *port), env, noted, out)
         }
-        Entry::Dropped(port, env, _) => {
+        Entry::Dropped(port, _, env) => {
             write_noted(test_case, Fate::Dropped, at(comp, *port), env, noted, out)
         }
-        Entry::Cleared(port) => write_port(test_case, b"cleared ", at(comp, *port), out),
-        Entry::Started(port) => write_port(test_case, b"started ", at(comp, *port), out),
-        Entry::Stopped(port) => write_port(test_case, b"stopped ", at(comp, *port), out),
-        Entry::Halted(port) => write_port(test_case, b"halted ", at(comp, *port), out),
+        Entry::Cleared(port) => write_port(test_case, b"cleared ", port_at(comp, *port), out),
+        Entry::Started(port) => write_port(test_case, b"started ", port_at(comp, *port), out),
+        Entry::Stopped(port) => write_port(test_case, b"stopped ", port_at(comp, *port), out),
+        Entry::Halted(port) => write_port(test_case, b"halted ", port_at(comp, *port), out),
         Entry::Else => write_bytes(b"else\n", out),
         Entry::Verdict(verdict) => write_verdict(b"set ", *verdict, out),
         Entry::Failed(fault) => write_failure(b"failed ", *fault, out),
-        Entry::Arrive(port, env, _) => {
+        Entry::Arrive(port, _, env) => {
             write_arrival(test_case, telling, at(comp, *port), env, noted, out)
         }
     }

@@ -19,6 +19,7 @@ use tp_common::watched::{Watched, write_bytes, write_number};
 use tp_config::port_type::{CompId, PortRef, RouteId};
 use tp_inbox::ending::End;
 use tp_inbox::noted::NotedEnvelope;
+use tp_inbox::noted_message::NotedMessage;
 use tp_inbox::send_fault::SendFault;
 use tp_play::test_case::TestCase;
 use tp_value::message::Message;
@@ -161,22 +162,22 @@ pub fn write_sent<W: Write>(
     test_case: &TestCase,
     route: RouteId,
     number: u64,
-    message: &Message,
+    sent: &NotedMessage,
     kept: &mut KeptOpening,
     out: &mut Watched<W>,
 )
     requires port { IsPort test_case.now.config route.to }
     requires kept { HasItsText test_case.now.config kept.old }
     ensures written { Writes W.contents out.old out.new
-        (sent_line test_case.now route number message.now) }
+        (sent_line test_case.now route number sent.now.message) }
     ensures kept { HasItsText test_case.now.config kept.new }
 {
     write_line(
         test_case,
         Opening::Sent(route.to),
         number,
-        message.ty,
-        &message.value,
+        sent.ty(),
+        sent.value(),
         kept,
         out,
     )

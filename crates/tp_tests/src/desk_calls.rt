@@ -10,6 +10,7 @@ use tp_config::port_type::CompId;
 use tp_inbox::desk::Desk;
 use tp_inbox::entry::Entry;
 use tp_inbox::noted::NotedRoute;
+use tp_inbox::noted_message::NotedMessage;
 use tp_inbox::send_fault::SendFault;
 use tp_inbox::sender::Sender;
 use tp_inbox::stamped::Stamped;
@@ -33,7 +34,7 @@ fn desk<R: AllocGlobal + Abort>(rt: &R) -> Desk {
 /// A call at port 0 of a desk. A wanted message has a type, if one is given, a sender and a branch.
 #[derive(Clone, Copy)]
 enum DeskCall {
-    Arrive(u32, u64),
+    Arrive(u32, u32),
     Receive(Option<Ty>, Option<u32>, usize),
     Check(Option<Ty>, Option<u32>, usize),
     Trigger(Option<Ty>, Option<u32>, usize),
@@ -68,9 +69,10 @@ fn sent<R: AllocGlobal + Abort>(rt: &R, desk: &mut Desk) -> String {
     let stamp = desk.stamp().expect(rt, "a stamp");
     let message = integer(7);
     let way = NotedRoute::of(route(0, 1, 0)).expect(rt, "a route");
+    let noted = NotedMessage::copy_of(rt.alloc(), &Stamped { stamp, message });
     debug(
         rt,
-        desk.note(Entry::Sent(way, 0, Stamped { stamp, message })),
+        desk.note(Entry::Sent(way, 0, noted.ok().expect(rt, "a message"))),
     )
 }
 
@@ -163,28 +165,28 @@ const CALLS_OF_A_DESK: &[(DeskCall, &str)] = &[
 ];
 
 const LOG_OF_A_DESK: &[&str] = &[
-    "Arrive(0, NotedEnvelope { sender: 0, kind: Integer, named: 0, \
-    number: 0, value: Int(0) }, 0)",
-    "Arrive(0, NotedEnvelope { sender: 0, kind: Integer, named: 0, \
-    number: 1, value: Int(1) }, 1)",
-    "Arrive(0, NotedEnvelope { sender: 0, kind: Integer, named: 0, \
-    number: 2, value: Int(2) }, 2)",
-    "Arrive(0, NotedEnvelope { sender: 0, kind: Integer, named: 0, \
-    number: 3, value: Int(3) }, 3)",
-    "Found(0, NotedEnvelope { sender: 0, kind: Integer, named: 0, \
-    number: 0, value: Int(0) }, 2)",
-    "Took(0, NotedEnvelope { sender: 0, kind: Integer, named: 0, \
-    number: 0, value: Int(0) }, 1)",
-    "Dropped(0, NotedEnvelope { sender: 0, kind: Integer, named: 0, \
-    number: 1, value: Int(1) }, 3)",
-    "Took(0, NotedEnvelope { sender: 0, kind: Integer, named: 0, \
-    number: 2, value: Int(2) }, 0)",
+    "Arrive(0, 0, NotedEnvelope { sender: 0, kind: Integer, named: 0, \
+    number: 0, value: Int(0) })",
+    "Arrive(0, 1, NotedEnvelope { sender: 0, kind: Integer, named: 0, \
+    number: 1, value: Int(1) })",
+    "Arrive(0, 2, NotedEnvelope { sender: 0, kind: Integer, named: 0, \
+    number: 2, value: Int(2) })",
+    "Arrive(0, 3, NotedEnvelope { sender: 0, kind: Integer, named: 0, \
+    number: 3, value: Int(3) })",
+    "Found(0, 2, NotedEnvelope { sender: 0, kind: Integer, named: 0, \
+    number: 0, value: Int(0) })",
+    "Took(0, 1, NotedEnvelope { sender: 0, kind: Integer, named: 0, \
+    number: 0, value: Int(0) })",
+    "Dropped(0, 3, NotedEnvelope { sender: 0, kind: Integer, named: 0, \
+    number: 1, value: Int(1) })",
+    "Took(0, 0, NotedEnvelope { sender: 0, kind: Integer, named: 0, \
+    number: 2, value: Int(2) })",
     "Halted(0)",
     "Cleared(0)",
     "Stopped(0)",
     "Started(0)",
     "Sent(NotedRoute { source: 0, comp: 1, port: 0 }, 0, \
-    Stamped { stamp: 4, message: Message { ty: Integer, value: Int(7) } })",
+    NotedMessage { stamp: 4, kind: Integer, named: 0, value: Int(7) })",
     "Else",
     "Verdict(Pass)",
     "Failed(NotSending)",
@@ -217,8 +219,8 @@ fn arrives<R: AllocGlobal + Abort>(rt: &R, desk: &mut Desk, env: Env<Message>) -
 fn number_without_room_is_refused(rt: HostRuntime) {
     const GREATEST: u64 = 4_294_967_295;
     const LOG: &[&str] = &[
-        "Arrive(0, NotedEnvelope { sender: 255, kind: Named, named: 65535, \
-    number: 4294967295, value: Int(7) }, 1)",
+        "Arrive(0, 1, NotedEnvelope { sender: 255, kind: Named, named: 65535, \
+    number: 4294967295, value: Int(7) })",
     ];
     let ty = Ty::Named(65_535);
     let mut desk = desk(&rt);
@@ -234,6 +236,8 @@ fn number_without_room_is_refused(rt: HostRuntime) {
     if !arrives(&rt, &mut desk, seven(255, GREATEST, ty)) {
         assert!(rt; arrives(&rt, &mut desk, seven(255, GREATEST, ty)));
     }
+    assert!(rt; desk.port_count() > 0);
+    assert!(rt; desk.receive(0, &wanted(None), None, 4_294_967_296).is_err());
     is_noted(&rt, desk.log(), LOG);
     drop(desk);
 }
@@ -247,7 +251,7 @@ fn stamps_are_used_up(rt: HostRuntime) {
         (DeskCall::Stamp, "Some(21)"),
         (DeskCall::Sent, "Ok(())"),
         (DeskCall::Stamp, "Some(22)"),
-        (DeskCall::Arrive(0, u64::MAX), "Ok(())"),
+        (DeskCall::Arrive(0, u32::MAX), "Ok(())"),
         (DeskCall::Stamp, "None"),
     ];
     let mut desk = desk(&rt);
@@ -276,9 +280,9 @@ fn send_by_each<R: Wait + Abort>(rt: &R, desk: &mut Desk, senders: &mut [Sender]
 fn refused_memory_puts_and_notes_nothing(rt: HostRuntime) {
     const LOG: &[&str] = &[
         "Sent(NotedRoute { source: 0, comp: 1, port: 0 }, 0, \
-        Stamped { stamp: 1, message: Message { ty: Integer, value: Int(1) } })",
+        NotedMessage { stamp: 1, kind: Integer, named: 0, value: Int(1) })",
         "Sent(NotedRoute { source: 0, comp: 1, port: 0 }, 1, \
-        Stamped { stamp: 2, message: Message { ty: Integer, value: Int(2) } })",
+        NotedMessage { stamp: 2, kind: Integer, named: 0, value: Int(2) })",
     ];
     let (ends, floor) = two(&rt, ["p"].as_slice());
     let InboxEnds {

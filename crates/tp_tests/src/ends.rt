@@ -28,10 +28,15 @@ pub fn integer(n: i64) -> Message {
     }
 }
 
-/// The message `integer:n`, whose stamp is n without its sign.
+/// The stamp of `integer:n`: n without its sign, if that has 32 bits.
+fn stamp_of(n: i64) -> u32 {
+    u32::try_from(n.unsigned_abs()).unwrap_or(u32::MAX)
+}
+
+/// The message `integer:n` with its stamp.
 pub fn stamped(n: i64) -> Stamped {
     Stamped {
-        stamp: n.unsigned_abs(),
+        stamp: stamp_of(n),
         message: integer(n),
     }
 }
@@ -39,7 +44,7 @@ pub fn stamped(n: i64) -> Stamped {
 pub fn is_stamped(stamped: &Stamped, n: i64) -> bool {
     match stamped.message.value {
         Value::Int(value) => {
-            stamped.message.ty == Ty::Integer && value == n && stamped.stamp == n.unsigned_abs()
+            stamped.message.ty == Ty::Integer && value == n && stamped.stamp == stamp_of(n)
         }
         _ => false,
     }

@@ -52,7 +52,7 @@ fn write_orders(
 ) -> Result<(), AllocError> {
     write!(orders, "guest {guest}:")?;
     for entry in desk.log() {
-        if let Entry::Arrive(_, env, _) = entry {
+        if let Entry::Arrive(_, _, env) = entry {
             if env.sender() == guest {
                 write!(orders, " {}", env.number())?;
             }

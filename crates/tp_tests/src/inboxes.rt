@@ -71,12 +71,12 @@ fn two_routes(rt: HostRuntime) {
         (InboxCall::Put(0, 7), "Some(Ok(2))"),
     ];
     const LOG: &str = "[\
-        Arrive(0, NotedEnvelope { sender: 0, kind: Integer, named: 0, \
-            number: 0, value: Int(4) }, 4), \
-        Arrive(1, NotedEnvelope { sender: 0, kind: Integer, named: 0, \
-            number: 0, value: Int(5) }, 5), \
-        Arrive(0, NotedEnvelope { sender: 0, kind: Integer, named: 0, \
-            number: 1, value: Int(6) }, 6)]";
+        Arrive(0, 4, NotedEnvelope { sender: 0, kind: Integer, named: 0, \
+            number: 0, value: Int(4) }), \
+        Arrive(1, 5, NotedEnvelope { sender: 0, kind: Integer, named: 0, \
+            number: 0, value: Int(5) }), \
+        Arrive(0, 6, NotedEnvelope { sender: 0, kind: Integer, named: 0, \
+            number: 1, value: Int(6) })]";
     const REST: &str =
         "[(0, Env { sender: 0, number: 2, msg: Message { ty: Integer, value: Int(7) } }, 7)]";
     let (mut ends, floor) = two(&rt, ["p", "q"].as_slice());
@@ -206,10 +206,10 @@ fn drain_again<R: Wait + Abort>(rt: &R, ends: &mut InboxEnds, count: u64) {
 #[test]
 fn refused_memory_loses_nothing(rt: HostRuntime) {
     const LOG: &str = "[\
-        Arrive(0, NotedEnvelope { sender: 0, kind: Integer, named: 0, \
-            number: 0, value: Int(4) }, 4), \
-        Arrive(0, NotedEnvelope { sender: 0, kind: Integer, named: 0, \
-            number: 1, value: Int(5) }, 5)]";
+        Arrive(0, 4, NotedEnvelope { sender: 0, kind: Integer, named: 0, \
+            number: 0, value: Int(4) }), \
+        Arrive(0, 5, NotedEnvelope { sender: 0, kind: Integer, named: 0, \
+            number: 1, value: Int(5) })]";
     const REST: &str =
         "[(0, Env { sender: 0, number: 2, msg: Message { ty: Integer, value: Int(6) } }, 6)]";
     let (mut ends, floor) = two(&rt, ["p"].as_slice());

@@ -137,7 +137,7 @@ fn counted(number: u64, value: &Value, count: u64) -> Option<u64> {
 fn all_from(log: &[Entry], rest: &Rest, sender: u32) -> Option<u64> {
     let mut count = 0;
     for entry in log {
-        if let Entry::Arrive(0, env, _) = entry {
+        if let Entry::Arrive(0, _, env) = entry {
             if env.sender() == sender {
                 count = counted(env.number(), env.value(), count)?;
             }

@@ -13,10 +13,10 @@ use tp_value::message::Message;
 use tp_value::types::Ty;
 use tp_value::value::Value;
 
-/// The order of this number. Its stamp is the number without its sign.
+/// The order of this number. Its stamp is the number without its sign, if that has 32 bits.
 pub fn order(number: i64) -> Stamped {
     Stamped {
-        stamp: number.unsigned_abs(),
+        stamp: u32::try_from(number.unsigned_abs()).unwrap_or(u32::MAX),
         message: Message {
             ty: Ty::Integer,
             value: Value::Int(number),

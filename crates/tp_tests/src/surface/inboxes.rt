@@ -23,7 +23,7 @@ use tp_value::types::Ty;
 use tp_value::value::Value;
 
 /// The message `integer:n`, with a stamp.
-fn integer(n: i64, stamp: u64) -> Stamped {
+fn integer(n: i64, stamp: u32) -> Stamped {
     Stamped {
         stamp,
         message: Message {

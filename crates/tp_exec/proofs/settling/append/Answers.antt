@@ -19,11 +19,11 @@ loop-port-preserved c =
     let d = c.loop-port.desk in
     let rest = into_iter_items c.next.new.self in
     let x : Rest = (c.in-Some.port, c.in-Some.env, c.in-Some.stamp) in
-    let grown : c.arrive.new.self ≡ adding_all d (entry.Arrive x.0 x.1 x.2 ∷ []) = c.in_default.ensures.ok in
+    let grown : c.arrive.new.self ≡ adding_all d (entry.Arrive x.0 x.2 x.1 ∷ []) = c.in_default.ensures.ok in
     let steps : into_iter_items c.loop-port.port-iterator ≡ x ∷ rest = c.in-Some.ensures.steps.0 in
     record {
       grown =
-          ap (λ (j : Journal). adding_all j (rest_arrivals rest)) grown ∙ adding_twice d (entry.Arrive x.0 x.1 x.2 ∷ []) (rest_arrivals rest)
+          ap (λ (j : Journal). adding_all j (rest_arrivals rest)) grown ∙ adding_twice d (entry.Arrive x.0 x.2 x.1 ∷ []) (rest_arrivals rest)
           ∙ ap (λ (xs : List Rest). adding_all d (rest_arrivals xs)) (sym steps) ∙ was.grown;
       within =
           subst (λ (j : Journal). All (λ (y : Rest). y.0 < j.ports) rest) (sym grown)

@@ -14,6 +14,6 @@ arrive-requires c =
 pub returns-in-Ok-clause-ok : goal.returns-in-Ok-clause-ok
 returns-in-Ok-clause-ok c =
     let e = c.addressed-port.ensures in
-    let is : entry.Arrive c.addressed-port.result.0 c.addressed-port.result.1 c.addressed-port.result.2
-    ≡ arrival_of c.args.channel.now.routes.items c.args.envelope = λ i. entry.Arrive (e.port i) (e.env i) (e.stamp i) in
+    let is : entry.Arrive c.addressed-port.result.0 c.addressed-port.result.2 c.addressed-port.result.1
+    ≡ arrival_of c.args.channel.now.routes.items c.args.envelope = λ i. entry.Arrive (e.port i) (e.stamp i) (e.env i) in
     (c.requires.hand, c.in-Ok.ensures.ok ∙ ap (λ (x : Entry). adding c.args.desk.now x) is)

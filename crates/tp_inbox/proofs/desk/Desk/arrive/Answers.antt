@@ -8,7 +8,7 @@ use Rattle.tp_inbox.proofs.desk.Desk.arrive.Goals as goal
 
 pub invariant_of-self-2 : goal.invariant_of-self-2
 invariant_of-self-2 c =
-    kept_at_time _ _ _ _ _ c.args.port (entry.Arrive c.args.port c.args.env c.args.stamp) (event.Arrive c.args.env) _ _ c.self.invariant
+    kept_at_time _ _ _ _ _ c.args.port (entry.Arrive c.args.port c.args.stamp c.args.env) (event.Arrive c.args.env) _ _ c.self.invariant
     (omega (arith, c.requires, ap (λ (d : Journal). d.ports) c.self.view_is))
     c.index_mut.ensures.value c.in_ok-arrive.ensures.ok (λ p. refl) tt c.max-self-inside.ensures
-    (grown_by _ _ _ _ _ c.push_reserved.ensures.items c.reserve_entry.ensures.items (ap (λ e. entry.Arrive c.args.port e c.args.stamp) c.in-Ok.ensures.ok))
+    (grown_by _ _ _ _ _ c.push_reserved.ensures.items c.reserve_entry.ensures.items (λ i. entry.Arrive (c.in-Ok.ensures.1 i) c.args.stamp (c.in-Ok-copy_of.ensures.ok i)))

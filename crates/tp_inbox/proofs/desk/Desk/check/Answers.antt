@@ -12,7 +12,7 @@ pub invariant_of-self-2 : goal.invariant_of-self-2
 invariant_of-self-2 g c =
     kept_by_find _ _ _ _ c.args.port c.args.branch c.in-Some.env.now _ c.self.invariant
     (omega (arith, c.requires, ap (λ (d : Journal). d.ports) c.self.view_is)) c.index.ensures c.in-Some.ensures.after
-    (grown_by _ _ _ _ _ c.push_reserved.ensures.items c.reserve_entry.ensures.items (ap (λ e. entry.Found c.args.port e c.args.branch) c.in_ok-noted.ensures.ok))
+    (grown_by _ _ _ _ _ c.push_reserved.ensures.items c.reserve_entry.ensures.items (λ i. entry.Found (c.in_ok-place.ensures.ok.0 i) (c.in_ok-place.ensures.ok.1 i) (c.in_ok-noted.ensures.ok i)))
 
 pub returns : goal.returns
 returns g c =
@@ -20,6 +20,6 @@ returns g c =
     let h : List (Event Message) = at_port c.args.self.now c.args.port in
     let s : StandsFor c.index.result.now h = stands_in _ _ _ c.args.port _ _ _ c.self.invariant low c.index.ensures c.self.view_is refl in
     let grown =
-    adding_is c.args.self.now _ _ _ (entry.Found c.args.port c.in-Some.env.now c.args.branch) c.self.view_is refl
-    (grown_by _ _ _ _ _ c.push_reserved.ensures.items c.reserve_entry.ensures.items (ap (λ e. entry.Found c.args.port e c.args.branch) c.in_ok-noted.ensures.ok)) in
+    adding_is c.args.self.now _ _ _ (entry.Found c.args.port c.args.branch c.in-Some.env.now) c.self.view_is refl
+    (grown_by _ _ _ _ _ c.push_reserved.ensures.items c.reserve_entry.ensures.items (λ i. entry.Found (c.in_ok-place.ensures.ok.0 i) (c.in_ok-place.ensures.ok.1 i) (c.in_ok-noted.ensures.ok i))) in
     ((refl, λ _. tt, grown), record { after = tt; found = c.in-Some.ensures.found h s })

@@ -12,10 +12,10 @@ pub invariant_of-self-2 : goal.invariant_of-self-2
 invariant_of-self-2 c =
     let log = c.self.inside.log.items in
     let next : c.in-Some.stamp ≡ clock_of log + 1 = c.in-Some.ensures.1 ∙ ap (λ (d : Journal). clock_of d.log + 1) (sym c.self.view_is) in
-    let mine : c.in-Ok-copy.noted.stamp ≡ c.in-Some.stamp = ap (λ (s : Stamped). s.stamp) c.in-Ok-copy.ensures in
-    let timely : clock_of log < c.in-Ok-copy.noted.stamp = omega (arith, next, mine) in
+    let mine : c.in-Ok-copy_of.noted.stamp ≡ c.in-Some.stamp = ap (λ (s : Stamped). s.stamp) c.in-Ok-copy_of.ensures.ok in
+    let timely : clock_of log < c.in-Ok-copy_of.noted.stamp = omega (arith, next, mine) in
     let time = c.self.invariant.time in
-    let later : c.in-Some.stamp ≡ max c.self.inside.clock c.in-Ok-copy.noted.stamp = omega (arith, next, mine, time) in
-    kept_by_note _ _ _ _ _ (entry.Sent c.args.route c.args.number c.in-Ok-copy.noted) c.self.invariant tt timely later
+    let later : c.in-Some.stamp ≡ max c.self.inside.clock c.in-Ok-copy_of.noted.stamp = omega (arith, next, mine, time) in
+    kept_by_note _ _ _ _ _ (entry.Sent c.args.route c.args.number c.in-Ok-copy_of.noted) c.self.invariant tt timely later
     (grown_by _ _ _ _ _ c.push_reserved.ensures.items c.reserve_entry.ensures.items
-    (λ i. entry.Sent (c.in-Some-of.ensures.1 i) (c.in-Ok.ensures.1 i) c.in-Ok-copy.noted))
+    (λ i. entry.Sent (c.in-Some-of.ensures.1 i) (c.in-Ok.ensures.1 i) c.in-Ok-copy_of.noted))

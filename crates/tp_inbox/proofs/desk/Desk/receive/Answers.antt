@@ -14,14 +14,14 @@ port_is : (g : _) (c : goal.After-push_reserved g) → c.args.port < length c.se
 port_is g c = omega (arith, c.requires, ap (λ (d : Journal). d.ports) c.self.view_is)
 
 log_is : (g : _) (c : goal.After-push_reserved g)
-    → c.push_reserved.new.self.items ≡ c.self.inside.log.items ++ entry.Took c.args.port c.in-Some.env.now c.args.branch ∷ []
+    → c.push_reserved.new.self.items ≡ c.self.inside.log.items ++ entry.Took c.args.port c.args.branch c.in-Some.env.now ∷ []
 log_is g c =
     grown_by _ _ _ _ _ c.push_reserved.ensures.items c.reserve_entry.ensures.items
-    (ap (λ e. entry.Took c.args.port e c.args.branch) c.in_ok-noted-in-Some.ensures.ok)
+    (λ i. entry.Took (c.in_ok-place.ensures.ok.0 i) (c.in_ok-place.ensures.ok.1 i) (c.in_ok-noted-in-Some.ensures.ok i))
 
 pub invariant_of-self-2 : goal.invariant_of-self-2
 invariant_of-self-2 g c =
-    kept_at _ _ _ _ c.args.port (entry.Took c.args.port c.in-Some.env.now c.args.branch) (event.Took c.in-Some.env.now) _ _ c.self.invariant
+    kept_at _ _ _ _ c.args.port (entry.Took c.args.port c.args.branch c.in-Some.env.now) (event.Took c.in-Some.env.now) _ _ c.self.invariant
     (port_is g c) c.index_mut-queue.ensures.value
     (λ h s. (taken_is (g.W.Wanted.admits c.args.wanted.now) c.args.from h _ _ _ (c.in-Some.ensures.found h s) (c.take_top-taken.ensures h s)).1)
     (λ p. refl) tt refl (log_is g c)

@@ -17,10 +17,10 @@ invariant_of-self-in-Took g c =
     let h : List (Event Message) = history_of c.args.port c.self.inside.log.items in
     let s : StandsFor c.index_mut-queue.result.now h = stands_at _ _ _ c.args.port _ c.self.invariant low c.index_mut-queue.ensures.value in
     let same : c.in-Some.env.now ≡ c.in-Took.env = same_top _ _ _ (c.in-Some.ensures h s) (c.in-Took.ensures h s).0.0 in
-    kept_at _ _ _ _ c.args.port (entry.Took c.args.port c.in-Took.env c.args.branch) (event.Took c.in-Took.env) _ _ c.self.invariant
+    kept_at _ _ _ _ c.args.port (entry.Took c.args.port c.args.branch c.in-Took.env) (event.Took c.in-Took.env) _ _ c.self.invariant
     low c.index_mut-queue.ensures.value (λ h s. (c.in-Took.ensures h s).1) (λ p. refl) tt refl
     (grown_by _ _ _ _ _ c.push_reserved.ensures.items c.reserve_entry.ensures.items
-    (ap (λ e. entry.Took c.args.port e c.args.branch) (c.in_ok-noted-in-Some.ensures.ok ∙ same)))
+    (λ i. entry.Took (c.in_ok-place.ensures.ok.0 i) (c.in_ok-place.ensures.ok.1 i) ((c.in_ok-noted-in-Some.ensures.ok ∙ same) i)))
 
 pub returns-in-Took-clause-ok : goal.returns-in-Took-clause-ok
 returns-in-Took-clause-ok g c =
@@ -30,10 +30,10 @@ returns-in-Took-clause-ok g c =
     stands_in _ _ _ c.args.port _ _ _ c.self.invariant low c.index_mut-queue.ensures.value c.self.view_is refl in
     let same : c.in-Some.env.now ≡ c.in-Took.env = same_top _ _ _ (c.in-Some.ensures h s) (c.in-Took.ensures h s).0.0 in
     let grown =
-    adding_is _ _ _ _ (entry.Took c.args.port c.in-Took.env c.args.branch) c.self.view_is
+    adding_is _ _ _ _ (entry.Took c.args.port c.args.branch c.in-Took.env) c.self.view_is
     (length-set c.self.inside.ports.items c.args.port c.trigger.new.self)
     (grown_by _ _ _ _ _ c.push_reserved.ensures.items c.reserve_entry.ensures.items
-    (ap (λ e. entry.Took c.args.port e c.args.branch) (c.in_ok-noted-in-Some.ensures.ok ∙ same))) in
+    (λ i. entry.Took (c.in_ok-place.ensures.ok.0 i) (c.in_ok-place.ensures.ok.1 i) ((c.in_ok-noted-in-Some.ensures.ok ∙ same) i))) in
     ((c.in-Took.ensures h s).0, grown)
 
 pub invariant_of-self-in-Dropped : goal.invariant_of-self-in-Dropped
@@ -42,10 +42,10 @@ invariant_of-self-in-Dropped g c =
     let h : List (Event Message) = history_of c.args.port c.self.inside.log.items in
     let s : StandsFor c.index_mut-queue.result.now h = stands_at _ _ _ c.args.port _ c.self.invariant low c.index_mut-queue.ensures.value in
     let same : c.in-Some.env.now ≡ c.in-Dropped.env = same_top _ _ _ (c.in-Some.ensures h s) (c.in-Dropped.ensures h s).0 in
-    kept_at _ _ _ _ c.args.port (entry.Dropped c.args.port c.in-Dropped.env c.args.branch) (event.Dropped c.in-Dropped.env) _ _ c.self.invariant
+    kept_at _ _ _ _ c.args.port (entry.Dropped c.args.port c.args.branch c.in-Dropped.env) (event.Dropped c.in-Dropped.env) _ _ c.self.invariant
     low c.index_mut-queue.ensures.value (λ h s. (c.in-Dropped.ensures h s).2) (λ p. refl) tt refl
     (grown_by _ _ _ _ _ c.push_reserved-in-Dropped.ensures.items c.reserve_entry.ensures.items
-    (ap (λ e. entry.Dropped c.args.port e c.args.branch) (c.in_ok-noted-in-Some.ensures.ok ∙ same)))
+    (λ i. entry.Dropped (c.in_ok-place.ensures.ok.0 i) (c.in_ok-place.ensures.ok.1 i) ((c.in_ok-noted-in-Some.ensures.ok ∙ same) i)))
 
 pub returns-in-Dropped-clause-ok : goal.returns-in-Dropped-clause-ok
 returns-in-Dropped-clause-ok g c =
@@ -55,8 +55,8 @@ returns-in-Dropped-clause-ok g c =
     stands_in _ _ _ c.args.port _ _ _ c.self.invariant low c.index_mut-queue.ensures.value c.self.view_is refl in
     let same : c.in-Some.env.now ≡ c.in-Dropped.env = same_top _ _ _ (c.in-Some.ensures h s) (c.in-Dropped.ensures h s).0 in
     let grown =
-    adding_is _ _ _ _ (entry.Dropped c.args.port c.in-Dropped.env c.args.branch) c.self.view_is
+    adding_is _ _ _ _ (entry.Dropped c.args.port c.args.branch c.in-Dropped.env) c.self.view_is
     (length-set c.self.inside.ports.items c.args.port c.trigger.new.self)
     (grown_by _ _ _ _ _ c.push_reserved-in-Dropped.ensures.items c.reserve_entry.ensures.items
-    (ap (λ e. entry.Dropped c.args.port e c.args.branch) (c.in_ok-noted-in-Some.ensures.ok ∙ same))) in
+    (λ i. entry.Dropped (c.in_ok-place.ensures.ok.0 i) (c.in_ok-place.ensures.ok.1 i) ((c.in_ok-noted-in-Some.ensures.ok ∙ same) i))) in
     ((c.in-Dropped.ensures h s).0, (c.in-Dropped.ensures h s).1, grown)
