@@ -1,6 +1,5 @@
 pub mod WorstVerdictGrowth
 mod ComponentAndPortNames
-mod TypeTestIsExact
 mod PiecewiseWrittenText
 mod EntryNamesInConfiguration
 mod NumberBetweenSpaces

@@ -1,14 +1,12 @@
 -- What is written piece by piece.
-use Rattle.std.proofs.Common.{◌≡◌, ℕ, ◌+◌, ◌<◌, true, false, cond, List, ◌++◌, Option, Some, None, take, length, codes, ap, sym, ◌∙◌, subst, arith, add-one, append_assoc, inl, inr}
+use Rattle.std.proofs.Common.{◌≡◌, ℕ, ◌+◌, ◌<◌, List, ◌++◌, Option, Some, None, take, length, codes, ap, sym, ◌∙◌, subst, arith, add-one, inl, inr}
 use Rattle.std.specs.Prelude.{All, slice_get}
 use Rattle.std.specs.List.{flat_map}
 use Rattle.tp_common.specs.declared.watched.Watched.{Watched}
 use Rattle.tp_common.specs.Watching.{Writes}
 use Rattle.tp_common.proofs.WatchedWriterGrowth.{one_more, writes_both}
 use Rattle.std.proofs.lemmas.Option.{get_or_from_slice_get, slice_get_cases}
-use Rattle.tp_value.specs.declared.types.Types.{Types}
 use Rattle.tp_value.specs.declared.message.Message.{Message}
-use Rattle.tp_value.specs.ValueText.{value_text}
 use Rattle.tp_common.specs.declared.event.Env.{Env}
 use Rattle.tp_queue.specs.History.{queued}
 use Rattle.tp_config.specs.declared.port_type.CompId.{CompId}
@@ -20,19 +18,6 @@ use Rattle.tp_report.specs.declared.report.Report.{Report}
 use Rattle.tp_report.specs.declared.telling.Telling.{Telling}
 use Rattle.tp_report.specs.Lines.{envelope_line, heading, entry_text, end_text, verdict_line, left_at, left_below, component_port}
 use Rattle.tp_report.specs.Reports.{component_text, told_text}
-use Rattle.tp_report.specs.Typed.{is_typed}
-use Rattle.tp_report.specs.ReportWords.{type_name, message_text}
-
-pub typed_text : (types : Types) (m : Message) → is_typed types m.ty m.value ≡ true → (type_name types m.ty ++ codes ":") ++ value_text types m.ty m.value
-    ≡ message_text types m
-unfolding message_text
-typed_text types m e =
-    append_assoc (type_name types m.ty) (codes ":") (value_text types m.ty m.value)
-    ∙ sym (ap (λ b. cond b (type_name types m.ty ++ (codes ":" ++ value_text types m.ty m.value)) (codes "-")) e)
-
-pub untyped_text : (types : Types) (m : Message) → is_typed types m.ty m.value ≡ false → codes "-" ≡ message_text types m
-unfolding message_text
-untyped_text types m e = sym (ap (λ b. cond b (type_name types m.ty ++ (codes ":" ++ value_text types m.ty m.value)) (codes "-")) e)
 
 -- where a list has an element
 there : {X : Type 0} (xs : List X) (i : ℕ) (x : X) → slice_get xs i ≡ Some x → i < length xs

@@ -1,5 +1,4 @@
 pub mod Verdicts
-pub mod Typed
 pub mod ReportWords
 pub mod Integers
 pub mod LineOpenings

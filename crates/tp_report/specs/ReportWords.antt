@@ -1,5 +1,5 @@
 -- The words of a report's lines.
-use Rattle.std.specs.Prelude.{ℕ, List, [], ◌∷◌, ◌++◌, codes, if◌then◌else◌}
+use Rattle.std.specs.Prelude.{ℕ, List, [], ◌∷◌, ◌++◌, codes}
 use Rattle.std.specs.List.{slice_index_or}
 use Rattle.tp_value.specs.declared.types.Ty.{Ty}
 use Rattle.tp_value.specs.declared.types.Ty.TheVariants as ty
@@ -12,7 +12,6 @@ use Rattle.tp_value.specs.ValueText.{value_text}
 use Rattle.tp_config.specs.declared.port_type.CompId.{CompId}
 use Rattle.tp_config.specs.declared.port_type.PortRef.{PortRef}
 use Rattle.tp_config.specs.Setup.{Setup, names_of_components, port_names}
-use Rattle.tp_report.specs.Typed.{is_typed}
 
 -- the rest of a line: each word after a space, and the end of the line
 abbrev pub rest_of_line : List (List ℕ) → List ℕ
@@ -43,12 +42,9 @@ type_name types ty.Boolean = codes "boolean"
 type_name types ty.Charstring = codes "charstring"
 type_name types (ty.Named n) = slice_index_or (value_types.names_of_types types) n []
 
--- a message: its type and its value, or `-` if the value doesn't have the type
+-- a message: its type and its value
 unfoldable pub message_text : Types → Message → List ℕ
-message_text types m =
-    if is_typed types m.ty m.value
-    then type_name types m.ty ++ (codes ":" ++ value_text types m.ty m.value)
-    else codes "-"
+message_text types m = (type_name types m.ty ++ codes ":") ++ value_text types m.ty m.value
 
 -- the word for a verdict
 abbrev pub verdict_word : Verdict → List ℕ

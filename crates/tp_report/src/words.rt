@@ -4,7 +4,6 @@ ghost use Rattle.std.specs.Fmt.{decimal};
 ghost use Rattle.tp_common.specs.Watching.{Writes};
 ghost use Rattle.tp_value.specs.declared.types.Ty.TheVariants as ty;
 ghost use Rattle.tp_config.specs.Setup.{IsComponent, IsPort};
-ghost use Rattle.tp_report.specs.Typed.{is_typed};
 ghost use Rattle.tp_report.specs.ReportWords.{component_name, message_text, port_name, type_name, verdict_word};
 
 use itoa::write_digits;
@@ -13,7 +12,6 @@ use tp_common::watched::{Watched, write_bytes};
 use tp_config::config::Config;
 use tp_config::port_type::{CompId, PortRef};
 use tp_value::types::{Ty, Types};
-use tp_value::typing::has_type;
 use tp_value::value::Value;
 use tp_value::verdict::Verdict;
 use tp_value::writing::write_value;
@@ -85,20 +83,12 @@ fn write_type<W: Write>(types: &Types, ty: Ty, out: &mut Watched<W>)
     }
 }
 
-fn is_typed(types: &Types, ty: Ty, value: &Value) -> bool
-    ensures { result ≡ is_typed types.now ty value.now }
-{
-    has_type(types, ty, value)
-}
-
-/// Writes a message: its type and its value, or `-` if the value doesn't have the type.
+/// Writes a message: its type and its value. If the value doesn't have the type, the text is
+/// meaningless.
 pub fn write_message<W: Write>(types: &Types, ty: Ty, value: &Value, out: &mut Watched<W>)
     ensures { Writes W.contents out.old out.new
         (message_text types.now record { ty = ty; value = value.now }) }
 {
-    if !is_typed(types, ty, value) {
-        return write_bytes(b"-", out);
-    }
     write_type(types, ty, out);
     write_value(types, ty, value, out)
 }
