@@ -231,6 +231,8 @@ fn wake_next<H: Histories>(
 /// After an entry of component `c` lists those that may be able to go on because of it: the
 /// component to which it sends, and the next to send to that one; or, after a look, the next to
 /// send to this component, if that may have waited for the look.
+// Most entries wake nobody. A call would take longer than that.
+#[inline(always)]
 fn wake<H: Histories>(
     histories: &H,
     progress: &OrderProgress,
