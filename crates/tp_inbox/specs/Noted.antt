@@ -30,12 +30,7 @@ IsShortEnvelope env = (env.sender < 2 ^ 8) × (env.number < 2 ^ 32) × IsShortTy
 abbrev pub IsShortRoute : RouteId → Type 0
 IsShortRoute route = (route.source.0 < 2 ^ 8) × (route.to.comp.0 < 2 ^ 8) × (route.to.port < 2 ^ 8)
 
--- why an envelope isn't noted: an entry has no room for it; or there is room, and memory ran out
-abbrev pub NoteCause : Env Message → NoteFault → Type 0
-NoteCause env note_fault.NoRoom = ¬ IsShortEnvelope env
-NoteCause env note_fault.Memory = IsShortEnvelope env
-
--- why a message of this type isn't noted: an entry has no room for the type; or there is room, and memory ran out
-abbrev pub TypeCause : Ty → NoteFault → Type 0
-TypeCause type note_fault.NoRoom = ¬ IsShortType type
-TypeCause type note_fault.Memory = IsShortType type
+-- why something isn't noted that has room under this condition: it has none; or it has, and memory ran out
+abbrev pub NoteCause : Type 0 → NoteFault → Type 0
+NoteCause has_room note_fault.NoRoom = ¬ has_room
+NoteCause has_room note_fault.Memory = has_room

@@ -21,7 +21,7 @@ use std::alloc::Global;
 use std::marker::Model;
 use tp_common::event::{Env, TriggerAnswer};
 use tp_common::memory::Memory;
-use tp_common::payload::{Payload, Wanted};
+use tp_common::payload::Wanted;
 use tp_config::config::Config;
 use tp_config::port_type::{CompId, RouteId};
 use tp_queue::queue::Queue;

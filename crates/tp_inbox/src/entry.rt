@@ -9,8 +9,9 @@ use tp_value::verdict::Verdict;
 
 /// One event at a component. The history of a component is the list of its entries, the oldest
 /// first. A port is a place among the component's ports, in declared order, from 0. A branch is a
-/// place in its `alt`, from 0, and 0 for a stand-alone operation. An entry has 32 bytes: a message
-/// comes last, behind a word for all else.
+/// place in its `alt`, from 0, and 0 for a stand-alone operation. An entry has 32 bytes: 24 for a
+/// message, and a word for all else. So a port beside a message has 8 bits, and a branch or a stamp
+/// has 32.
 #[derive(Debug, Drop)]
 pub enum Entry {
     /// At this port a message arrived, with the stamp of its sending.

@@ -1,6 +1,6 @@
 //! Envelopes and routes as an entry keeps them, in less room.
 ghost use Rattle.std.specs.Prelude.{◌≡◌, IfErr, IfOk, SomeIff};
-ghost use Rattle.tp_inbox.specs.Noted.{IsShortRoute, NoteCause};
+ghost use Rattle.tp_inbox.specs.Noted.{IsShortEnvelope, IsShortRoute, NoteCause};
 
 use crate::note_fault::NoteFault;
 use crate::type_kind::{TypeKind, kind_of, type_of_kind};
@@ -46,11 +46,9 @@ impl Model for NotedEnvelope {
 impl NotedEnvelope {
     /// A copy of an envelope. `NoRoom` if and only if its sender's number is 256 or more, its own
     /// number 2^32 or more, or the number of its type 65,536 or more.
-    // A call would return the copy through memory for each message.
-    #[inline(always)]
     pub fn copy_of(alloc: Global, env: &Env<Message>) -> Result<NotedEnvelope, NoteFault>
         ensures ok { IfOk result (λ noted. noted ≡ env.now) }
-        ensures err { IfErr result (NoteCause env.now) }
+        ensures err { IfErr result (NoteCause (IsShortEnvelope env.now)) }
     {
         let (Ok(sender), Ok(number)) = (u8::try_from(env.sender), u32::try_from(env.number)) else {
             return Err(NoteFault::NoRoom);

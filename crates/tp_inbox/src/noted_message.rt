@@ -1,6 +1,6 @@
 //! Stamped messages as an entry keeps them, in less room.
 ghost use Rattle.std.specs.Prelude.{◌≡◌, IfErr, IfOk};
-ghost use Rattle.tp_inbox.specs.Noted.{TypeCause};
+ghost use Rattle.tp_inbox.specs.Noted.{IsShortType, NoteCause};
 
 use crate::note_fault::NoteFault;
 use crate::stamped::Stamped;
@@ -41,7 +41,7 @@ impl NotedMessage {
     /// more.
     pub fn copy_of(alloc: Global, stamped: &Stamped) -> Result<NotedMessage, NoteFault>
         ensures ok { IfOk result (λ noted. noted ≡ stamped.now) }
-        ensures err { IfErr result (TypeCause stamped.now.message.ty) }
+        ensures err { IfErr result (NoteCause (IsShortType stamped.now.message.ty)) }
     {
         let Some((kind, named)) = kind_of(stamped.message.ty) else {
             return Err(NoteFault::NoRoom);

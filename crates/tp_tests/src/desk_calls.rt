@@ -2,6 +2,7 @@
 use crate::ends::{InboxEnds, Mailbox, integer, two};
 use crate::making::{four_again, route};
 use crate::showing::{debug, says};
+use std::mem::size_of;
 use std::process::Abort;
 use std::sync::Wait;
 use tp_common::event::Env;
@@ -240,6 +241,11 @@ fn number_without_room_is_refused(rt: HostRuntime) {
     assert!(rt; desk.receive(0, &wanted(None), None, 4_294_967_296).is_err());
     is_noted(&rt, desk.log(), LOG);
     drop(desk);
+}
+
+#[test]
+fn an_entry_has_32_bytes(rt: HostRuntime) {
+    assert!(rt; size_of::<Entry>() == 32);
 }
 
 #[test]
