@@ -28,7 +28,7 @@ sys.path.append(str(Path(__file__).resolve().parents[1] / "program"))
 from examples import is_report, names, reports, script
 from refusing import NO_MEMORY, NO_THREAD, Wrong, run
 
-AGAIN, AGAIN_OF_ALL_WAIT, BESIDE_A_LOAD = 50, 1000, 20
+AGAIN, AGAIN_OF_ALL_WAIT, BESIDE_A_LOAD, AGAIN_OF_POLLING = 50, 1000, 20, 30
 MOST_KIB, STEP_KIB, AROUND_KIB = 1 << 20, 32, 800
 LONG_SCRIPT, SMALL_STACK = 1 << 20, 128 << 10
 
@@ -41,6 +41,21 @@ def run_again(program: str, name: str, times: int, *before: str) -> int:
         if not is_report(ran, allowed):
             raise ran.wrong(f"run {turn} of {times} {' '.join(before)}".rstrip())
     return times
+
+
+def polls_again(program: str) -> int:
+    """Runs polling.ttcn, and judges its trace, which is a different one each time. Returns how often it was run."""
+    with tempfile.NamedTemporaryFile() as trace:
+        for turn in range(1, AGAIN_OF_POLLING + 1):
+            ran = run([program, "trace", str(Path(__file__).with_name("polling.ttcn"))])
+            trace.seek(0)
+            trace.truncate()
+            trace.write(ran.printed)
+            trace.flush()
+            judged = run([program, "judge", trace.name])
+            if ran.status != 0 or not judged.is_so(0, b"lawful\none run\n"):
+                raise (judged if ran.status == 0 else ran).wrong(f"run {turn} of {AGAIN_OF_POLLING}")
+    return AGAIN_OF_POLLING
 
 
 @contextmanager
@@ -121,6 +136,7 @@ def each_again(program: str) -> Iterator[str]:
         yield told(name, partial(again, program, name))
     often = "all_wait_for_each_other"
     yield told(f"{often}, often", partial(run_again, program, often, AGAIN_OF_ALL_WAIT))
+    yield told("two components poll each other", partial(polls_again, program))
 
 
 def each_beside_a_load(program: str) -> Iterator[str]:

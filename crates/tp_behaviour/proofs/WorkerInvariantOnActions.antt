@@ -142,9 +142,3 @@ looked_at r s gs look.Nothing d m own (none, same) =
       (ap moments log, subst (λ k. NoneOpen k gs) (sym log) none, subst (HasOwn r.comp) (sym log) own),
       subst (λ j. IsConsistent r (record { owner = s.owner; desk = j; outbox = s.outbox })) (sym same) m,
     )
-
--- the same, from an earlier history with the same trace
-pub saw_from : (r : Actor) (gs : List Guard) (x : LookResult) (k l n : List Entry) → moments l ≡ moments k → Saw r.comp gs x l n → Saw r.comp gs x k n
-saw_from r gs (look.Taken i e) k l n same (ts, grown, h) = (ts, grown ∙ ap (λ xs. xs ++ ts) same, h)
-saw_from r gs look.Discarded k l n same (ts, grown, h) = (ts, grown ∙ ap (λ xs. xs ++ ts) same, h)
-saw_from r gs look.Nothing k l n same (grown, none, own) = (grown ∙ same, none, own)

@@ -26,7 +26,6 @@ LooksAtPorts (entry.Failed c) = ⊥
 abbrev pub HasOwn : CompId → List Entry → Type 0
 HasOwn c k = (r : RouteId) → r.source ≡ c → r.to.comp ≡ c → length (arrived_on r k) ≡ length (sent_on r k)
 
--- before each entry that looks at ports, all that the component has sent to itself has arrived: each operation begins
--- with a drain (22.2 to 22.5)
+-- before each entry that looks at ports, all that the component has sent to itself has arrived (22.2 to 22.5)
 abbrev pub Fresh : CompId → List Entry → Type 0
 Fresh c k = All (λ (t : Moment). LooksAtPorts t.entry → HasOwn c t.before) (moments k)

@@ -10,6 +10,9 @@ pub trait Gate: Sync {
     /// Called in each receiving and each port control operation at this port of the component,
     /// after its drain; in an `alt`, as each branch is tested.
     fn inside(&self, who: CompId, port: u32);
+
+    /// Whether each look begins with a drain, even if the drain can't change its outcome.
+    fn always_drains(&self) -> bool;
 }
 
 #[derive(Clone, Copy)]
@@ -19,4 +22,8 @@ impl Gate for OpenGate {
     fn before(&self, _who: CompId, _step: u64) {}
 
     fn inside(&self, _who: CompId, _port: u32) {}
+
+    fn always_drains(&self) -> bool {
+        false
+    }
 }

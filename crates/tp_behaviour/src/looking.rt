@@ -1,5 +1,5 @@
 //! The look of a behaviour before it acts on its ports.
-ghost use Rattle.std.specs.Prelude.{◌≡◌, ◌<◌, All, IfOk, OnOk};
+ghost use Rattle.std.specs.Prelude.{◌≡◌, ◌<◌, All, IfNone, IfOk, IfSome, IsTrue, OnOk};
 ghost use Rattle.tp_inbox.specs.Desks.{NamesNoPort};
 ghost use Rattle.tp_inbox.specs.Routed.{AreArrivals};
 ghost use Rattle.tp_behaviour.specs.Fresh.{HasOwn, LooksAtPorts};
@@ -15,9 +15,14 @@ use crate::task::Task;
 use crate::worker::Worker;
 use std::sync::Wait;
 use tp_common::memory::Memory;
+use tp_inbox::desk::Desk;
 use tp_inbox::entry::Entry;
 
-fn drain<R: Wait>(rt: &R, task: &Task<'_>, worker: &mut Worker) -> Result<(), Memory>
+/// So many messages are moved at once if a look needs one of them. Few, so that they are still in
+/// the processor's cache when they are taken.
+const FEW_MESSAGES: u64 = 256;
+
+fn drain<R: Wait>(rt: &R, task: &Task<'_>, worker: &mut Worker, most: u64) -> Result<(), Memory>
     requires { IsConsistent (role_of task.now) worker.old }
     ensures consistent { OnOk result (IsConsistent (role_of task.now) worker.new) }
     ensures same { OnOk result (KeepsInboxes worker.old worker.new) }
@@ -26,7 +31,7 @@ fn drain<R: Wait>(rt: &R, task: &Task<'_>, worker: &mut Worker) -> Result<(), Me
     ensures routed { OnOk result
         (AreArrivals worker.new.owner.inbox.routes worker.new.owner.drained) }
 {
-    worker.owner.drain(rt, &mut worker.desk)?;
+    worker.owner.drain_some(rt, &mut worker.desk, most)?;
     Ok(())
 }
 
@@ -41,7 +46,7 @@ pub(crate) fn look_in<R: Wait>(rt: &R, task: &Task<'_>, worker: &mut Worker) -> 
     ensures own { OnOk result (HasOwn task.now.comp worker.new.desk.log) }
 {
     for _ in rt.forever() {
-        drain(rt, task, &mut *worker)?;
+        drain(rt, task, &mut *worker, u64::MAX)?;
         if worker.outbox.is_level(&worker.owner) {
             return Ok(());
         }
@@ -69,7 +74,110 @@ pub(crate) fn note(task: &Task<'_>, worker: &mut Worker, entry: Entry) -> Result
     Ok(())
 }
 
-/// Moves what has arrived to the ports, and tries the branches from the top (20.2).
+/// The port of all branches, or `None` if they are at several.
+fn common_port(desk: &Desk, guards: &[GuardView<'_>]) -> Option<u32>
+    requires { All (λ g. g.port < desk.now.ports) guards.now }
+    ensures { IfSome result (λ port. port < desk.now.ports) }
+{
+    // Contracts alone speak of the desk.
+    let _desk = desk;
+    let port = guards.first()?.port;
+    for guard in guards {
+        if guard.port != port {
+            return None;
+        }
+    }
+    Some(port)
+}
+
+/// Moves some of what has arrived, unless this port offers a message already.
+fn offer<R: Wait>(rt: &R, task: &Task<'_>, worker: &mut Worker, port: u32) -> Result<(), Memory>
+    requires consistent { IsConsistent (role_of task.now) worker.old }
+    requires within { port < worker.old.desk.ports }
+    ensures consistent { OnOk result (IsConsistent (role_of task.now) worker.new) }
+    ensures same { OnOk result (KeepsInboxes worker.old worker.new) }
+    ensures ports { OnOk result (worker.new.desk.ports ≡ worker.old.desk.ports) }
+    ensures trace { OnOk result (moments worker.new.desk.log ≡ moments worker.old.desk.log) }
+{
+    if worker.desk.queue(port).ahead() > 0 {
+        return Ok(());
+    }
+    drain(rt, task, &mut *worker, FEW_MESSAGES)
+}
+
+/// Returns whether this port offers a message, and all that the component has sent to itself has
+/// arrived.
+fn is_served(task: &Task<'_>, worker: &Worker, port: u32) -> bool
+    requires consistent { IsConsistent (role_of task.now) worker.now }
+    requires within { port < worker.now.desk.ports }
+    ensures { IsTrue result → HasOwn task.now.comp worker.now.desk.log }
+{
+    // Contracts alone speak of the task.
+    let _task = task;
+    if worker.desk.queue(port).ahead() == 0 {
+        return false;
+    }
+    worker.owner.is_current(&worker.desk) && worker.outbox.is_level(&worker.owner)
+}
+
+/// Tries the branches from the top (20.2).
+fn try_branches<G: Gate>(
+    gate: &G,
+    task: &Task<'_>,
+    worker: &mut Worker,
+    guards: &[GuardView<'_>],
+) -> Result<LookResult, Memory>
+    requires consistent { IsConsistent (role_of task.now) worker.old }
+    requires within { All (λ g. g.port < worker.old.desk.ports) guards.now }
+    requires own { HasOwn task.now.comp worker.old.desk.log }
+    ensures consistent { OnOk result (IsConsistent (role_of task.now) worker.new) }
+    ensures same { OnOk result (KeepsInboxes worker.old worker.new) }
+    ensures ports { OnOk result (worker.new.desk.ports ≡ worker.old.desk.ports) }
+    ensures saw { IfOk result (λ look. Saw task.now.comp (all_viewed guards.now) look
+        worker.old.desk.log worker.new.desk.log) }
+{
+    let look = snapshot(gate, task.alloc, &mut worker.desk, guards)?;
+    Ok(look)
+}
+
+/// Looks at branches that are at one port before all that has arrived is moved: once the port
+/// offers a message, none of them sees a later one. `None` if they choose and discard nothing, and
+/// if the component has sent something since its inbox was found empty: after a sending, one order
+/// of all that the components do can have a look only where all that was put before is there.
+fn look_early<R: Wait, G: Gate>(
+    execution: &Execution<'_, R, G>,
+    worker: &mut Worker,
+    guards: &[GuardView<'_>],
+) -> Result<Option<LookResult>, Memory>
+    requires consistent { IsConsistent (role_of execution.now.task.now) worker.old }
+    requires within { All (λ g. g.port < worker.old.desk.ports) guards.now }
+    ensures consistent { OnOk result (IsConsistent (role_of execution.now.task.now) worker.new) }
+    ensures same { OnOk result (KeepsInboxes worker.old worker.new) }
+    ensures ports { OnOk result (worker.new.desk.ports ≡ worker.old.desk.ports) }
+    ensures saw { IfOk result (λ found. IfSome found (λ look.
+        Saw execution.now.task.now.comp (all_viewed guards.now) look
+        worker.old.desk.log worker.new.desk.log)) }
+    ensures none { IfOk result (λ found. IfNone found
+        (moments worker.new.desk.log ≡ moments worker.old.desk.log)) }
+{
+    let (gate, task) = (execution.gate, execution.task);
+    if gate.always_drains() || !worker.owner.is_current(&worker.desk) {
+        return Ok(None);
+    }
+    let Some(port) = common_port(&worker.desk, guards) else {
+        return Ok(None);
+    };
+    offer(execution.rt, task, &mut *worker, port)?;
+    if !is_served(task, &*worker, port) {
+        return Ok(None);
+    }
+    match try_branches(gate, task, &mut *worker, guards)? {
+        LookResult::Nothing => Ok(None),
+        look => Ok(Some(look)),
+    }
+}
+
+/// Moves what has arrived to the ports, if a look can see it, and tries the branches.
 pub(crate) fn look_at_branches<R: Wait, G: Gate>(
     execution: &Execution<'_, R, G>,
     worker: &mut Worker,
@@ -84,12 +192,9 @@ pub(crate) fn look_at_branches<R: Wait, G: Gate>(
         Saw execution.now.task.now.comp (all_viewed guards.now) look
         worker.old.desk.log worker.new.desk.log) }
 {
+    if let Some(look) = look_early(execution, &mut *worker, guards)? {
+        return Ok(look);
+    }
     look_in(execution.rt, execution.task, &mut *worker)?;
-    let look = snapshot(
-        execution.gate,
-        execution.task.alloc,
-        &mut worker.desk,
-        guards,
-    )?;
-    Ok(look)
+    try_branches(execution.gate, execution.task, &mut *worker, guards)
 }

@@ -1,6 +1,6 @@
 -- What of a desk may go into a thread, or be shared with one.
 -- A message holds values of a recursive type, so `search` has to be told of the values first, and then of each type in turn.
-use denote.Param.Send.{IsSend, IsSync, sendable}
+use denote.Param.Send.{IsSend, sendable}
 use Rattle.std.proofs.Crossing.{crosses}
 use Rattle.tp_value.proofs.value.Value.TheLaws.TheKnot.{crosses_both as knot}
 use Rattle.tp_value.specs.contracts.message.Message as message

@@ -1,5 +1,5 @@
 -- On the envelopes of one route.
-use Rattle.std.proofs.Common.{◌≡◌, ◌≢◌, ◌⊎◌, inl, inr, ℕ, suc, ◌+◌, ◌<◌, ◌≤◌, Bool, true, false, cond, eqb, eq-eqb, ne_eqb, List, [], ◌∷◌, ◌++◌, length, refl, sym, ap, ◌∙◌, ⊎_elim, length-append, set, arith}
+use Rattle.std.proofs.Common.{◌≡◌, ◌≢◌, ◌⊎◌, inl, inr, ℕ, suc, ◌+◌, ◌<◌, Bool, true, false, cond, eqb, eq-eqb, ne_eqb, List, [], ◌∷◌, ◌++◌, length, refl, sym, ap, ◌∙◌, ⊎_elim, length-append, set, arith}
 use native.Mathlib.Decide.{ℕ_discrete}
 use Rattle.std.proofs.lemmas.Grind.{get_or-set_at}
 use Rattle.std.proofs.lemmas.List.{get_or-set_other, length-set}
@@ -85,14 +85,6 @@ next_number xs e h =
     let q = number_at_end 0 (of e.place xs) (e.number, e.stamped) k.0
     (ap (λ l. of e.place xs ++ l) (sym (of-here e.place e refl)) ∙ sym (of-append e.place xs (e ∷ [])) ∙ k.1) in
     omega arith
-
-length-cond : (b : Bool) (x : ℕ × Stamped) (l : List (ℕ × Stamped)) (n : ℕ) → length l ≤ n → length (cond b (x ∷ l) l) ≤ suc n
-length-cond true x l n h = omega arith
-length-cond false x l n h = omega arith
-
-pub length-of : (p : ℕ) (xs : List InboxEnvelope) → length (of p xs) ≤ length xs
-length-of p [] = omega arith
-length-of p (x ∷ xs) = length-cond (eqb p x.place) (x.number, x.stamped) (of p xs) (length xs) (length-of p xs)
 
 pub counts_next : (n : ℕ) (counts : List ℕ) (xs : List InboxEnvelope) (e : InboxEnvelope) → AreCounts n counts xs → e.place < n → e.number ≡ length (of e.place xs)
     → AreCounts n (set counts e.place (e.number + 1)) (xs ++ e ∷ [])

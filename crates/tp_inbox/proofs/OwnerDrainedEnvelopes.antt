@@ -1,8 +1,7 @@
 -- What an owner's fields say of what it has drained.
-use Rattle.std.proofs.Common.{◌≡◌, ℕ, suc, ◌+◌, ◌<◌, ◌≤◌, ◌⊎◌, inl, inr, Bool, true, false, Option, Some, None, List, [], ◌∷◌, ◌++◌, length, set, get_or, cond, eqb, eq-eqb, append_assoc, sym, ap, ◌∙◌, subst, arith}
-use Rattle.std.specs.Prelude.{filter}
+use Rattle.std.proofs.Common.{◌≡◌, ℕ, ◌+◌, ◌<◌, ◌⊎◌, inl, inr, true, false, Option, Some, None, List, [], ◌∷◌, ◌++◌, length, set, get_or, cond, eqb, eq-eqb, append_assoc, sym, ap, ◌∙◌, subst, arith}
 use Rattle.std.specs.Arc.{arc_value}
-use Rattle.std.proofs.lemmas.List.{map-append, length-map}
+use Rattle.std.proofs.lemmas.List.{map-append}
 use Rattle.std.proofs.lemmas.Bool.{cases_Bool, eqb-true}
 use Rattle.std.proofs.lemmas.Option.{none-some}
 use Rattle.indexmap.specs.IndexMap.{get_by}
@@ -14,14 +13,14 @@ use Rattle.tp_inbox.specs.declared.channel.Channel.{Channel}
 use Rattle.tp_inbox.specs.declared.owner.Owner.TheInside as owner
 use Rattle.tp_inbox.specs.declared.rule.View.{View}
 use Rattle.tp_inbox.specs.Rule.{Sound}
-use Rattle.tp_inbox.specs.History.{is_arrival, arrivals, arrived_on}
+use Rattle.tp_inbox.specs.History.{arrivals, arrived_on}
 use Rattle.tp_inbox.specs.Desks.{Journal, adding_all}
 use Rattle.tp_inbox.specs.Envelopes.{of, one_of, envelopes_before, EndsWith, AreCounts, AreRouted}
 use Rattle.tp_inbox.specs.Routed.{AreArrivals, arrival_of, arrivals_of, route_at, absent_route}
 use Rattle.tp_inbox.specs.Places.{route_eq}
 use Rattle.tp_inbox.specs.Ledgers.{Draining, drained_on}
 use Rattle.tp_inbox.specs.InboxEndFields.{GivesNext, IsOwner, KeepsRoutes, drained_of, inbox_of}
-use Rattle.tp_inbox.proofs.EnvelopesOfOneRoute.{append_nil, length-of, counts_next}
+use Rattle.tp_inbox.proofs.EnvelopesOfOneRoute.{append_nil, counts_next}
 use Rattle.tp_inbox.proofs.OwnerStepInvariants.{in_order_before, routed_before, arrived, ends-append, ends_nothing, before_nothing}
 use Rattle.tp_inbox.proofs.ArrivalsOfEnvelopes.{are_on, arrivals-append, numbered_on, on_none, on_place}
 
@@ -43,15 +42,6 @@ owner_arrivals s v o e =
       routed = are_on routes (moved s) routed;
       order = numbered_on channel.comp channel.ports routes channel.routed (moved s) routed (in_order_before s.pass.me.view.client.taken (one_of s.hand) o.sound.order);
     }
-
-pub length-arrivals : (log : List Entry) → length (arrivals log) ≤ length log
-unfolding arrivals
-length-arrivals [] = omega arith
-length-arrivals (e ∷ log) = shorter (is_arrival e) e (filter is_arrival log) (length log) (length-arrivals log)
-  where
-    shorter : (b : Bool) (e : Entry) (l : List Entry) (n : ℕ) → length l ≤ n → length (cond b (e ∷ l) l) ≤ suc n
-    shorter true e l n h = omega arith
-    shorter false e l n h = omega arith
 
 -- the envelope that comes next is the next of its route
 pub next_of_route : (s : owner.Inside) (w : View) (e : InboxEnvelope) → IsOwner s → Sound w → KeepsRoutes s.pass.me.view.client w
@@ -92,17 +82,6 @@ pub port_within : (channel : Channel) (d : Journal) (place port : ℕ) → d.por
     → port ≡ (route_at channel.routes.items place).to.port → port < d.ports
 port_within channel d place port ports low at =
     let within : (route_at channel.routes.items place).to.port < channel.ports = channel.routed.within place absent_route low in omega arith
-
--- what is drained is no more than the desk's history holds
-pub drained_within : (s : owner.Inside) (v : Draining) (d : Journal) (place : ℕ) → seen s ≡ v → arrivals d.log ≡ v.drained
-    → length (of place (moved s)) ≤ length d.log
-drained_within s v d place is same =
-    let routes = (arc_value s.channel).routes.items in
-    let a : length (arrivals_of routes (moved s)) ≡ length (moved s) = length-map (moved s) (arrival_of routes) in
-    let b : length (arrivals_of routes (moved s)) ≡ length (arrivals d.log) = ap (λ (x : Draining). length x.drained) is ∙ sym (ap length same) in
-    let c = length-arrivals d.log in
-    let e = length-of place (moved s) in
-    omega arith
 
 pub adding_nothing : (d : Journal) → d ≡ adding_all d []
 adding_nothing d = λ i. record { comp = d.comp; ports = d.ports; log = sym (append_nil d.log) i }

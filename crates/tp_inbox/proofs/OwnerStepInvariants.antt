@@ -4,7 +4,7 @@ use Rattle.crossbeam_queue.specs.Fifo.{Held}
 use Rattle.tp_inbox.specs.declared.envelope.InboxEnvelope.{InboxEnvelope}
 use Rattle.tp_inbox.specs.declared.rule.View.{View}
 use Rattle.std.specs.Prelude.{slice_index_or}
-use Rattle.tp_inbox.specs.Envelopes.{of, InOrder, AreRouted, AreFronts, AreWhole, Ledger, on_routes, one_of, envelopes_before, EndsWith}
+use Rattle.tp_inbox.specs.Envelopes.{of, InOrder, AreRouted, AreFronts, Ledger, on_routes, one_of, envelopes_before, EndsWith}
 use Rattle.tp_inbox.specs.Rule.{owner_pass, Takes, Knows, Sound}
 use Rattle.tp_inbox.proofs.EnvelopesOfOneRoute.{among-append, append_nil, routed-append, routed-front, routed-back, in_order-front, next_number}
 

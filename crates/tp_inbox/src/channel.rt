@@ -106,11 +106,11 @@ impl Channel {
         ensures env { result.1 ≡ env_of self.now.routes.items envelope }
         ensures stamp { result.2 ≡ envelope.stamped.stamp }
     {
-        let route = self.routes[envelope.place];
+        let route = self.routes[envelope.place as usize];
         let Stamped { stamp, message } = envelope.stamped;
         let env = Env {
             sender: route.source.0,
-            number: envelope.number,
+            number: envelope.number as u64,
             msg: message,
         };
         (route.to.port, env, stamp)

@@ -5,8 +5,8 @@ use crate::stamped::Stamped;
 #[derive(Drop)]
 pub(crate) struct InboxEnvelope {
     /// The place of its route among the routes into the component, from 0.
-    pub place: usize,
+    pub place: u32,
     /// Its number on its route, from 0.
-    pub number: u64,
+    pub number: u32,
     pub stamped: Stamped,
 }

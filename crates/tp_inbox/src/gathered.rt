@@ -91,6 +91,7 @@ pub fn gather<R: Wait>(rt: &R, owner: Owner, senders: Vec<Sender>) -> Gathered
         mut sources,
         rest,
         taken: _,
+        stamp: _,
         counts: _,
         places: _,
     } = owner;

@@ -137,6 +137,7 @@ fn begin_owner(
         pass,
         hand: None,
         taken: 0,
+        stamp: None,
         counts,
         places,
         sources,

@@ -36,6 +36,9 @@ pub struct Owner {
     /// An envelope that was taken out of the queue and couldn't be moved.
     pub(crate) hand: Option<InboxEnvelope>,
     pub(crate) taken: u64,
+    /// The next stamp of the desk after the last drain, if it has sent nothing since one that found
+    /// the inbox empty. At first `None`.
+    pub(crate) stamp: Option<u32>,
     pub(crate) counts: Vec<u64>,
     pub(crate) places: IndexMap<RouteId, usize>,
     /// Room for the components whose senders come back.
@@ -120,14 +123,14 @@ fn deliver(
         × (desk.new ≡ adding desk.old (arrival_of channel.now.routes.items envelope))) }
     ensures err { OnErr result ((hand.new ≡ Some envelope) × (desk.new ≡ desk.old)) }
 {
-    let place = envelope.place;
+    let (place, number) = (envelope.place, envelope.number);
     let (port, env, stamp) = channel.addressed(envelope);
     match desk.arrive(port, env, stamp) {
         Ok(()) => Ok(()),
         Err((memory, back)) => {
             *hand = Some(InboxEnvelope {
                 place,
-                number: back.number,
+                number,
                 stamped: Stamped {
                     stamp,
                     message: back.msg,
@@ -184,10 +187,8 @@ impl Owner {
         let Some(envelope) = found else {
             return Ok(false);
         };
-        let (place, number) = (envelope.place, envelope.number);
+        let (place, number) = (envelope.place as usize, envelope.number as u64);
         deliver(&self.channel, &mut self.hand, desk, envelope)?;
-        // The history holds this arrival, so that its number is below its length.
-        let _held = desk.entry_count();
         self.counts[place] = number + 1;
         Ok(true)
     }
@@ -208,14 +209,48 @@ impl Owner {
         ensures arrivals { arrivals desk.new.log ≡ self.new.drained }
         ensures drained { AreArrivals self.new.inbox.routes self.new.drained }
     {
+        self.drain_some(rt, desk, u64::MAX)
+    }
+
+    /// [`Owner::drain`] of at most this many messages.
+    pub fn drain_some<R: Wait>(&mut self, rt: &R, desk: &mut Desk, most: u64) -> Result<u64, Memory>
+        requires desk { IsDeskOf self.old.inbox desk.old }
+        requires arrivals { arrivals desk.old.log ≡ self.old.drained }
+        ensures inbox { self.new.inbox ≡ self.old.inbox }
+        ensures moved { (more : List Entry)
+            × (desk.new ≡ adding_all desk.old more)
+            × (self.new.drained ≡ self.old.drained ++ more)
+            × IfOk result (λ count. count ≡ length more) }
+        ensures arrivals { arrivals desk.new.log ≡ self.new.drained }
+        ensures drained { AreArrivals self.new.inbox.routes self.new.drained }
+    {
         let had = desk.entry_count();
-        for _ in rt.forever() {
+        let was_current = self.is_current(desk);
+        for _ in 0..most {
             if !self.move_next(rt, desk)? {
+                self.mark(desk);
                 return Ok(desk.entry_count() - had);
             }
         }
-        // The loop ends by a return alone.
-        unreachable!()
+        if was_current {
+            self.mark(desk);
+        }
+        Ok(desk.entry_count() - had)
+    }
+
+    /// Keeps the desk's next stamp, for [`Owner::is_current`].
+    fn mark(&mut self, desk: &Desk)
+        ensures { self.new ≡ self.old }
+    {
+        self.stamp = desk.stamp();
+    }
+
+    /// Returns whether this desk has sent nothing since a drain found the inbox empty: a sending
+    /// would have moved its next stamp on.
+    pub fn is_current(&self, desk: &Desk) -> bool
+        ensures { AreArrivals self.now.inbox.routes self.now.drained }
+    {
+        self.stamp == desk.stamp()
     }
 
     /// The number of messages of this route that this owner has drained, over all drains: 0 for a

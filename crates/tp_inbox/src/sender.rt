@@ -49,7 +49,7 @@ pub struct Sender {
     pub(crate) pass: InboxPass,
     /// The component that sends with it.
     pub(crate) source: CompId,
-    pub(crate) places: Vec<usize>,
+    pub(crate) places: Vec<u32>,
     pub(crate) counts: Vec<u64>,
 }
 
@@ -78,7 +78,8 @@ impl Model for Sender {
 }
 
 impl Sender {
-    /// A sender with this one route that has put nothing. Its pass has this route.
+    /// A sender with this one route that has put nothing. Its pass has this route. 50 `Memory` also
+    /// if the route has a place of 2^32 or more.
     pub(crate) fn begin(
         alloc: Global,
         channel: Arc<Channel, Global>,
@@ -92,6 +93,9 @@ impl Sender {
             (route_at (arc_value channel).routes.items place)) }
     {
         let source = channel.routes[place].source;
+        let Ok(place) = u32::try_from(place) else {
+            return Err(Memory);
+        };
         let mut places = Vec::with_capacity(alloc, 1)?;
         let mut counts = Vec::with_capacity(alloc, 1)?;
         places.push_reserved(place);
@@ -106,7 +110,7 @@ impl Sender {
     }
 
     /// Takes over a route that it doesn't have, from a pass that has put nothing on it. It has put
-    /// nothing itself.
+    /// nothing itself. 50 `Memory` also if the route has a place of 2^32 or more.
     pub(crate) fn extend(&mut self, other: InboxPass, place: usize) -> Result<(), Memory>
         requires queue { IsSegPassOf self.old.inbox.queue other }
         requires view { other.me.view.client ≡ sender_pass (place ∷ []) [] }
@@ -116,6 +120,9 @@ impl Sender {
         ensures { OnOk result (self.new
             ≡ extended self.old (route_at self.old.inbox.routes place)) }
     {
+        let Ok(place) = u32::try_from(place) else {
+            return Err(Memory);
+        };
         self.places.reserve(1)?;
         self.counts.reserve(1)?;
         self.channel.queue.absorb::<Takeover>(&mut self.pass, other);
@@ -151,7 +158,7 @@ impl Sender {
         }
         let envelope = InboxEnvelope {
             place: self.places[way],
-            number,
+            number: number as u32,
             stamped,
         };
         let queue = &self.channel.queue;
@@ -225,7 +232,7 @@ impl Sender {
         requires { way < length self.now.routes }
         ensures { result ≡ route_at self.now.routes way }
     {
-        self.channel.routes[self.places[way]]
+        self.channel.routes[self.places[way] as usize]
     }
 
     /// The component whose inbox it puts into.

@@ -303,3 +303,30 @@ fn refused_memory_puts_and_notes_nothing(rt: HostRuntime) {
     is_noted(&rt, desk.log(), LOG);
     drop((owner, desk, senders, closer, floor));
 }
+
+#[test]
+fn owner_is_current_until_a_sending(rt: HostRuntime) {
+    let (mut ends, floor) = two(&rt, ["p"].as_slice());
+    let mut desk = desk(&rt);
+    assert!(rt; !ends.mailbox.owner.is_current(&desk));
+    says(&rt, 0, debug(&rt, ends.mailbox.drain(&rt)), "Ok(0)");
+    assert!(rt; ends.mailbox.owner.is_current(&desk));
+    says(&rt, 1, sent(&rt, &mut desk), "Ok(())");
+    assert!(rt; !ends.mailbox.owner.is_current(&desk));
+    drop((ends, desk, floor));
+}
+
+#[test]
+fn part_of_an_inbox_keeps_an_owner_current(rt: HostRuntime) {
+    let (mut ends, floor) = two(&rt, ["p"].as_slice());
+    says(&rt, 0, debug(&rt, ends.put(&rt, 0, 0, 4)), "Some(Ok(0))");
+    says(&rt, 1, debug(&rt, ends.put(&rt, 0, 0, 5)), "Some(Ok(1))");
+    says(&rt, 2, debug(&rt, ends.mailbox.drain_some(&rt, 1)), "Ok(1)");
+    // The inbox wasn't found empty yet.
+    assert!(rt; !ends.mailbox.owner.is_current(&ends.mailbox.desk));
+    says(&rt, 3, debug(&rt, ends.mailbox.drain(&rt)), "Ok(1)");
+    says(&rt, 4, debug(&rt, ends.put(&rt, 0, 0, 6)), "Some(Ok(2))");
+    says(&rt, 5, debug(&rt, ends.mailbox.drain_some(&rt, 1)), "Ok(1)");
+    assert!(rt; ends.mailbox.owner.is_current(&ends.mailbox.desk));
+    drop((ends, floor));
+}

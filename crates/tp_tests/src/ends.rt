@@ -80,6 +80,12 @@ impl Mailbox {
     {
         self.owner.drain(rt, &mut self.desk)
     }
+
+    pub fn drain_some<R: Wait>(&mut self, rt: &R, most: u64) -> Result<u64, Memory>
+        ensures { self.new.0.inbox ≡ self.old.0.inbox }
+    {
+        self.owner.drain_some(rt, &mut self.desk, most)
+    }
 }
 
 #[derive(Drop)]

@@ -16,6 +16,7 @@ enum InboxCall {
     Count,
     Route,
     Drain,
+    DrainSome(u64),
     Drained(u32, u32, u32),
     Wait,
     Close,
@@ -33,6 +34,7 @@ fn answer<R: AllocGlobal + Abort + Wait>(
         InboxCall::Count => debug(rt, ends.count()),
         InboxCall::Route => debug(rt, ends.route()),
         InboxCall::Drain => debug(rt, ends.drain(rt)),
+        InboxCall::DrainSome(most) => debug(rt, ends.mailbox.drain_some(rt, most)),
         InboxCall::Drained(source, comp, port) => {
             debug(rt, ends.mailbox.owner.drained(route(source, comp, port)))
         }
@@ -67,7 +69,9 @@ fn two_routes(rt: HostRuntime) {
         (InboxCall::Put(1, 5), "Some(Ok(0))"),
         (InboxCall::Put(0, 6), "Some(Ok(1))"),
         (InboxCall::Put(2, 9), "None"),
-        (InboxCall::Drain, "Ok(3)"),
+        (InboxCall::DrainSome(0), "Ok(0)"),
+        (InboxCall::DrainSome(2), "Ok(2)"),
+        (InboxCall::Drain, "Ok(1)"),
         (InboxCall::Put(0, 7), "Some(Ok(2))"),
     ];
     const LOG: &str = "[\

@@ -157,4 +157,9 @@ impl Gate for OrderGate {
             }
         }
     }
+
+    fn always_drains(&self) -> bool {
+        // In the model that makes the orders, each look moves what has arrived.
+        true
+    }
 }

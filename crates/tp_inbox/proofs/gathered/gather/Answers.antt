@@ -13,7 +13,7 @@ use Rattle.tp_inbox.specs.Routed.{AreRoutes, arrivals_of, posted_of, rest_arriva
 use Rattle.tp_inbox.specs.Ledgers.{Draining, Inbox, SenderLedger, IsSenderInto, put_by}
 use Rattle.tp_inbox.specs.InboxEndFields.{inbox_of, sent_by}
 use Rattle.tp_inbox.specs.Gathers.{IsPutOf}
-use Rattle.tp_inbox.proofs.StepsKeepDeliveryRule.{joins_as}
+use Rattle.tp_inbox.proofs.StepsKeepDeliveryRule.{joins_as, learns_as}
 use Rattle.tp_inbox.proofs.OwnerDrainedEnvelopes.{owner_arrivals}
 use Rattle.tp_inbox.proofs.SendersBySourceComponent.{from_routes}
 use Rattle.tp_inbox.proofs.RoutesAfterSendersJoin.{Knowing, all_head, all_tail, begun_at, joined, taken_apart, hand_routed, front_and_back, move_one, sent-push, known-push, known_none, few_senders}
@@ -42,6 +42,9 @@ loop-sender-init g c =
 pub absorb-requires-clause-rule : goal.absorb-requires-clause-rule
 absorb-requires-clause-rule g c =
     joins_as _ _ _ _ _ _ _ c.sender.inside.places.items c.sender.inside.pass.me.view.client.put c.loop-sender.invariant.view c.sender.invariant.view
+
+pub len_as-requires-clause-rule : goal.len_as-requires-clause-rule
+len_as-requires-clause-rule g c = learns_as _ _ _ _ _ c.loop-sender.invariant.view
 
 pub loop-sender-preserved : goal.loop-sender-preserved
 loop-sender-preserved g c =

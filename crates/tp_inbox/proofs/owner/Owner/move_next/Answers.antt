@@ -1,15 +1,15 @@
 -- The envelope that comes next arrives at a port that there is, and is counted for its route; or it is in hand again.
-use Rattle.std.proofs.Common.{◌≡◌, ◌<◌, ◌+◌, ◌∙◌, [], ◌∷◌, ◌++◌, length, length-append, ap, arith, refl, rules, subst, sym}
+use Rattle.std.proofs.Common.{◌<◌, ◌∙◌, [], ◌∷◌, ◌++◌, length, ap, arith, refl, rules, subst, sym}
 use Rattle.std.specs.Arc.{arc_value}
 use Rattle.tp_inbox.specs.declared.channel.Channel.{Channel}
-use Rattle.tp_inbox.specs.Desks.{Journal, adding}
+use Rattle.tp_inbox.specs.Desks.{adding}
 use Rattle.tp_inbox.specs.Envelopes.{AreCounts}
 use Rattle.tp_inbox.specs.Ledgers.{Draining}
 use Rattle.tp_inbox.specs.Routed.{AreArrivals, arrival_of, arrivals_of}
 use Rattle.tp_inbox.proofs.EnvelopesOfOneRoute.{append_nil}
 use Rattle.tp_inbox.proofs.HistoryClockGrowth.{arrivals_none}
 use Rattle.tp_inbox.proofs.ArrivalsOfEnvelopes.{arrivals_one}
-use Rattle.tp_inbox.proofs.OwnerDrainedEnvelopes.{adding_nothing, counts-push, drained-none, drained-push, drained_within, ends-none, hand-back, next_of_route, owner_arrivals}
+use Rattle.tp_inbox.proofs.OwnerDrainedEnvelopes.{adding_nothing, counts-push, drained-none, drained-push, ends-none, hand-back, next_of_route, owner_arrivals}
 use Rattle.tp_inbox.proofs.owner.Owner.move_next.Goals as goal
 
 pub deliver-requires-clause-place : goal.deliver-requires-clause-place
@@ -21,17 +21,6 @@ deliver-requires-clause-place g c =
 pub deliver-requires-clause-ports : goal.deliver-requires-clause-ports
 deliver-requires-clause-ports g c =
     c.requires.desk.1 ∙ ap (λ (d : Draining). d.inbox.ports) (sym c.self.view_is) ∙ ap (λ (x : Channel). x.ports) (sym c.deref-2.ensures)
-
-pub overflow_add-number : goal.overflow_add-number
-overflow_add-number g c =
-    let f = c.in-Some.ensures in
-    let h = next_of_route c.self.inside _ c.in-Some.envelope c.self.invariant f.sound f.same f.found in
-    let number = h.1 in
-    let few = drained_within c.self.inside c.args.self.now c.args.desk.now c.in-Some.envelope.place c.self.view_is c.requires.arrivals in
-    let grown : length c.deliver.new.desk.log ≡ length c.args.desk.now.log + 1 = ap (λ (d : Journal). length d.log) c.in_ok-deliver.ensures.ok.1
-    ∙ length-append c.args.desk.now.log _ in
-    let held = c.entry_count-held.ensures in
-    omega (arith, c.entry_count-held.type_inv)
 
 pub index_mut-requires : goal.index_mut-requires
 index_mut-requires g c =

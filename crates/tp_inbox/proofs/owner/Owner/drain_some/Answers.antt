@@ -1,8 +1,9 @@
 -- What was moved more is in the desk, and was drained.
-use Rattle.std.proofs.Common.{◌++◌, ap, ◌∙◌, append_assoc}
+use Rattle.std.proofs.Common.{◌++◌, ap, ◌∙◌, append_assoc, sym}
 use Rattle.tp_inbox.specs.Desks.{Journal, adding_all}
+use Rattle.tp_inbox.specs.Ledgers.{Draining}
 use Rattle.tp_inbox.proofs.OwnerDrainedEnvelopes.{adding_twice, arrivals_more}
-use Rattle.tp_inbox.proofs.owner.Owner.drain.Goals as goal
+use Rattle.tp_inbox.proofs.owner.Owner.drain_some.Goals as goal
 
 pub loop-preserved : goal.loop-preserved
 loop-preserved g c =
@@ -16,9 +17,11 @@ loop-preserved g c =
         ok.2 ∙ ap (λ l. l ++ ok.0) was.moved.2 ∙ append_assoc c.args.self.now.drained was.moved.0 ok.0,
       );
       arrivals = arrivals_more c.loop.desk c.move_next.new.desk c.loop.self.drained _ ok.0 was.arrivals ok.1 ok.2 ok.3;
+      drained = c.move_next.ensures.drained;
     }
 
 pub returns-then-not-branch-clause-arrivals : goal.returns-then-not-branch-clause-arrivals
 returns-then-not-branch-clause-arrivals g c =
     let ok = c.in_ok-move_next.ensures.ok in
     arrivals_more c.loop.desk c.move_next.new.desk c.loop.self.drained _ ok.0 c.loop.invariant.arrivals ok.1 ok.2 ok.3
+    ∙ ap (λ (d : Draining). d.drained) (sym c.mark.ensures)
