@@ -18,5 +18,5 @@ explores() {
         told "$room/explored_by_chance" tests/exploring/explored.py random "$tpr" "$ordered" 1 "$explored_of_chance"
     at_least $((explored_of_grammar + 17)) \
         told "$room/explored_of_grammar" tests/exploring/explored.py grammar "$tpr" "$ordered" 1 "$explored_of_grammar"
-    at_least 88 told "$room/explore_cases" tests/exploring/explore_cases.py "$tpr" "$ordered"
+    at_least 93 told "$room/explore_cases" tests/exploring/explore_cases.py "$tpr" "$ordered"
 }

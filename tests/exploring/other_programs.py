@@ -170,7 +170,7 @@ def interrupted(asked: Exploring) -> None:
     sleeps = f"echo $$ >{shlex.quote(str(number))}; exec sleep {MOST_SECONDS}"
     sleeper = program_of(asked.room / "sleeper", sleeps)
     holding = program_of(asked.room / "holding", f'if test -s "$2"; then {sleeps}; fi')
-    for sent in (signal.SIGINT, signal.SIGTERM):
+    for sent in (signal.SIGINT, signal.SIGTERM, signal.SIGHUP):
         ended = ended_by(sent, asked.asking(sleeper, asked.ordered).variables, number)
         judged(f"tpr verdicts that is interrupted by {sent.name}", ended, 130, prints_nothing)
         ruled(f"it is ended too by {sent.name}", is_gone, number)
@@ -242,6 +242,6 @@ GROUPS = (
     (without_reports, 5),
     (other_reports, 4),
     (programs_that_break_off, 4),
-    (interrupted, 10),
+    (interrupted, 15),
     (waits_are_shown, 3),
 )

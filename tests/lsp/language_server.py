@@ -22,7 +22,9 @@ sys.dont_write_bytecode = True
 sys.path.insert(0, str(Path(__file__).resolve().parents[1] / "tools"))
 
 from client import PUBLISHED, ROOT, URI, Client, frame
-from tool_calls import Ended, Group, case, example, file_of, must, must_be, program_of, room, run, try_groups
+from tool_calls import (
+    Ended, Group, case, example, file_of, must, must_be, onto_a_full_device, program_of, room, run, try_groups,
+)  # fmt: skip
 
 from tpr_tools.words import RESERVED
 
@@ -388,6 +390,27 @@ def broken_frames() -> None:
         must_be([client.end(False), (client.process.stderr or sys.stdin.buffer).read().decode()], [1, ""])
 
 
+def streams_that_fail() -> None:
+    server, begins = ROOT / "tools" / "lsp", frame({"id": 1, "method": "initialize"})
+    with case("answers onto a full device"):
+        onto_a_full_device(server, input=begins).must_say("lsp: the answer can't be written", 3)
+    for number, name, status in ((0, "input", 1), (1, "output", 3)):
+        with case(f"a standard {name} that is closed"):
+            ended = run("sh", "-c", f'exec "$0" {number}>&-', server, input=begins)
+            ended.must_say(f"lsp: standard {name} is closed", status)
+
+
+def odd_names() -> None:
+    for uri in ("file://[", f"file:///%00{'€' * 83}.ttcn"):
+        with Client(PROGRAM) as client:
+            with case(f"a text with the URI {uri}"):
+                client.open(RACE, uri)
+                must_be(errors(client.notice(PUBLISHED)["diagnostics"]), [])
+            with case(f"its runs that diverge, for {uri}"):
+                asked = {"command": "tpr.showDivergingRuns", "arguments": [uri]}
+                must("Where the runs diverge" in client.ask("workspace/executeCommand", asked)["text"], "no runs")
+
+
 def large_texts() -> None:
     line = '    counter.send(Order:{1, "soup of the day"});\n'
     head, tail = KITCHEN.split('        bell.send(charstring:"one more?");\n')
@@ -489,7 +512,8 @@ def vim_colours() -> None:
 
 if __name__ == "__main__":
     groups = (diagnostics, full_language, several_files_and_edits, names, verdicts_and_runs, programs_that_take_long)
-    others = (programs_of_each_kind, calls_and_ends, turns, broken_frames, large_texts, colours, neovim)
-    cases = [Group(it, 0 if it is neovim else 1, it.__name__) for it in (*groups, *others)]
+    others = (programs_of_each_kind, calls_and_ends, turns, broken_frames, streams_that_fail, odd_names, large_texts)
+    editors = (colours, neovim)
+    cases = [Group(it, 0 if it is neovim else 1, it.__name__) for it in (*groups, *others, *editors)]
     del sys.argv[1:]
     sys.exit(try_groups(cases))

@@ -263,6 +263,10 @@ def judged_reports(building: Building) -> None:
         piped = tree.call(judge, pieces=[f"{text}\n".encode()])
         tree.must_end(f"judge is given {name} by a pipe", piped, 2, answer, hint)
         tree.must_end(f"judge is given {name} as a file", tree.call([*judge, "text"]), 2, answer, hint)
+        with open(tree.folder / "text", "rb") as given:
+            tree.must_end(f"judge is given {name} as its input", tree.call(judge, stdin=given), 2, answer, hint)
+    nowhere = tree.call(judge, pieces=[b"else\n"], more={"TMPDIR": "/nowhere"})
+    tree.must_end("judge is given a pipe, and there is no folder for its text", nowhere, 2, answer)
     tree.must_end("judge is given a missing file", tree.call([*judge, "none"]), 2, answer, said)
 
 
@@ -276,7 +280,7 @@ GROUPS = (
     (failed_builds, 8),
     (interrupted_build, 7),
     (killed_build, 11),
-    (judged_reports, 9),
+    (judged_reports, 14),
 )
 
 

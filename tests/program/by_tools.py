@@ -120,15 +120,15 @@ def interrupted_builds(tools: Tools) -> None:
 
 def interrupted_tools(tools: Tools) -> None:
     """Only the tool gets a signal while it calls ./tpr, which compiles: no process that it has started goes on."""
-    for words in (("explain", "text.ttcn"), ("why", "text.ttcn"), ("explore", "text.ttcn")):
+    for tool in ("explain", "why", "explore", "rewrite"):
         for number in (signal.SIGINT, signal.SIGTERM):
-            is_interrupted(tools, words, number)
+            is_interrupted(tools, tool, number)
 
 
-def is_interrupted(tools: Tools, words: tuple[str, str], number: signal.Signals) -> None:
-    tree, name = tools.tree, f"{words[0]}, {number.name}"
+def is_interrupted(tools: Tools, tool: str, number: signal.Signals) -> None:
+    tree, name = tools.tree, f"{tool}, {number.name}"
     tools.goes_so(*HANGS)
-    with tree.started(f"{NAME}/tools/{words[0]}", *words[1:]) as process:
+    with tree.started(f"{NAME}/tools/{tool}", "text.ttcn") as process:
         wait_until(lambda: has_begun(tree.crates / "rt"), "rt has begun")
         process.send_signal(number)
         ended = end_of(process)
@@ -140,7 +140,7 @@ def is_interrupted(tools: Tools, words: tuple[str, str], number: signal.Signals)
 
 
 # Each group, with its minimum number of cases.
-GROUPS = ((suites_build_nothing_unasked, 6), (interrupted_builds, 6), (interrupted_tools, 30))
+GROUPS = ((suites_build_nothing_unasked, 6), (interrupted_builds, 6), (interrupted_tools, 40))
 
 
 if __name__ == "__main__":

@@ -10,6 +10,7 @@ from __future__ import annotations
 import argparse
 import json
 import os
+import shutil
 import subprocess
 import sys
 import tempfile
@@ -59,6 +60,7 @@ def main() -> None:
         one_module(program, f"{folder}/login.ttcn")
         parted(program, folder)
         raced(program, f"{folder}/race.ttcn")
+        of_odd_names(program, folder)
     look_at_partings()
     look_at_forced_lines()
     look_at_lines()
@@ -141,6 +143,15 @@ def one_module(program: str, output: str) -> None:
     judged("whose lines are told", is_so, f"{found[:1]}")
     sent = next((line.split("  sent")[0].split() for line in found if "sent v_server" in line), ["nothing"])
     judged("why, of one module", sent == ["34", "->", "24"], f"{sent}")
+
+
+def of_odd_names(program: str, folder: str) -> None:
+    """A row of the map is one line, whatever the name of the module is."""
+    for name in (b"\xff.ttcn", b"two\nlines.ttcn", "two\u2028lines.ttcn".encode()):
+        module, output = f"{folder}/{os.fsdecode(name)}", f"{folder}/of_odd_name.ttcn"
+        shutil.copy(f"{FOLDER}/mapped/parted.ttcn", module)
+        found = tool(program, "rewrite", module, "-o", output) + tool(program, "why", "--summary", output)
+        judged(f"the map of a module with the name {name!r}", found.startswith(f"{output}  "), found)
 
 
 def raced(program: str, output: str) -> None:

@@ -20,7 +20,7 @@ PARTS
     at_least 800 told "$room/rewrites_by_chance" tests/rewrites/chance/chance_rules.py
     at_least 29 told "$room/rewrites_unseen" tests/rewrites/unseen_rules.py "$tpr"
     at_least 28 told "$room/rewrites_skipped" tests/rewrites/skipped_rules.py "$tpr"
-    at_least 25 told "$room/rewrites_maps" tests/rewrites/map_rules.py "$tpr"
+    at_least 28 told "$room/rewrites_maps" tests/rewrites/map_rules.py "$tpr"
     at_least 4 told "$room/rewrites_command" tests/rewrites/command_rules.py "$tpr"
     at_least 13 told "$room/rewrites_early" tests/rewrites/early_rules.py
     at_least 102 told "$room/rewrites_predefined" tests/rewrites/predefined_rules.py

@@ -240,6 +240,8 @@ def calls(asked: Explaining) -> None:
     tool.case("the number that is never printed", ["--number", "3"], 4, says_usage("explain", f"'3' {listed}"))
     tool.case("two forms", ["--short", "--json", RIGHT], 4, says_usage("explain"))
     tool.full_device("onto a full device", RIGHT)
+    closed = run("sh", "-c", 'exec "$0" "$@" <&-', ROOT / "tools" / "explain", "--tpr", asked.program, "/dev/stdin")
+    judged("a closed standard input", closed, 2, prints_line("/dev/stdin: refused 2 Read"))
     nowhere = Tool("explain", ("--tpr", str(missing)))
     nowhere.case("a program that isn't there", [RIGHT], 1, says_alone(f"explain: {missing} can't be run"))
     tool.case("the help", ["--help"], 0, prints_line("  2  a script is refused, or can't be read\n"))
@@ -284,7 +286,7 @@ def at_length(asked: Explaining) -> None:
 
 GROUPS = (
     (tables, 8), (example, 4), (numbers, 7), (places, 10), (words, 14), (warnings, 12), (texts_that_are_none, 6),
-    (calls, 7), (other_answers, 11), (at_length, 1),
+    (calls, 8), (other_answers, 11), (at_length, 1),
 )  # fmt: skip
 
 

@@ -86,18 +86,21 @@ def of_another_program(room: Path, tpr: str) -> None:
         must_be_gone(it.file("sleeper"))
     with case("a script that hangs is stopped soon"):
         must(took < 60, f"after {took:.0f} seconds")
-    suite_that_is_ended(it)
+    it.program("waits", f"sleep 1000 & echo $! >{shlex.quote(str(it.file('sleeper')))}\nwait")
+    suite_that_is_ended(it, signal.SIGTERM, it.another)
+    suite_that_is_ended(it, signal.SIGHUP, it.another)
+    suite_that_is_ended(it, signal.SIGTERM, str(it.file("waits")))
     suites_of_two_reports(it)
 
 
-def suite_that_is_ended(it: Suites) -> None:
-    """Ending a suite ends its runs too."""
+def suite_that_is_ended(it: Suites, number: signal.Signals, program: str) -> None:
+    """Ending a suite ends its runs too, or the first call of a program that doesn't end."""
     sleeper = it.file("sleeper")
     sleeper.unlink(missing_ok=True)
-    with case("a suite that is ended"):
-        with it.start("told/hangs.ttcn", printed=subprocess.DEVNULL) as suite:
+    with case(f"a suite of {os.path.basename(program)} that is ended by {number.name}"):
+        with it.start("told/hangs.ttcn", printed=subprocess.DEVNULL, program=program) as suite:
             begun = holds_soon(lambda: has_begun(sleeper), 30)
-            suite.send_signal(signal.SIGTERM)
+            suite.send_signal(number)
             status = suite.wait(60)
         must(begun, "the script hasn't begun")
         must(status == 130, f"status {status}")

@@ -59,12 +59,11 @@ class Suites:
         lines = [timeless(line) for line in ended.text.split("\n")]
         return ended._replace(printed="\n".join(lines).encode("utf-8", "surrogateescape"))
 
-    def start(self, *words: str, printed: int) -> subprocess.Popen[bytes]:
-        """Starts tools/suite with the other program. Its standard error is discarded."""
-        no, variables = subprocess.DEVNULL, {**os.environ, "TPR": self.another}
-        return subprocess.Popen(
-            [str(SUITE), *words], cwd=self.folder, env=variables, stdin=no, stdout=printed, stderr=no
-        )
+    def start(self, *words: str, printed: int, program: str = "") -> subprocess.Popen[bytes]:
+        """Starts tools/suite with this program, or the other one. It ignores no signal, and says nothing."""
+        no, variables = subprocess.DEVNULL, {**os.environ, "TPR": program or self.another}
+        command = ["env", "--default-signal=HUP,TERM", str(SUITE), *words]
+        return subprocess.Popen(command, cwd=self.folder, env=variables, stdin=no, stdout=printed, stderr=no)
 
     def watched(self, way: Callable[..., Ended], *words: Word, program: str) -> Ended:
         """The result of a command with this program, run by a function of tool_rules.py."""

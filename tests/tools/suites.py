@@ -19,7 +19,7 @@ import other_suites
 import page_suites
 import schedule_suites
 from suite_runs import SUITE, Suites, answer, kept, must_be_table
-from tool_calls import EXAMPLES, Group, case, example, must, onto_a_full_device, ruled, try_groups, words_of
+from tool_calls import EXAMPLES, Group, case, example, must, onto_a_full_device, ruled, run, try_groups, words_of
 from tool_rules import check_charts, check_junit, on_a_terminal
 
 NAMES = (
@@ -113,6 +113,10 @@ def suites_that_cannot_be(room: Path, tpr: str) -> None:
         it.run(tpr, "no_scripts").must_say("suite: there is no script *.ttcn in no_scripts", 2)
     with case("a suite of what isn't there"):
         it.run(tpr, "missing").must_say("suite: there is no file or folder missing", 2)
+    with case("a suite of folders of which one can't be read, because its path is too long"):
+        it.copy("login_is_answered.ttcn", "deep/a.ttcn")
+        run(sys.executable, "-c", GOES_DEEP, folder=it.file("deep"))
+        it.run(tpr, "deep").must_say("suite: deep/xxx", 2).must_complain("can't be read: File name too long$", 2)
     with case("a suite without the program"):
         missing = str(it.file("missing"))
         it.run(missing, file).must_say(f"suite: {missing} can't be run", 1)
@@ -132,6 +136,7 @@ def suites_that_cannot_be(room: Path, tpr: str) -> None:
         it.watched(on_a_terminal, SUITE, *both, program=tpr).must_show("1 of 2 done, 0 not as expected; last ")
 
 
+GOES_DEEP = "import os\nfor _ in range(17): os.mkdir('x' * 250); os.chdir('x' * 250)"
 WRONG_WORDS = (
     *("--jobs 0", "--jobs x", "--times -1", "--bound 0", "--bound x"),
     *("--want good", "--want pass,", "--wanted", "--junit -", "--most 0"),
@@ -218,7 +223,7 @@ def main() -> int:
         [
             Group(partial(suites_of_scripts, room, tpr, called), 14, "suites of scripts"),
             Group(partial(other_suites.of_another_program, room, tpr), 8, "suites of another program"),
-            Group(partial(suites_that_cannot_be, room, tpr), 19, "suites that can't be"),
+            Group(partial(suites_that_cannot_be, room, tpr), 20, "suites that can't be"),
             Group(partial(suites_of_what_is_wanted, room, tpr), 9, "suites of what is wanted"),
             Group(partial(schedule_suites.of_the_schedule, room, tpr), 21, "suites of the schedule"),
             Group(partial(other_suites.that_lose_nothing, room, tpr), 20, "suites that lose nothing"),

@@ -51,16 +51,31 @@ def version_that_each_says() -> None:
 
 
 def what_tools_import() -> None:
+    files = [*(ROOT / "tools").glob("tpr_tools/**/*.py"), *(ROOT / "tools" / tool for tool in TOOLS)]
     with case("the tools import nothing that doesn't come with python3"):
-        files = [*(ROOT / "tools").glob("tpr_tools/**/*.py"), *(ROOT / "tools" / tool for tool in TOOLS)]
         must(len(files) > 100, f"there are only {len(files)} files")
         foreign = {name for file in files for name in imported_by(file)} - {*sys.stdlib_module_names, "tpr_tools"}
         must(not foreign, f"they import {foreign}")
+    with case("a width that is computed stands behind an alignment: Python 3.9 refuses the width 0 of a text alone"):
+        wrong = [f"{file.name}:{line}" for file in files for line in widths_alone(file)]
+        must(not wrong, f"there is none in {wrong}")
+
+
+def nodes_of(file: Path) -> Iterator[ast.AST]:
+    return ast.walk(ast.parse(file.read_text(encoding="utf-8")))
+
+
+def widths_alone(file: Path) -> Iterator[int]:
+    """The lines that have a format which begins with a computed width."""
+    for node in nodes_of(file):
+        if isinstance(node, ast.FormattedValue) and isinstance(node.format_spec, ast.JoinedStr):
+            if isinstance(node.format_spec.values[0], ast.FormattedValue):
+                yield node.lineno
 
 
 def imported_by(file: Path) -> Iterator[str]:
     """The imported packages, without relative imports."""
-    for node in ast.walk(ast.parse(file.read_text(encoding="utf-8"))):
+    for node in nodes_of(file):
         if isinstance(node, ast.Import):
             yield from (it.name.split(".")[0] for it in node.names)
         elif isinstance(node, ast.ImportFrom) and node.level == 0 and node.module:
@@ -79,9 +94,13 @@ def memory_that_is_refused() -> None:
     with case("a tool that is refused memory"):
         ended = run("python3", "-B", "-c", NEEDS_MUCH, more={"PYTHONPATH": str(ROOT / "tools")})
         ended.must_say("tool: out of memory", 1)
+    with case("rewrite without memory for its stack"):
+        script = ROOT / "examples" / "ping_pong.ttcn"
+        ended = run("sh", "-c", 'ulimit -v 400000; exec "$0" "$1"', ROOT / "tools" / "rewrite", script)
+        ended.must_say("rewrite: out of memory", 1)
 
 
 if __name__ == "__main__":
     # Without it, output that couldn't be written stays in the buffer, and is written again at the very end.
     os.environ.pop("PYTHONUNBUFFERED", None)
-    sys.exit(try_groups([Group(words_that_nobody_gets, 41, "words that nobody gets")]))
+    sys.exit(try_groups([Group(words_that_nobody_gets, 43, "words that nobody gets")]))

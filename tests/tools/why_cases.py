@@ -9,6 +9,7 @@ annotated scripts with files worked out by hand, in whys/.
 from __future__ import annotations
 
 import json
+import os
 import re
 import sys
 from pathlib import Path
@@ -99,6 +100,9 @@ def one_script(asked: Reasoning) -> None:
     of_input = asked.tool.run(script, "/dev/stdin", input=report.read_bytes())
     judged("and of standard input", of_input, 0, listed)
     case("an empty standard input", [script, "/dev/stdin"], 2, says_alone("why: /dev/stdin, line 1: "))
+    text = read(ROOT / BEHIND_THE_MARK)
+    judged("a script on standard input", asked.tool.run("/dev/stdin", input=text.encode()), 0, listed)
+    case("a script whose name is no UTF-8", [file_of(asked.room / os.fsdecode(b"\xff.ttcn"), text)], 0, listed)
     case("a result that is pass has no reason", [LOGIN], 0, says_nothing, ends_with("  result pass\n"))
     shown = block_of("tools/README.md", "line          report\n")
     must(shown.count("\n") >= 15, "tools/README.md shows what why says")
@@ -167,6 +171,7 @@ def calls(asked: Reasoning) -> None:
     asked.nowhere.case("a summary without a program", ["--summary", script, LOGIN], 1, no_program)
     asked.tool.full_device("onto a full device", script)
     case("no script", [], 4, says_usage("why"))
+    case("a script without a name", [""], 2, says_alone("why: a file without a name can't be read"))
     case("too many files", [script, "a", "b"], 4, says_usage("why"))
     case("the help", ["--help"], 0, prints_line("  1  the report isn't one of this script"))
 
@@ -213,8 +218,8 @@ def last_is_told(ended: Ended) -> bool:
 
 
 GROUPS = (
-    (lines_of_reports, 137), (causes_of_results, 42), (one_script, 6), (several_scripts, 4), (misfits, 13),
-    (bad_input, 6), (calls, 6), (charts, 4), (at_length, 1),
+    (lines_of_reports, 137), (causes_of_results, 42), (one_script, 8), (several_scripts, 4), (misfits, 13),
+    (bad_input, 6), (calls, 7), (charts, 4), (at_length, 1),
 )  # fmt: skip
 
 

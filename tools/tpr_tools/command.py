@@ -121,7 +121,8 @@ def read_bytes(file: Optional[str]) -> bytes:
             return opened.read()
     except (OSError, AttributeError, ValueError) as error:
         why = getattr(error, "strerror", None) or "it is closed"
-        raise Stop(REFUSED, f"{file or 'standard input'} can't be read: {why}") from None
+        name = "standard input" if file is None else file or "a file without a name"
+        raise Stop(REFUSED, f"{name} can't be read: {why}") from None
 
 
 def report_in(file: Optional[str]) -> Report:
@@ -163,7 +164,7 @@ def say(text: str) -> None:
 def write_file(file: str, text: Union[str, bytes]) -> None:
     try:
         with open(file, "wb") as opened:
-            opened.write(text if isinstance(text, bytes) else text.encode())
+            opened.write(text if isinstance(text, bytes) else text.encode("utf-8", "surrogateescape"))
     except OSError as error:
         raise Stop(NOT_WRITTEN, f"{file} can't be written: {error.strerror}") from None
 
@@ -185,7 +186,10 @@ def on_large_stack(task: Callable[[], Result]) -> Result:
     threading.stack_size(_STACK)
     sys.setrecursionlimit(_CALLS)
     thread = threading.Thread(target=work)
-    thread.start()
+    try:
+        thread.start()
+    except RuntimeError:  # there is no memory for its stack
+        raise MemoryError from None
     thread.join()
     if broken:
         raise broken[0]

@@ -72,8 +72,8 @@ def origins_of(script: str) -> Origins:
         return Origins([])
     texts = read_bytes(script).decode("utf-8", "replace").split("\n")
     rows = []
-    for number, text in enumerate(read_bytes(file).decode("utf-8", "replace").splitlines(), 1):
-        row = _row_of(text)
+    for number, text in enumerate(read_bytes(file).splitlines(), 1):
+        row = _row_of(text.decode("utf-8", "surrogateescape"))
         if row is None or not _is_told(texts, row):
             told = f"{file}, line {number}: it isn't the map of {script}; tools/rewrite writes both"
             raise Stop(REFUSED, told)

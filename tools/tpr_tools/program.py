@@ -7,11 +7,11 @@ import signal
 import subprocess
 import sys
 from types import FrameType
-from typing import Any, Optional, Sequence
+from typing import Any, Callable, Optional, Sequence, Union
 
 from .command import NOT_BUILT, Stop, say
 
-_ENDING = (signal.SIGINT, signal.SIGTERM, signal.SIGHUP)
+ENDING = (signal.SIGINT, signal.SIGTERM, signal.SIGHUP)
 # ./build puts back what it has set aside, and `rt` removes its folders: on a busy machine that takes seconds.
 _MOST_SECONDS_TO_END = 30
 
@@ -47,6 +47,13 @@ def printed_by(program: str, *words: str, given: bytes = b"") -> bytes:
     return run.stdout
 
 
+def on_ending(handler: Union[Callable[[int, Optional[FrameType]], Any], signal.Handlers]) -> None:
+    """Handles the signals that end a tool. Those that the tool ignores stay ignored."""
+    for number in ENDING:
+        if signal.getsignal(number) is not signal.SIG_IGN:
+            signal.signal(number, handler)
+
+
 class _Interrupts:
     """Raises KeyboardInterrupt for the first signal that ends a tool, but not before the started process is known.
     Signals that the tool ignores stay ignored."""
@@ -54,10 +61,10 @@ class _Interrupts:
     def __init__(self) -> None:
         self.came = False
         self.are_held = True
-        heard = [it for it in _ENDING if signal.getsignal(it) not in (signal.SIG_IGN, None)]
+        heard = [it for it in ENDING if signal.getsignal(it) not in (signal.SIG_IGN, None)]
         try:
             self.before = {it: signal.signal(it, self._take) for it in heard}
-        except ValueError:  # tools/rewrite works in a thread, and only the main thread can set handlers
+        except ValueError:  # only the main thread can set handlers
             self.before = {}
 
     def _take(self, _number: int, _frame: Optional[FrameType]) -> None:

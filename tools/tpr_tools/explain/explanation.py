@@ -184,4 +184,4 @@ def _shown_lines(shown: Shown, width: int) -> list[str]:
     left = min(len(shown.text) - shown.position.column + 1, _LONGEST_LINE // 2)
     marks = "^" * max(1, min(shown.position.length, left))
     label = f" {shown.label}" if shown.label else ""
-    return [f"{shown.position.line:{width}} | {text}".rstrip(), f"{'':{width}} | {indent}{marks}{label}"]
+    return [f"{shown.position.line:>{width}} | {text}".rstrip(), f"{'':<{width}} | {indent}{marks}{label}"]

@@ -10,7 +10,7 @@ import sys
 from typing import IO, Callable, Iterator, Optional, Sequence, Union
 
 from ..command import NOT_BUILT, NOT_WRITTEN, REFUSED, Stop, called, say
-from ..program import end, kill_session
+from ..program import ENDING, end, kill_session
 from .answers import Answer, read_answer
 
 
@@ -123,7 +123,7 @@ def _interrupts_held() -> Iterator[None]:
     """Delays an interrupt that arrives during the block until its end, so that a program that has started is known, and
     can be ended."""
     came: list[int] = []
-    heard = [it for it in (signal.SIGINT, signal.SIGTERM) if callable(signal.getsignal(it))]
+    heard = [it for it in ENDING if callable(signal.getsignal(it))]
     before = [signal.signal(it, lambda number, _: came.append(number)) for it in heard]
     try:
         yield

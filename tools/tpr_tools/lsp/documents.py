@@ -46,7 +46,10 @@ class Document:
     @property
     def file(self) -> str:
         """The name of the file, or the URI of a text that isn't in a file."""
-        parts = urlsplit(self.uri)
+        try:
+            parts = urlsplit(self.uri)
+        except ValueError:  # for `file://[`
+            return self.uri
         return unquote(parts.path) if parts.scheme == "file" else self.uri
 
     @property

@@ -4,6 +4,8 @@ from __future__ import annotations
 import json
 from typing import Any, BinaryIO, Optional, Union
 
+from ..command import NOT_WRITTEN, Stop
+
 # Any value that a message may contain.
 Json = Any
 
@@ -78,8 +80,13 @@ class Writer:
     def _send(self, message: dict[str, Json]) -> None:
         # Only ASCII: a lone surrogate of the client can't be encoded in any other way.
         body = json.dumps({"jsonrpc": "2.0", **message}).encode("ascii")
-        self._target.write(b"Content-Length: %d\r\n\r\n" % len(body) + body)
-        self._target.flush()
+        try:
+            self._target.write(b"Content-Length: %d\r\n\r\n" % len(body) + body)
+            self._target.flush()
+        except BrokenPipeError:
+            raise Stop(NOT_WRITTEN, "the editor has closed the connection") from None
+        except OSError:
+            raise Stop(NOT_WRITTEN, "the answer can't be written") from None
 
     def notify(self, method: str, params: Json) -> None:
         self._send({"method": method, "params": params})

@@ -15,6 +15,7 @@ from functools import partial
 from pathlib import Path
 from typing import Any, BinaryIO, Callable, Optional, Union
 
+from ..command import Stop
 from . import frames
 from .diagnostics import Found, explained, found_in
 from .documents import SHOW_RUNS, Document, Held, verdict_told
@@ -125,7 +126,7 @@ class Server:
                 self.client.answer(number, result)
         except Refused as refused:
             self._refuse(number, refused)
-        except BrokenPipeError:
+        except Stop:
             raise
         except Exception as error:  # A fault of the server must not end the session.
             self._refuse(number, Refused(frames.INTERNAL_ERROR, f"{method}: {type(error).__name__}: {error}"))
@@ -306,18 +307,31 @@ class Server:
 
     def _explored(self, document: Document, job: Job) -> None:
         text = job.printed or f"tools/explore printed nothing: {job.why}\n"
-        self.room = self.room or tempfile.mkdtemp(prefix="tpr-lsp-")
-        name = os.path.splitext(os.path.basename(document.file))[0][:100] or "script"
-        path = Path(self.room) / f"{name}.runs.txt"
-        path.write_text(text, encoding="utf-8", errors="replace")
+        waiting = [it for it in document.held if it.wants == "runs"]
+        try:
+            path = self._written(document, text)
+        except OSError as error:
+            refused = Refused(frames.INTERNAL_ERROR, f"the runs can't be written: {error.strerror}")
+            for held in waiting:
+                document.held.remove(held)
+                self.client.refuse(held.number, refused)
+            return
         uri = path.as_uri()
         if self._client_can("window", "showDocument", "support"):
             self.client.request("window/showDocument", {"uri": uri, "takeFocus": True})
         else:
             self.client.notify("window/showMessage", {"type": 3, "message": f"The runs are in {path}."})
-        for held in [it for it in document.held if it.wants == "runs"]:
+        for held in waiting:
             document.held.remove(held)
             self.client.answer(held.number, {"uri": uri, "text": text})
+
+    def _written(self, document: Document, text: str) -> Path:
+        """The file of this text. Its name has no NUL, no half of a surrogate pair, and at most 255 bytes."""
+        self.room = self.room or tempfile.mkdtemp(prefix="tpr-lsp-")
+        name = re.sub(r"[^\w .+-]", "_", os.path.splitext(os.path.basename(document.file))[0])[:60] or "script"
+        path = Path(self.room) / f"{name}.runs.txt"
+        path.write_text(text, encoding="utf-8", errors="replace")
+        return path
 
     # Requests
 

@@ -5,6 +5,7 @@ import re
 from dataclasses import dataclass, field, replace
 from typing import Optional
 
+from ..words import shown
 from .ended import EndedFinder
 from .flowing import Flows
 from .following import Followed, NotClosed, follow, look_at_ends, with_ends
@@ -33,7 +34,7 @@ class Rewritten:
     def map(self) -> str:
         """A line for each statement: its line, and its original line, column and file."""
         origins = self.lines.origins
-        return "".join(f"{one.line} {one.at.line}:{one.at.column} {one.at.file}\n" for one in origins)
+        return "".join(f"{one.line} {one.at.line}:{one.at.column} {shown(one.at.file)}\n" for one in origins)
 
 
 def rewrite(

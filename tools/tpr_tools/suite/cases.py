@@ -106,10 +106,15 @@ def scripts_of(places: list[str]) -> list[str]:
 
 def _scripts_in(folder: str) -> list[str]:
     scripts = []
-    for inner, folders, files in os.walk(folder):
+    for inner, folders, files in os.walk(folder, onerror=_refuse):
         folders.sort()
         scripts += [os.path.join(inner, file) for file in sorted(files) if file.endswith(ENDING)]
     return scripts
+
+
+def _refuse(error: OSError) -> None:
+    """A folder that can't be read may have scripts, so it isn't left out."""
+    raise Stop(REFUSED, f"{error.filename} can't be read: {error.strerror}")
 
 
 class Table:
@@ -121,13 +126,13 @@ class Table:
         self.most = most  # the number of letters of an entry, on a terminal
 
     def head(self) -> str:
-        schedule = f"  {'verdicts':{_ANSWER}}" if self.with_schedules else ""
-        return f"{'script':{self.width}}  {'result':9}{schedule}  {'run time':>9}  reason\n"
+        schedule = f"  {'verdicts':<{_ANSWER}}" if self.with_schedules else ""
+        return f"{'script':<{self.width}}  {'result':9}{schedule}  {'run time':>9}  reason\n"
 
     def line(self, case: Case) -> str:
         result = case.worst().result + ("" if case.has_wanted_results() else " *")
-        schedule = f"  {_answer_of(case):{_ANSWER}}" if self.with_schedules else ""
-        told = f"{shown(case.script):{self.width}}  {result:9}{schedule}  {case.seconds():8.3f}s  "
+        schedule = f"  {_answer_of(case):<{_ANSWER}}" if self.with_schedules else ""
+        told = f"{shown(case.script):<{self.width}}  {result:9}{schedule}  {case.seconds():8.3f}s  "
         return f"{told}{shown(case.reason(self.most))}".rstrip() + "\n"
 
 

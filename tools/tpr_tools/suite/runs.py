@@ -11,7 +11,7 @@ from enum import Enum
 from typing import Mapping, Optional, Sequence
 
 from ..command import NOT_BUILT, Stop
-from ..program import build_if_wanted, kill_session
+from ..program import build_if_wanted, ended, kill_session
 
 _MEGABYTE = 1_000_000
 _PIECE = 1 << 16
@@ -50,12 +50,11 @@ def built(program: str, root: str) -> str:
         build_if_wanted(root)
         program = f"{root}/crates/tpr/out/tpr"
     try:
-        nothing = subprocess.DEVNULL
-        ended = subprocess.run([program, "queue"], stdin=nothing, stdout=nothing, check=False)
+        status = ended([program, "queue"], stdout=subprocess.DEVNULL).returncode
     except OSError as error:
         raise Stop(NOT_BUILT, f"{program} can't be run: {error.strerror}") from None
-    if ended.returncode != 0:
-        raise Stop(NOT_BUILT, f"{program} queue, on no text, ended with status {ended.returncode}")
+    if status != 0:
+        raise Stop(NOT_BUILT, f"{program} queue, on no text, ended with status {status}")
     return program
 
 

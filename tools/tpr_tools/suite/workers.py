@@ -120,8 +120,10 @@ def _work(connection: Connection, runner: Runner, with_texts: bool, others: list
         os._exit(0)
 
     signal.signal(signal.SIGTERM, end)
-    # Ctrl-C reaches all processes of a terminal, so only the main process handles it and ends the others.
-    signal.signal(signal.SIGINT, lambda *_: None)
+    # Ctrl-C and the end of a terminal reach all processes there, so only the main process handles them and ends the
+    # others.
+    for number in (signal.SIGINT, signal.SIGHUP):
+        signal.signal(number, lambda *_: None)
     for other in others:
         other.close()
     while True:

@@ -112,7 +112,7 @@ class Done:
             line = self.lines.get(Line(file, number))
             mark = line.mark() if line else ""
             told = f"  | {line.told()}" if line and line.did else ""
-            rows.append(f"{mark:>6} {number:5}  {text:{width if told else 0}}{told}")
+            rows.append(f"{mark:>6} {number:5}  {text:<{width if told else 0}}{told}")
         return "".join(row.rstrip() + "\n" for row in rows)
 
     def summary(self) -> str:

@@ -58,5 +58,5 @@ def _aligned(rows: list[Row]) -> str:
     lines = [row.line.short() if row.line else "" for row in rows]
     lines[0] = "line"
     first, second = max(map(len, lines)), max(len(row.other) for row in rows)
-    told = [f"{line:>{first}} {row.arrow:2} {row.other:{second}}  {row.text}\n" for line, row in zip(lines, rows)]
+    told = [f"{line:>{first}} {row.arrow:2} {row.other:<{second}}  {row.text}\n" for line, row in zip(lines, rows)]
     return "".join(told)
