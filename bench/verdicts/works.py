@@ -118,6 +118,14 @@ def questions(number: int, turns: int, same: bool) -> Work:
     return Work([Variables("nw"), For(turns * number, [Take(into="nw"), Send("n", "w")])], asks, to_mtc(number))
 
 
+def a_branch_for_each(number: int) -> Work:
+    """Each component asks `mtc` one to three times with its own number, for which `mtc` has a branch of its own."""
+    rounds = [1 + at % 3 for at in range(number)]
+    asks = [[For(turns, [Send(at), Take(at)])] for at, turns in enumerate(rounds)]
+    takes = Alt([Take(at, [Send(at, "w")], "w") for at in range(number)])
+    return Work([Variables("w"), For(sum(rounds), [takes]), PASS], asks, to_mtc(number))
+
+
 def barriers(number: int, rounds: int) -> Work:
     """All components meet twice in each round: `mtc` tells all when the last has arrived, and receives nothing else."""
     come = [For(number, [Alt([Take(it), Take(block=[FAIL])])], "j") for it in (1, 3)]
@@ -182,6 +190,7 @@ WORKS = {
     "60 senders of three questions": questions(60, 3, True),
     "8 senders of two questions, each with its own number": questions(8, 2, False),
     "20 senders of one question, each with its own number": questions(20, 1, False),
+    "12 clients of one to three questions, a branch for each": a_branch_for_each(12),
     "60 components at three barriers": barriers(60, 3),
     "60 senders of one heartbeat": heartbeats(60, 1),
     "a two-phase commit of 14, of whom two vote no": two_phase_commit(14, 2),
