@@ -41,6 +41,13 @@ Saw c gs (look.Taken i e) before after =
 Saw c gs look.Discarded before after = TraceGrew (One (IsDrop gs)) before after
 Saw c gs look.Nothing before after = (moments after ≡ moments before) × NoneOpen after gs × HasOwn c after
 
+-- the outcome of a look before all that has arrived is moved: if it chose and discarded nothing, it says nothing of
+-- the branches
+abbrev pub SawEarly : CompId → List Guard → LookResult → List Entry → List Entry → Type 0
+SawEarly c gs (look.Taken i e) before after = Saw c gs (look.Taken i e) before after
+SawEarly c gs look.Discarded before after = Saw c gs look.Discarded before after
+SawEarly c gs look.Nothing before after = moments after ≡ moments before
+
 -- any number of messages that a `trigger` discards, followed by a moment for which this holds
 abbrev pub Ending : List Guard → (Moment → Type 0) → List Moment → Type 0
 Ending gs p ts = (drops : List Moment) × (t : Moment) × (ts ≡ drops ++ t ∷ []) × All (IsDrop gs) drops × p t

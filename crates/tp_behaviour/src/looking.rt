@@ -1,10 +1,10 @@
 //! The look of a behaviour before it acts on its ports.
-ghost use Rattle.std.specs.Prelude.{◌≡◌, ◌<◌, All, IfNone, IfOk, IfSome, IsTrue, OnOk};
+ghost use Rattle.std.specs.Prelude.{◌≡◌, ◌<◌, All, IfOk, IfSome, IsTrue, OnOk};
 ghost use Rattle.tp_inbox.specs.Desks.{NamesNoPort};
 ghost use Rattle.tp_inbox.specs.Routed.{AreArrivals};
 ghost use Rattle.tp_behaviour.specs.Fresh.{HasOwn, LooksAtPorts};
 ghost use Rattle.tp_behaviour.specs.Moments.{moments};
-ghost use Rattle.tp_behaviour.specs.LookOutcomes.{AddsEntry, Saw};
+ghost use Rattle.tp_behaviour.specs.LookOutcomes.{AddsEntry, Saw, SawEarly};
 ghost use Rattle.tp_behaviour.specs.Workers.{IsConsistent, IsPlain, KeepsInboxes, role_of};
 ghost use Rattle.tp_behaviour.specs.Views.{all_viewed};
 
@@ -117,6 +117,7 @@ fn is_served(task: &Task<'_>, worker: &Worker, port: u32) -> bool
     if worker.desk.queue(port).ahead() == 0 {
         return false;
     }
+    // It is current, as before: for its clause.
     worker.owner.is_current(&worker.desk) && worker.outbox.is_level(&worker.owner)
 }
 
@@ -141,40 +142,35 @@ fn try_branches<G: Gate>(
 }
 
 /// Looks at branches that are at one port before all that has arrived is moved: once the port
-/// offers a message, none of them sees a later one. `None` if they choose and discard nothing, and
-/// if the component has sent something since its inbox was found empty: after a sending, one order
-/// of all that the components do can have a look only where all that was put before is there.
+/// offers a message, none of them sees a later one. `Nothing` if they choose and discard nothing,
+/// and if the component has sent something since its inbox was found empty: after a sending, one
+/// order of all that the components do can have a look only where all that was put before is there.
 fn look_early<R: Wait, G: Gate>(
     execution: &Execution<'_, R, G>,
     worker: &mut Worker,
     guards: &[GuardView<'_>],
-) -> Result<Option<LookResult>, Memory>
+) -> Result<LookResult, Memory>
     requires consistent { IsConsistent (role_of execution.now.task.now) worker.old }
     requires within { All (λ g. g.port < worker.old.desk.ports) guards.now }
     ensures consistent { OnOk result (IsConsistent (role_of execution.now.task.now) worker.new) }
     ensures same { OnOk result (KeepsInboxes worker.old worker.new) }
     ensures ports { OnOk result (worker.new.desk.ports ≡ worker.old.desk.ports) }
-    ensures saw { IfOk result (λ found. IfSome found (λ look.
-        Saw execution.now.task.now.comp (all_viewed guards.now) look
-        worker.old.desk.log worker.new.desk.log)) }
-    ensures none { IfOk result (λ found. IfNone found
-        (moments worker.new.desk.log ≡ moments worker.old.desk.log)) }
+    ensures saw { IfOk result (λ look.
+        SawEarly execution.now.task.now.comp (all_viewed guards.now) look
+        worker.old.desk.log worker.new.desk.log) }
 {
     let (gate, task) = (execution.gate, execution.task);
     if gate.always_drains() || !worker.owner.is_current(&worker.desk) {
-        return Ok(None);
+        return Ok(LookResult::Nothing);
     }
     let Some(port) = common_port(&worker.desk, guards) else {
-        return Ok(None);
+        return Ok(LookResult::Nothing);
     };
     offer(execution.rt, task, &mut *worker, port)?;
     if !is_served(task, &*worker, port) {
-        return Ok(None);
+        return Ok(LookResult::Nothing);
     }
-    match try_branches(gate, task, &mut *worker, guards)? {
-        LookResult::Nothing => Ok(None),
-        look => Ok(Some(look)),
-    }
+    try_branches(gate, task, &mut *worker, guards)
 }
 
 /// Moves what has arrived to the ports, if a look can see it, and tries the branches.
@@ -192,8 +188,9 @@ pub(crate) fn look_at_branches<R: Wait, G: Gate>(
         Saw execution.now.task.now.comp (all_viewed guards.now) look
         worker.old.desk.log worker.new.desk.log) }
 {
-    if let Some(look) = look_early(execution, &mut *worker, guards)? {
-        return Ok(look);
+    match look_early(execution, &mut *worker, guards)? {
+        LookResult::Nothing => {}
+        look => return Ok(look),
     }
     look_in(execution.rt, execution.task, &mut *worker)?;
     try_branches(execution.gate, execution.task, &mut *worker, guards)
