@@ -12,7 +12,7 @@ failed_of_each() {
 
 forced_orders() {
     set_up "tpr_ordered is built" [ -x "$ordered" ] || return
-    at_least 60 forced_of_each
+    at_least 63 forced_of_each
     if is_script "$ordered"; then
         leave_out "calls that fail in tpr_ordered, because TPR_ORDERED names a script"
     else

@@ -12,6 +12,7 @@ from __future__ import annotations
 
 import argparse
 import os
+import re
 import resource
 import subprocess
 import sys
@@ -26,7 +27,7 @@ sys.dont_write_bytecode = True
 sys.path.append(str(Path(__file__).resolve().parents[1] / "program"))
 
 from examples import is_report, names, reports, script
-from refusing import NO_MEMORY, NO_THREAD, Wrong, run
+from refusing import NO_MEMORY, NO_THREAD, Wrong, must, run
 
 AGAIN, AGAIN_OF_ALL_WAIT, BESIDE_A_LOAD, AGAIN_OF_POLLING = 50, 1000, 20, 30
 MOST_KIB, STEP_KIB, AROUND_KIB = 1 << 20, 32, 800
@@ -45,6 +46,7 @@ def run_again(program: str, name: str, times: int, *before: str) -> int:
 
 def polls_again(program: str) -> int:
     """Runs polling.ttcn, and judges its trace, which is a different one each time. Returns how often it was run."""
+    is_crowded = False
     with tempfile.NamedTemporaryFile() as trace:
         for turn in range(1, AGAIN_OF_POLLING + 1):
             ran = run([program, "trace", str(Path(__file__).with_name("polling.ttcn"))])
@@ -55,6 +57,8 @@ def polls_again(program: str) -> int:
             judged = run([program, "judge", trace.name])
             if ran.status != 0 or not judged.is_so(0, b"lawful\none run\n"):
                 raise (judged if ran.status == 0 else ran).wrong(f"run {turn} of {AGAIN_OF_POLLING}")
+            is_crowded = is_crowded or re.search(rb"\ncame .*\ncame ", ran.printed) is not None
+    must(is_crowded, "no look found two messages, so that none could have left one")
     return AGAIN_OF_POLLING
 
 
