@@ -115,6 +115,17 @@ module _ {P E : Type 0} (many : P → Bool) (admits : P → E → Type 0) (parts
         };
       }
 
+  -- a last star takes all that is left
+  pub last_many : (part at : ℕ) (back : Option (ℕ × ℕ)) → Scanning part at back → StepIs many admits (drop part parts) (drop at items) step.AnyOrNone
+      → length parts ≤ part + 1 → All
+  last_many part at back s (p, (rest, (e, on))) last =
+      let none : rest ≡ [] = sym (next part parts p rest e).1 ∙ gone (part + 1) parts last in
+      let all = length (drop at items) in
+      let cut : Cut many admits rest (drop all (drop at items)) =
+      subst (λ es. Cut many admits rest es) (sym (gone all (drop at items) (omega arith)))
+      (subst (λ ps. Cut many admits ps []) (sym none) (cut_none many admits)) in
+      s.here (subst (λ ps. Cut many admits ps (drop at items)) (sym e) (cut_many many admits p rest (drop at items) all on cut))
+
   pub pass_one : (part at : ℕ) (back : Option (ℕ × ℕ)) → Scanning part at back → StepIs many admits (drop part parts) (drop at items) step.One
       → Scanning (part + 1) (at + 1) back
   pass_one part at back s (p, (rest, (x, (others, (e, f, off, q))))) =

@@ -182,6 +182,10 @@ fn list_matches(members: &[Template], elements: &[Value]) -> bool
         match list_step(members, part, elements, at) {
             ScanMove::AnyOrNone => {
                 part += 1;
+                // A last `*` takes all that is left.
+                if part >= members.len() {
+                    return true;
+                }
                 back = Some((part, at));
             }
             ScanMove::One => {

@@ -65,6 +65,10 @@ pub fn text_matches(parts: &[PatternPart], text: &[u8]) -> bool
         match next_step(parts, part, text, at) {
             ScanMove::AnyOrNone => {
                 part += 1;
+                // A last `*` takes all that is left.
+                if part >= parts.len() {
+                    return true;
+                }
                 back = Some((part, at));
             }
             ScanMove::One => {
