@@ -7,6 +7,7 @@
 mod backward;
 mod entry_texts;
 mod left;
+mod line_room;
 mod lines;
 mod opening;
 pub mod report;

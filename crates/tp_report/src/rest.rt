@@ -6,6 +6,7 @@ ghost use Rattle.tp_report.specs.Integers.{IsInteger};
 ghost use Rattle.tp_report.specs.ReportWords.{message_text, rest_of_line};
 
 use crate::backward::{put_bytes, put_integer};
+use crate::line_room::LineRoom;
 use crate::words::{write_message, write_spaced};
 use itoa::write_digits;
 use std::io::Write;
@@ -41,7 +42,24 @@ fn write_integer<W: Write>(opening: &[u8], number: u64, integer: i64, out: &mut 
     write_bytes(&text[start..], out)
 }
 
-/// Writes a line with this opening; a line of an integer is written in one piece.
+fn write_pieces<W: Write>(
+    opening: &[u8],
+    types: &Types,
+    number: u64,
+    ty: Ty,
+    value: &Value,
+    out: &mut Watched<W>,
+)
+    ensures { Writes W.contents out.old out.new (opening.now ++ rest_of_line (decimal number
+        ∷ message_text types.now record { ty = ty; value = value.now } ∷ [])) }
+{
+    write_bytes(opening, out);
+    write_spaced(number, out);
+    write_message(types, ty, value, out);
+    write_bytes(b"\n", out)
+}
+
+/// Writes a line with this opening, in one piece if it has room.
 pub fn write_opened<W: Write>(
     opening: &[u8],
     types: &Types,
@@ -57,8 +75,10 @@ pub fn write_opened<W: Write>(
     if let Some(integer) = message_integer(ty, value) {
         return write_integer(opening, number, integer, out);
     }
-    write_bytes(opening, out);
-    write_spaced(number, out);
-    write_message(types, ty, value, out);
-    write_bytes(b"\n", out)
+    let mut line = Watched::new(LineRoom::new());
+    write_pieces(opening, types, number, ty, value, &mut line);
+    if line.has_failed() {
+        return write_pieces(opening, types, number, ty, value, out);
+    }
+    write_bytes(line.into_inner().text(), out)
 }

@@ -1,8 +1,7 @@
--- The text of an integer is its type's name, a colon and its digits.
-use Rattle.std.proofs.Common.{List, ℕ, [], ◌∷◌, ◌++◌, append_assoc, subst, to_z-of_z}
+-- The text of an integer is its type's name, a colon and its digits; any other line is what its room holds.
+use Rattle.std.proofs.Common.{◌≡◌, List, ℕ, [], ◌∷◌, ◌++◌, ap, subst, sym, to_z-of_z, ◌∙◌}
 use Rattle.std.specs.Fmt.{decimal}
 use Rattle.tp_common.specs.Watching.{Writes}
-use Rattle.tp_common.proofs.WatchedWriterGrowth.{writes_both}
 use Rattle.tp_report.specs.ReportWords.{rest_of_line}
 use Rattle.tp_report.proofs.IntegerMessageText.{integer_text}
 use Rattle.tp_report.proofs.rest.write_opened.Goals as goal
@@ -14,7 +13,11 @@ returns-in-Some g c =
     (integer_text c.args.types.now record { ty = c.args.ty; value = c.args.value.now } c.in-Some.integer c.in-Some.ensures)
     (rw (to_z-of_z c.in-Some.ensures.2) at c.write_integer.ensures)
 
+all_held : (had held text : List ℕ) → had ≡ [] → held ≡ had ++ text → held ≡ text
+all_held had held text empty whole = whole ∙ ap (λ l. l ++ text) empty
+
 pub returns : goal.returns
 returns g c =
-    let rest = writes_both _ _ _ _ _ _ c.write_spaced.ensures (writes_both _ _ _ _ _ _ c.write_message.ensures c.write_bytes-2.ensures) in
-    let whole = writes_both _ _ _ _ _ _ c.write_bytes.ensures rest in simp append_assoc at whole
+    let well = sym c.has_failed.ensures ∙ c.if-has_failed.false in
+    let held = all_held _ _ _ (c.new-line.ensures.inner ∙ c.new.ensures) (c.write_pieces.ensures.whole well) in
+    subst (Writes g.W.Write.contents _ _) (c.text.ensures ∙ c.into_inner.ensures ∙ held) c.write_bytes.ensures
