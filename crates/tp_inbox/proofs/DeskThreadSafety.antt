@@ -4,7 +4,6 @@ use denote.Param.Send.{IsSend, sendable}
 use Rattle.std.proofs.Crossing.{crosses}
 use Rattle.tp_value.proofs.value.Value.TheLaws.TheKnot.{crosses_both as knot}
 use Rattle.tp_value.specs.contracts.message.Message as message
-use Rattle.tp_inbox.specs.contracts.stamped.Stamped as stamped
 use Rattle.tp_inbox.specs.contracts.noted.NotedEnvelope as noted_envelope
 use Rattle.tp_inbox.specs.contracts.noted_message.NotedMessage as noted_message
 use Rattle.tp_inbox.specs.contracts.entry.Entry as entry
@@ -14,19 +13,11 @@ use Rattle.tp_inbox.specs.contracts.desk.Desk.TheInside as desk_inside
 pub message_send : IsSend message.the_row
 message_send = search (sendable, crosses, knot) depth 20
 
--- a message as it stands in another type's field
-pub message_field_send : IsSend (message.the_field).row
-message_field_send = search (sendable, crosses, knot) depth 20
-
--- a stamped message as it stands in another type's field
-pub stamped_field_send : IsSend (stamped.the_field).row
-stamped_field_send = search (sendable, crosses, message_field_send) depth 20
-
--- an envelope and a message of a history, as they stand in an entry
+-- an envelope and a message of a history, as they stand in another type's field
 noted_envelope_field_send : IsSend (noted_envelope.the_field).row
 noted_envelope_field_send = search (sendable, crosses, knot) depth 20
 
-noted_message_field_send : IsSend (noted_message.the_field).row
+pub noted_message_field_send : IsSend (noted_message.the_field).row
 noted_message_field_send = search (sendable, crosses, knot) depth 20
 
 pub entry_send : IsSend entry.the_row

@@ -15,10 +15,10 @@ use Rattle.tp_inbox.specs.contracts.owner.Owner.TheInside as owner_inside
 use Rattle.tp_inbox.specs.contracts.owner.Closer as closer
 use Rattle.tp_inbox.specs.contracts.sender.Sender as sender
 use Rattle.tp_inbox.specs.contracts.sender.Sender.TheInside as sender_inside
-use Rattle.tp_inbox.proofs.DeskThreadSafety.{message_send, stamped_field_send}
+use Rattle.tp_inbox.proofs.DeskThreadSafety.{message_send, noted_message_field_send}
 
 pub envelope_send : IsSend envelope.the_row
-envelope_send = search (sendable, crosses, stamped_field_send) depth 20
+envelope_send = search (sendable, crosses, noted_message_field_send) depth 20
 
 pub channel_send : IsSend channel.the_row
 channel_send = search (sendable, crosses, envelope_send, notifier_send, chained_send, ends_send) depth 30

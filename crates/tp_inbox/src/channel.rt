@@ -1,5 +1,6 @@
 //! The parts that the ends of one inbox share.
 ghost use Rattle.std.specs.Prelude.{◌≡◌, ◌<◌, length};
+ghost use Rattle.tp_inbox.specs.Noted.{IsShortType};
 ghost use Rattle.tp_inbox.specs.Routed.{AreRoutes, env_of, route_at};
 
 use crate::envelope::InboxEnvelope;
@@ -105,9 +106,10 @@ impl Channel {
         ensures port { result.0 ≡ (route_at self.now.routes.items envelope.place).to.port }
         ensures env { result.1 ≡ env_of self.now.routes.items envelope }
         ensures stamp { result.2 ≡ envelope.stamped.stamp }
+        ensures short { IsShortType result.1.msg.ty }
     {
         let route = self.routes[envelope.place as usize];
-        let Stamped { stamp, message } = envelope.stamped;
+        let Stamped { stamp, message } = envelope.stamped.into_stamped();
         let env = Env {
             sender: route.source.0,
             number: envelope.number as u64,

@@ -1,4 +1,4 @@
-//! Stamped messages as an entry keeps them, in less room.
+//! Stamped messages as entries and envelopes keep them, in less room.
 ghost use Rattle.std.specs.Prelude.{◌≡◌, IfErr, IfOk};
 ghost use Rattle.tp_inbox.specs.Noted.{IsShortType, NoteCause};
 
@@ -7,10 +7,12 @@ use crate::stamped::Stamped;
 use crate::type_kind::{TypeKind, kind_of, type_of_kind};
 use std::alloc::Global;
 use std::marker::Model;
+use tp_value::message::Message;
 use tp_value::types::Ty;
 use tp_value::value::Value;
 
-/// A message in a history, with the stamp of its sending. Contracts see it as that message.
+/// A message in a history or in an inbox, with the stamp of its sending. Contracts see it as that
+/// message.
 #[derive(Debug, Drop)]
 pub struct NotedMessage {
     stamp: u32,
@@ -37,6 +39,42 @@ impl Model for NotedMessage {
 }
 
 impl NotedMessage {
+    /// The stamped message itself. It is handed back if and only if the number of its type is
+    /// 65,536 or more.
+    pub(crate) fn of(stamped: Stamped) -> Result<NotedMessage, Stamped>
+        ensures ok { IfOk result (λ noted. noted ≡ stamped) }
+        ensures err { IfErr result (λ back.
+            (back ≡ stamped) × ¬ IsShortType stamped.message.ty) }
+    {
+        let Some((kind, named)) = kind_of(stamped.message.ty) else {
+            return Err(stamped);
+        };
+        let Stamped { stamp, message } = stamped;
+        Ok(NotedMessage {
+            stamp,
+            kind,
+            named,
+            value: message.value,
+        })
+    }
+
+    pub(crate) fn into_stamped(self) -> Stamped
+        ensures same { result ≡ self }
+        ensures short { IsShortType result.message.ty }
+    {
+        let ty = self.ty();
+        let NotedMessage {
+            stamp,
+            kind: _,
+            named: _,
+            value,
+        } = self;
+        Stamped {
+            stamp,
+            message: Message { ty, value },
+        }
+    }
+
     /// A copy of a stamped message. `NoRoom` if and only if the number of its type is 65,536 or
     /// more.
     pub fn copy_of(alloc: Global, stamped: &Stamped) -> Result<NotedMessage, NoteFault>

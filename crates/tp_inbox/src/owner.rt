@@ -15,6 +15,7 @@ ghost use Rattle.indexmap.specs.IndexMap.{get};
 use crate::channel::Channel;
 use crate::desk::Desk;
 use crate::envelope::InboxEnvelope;
+use crate::noted_message::NotedMessage;
 use crate::rule::{InboxPass, InboxQueue, TakeOut};
 use crate::stamped::Stamped;
 use indexmap::IndexMap;
@@ -128,13 +129,18 @@ fn deliver(
     match desk.arrive(port, env, stamp) {
         Ok(()) => Ok(()),
         Err((memory, back)) => {
+            let stamped = Stamped {
+                stamp,
+                message: back.msg,
+            };
+            // It was noted before.
+            let Ok(stamped) = NotedMessage::of(stamped) else {
+                unreachable!()
+            };
             *hand = Some(InboxEnvelope {
                 place,
                 number,
-                stamped: Stamped {
-                    stamp,
-                    message: back.msg,
-                },
+                stamped,
             });
             Err(memory)
         }

@@ -13,6 +13,7 @@ ghost use Rattle.tp_inbox.specs.Routed.{route_at};
 use crate::channel::Channel;
 use crate::desk::Desk;
 use crate::envelope::InboxEnvelope;
+use crate::noted_message::NotedMessage;
 use crate::rule::{InboxPass, Put, Takeover};
 use crate::stamped::Stamped;
 use std::alloc::Global;
@@ -135,8 +136,9 @@ impl Sender {
     /// from 0. The inbox then holds it, after everything that this sender has put before on any of
     /// its routes, until the owner takes it out.
     ///
-    /// 15 `Limit` if and only if the route has taken [`ROUTE_LIMIT`] messages. This and 50 `Memory`
-    /// return the message, and leave the sender and the inbox as before.
+    /// 15 `Limit` if and only if the route has taken [`ROUTE_LIMIT`] messages; 50 `Memory` also if
+    /// the number of the message's type is 65,536 or more. Either returns the message, and leaves
+    /// the sender and the inbox as before.
     pub fn put<R: Wait>(
         &mut self,
         rt: &R,
@@ -156,6 +158,10 @@ impl Sender {
         if number >= ROUTE_LIMIT {
             return Err((PutFault::Limit, stamped));
         }
+        let stamped = match NotedMessage::of(stamped) {
+            Ok(stamped) => stamped,
+            Err(back) => return Err((PutFault::Memory, back)),
+        };
         let envelope = InboxEnvelope {
             place: self.places[way],
             number: number as u32,
@@ -169,7 +175,7 @@ impl Sender {
                 self.channel.announce(rt);
                 Ok(number)
             }
-            Err(back) => Err((PutFault::Memory, back.stamped)),
+            Err(back) => Err((PutFault::Memory, back.stamped.into_stamped())),
         }
     }
 

@@ -13,7 +13,7 @@ use tp_inbox::entry::Entry;
 use tp_inbox::noted::NotedRoute;
 use tp_inbox::noted_message::NotedMessage;
 use tp_inbox::send_fault::SendFault;
-use tp_inbox::sender::Sender;
+use tp_inbox::sender::{PutFault, Sender};
 use tp_inbox::stamped::Stamped;
 use tp_value::message::{Message, MsgTemplate};
 use tp_value::template::Template;
@@ -241,6 +241,30 @@ fn number_without_room_is_refused(rt: HostRuntime) {
     assert!(rt; desk.receive(0, &wanted(None), None, 4_294_967_296).is_err());
     is_noted(&rt, desk.log(), LOG);
     drop(desk);
+}
+
+fn puts<R: Wait + Abort>(rt: &R, sender: &mut Sender, ty: Ty) -> bool {
+    assert!(rt; sender.ways() > 0);
+    let message = seven(0, 0, ty).msg;
+    let Err((fault, back)) = sender.put(rt, 0, Stamped { stamp: 1, message }) else {
+        return true;
+    };
+    assert!(rt; matches!(fault, PutFault::Memory) && back.message.ty == ty);
+    drop(back);
+    false
+}
+
+#[test]
+fn type_without_room_is_not_put(rt: HostRuntime) {
+    let (mut ends, floor) = two(&rt, ["p"].as_slice());
+    assert!(rt; ends.senders.len() > 0);
+    let sender = &mut ends.senders[0];
+    assert!(rt; !puts(&rt, sender, Ty::Named(65_536)));
+    assert!(rt; sender.ways() > 0 && sender.count(0) == 0);
+    if !puts(&rt, sender, Ty::Named(65_535)) {
+        assert!(rt; puts(&rt, sender, Ty::Named(65_535)));
+    }
+    drop((ends, floor));
 }
 
 #[test]

@@ -2,7 +2,9 @@
 use Rattle.std.proofs.Common.{◌≡◌, true, rules, length, get_or, refl, sym, ap, ◌∙◌, subst}
 use Rattle.std.proofs.lemmas.List.{get_or_read_under}
 use Rattle.tp_inbox.specs.declared.envelope.InboxEnvelope.{InboxEnvelope}
+use Rattle.tp_inbox.specs.declared.stamped.Stamped.{Stamped}
 use Rattle.tp_inbox.specs.Envelopes.{of, has}
+use Rattle.tp_inbox.specs.Ledgers.{putting}
 use Rattle.tp_inbox.proofs.StepsKeepDeliveryRule.{sends_as}
 use Rattle.tp_inbox.proofs.SenderPutInvariants.{on_way, has-at, grown, ledger_after}
 use Rattle.tp_inbox.proofs.sender.Sender.put.Goals as goal
@@ -22,9 +24,9 @@ invariant_of-self g c =
     let was = c.self.invariant in
     let k = on_way s _ c.args.way was c.self.view_is c.requires in
     let at : c.index.result.now ≡ get_or s.places.items c.args.way 0 = get_or_read_under s.places.items c.args.way _ _ 0 c.index.ensures k.0 refl in
-    let e : InboxEnvelope = record { place = c.index.result.now; number = c.count-number.result; stamped = c.args.stamped } in
+    let e : InboxEnvelope = record { place = c.index.result.now; number = c.count-number.result; stamped = c.in-Ok.stamped } in
     let more = grown s _ c.push_as.new.pass.me.view.client c.args.way e _ was c.self.view_is c.requires at c.count-number.ensures
-    c.in-Ok.ensures.rule.0 (search rules) in
+    c.in-Ok-push_as.ensures.rule.0 (search rules) in
     record {
       pass = search rules;
       view = more.view;
@@ -34,12 +36,13 @@ invariant_of-self g c =
       counts = more.told;
     }
 
-pub returns-in-Ok-clause-ok : goal.returns-in-Ok-clause-ok
-returns-in-Ok-clause-ok g c =
+pub returns-in-Ok-push_as-clause-ok : goal.returns-in-Ok-push_as-clause-ok
+returns-in-Ok-push_as-clause-ok g c =
     let s = c.self.inside in
     let k = on_way s _ c.args.way c.self.invariant c.self.view_is c.requires in
     let at : c.index.result.now ≡ get_or s.places.items c.args.way 0 = get_or_read_under s.places.items c.args.way _ _ 0 c.index.ensures k.0 refl in
-    let e : InboxEnvelope = record { place = c.index.result.now; number = c.count-number.result; stamped = c.args.stamped } in
+    let e : InboxEnvelope = record { place = c.index.result.now; number = c.count-number.result; stamped = c.in-Ok.stamped } in
     let put = ledger_after s _ c.push_as.new.pass.me.view.client c.args.way e c.self.invariant c.self.view_is c.requires at c.count-number.ensures
-    c.in-Ok.ensures.rule.0 in
-    λ i. record { inbox = (c.self.view_is i).inbox; source = (c.self.view_is i).source; routes = (c.self.view_is i).routes; ledger = put i }
+    c.in-Ok-push_as.ensures.rule.0 in
+    (λ i. record { inbox = (c.self.view_is i).inbox; source = (c.self.view_is i).source; routes = (c.self.view_is i).routes; ledger = put i })
+    ∙ ap (λ (stamped : Stamped). putting c.args.self.now c.args.way stamped) c.in-Ok.ensures.ok
