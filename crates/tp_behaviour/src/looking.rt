@@ -143,8 +143,9 @@ fn try_branches<G: Gate>(
 
 /// Looks at branches that are at one port before all that has arrived is moved: once the port
 /// offers a message, none of them sees a later one. `Nothing` if they choose and discard nothing,
-/// and if the component has sent something since its inbox was found empty: after a sending, one
-/// order of all that the components do can have a look only where all that was put before is there.
+/// if they are at several ports, and if the component has sent something and didn't find its inbox
+/// empty since: after a sending, one order of all that the components do can have a look only where
+/// all that was put before is there.
 fn look_early<R: Wait, G: Gate>(
     execution: &Execution<'_, R, G>,
     worker: &mut Worker,

@@ -137,7 +137,8 @@ fn begin_owner(
         pass,
         hand: None,
         taken: 0,
-        stamp: None,
+        // The first stamp of a desk: the inbox is empty, and the desk has sent nothing.
+        stamp: Some(1),
         counts,
         places,
         sources,

@@ -38,7 +38,7 @@ pub struct Owner {
     pub(crate) hand: Option<InboxEnvelope>,
     pub(crate) taken: u64,
     /// The next stamp of the desk after the last drain, if it has sent nothing since one that found
-    /// the inbox empty. At first `None`.
+    /// the inbox empty. At first the first stamp, because a new inbox is empty.
     pub(crate) stamp: Option<u32>,
     pub(crate) counts: Vec<u64>,
     pub(crate) places: IndexMap<RouteId, usize>,
@@ -251,8 +251,8 @@ impl Owner {
         self.stamp = desk.stamp();
     }
 
-    /// Returns whether this desk has sent nothing since a drain found the inbox empty: a sending
-    /// would have moved its next stamp on.
+    /// Returns whether this desk has sent nothing since a drain found the inbox empty, or at all: a
+    /// sending would have moved its next stamp on.
     pub fn is_current(&self, desk: &Desk) -> bool
         ensures { AreArrivals self.now.inbox.routes self.now.drained }
     {

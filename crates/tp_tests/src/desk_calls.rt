@@ -332,7 +332,7 @@ fn refused_memory_puts_and_notes_nothing(rt: HostRuntime) {
 fn owner_is_current_until_a_sending(rt: HostRuntime) {
     let (mut ends, floor) = two(&rt, ["p"].as_slice());
     let mut desk = desk(&rt);
-    assert!(rt; !ends.mailbox.owner.is_current(&desk));
+    assert!(rt; ends.mailbox.owner.is_current(&desk));
     says(&rt, 0, debug(&rt, ends.mailbox.drain(&rt)), "Ok(0)");
     assert!(rt; ends.mailbox.owner.is_current(&desk));
     says(&rt, 1, sent(&rt, &mut desk), "Ok(())");
@@ -346,11 +346,15 @@ fn part_of_an_inbox_keeps_an_owner_current(rt: HostRuntime) {
     says(&rt, 0, debug(&rt, ends.put(&rt, 0, 0, 4)), "Some(Ok(0))");
     says(&rt, 1, debug(&rt, ends.put(&rt, 0, 0, 5)), "Some(Ok(1))");
     says(&rt, 2, debug(&rt, ends.mailbox.drain_some(&rt, 1)), "Ok(1)");
-    // The inbox wasn't found empty yet.
-    assert!(rt; !ends.mailbox.owner.is_current(&ends.mailbox.desk));
-    says(&rt, 3, debug(&rt, ends.mailbox.drain(&rt)), "Ok(1)");
+    assert!(rt; ends.mailbox.owner.is_current(&ends.mailbox.desk));
+    says(&rt, 3, sent(&rt, &mut ends.mailbox.desk), "Ok(())");
     says(&rt, 4, debug(&rt, ends.put(&rt, 0, 0, 6)), "Some(Ok(2))");
     says(&rt, 5, debug(&rt, ends.mailbox.drain_some(&rt, 1)), "Ok(1)");
+    // The inbox wasn't found empty since the sending.
+    assert!(rt; !ends.mailbox.owner.is_current(&ends.mailbox.desk));
+    says(&rt, 6, debug(&rt, ends.mailbox.drain(&rt)), "Ok(1)");
+    says(&rt, 7, debug(&rt, ends.put(&rt, 0, 0, 7)), "Some(Ok(3))");
+    says(&rt, 8, debug(&rt, ends.mailbox.drain_some(&rt, 1)), "Ok(1)");
     assert!(rt; ends.mailbox.owner.is_current(&ends.mailbox.desk));
     drop((ends, floor));
 }
