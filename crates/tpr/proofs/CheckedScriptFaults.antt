@@ -1,27 +1,13 @@
 -- The faults of a script that is read and then checked.
-use Rattle.std.proofs.Common.{◌≡◌, ℕ, ◌≤◌, inl, inr, Option, Some, None, List, length, refl, ap, subst, arith}
+use Rattle.std.proofs.Common.{◌≡◌, ℕ, ◌≤◌, inr, Option, Some, None, List, length, subst, arith}
 use Rattle.std.specs.Prelude.{IfSome}
-use Rattle.std.proofs.lemmas.List.{length-append}
-use Rattle.tp_common.specs.declared.text.ReadFault.{ReadFault}
-use Rattle.tp_common.specs.declared.text.ReadFault.TheVariants as read
 use Rattle.tp_common.specs.Reading.{TakesBytes}
 use Rattle.tp_script.specs.declared.fault.TestCaseFault.{TestCaseFault}
 use Rattle.tp_script.specs.declared.fault.TestCaseFault.TheVariants as script
 use Rattle.tpr.specs.declared.checking.CheckFault.TheVariants as fault
 use Rattle.tp_play.specs.TestCases.{Made}
 use Rattle.tp_script.specs.Scripts.{IsScriptFaultOf, IsScriptOf}
-use Rattle.tpr.specs.Checked.{HasCheckFault, IsRight, IsScriptFaultIn, check_fault_of}
-
--- a fault of reading
-pub reading_fault : (f : ReadFault) (old new : Option (List ℕ)) → TakesBytes old new (Some f) → HasCheckFault old new (check_fault_of f)
-reading_fault read.Read None new taken = (taken.0, taken.1, tt)
-reading_fault read.Read (Some text) new taken = taken
-reading_fault read.Limit None new taken = (taken.0, taken.1, tt)
-reading_fault read.Limit (Some text) None taken = absurd taken.1
-reading_fault read.Limit (Some text) (Some rest) taken =
-    (taken.0, taken.1, (omega (arith, taken.2), inl (inl (omega (arith, ap length taken.1, length-append taken.0 rest, taken.2), refl, refl))))
-reading_fault read.Memory None new taken = (taken.0, taken.1, tt)
-reading_fault read.Memory (Some text) new taken = (taken.0, taken.1, (taken.2.0, inl taken.2.1))
+use Rattle.tpr.specs.Checked.{HasCheckFault, IsRight, IsScriptFaultIn}
 
 -- a fault of the checks, of a text that was read
 script_fault : (f : TestCaseFault) (text : List ℕ) (taken : ℕ) → length text ≤ 1048576 → taken ≤ 1048576 → IsScriptFaultOf text f → IsScriptFaultIn text taken f

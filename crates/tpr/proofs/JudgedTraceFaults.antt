@@ -1,9 +1,6 @@
 -- The faults of a trace that is read and then judged.
-use Rattle.std.proofs.Common.{◌≡◌, ℕ, ◌≤◌, inl, inr, Option, Some, None, List, length, ap, subst, arith}
+use Rattle.std.proofs.Common.{◌≡◌, ℕ, ◌≤◌, inr, Option, Some, None, List, length, subst, arith}
 use Rattle.std.specs.Prelude.{IfSome}
-use Rattle.std.proofs.lemmas.List.{length-append}
-use Rattle.tp_common.specs.declared.text.ReadFault.{ReadFault}
-use Rattle.tp_common.specs.declared.text.ReadFault.TheVariants as read
 use Rattle.tp_common.specs.Reading.{TakesWithin}
 use Rattle.tp_judge.specs.declared.referee.reading.TraceFault.{TraceFault}
 use Rattle.tp_judge.specs.declared.referee.reading.TraceFault.TheVariants as trace
@@ -11,18 +8,7 @@ use Rattle.tp_judge.specs.Faults.{IsFaultOf}
 use Rattle.tp_judge.specs.declared.referee.ruling.Ruling.{Ruling}
 use Rattle.tp_judge.specs.Rulings.{IsRulingOf}
 use Rattle.tpr.specs.declared.judging.JudgeFault.TheVariants as fault
-use Rattle.tpr.specs.Judged.{HasJudgeFault, IsTraceFaultIn, judge_fault_of}
-
--- a fault of reading
-pub unread : (f : ReadFault) (old new : Option (List ℕ)) → TakesWithin 268435456 old new (Some f) → HasJudgeFault old new (judge_fault_of f)
-unread read.Read None new taken = (taken.0, taken.1, tt)
-unread read.Read (Some text) new taken = taken
-unread read.Limit None new taken = (taken.0, taken.1, tt)
-unread read.Limit (Some text) None taken = absurd taken.1
-unread read.Limit (Some text) (Some rest) taken =
-    (taken.0, taken.1, (omega (arith, taken.2), omega (arith, ap length taken.1, length-append taken.0 rest, taken.2)))
-unread read.Memory None new taken = (taken.0, taken.1, tt)
-unread read.Memory (Some text) new taken = (taken.0, taken.1, (taken.2.0, inl taken.2.1))
+use Rattle.tpr.specs.Judged.{HasJudgeFault, IsTraceFaultIn}
 
 -- a fault of the trace, of a text that was read
 trace_fault : (f : TraceFault) (text : List ℕ) (taken : ℕ) → length text ≤ 268435456 → taken ≤ 268435456 → IsFaultOf text f → IsTraceFaultIn text taken f
