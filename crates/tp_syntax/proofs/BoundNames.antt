@@ -9,6 +9,7 @@ use Rattle.tp_syntax.specs.declared.stuck.Stuck.{Stuck}
 use Rattle.tp_syntax.specs.Item.{Item, token, binds, same, this_name, next}
 use Rattle.tp_syntax.specs.Reading.{Tree, leaf, Trees, Reads, ReadsAll, Fails, FailsAll, reads_none, reads_more, fails_here, fails_later, bound_by, known}
 use Rattle.tp_syntax.proofs.StepsOfReading.{skipped}
+use Rattle.tp_syntax.proofs.FlagsOfTests.{and_left, and_right}
 
 abbrev pub is_free : Item → Bool
 is_free (token binds) = false
@@ -17,14 +18,6 @@ is_free _ = true
 abbrev pub are_free : List Item → Bool
 are_free [] = true
 are_free (i ∷ is) = is_free i && are_free is
-
-and_left : (a b : Bool) → (a && b) ≡ true → a ≡ true
-and_left true b e = refl
-and_left false b e = absurd (false≢true e)
-
-and_right : (a b : Bool) → (a && b) ≡ true → b ≡ true
-and_right true b e = e
-and_right false b e = absurd (false≢true e)
 
 known_again : (n : List ℕ) (i : Item) → known [] (known n i) ≡ known n i
 known_again n (token same) = refl

@@ -1,3 +1,4 @@
+pub mod FlagsOfTests
 pub mod LongestByteRuns
 pub mod LongestTokens
 pub mod QuotedTextSpelling

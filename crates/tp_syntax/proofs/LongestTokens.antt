@@ -1,5 +1,5 @@
 -- Each token is the longest one at its place.
-use Rattle.std.proofs.Common.{◌≡◌, ℕ, suc, ◌≤◌, zero-le, suc-le-suc, true, false, List, [], ◌∷◌, ◌++◌, length, take, drop, get_or, refl, ap, sym, ◌∙◌, subst, arith, one-add, inl, inr, ◌⊎◌, ◌≢◌, ◌==◌, length-append}
+use Rattle.std.proofs.Common.{◌≡◌, ℕ, suc, ◌≤◌, zero-le, suc-le-suc, true, false, List, [], ◌∷◌, ◌++◌, length, take, drop, get_or, refl, ap, sym, ◌∙◌, arith, one-add, inl, inr, ◌⊎◌, ◌≢◌, ◌==◌, length-append}
 use Rattle.std.proofs.lemmas.Bool.Decides.{eqb_tells}
 use Rattle.std.specs.List.{prefix_len}
 use Rattle.tp_syntax.specs.declared.token.Symbol.{Symbol}
@@ -144,25 +144,6 @@ text_longest t rest st l (c ∷ cs) more sp e =
     let e' : closed t ++ rest ≡ closed found.0 ++ more = (let e2 : closed t ++ rest ≡ cs ++ more = cc in e2 ∙ ap (λ (x : List ℕ). x ++ more) tails) in
     let ih = closed_longest t found.0 rest more st e' in
     rw tails (suc-le-suc ih)
-
--- ---- symbols
-
--- a symbol of two characters
-two : (x : Symbol) (c : ℕ) (cs : List ℕ) → c ∷ cs ≡ symbol_spelling x → (cs ≡ [])
-    ⊎ (((c ≡ 46) × (cs ≡ 46 ∷ [])) ⊎ (((c ≡ 58) × (cs ≡ 61 ∷ [])) ⊎ ((c ≡ 45) × (cs ≡ 62 ∷ []))))
-two s.DotDot c cs e = inr (inl (cc, cc))
-two s.Assign c cs e = inr (inr (inl (cc, cc)))
-two s.Arrow c cs e = inr (inr (inr (cc, cc)))
-two _ c cs e = inl cc
-
--- the byte that would make it a longer symbol doesn't follow
-abbrev pub NoSecond : ℕ → List ℕ → Type 0
-NoSecond b [] = Unit {0}
-NoSecond b (c ∷ cs) = (b ≡ 46 → c ≢ 46) × (b ≡ 58 → c ≢ 61) × (b ≡ 45 → c ≢ 62)
-
-second : (b d : ℕ) (rest more : List ℕ) → NoSecond b rest → rest ≡ d ∷ more → (b ≡ 46 → d ≢ 46) × (b ≡ 58 → d ≢ 61) × (b ≡ 45 → d ≢ 62)
-second b d [] more nsec e = absurd cc
-second b d (c ∷ cs) more nsec e = let same : c ≡ d = cc in subst (λ x. (b ≡ 46 → x ≢ 46) × (b ≡ 58 → x ≢ 61) × (b ≡ 45 → x ≢ 62)) same nsec
 
 -- a word at the front
 word_front : (b : ℕ) (bs : List ℕ) → byte_kind b ≡ Letter → prefix_len is_word_byte (b ∷ bs) ≡ suc (prefix_len is_word_byte bs)

@@ -1,6 +1,5 @@
 -- What was passed before reading fails begins a text: so no refusal comes too late.
-use Rattle.std.proofs.Common.{◌≡◌, ℕ, zero, suc, ◌<◌, nat_lt, Bool, true, false, ◌&&◌, List, [], ◌∷◌, length, refl, sym, subst, ◌∙◌, arith}
-use Rattle.std.proofs.lemmas.Bool.{false≢true}
+use Rattle.std.proofs.Common.{◌≡◌, ℕ, zero, suc, ◌<◌, nat_lt, true, List, [], ◌∷◌, length, refl, sym, subst, ◌∙◌, arith}
 use borrow.Author.Tests.{ltb-true}
 use Rattle.std.proofs.lemmas.Slice.Eq.{bytes_eq-Decides}
 use Rattle.std.specs.Str.{bytes_eq}
@@ -16,19 +15,12 @@ use Rattle.tp_syntax.proofs.UniqueTrees.{bound_node}
 use Rattle.tp_syntax.proofs.ShallowTexts.{shortest, depth}
 use Rattle.tp_syntax.proofs.TextsOfRules.{sample_of, at_place, short_items, can_stand, are_below, all_stand}
 use Rattle.tp_syntax.proofs.WrittenSetsAreRight.{rules_are_shallow}
+use Rattle.tp_syntax.proofs.FlagsOfTests.{and_left, and_right}
 
 among_place : (n : ℕ) (gs : List Guarded) (otherwise : List Item) → Among gs otherwise (at_place n gs otherwise)
 among_place n [] o = among_else
 among_place zero (g ∷ gs) o = among_this
 among_place (suc n) (g ∷ gs) o = among_other (among_place n gs o)
-
-and_left : (a b : Bool) → (a && b) ≡ true → a ≡ true
-and_left true b e = refl
-and_left false b e = absurd (false≢true e)
-
-and_right : (a b : Bool) → (a && b) ≡ true → b ≡ true
-and_right true b e = e
-and_right false b e = absurd (false≢true e)
 
 depths_fall : (r : Rule) → are_below (depth r) (short_items r) ≡ true
 depths_fall r = and_left (are_below (depth r) (short_items r)) _ (rules_are_shallow r)

@@ -1,6 +1,6 @@
 -- Reading by the table ends: the tokens are read or refused.
 use Rattle.std.proofs.Common.{◌≡◌, ◌⊎◌, inl, inr, ℕ, zero, suc, ◌+◌, ◌*◌, ◌<◌, ◌≤◌, nat_lt, Bool, true, false, not, ◌&&◌, ◌||◌, List, [], ◌∷◌, Some, None, length, refl, sym, ◌∙◌, arith}
-use Rattle.std.proofs.lemmas.Bool.{false≢true}
+use Rattle.std.proofs.lemmas.Bool.{cases_Bool, false≢true}
 use borrow.Author.Tests.{ltb-true}
 use Rattle.tp_syntax.specs.Lexeme.{PlacedLexeme}
 use Rattle.tp_syntax.specs.declared.stuck.Stuck.TheVariants.{At}
@@ -19,22 +19,7 @@ use Rattle.tp_syntax.proofs.WrittenSetsAreRight.{rules_are_right, rules_are_shal
 use Rattle.tp_syntax.proofs.UniqueTrees.{shorter, all_shorter}
 use Rattle.tp_syntax.proofs.PassedTokensBeginTexts.{are_below_tail, items_stand}
 use Rattle.tp_syntax.proofs.WholeTexts.{sound}
-
-and_left : (a b : Bool) → (a && b) ≡ true → a ≡ true
-and_left true b e = refl
-and_left false b e = absurd (false≢true e)
-
-and_right : (a b : Bool) → (a && b) ≡ true → b ≡ true
-and_right true b e = e
-and_right false b e = absurd (false≢true e)
-
-cases : (b : Bool) → (b ≡ true) ⊎ (b ≡ false)
-cases true = inl refl
-cases false = inr refl
-
-or_second : (a b : Bool) → (not a || b) ≡ true → a ≡ true → b ≡ true
-or_second true b e t = e
-or_second false b e t = absurd (false≢true t)
+use Rattle.tp_syntax.proofs.FlagsOfTests.{and_left, and_right, or_second}
 
 nothing_not : (a b : Bool) → (not a || b) ≡ true → b ≡ false → a ≡ false
 nothing_not false b e f = refl
@@ -81,7 +66,7 @@ mutual
   all_consume reads_none e = absurd (false≢true (sym e))
   all_consume (reads_more {bound = b} {i = token t} h hs) e = let a = item_consumes b t h in let c = all_shorter hs in omega arith
   all_consume (reads_more {i = rule r} {is = is} h hs) e =
-      elim (cases (nullable r)) [
+      elim (cases_Bool (nullable r)) [
         | inl y ↦ let a = shorter h in let c = all_consume hs (and_false (nullable r) (may_be_nothing is) e y) in omega arith
         | inr n ↦ let a = consumes h n in let c = all_shorter hs in omega arith
       ]
@@ -106,7 +91,7 @@ refused_end t e = refl
 token_ends : (t : Terminal) (ts : List PlacedLexeme) → accepts t None ≡ false → Outcome (token t) ts
 token_ends t [] e = is_stuck 0 (fails_token e refl)
 token_ends t (p ∷ ps) e =
-    elim (cases (accepts t (Some p.token))) [
+    elim (cases_Bool (accepts t (Some p.token))) [
       | inl y ↦ is_read (leaf p.token) ps (reads_token y)
       | inr n ↦ is_stuck (length (p ∷ ps)) (fails_token n refl)
     ]
@@ -123,7 +108,7 @@ further : (m : ℕ) (q : Rule) (is : List Item) (us ts : List PlacedLexeme) {t :
     → Reads (rule q) us t rest → MayBegin m is rest ts
 further m q is us ts (inl l) h = let a = shorter h in inl (omega arith)
 further m q is us ts (inr l) h =
-    elim (cases (nullable q)) [
+    elim (cases_Bool (nullable q)) [
       | inl y ↦ let a = shorter h in let b = l.0 in
           inr (omega arith, or_second (nullable q) (leads m is) (and_right (nat_lt (rank q) m) _ l.1) y)
       | inr n ↦ let a = consumes h n in let b = l.0 in inl (omega arith)
@@ -174,7 +159,7 @@ module _ (m : ℕ) (ts : List PlacedLexeme) (rules : (q : Rule) (us : List Place
         | all_stuck n f ↦ choice_stuck n (fails_else f)
       ]
   choice_ends (g ∷ gs) o s l =
-      elim (cases (one_of g.guards (next ts))) [
+      elim (cases_Bool (one_of g.guards (next ts))) [
         | inl y ↦ elim (all_end [] g.items ts (and_left (are_below 10 g.items) _ s) (inr (omega arith, and_left (leads m g.items) _ l))) [
           | all_read t rest h ↦ choice_read t rest (reads_this y h)
           | all_stuck n f ↦ choice_stuck n (fails_this y f)

@@ -23,10 +23,6 @@ use Rattle.tp_syntax.proofs.WholeTexts.{one_text_tree}
 use Rattle.tp_syntax.proofs.UniqueTokens.{tokens_are_unique}
 
 -- the trees below a node, the one at a place among them, and the last
-abbrev below : Tree → Trees
-below (node r l ts) = ts
-below (leaf s) = none
-
 abbrev first_of : Trees → Tree
 first_of (more t ts) = t
 first_of none = closing_tree

@@ -1,6 +1,6 @@
 -- What the grammar spells is read: one token tells the alternative.
-use Rattle.std.proofs.Common.{◌≡◌, ◌⊎◌, inl, inr, ℕ, eqb-true, eq-eqb, Bool, true, false, cond, not, ◌||◌, ◌&&◌, List, [], ◌∷◌, ◌++◌, Option, Some, None, refl, sym, subst, ◌∙◌, arith}
-use Rattle.std.proofs.lemmas.Bool.{false≢true}
+use Rattle.std.proofs.Common.{◌≡◌, ◌⊎◌, inl, inr, ℕ, eqb-true, eq-eqb, Bool, true, false, cond, not, List, [], ◌∷◌, ◌++◌, Option, Some, None, refl, sym, subst, ◌∙◌, arith}
+use Rattle.std.proofs.lemmas.Bool.{false≢true, or_left, or_right}
 use Rattle.tp_syntax.specs.Lexeme.{Lexeme, name, word, number, text, symbol, PlacedLexeme}
 use Rattle.tp_syntax.specs.Item.{Terminal, of_word, of_symbol, exactly, this_name, a_name, a_number, a_text, positive, negated, a_pattern, binds, same, finish, Item, token, rule, Guarded, accepts, one_of, next}
 use Rattle.tp_syntax.specs.Rule.{Rule}
@@ -10,26 +10,7 @@ use Rattle.tp_syntax.proofs.FirstTokens.{nullable, firsts}
 use Rattle.tp_syntax.proofs.FollowingTokens.{follows}
 use Rattle.tp_syntax.proofs.TokensTellAlternatives.{class_of, code_of, class_ahead, code_ahead, is_whole, all_whole, is_kind, is_in, all_in, none_in, starts, may_be_nothing, follow_fits, items_fit, later_apart, guarded_fit}
 use Rattle.tp_syntax.proofs.WrittenSetsAreRight.{rules_are_right}
-
-and_left : (a b : Bool) → (a && b) ≡ true → a ≡ true
-and_left true b e = refl
-and_left false b e = absurd (false≢true e)
-
-and_right : (a b : Bool) → (a && b) ≡ true → b ≡ true
-and_right true b e = e
-and_right false b e = absurd (false≢true e)
-
-or_cases : (a b : Bool) → (a || b) ≡ true → (a ≡ true) ⊎ (b ≡ true)
-or_cases true b e = inl refl
-or_cases false b e = inr e
-
-or_left : (a b : Bool) → a ≡ true → (a || b) ≡ true
-or_left true b e = refl
-or_left false b e = absurd (false≢true e)
-
-or_right : (a b : Bool) → b ≡ true → (a || b) ≡ true
-or_right true b e = refl
-or_right false b e = e
+use Rattle.tp_syntax.proofs.FlagsOfTests.{and_left, and_right, or_cases, or_second}
 
 not_true : (b : Bool) → not b ≡ true → b ≡ true → ⊥
 not_true true n e = false≢true n
@@ -170,10 +151,6 @@ has_cond_back : (b : Bool) (xs ys : List Terminal) {o : Option Lexeme} → b ≡
 has_cond_back true xs ys e h = has_back xs ys h
 has_cond_back false xs ys e h = absurd (false≢true e)
 
-no_nothing : (a b : Bool) → (not a || b) ≡ true → a ≡ true → b ≡ true
-no_nothing true b e a = e
-no_nothing false b e a = absurd (false≢true a)
-
 spelled_kind : {t : Terminal} {ts : List PlacedLexeme} {tree : Tree} {rest : List PlacedLexeme} → Spells (token t) ts tree rest
     → (class_ahead (next ts) ≡ class_of t) × (code_ahead (next ts) ≡ code_of t)
 spelled_kind (spells_token {t = t} {p = p} a) = accepted t (Some p.token) a
@@ -191,7 +168,7 @@ mutual
       let fit = and_right (follow_fits is (follows r)) _ (among_fits r among (rules_are_right r)) in
       elim (items_begin all) [
         | inl h ↦ inl (all_has (starts is []) (firsts r) (and_left _ _ fit) h)
-        | inr k ↦ inr (no_nothing (may_be_nothing is) (nullable r) (and_right (all_in (starts is []) (firsts r)) _ fit) k.0, k.1)
+        | inr k ↦ inr (or_second (may_be_nothing is) (nullable r) (and_right (all_in (starts is []) (firsts r)) _ fit) k.0, k.1)
       ]
 
   items_begin : {bound : List ℕ} {is : List Item} {ts : List PlacedLexeme} {trees : Trees} {rest : List PlacedLexeme}

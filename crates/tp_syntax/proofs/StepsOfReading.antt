@@ -55,14 +55,6 @@ pub passes : {g : Guarded} {gs : List Guarded} {otherwise : List Item} {ts : Lis
     → one_of g.guards (next ts) ≡ r → r ≡ false → ReadsChoice gs otherwise ts trees rest → ReadsChoice (g ∷ gs) otherwise ts trees rest
 passes d e h = reads_other (d ∙ e) h
 
-pub picks_failing : {g : Guarded} {gs : List Guarded} {otherwise : List Item} {ts : List PlacedLexeme} {f : Stuck} {r : Bool}
-    → one_of g.guards (next ts) ≡ r → r ≡ true → FailsAll [] g.items ts f → FailsChoice (g ∷ gs) otherwise ts f
-picks_failing d e h = fails_this (d ∙ e) h
-
-pub passes_failing : {g : Guarded} {gs : List Guarded} {otherwise : List Item} {ts : List PlacedLexeme} {f : Stuck} {r : Bool}
-    → one_of g.guards (next ts) ≡ r → r ≡ false → FailsChoice gs otherwise ts f → FailsChoice (g ∷ gs) otherwise ts f
-passes_failing d e h = fails_other (d ∙ e) h
-
 -- the alternative that is taken before this token
 abbrev chosen : List Guarded → List Item → Option Lexeme → List Item
 chosen [] otherwise l = otherwise
@@ -134,6 +126,3 @@ handed_memory made = handed made fails_memory
 
 pub ruleset parsing =
     (to_z-of_z, skipped, failed_now, skipped_word, skipped_symbol, failed, parsed_ok, parsed_err, handed, handed_memory, reads_rule, reads_this, reads_other, reads_else, reads_none, reads_more, fails_rule, fails_this, fails_other, fails_else, fails_here, fails_later)
-
-pub ruleset chained =
-    (parsed_ok, parsed_err, handed, handed_memory, reads_rule, picks, passes, reads_this, reads_other, reads_else, reads_none, reads_more, fails_rule, picks_failing, passes_failing, fails_this, fails_other, fails_else, fails_here, fails_later)

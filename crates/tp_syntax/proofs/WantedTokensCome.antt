@@ -6,18 +6,9 @@ use Rattle.tp_syntax.specs.declared.token.Symbol.{Symbol}
 use Rattle.tp_syntax.specs.declared.token.Symbol.TheVariants as s
 use Rattle.tp_syntax.specs.Lexeme.{Lexeme, word, symbol}
 use Rattle.tp_syntax.specs.Code.{word_code, symbol_code}
+use Rattle.tp_syntax.specs.Word.{words}
 use Rattle.tp_syntax.specs.Item.{of_word, of_symbol, accepts}
 use Rattle.tp_syntax.specs.GrammarLaws.{WordsAreTold}
-
--- the words, by their numbers
-abbrev words : List Word
-words =
-    w.Module ∷ w.Type ∷ w.Record ∷ w.Of ∷ w.Port ∷ w.Message ∷ w.Component ∷ w.In ∷ w.Out ∷
-    w.Inout ∷ w.Function ∷ w.Testcase ∷ w.Runs ∷ w.On ∷ w.System ∷ w.Var ∷ w.Create ∷ w.Connect ∷
-    w.Map ∷ w.Mtc ∷ w.SelfWord ∷ w.Start ∷ w.Stop ∷ w.Halt ∷ w.Clear ∷ w.Send ∷ w.Receive ∷
-    w.Trigger ∷ w.Check ∷ w.To ∷ w.From ∷ w.Alt ∷ w.Else ∷ w.For ∷ w.Setverdict ∷ w.NoneWord ∷
-    w.Pass ∷ w.Inconc ∷ w.Fail ∷ w.Error ∷ w.All ∷ w.Done ∷ w.True ∷ w.False ∷ w.Integer ∷
-    w.Boolean ∷ w.Charstring ∷ w.Complement ∷ w.Pattern ∷ w.Infinity ∷ w.Value ∷ w.Sender ∷ []
 
 -- the symbols, by their numbers
 abbrev symbols : List Symbol

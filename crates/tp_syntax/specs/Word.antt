@@ -1,5 +1,5 @@
 -- The reserved words.
-use Rattle.std.specs.Prelude.{◌≡◌, ◌↔◌, ℕ, List, [], ◌∷◌, map, Option, Some, None, codes, if◌then◌else◌}
+use Rattle.std.specs.Prelude.{◌≡◌, ◌↔◌, ℕ, List, [], ◌∷◌, ◌==◌, filter, length, map, Option, Some, None, codes, if◌then◌else◌}
 use Rattle.std.specs.Str.{bytes_eq}
 use Rattle.tp_syntax.specs.declared.word.Word.{Word}
 use Rattle.tp_syntax.specs.declared.word.Word.TheVariants as w
@@ -59,20 +59,15 @@ word_spelling w.Infinity = codes "infinity"
 word_spelling w.Value = codes "value"
 word_spelling w.Sender = codes "sender"
 
--- all reserved words, from the shortest to the longest
+-- all reserved words, by their numbers
 abbrev pub words : List Word
 words =
-    w.Of ∷ w.In ∷ w.On ∷ w.To ∷
-    w.Out ∷ w.Var ∷ w.Map ∷ w.Mtc ∷ w.Alt ∷ w.For ∷ w.All ∷
-    w.Type ∷ w.Port ∷ w.Runs ∷ w.SelfWord ∷ w.Stop ∷ w.Halt ∷ w.Send ∷ w.From ∷ w.Else ∷ w.NoneWord
-    ∷ w.Pass ∷
-    w.Fail ∷ w.Done ∷ w.True ∷
-    w.Inout ∷ w.Start ∷ w.Clear ∷ w.Check ∷ w.Error ∷ w.False ∷ w.Value ∷
-    w.Module ∷ w.Record ∷ w.System ∷ w.Create ∷ w.Inconc ∷ w.Sender ∷
-    w.Message ∷ w.Connect ∷ w.Receive ∷ w.Trigger ∷ w.Integer ∷ w.Boolean ∷ w.Pattern ∷
-    w.Function ∷ w.Testcase ∷ w.Infinity ∷
-    w.Component ∷
-    w.Setverdict ∷ w.Charstring ∷ w.Complement ∷ []
+    w.Module ∷ w.Type ∷ w.Record ∷ w.Of ∷ w.Port ∷ w.Message ∷ w.Component ∷ w.In ∷ w.Out ∷
+    w.Inout ∷ w.Function ∷ w.Testcase ∷ w.Runs ∷ w.On ∷ w.System ∷ w.Var ∷ w.Create ∷ w.Connect ∷
+    w.Map ∷ w.Mtc ∷ w.SelfWord ∷ w.Start ∷ w.Stop ∷ w.Halt ∷ w.Clear ∷ w.Send ∷ w.Receive ∷
+    w.Trigger ∷ w.Check ∷ w.To ∷ w.From ∷ w.Alt ∷ w.Else ∷ w.For ∷ w.Setverdict ∷ w.NoneWord ∷
+    w.Pass ∷ w.Inconc ∷ w.Fail ∷ w.Error ∷ w.All ∷ w.Done ∷ w.True ∷ w.False ∷ w.Integer ∷
+    w.Boolean ∷ w.Charstring ∷ w.Complement ∷ w.Pattern ∷ w.Infinity ∷ w.Value ∷ w.Sender ∷ []
 
 -- the word of the first entry of a table with this spelling
 abbrev pub first_spelled : List ℕ → List (List ℕ × Word) → Option Word
@@ -83,6 +78,10 @@ first_spelled bs (entry ∷ more) =
 -- the reserved words with their spellings
 unfoldable pub reserved : List (List ℕ × Word)
 reserved = map (λ word. (word_spelling word, word)) words
+
+-- those of this length
+unfoldable pub words_of_length : ℕ → List (List ℕ × Word)
+words_of_length size = filter (λ entry. length entry.0 == size) reserved
 
 -- the reserved word that the bytes spell, if they spell one
 abbrev pub word_of : List ℕ → Option Word

@@ -1,6 +1,6 @@
 //! The reserved words. The others of ES 201 873-1, Annex A, may be names here.
-ghost use Rattle.std.specs.Prelude.{◌≡◌, ◌↔◌, ℕ, List, IsTrue, length, map};
-ghost use Rattle.tp_syntax.specs.Word.{first_spelled, word_of};
+ghost use Rattle.std.specs.Prelude.{◌≡◌, ◌↔◌, IsTrue, map};
+ghost use Rattle.tp_syntax.specs.Word.{first_spelled, word_of, words_of_length};
 
 /// A word that can't be a name. `SelfWord` is `self` and `NoneWord` is `none`; each of the others
 /// is the word of its own name, in lower-case letters.
@@ -68,12 +68,15 @@ impl Word {
     }
 }
 
-/// The spelling of each reserved word, from the shortest to the longest. There is no other one.
-pub const WORDS: [(&str, Word); 52] = [
+// The spelling of each reserved word, by the number of its letters. There is no other one.
+const OF_TWO: &[(&str, Word)] = &[
     ("of", Word::Of),
     ("in", Word::In),
     ("on", Word::On),
     ("to", Word::To),
+];
+
+const OF_THREE: &[(&str, Word)] = &[
     ("out", Word::Out),
     ("var", Word::Var),
     ("map", Word::Map),
@@ -81,6 +84,9 @@ pub const WORDS: [(&str, Word); 52] = [
     ("alt", Word::Alt),
     ("for", Word::For),
     ("all", Word::All),
+];
+
+const OF_FOUR: &[(&str, Word)] = &[
     ("type", Word::Type),
     ("port", Word::Port),
     ("runs", Word::Runs),
@@ -95,6 +101,9 @@ pub const WORDS: [(&str, Word); 52] = [
     ("fail", Word::Fail),
     ("done", Word::Done),
     ("true", Word::True),
+];
+
+const OF_FIVE: &[(&str, Word)] = &[
     ("inout", Word::Inout),
     ("start", Word::Start),
     ("clear", Word::Clear),
@@ -102,12 +111,18 @@ pub const WORDS: [(&str, Word); 52] = [
     ("error", Word::Error),
     ("false", Word::False),
     ("value", Word::Value),
+];
+
+const OF_SIX: &[(&str, Word)] = &[
     ("module", Word::Module),
     ("record", Word::Record),
     ("system", Word::System),
     ("create", Word::Create),
     ("inconc", Word::Inconc),
     ("sender", Word::Sender),
+];
+
+const OF_SEVEN: &[(&str, Word)] = &[
     ("message", Word::Message),
     ("connect", Word::Connect),
     ("receive", Word::Receive),
@@ -115,10 +130,17 @@ pub const WORDS: [(&str, Word); 52] = [
     ("integer", Word::Integer),
     ("boolean", Word::Boolean),
     ("pattern", Word::Pattern),
+];
+
+const OF_EIGHT: &[(&str, Word)] = &[
     ("function", Word::Function),
     ("testcase", Word::Testcase),
     ("infinity", Word::Infinity),
-    ("component", Word::Component),
+];
+
+const OF_NINE: &[(&str, Word)] = &[("component", Word::Component)];
+
+const OF_TEN: &[(&str, Word)] = &[
     ("setverdict", Word::Setverdict),
     ("charstring", Word::Charstring),
     ("complement", Word::Complement),
@@ -132,29 +154,28 @@ pub fn word_of(text: &str) -> Option<Word>
 }
 
 /// As [`word_of`], of bytes that needn't be a text.
+#[tactic(auto, using(crate::proofs::ReservedWordsByLength::by_length))]
 pub(crate) fn word_spelled(bytes: &[u8]) -> Option<Word>
     ensures { result ≡ word_of bytes.now }
 {
     first_spelled(bytes, words_of_length(bytes.len()))
 }
 
+#[tactic(auto, using(crate::proofs::ReservedWordsByLength::others), unfolding(crate::specs::Word::reserved, crate::specs::Word::words_of_length))]
 fn words_of_length(size: usize) -> &'static [(&'static str, Word)]
-    ensures { (bs : List ℕ) → length bs ≡ size →
-        first_spelled bs (map (λ entry. (entry.0.now, entry.1)) result.now) ≡ word_of bs }
+    ensures { map (λ entry. (entry.0.now, entry.1)) result.now ≡ words_of_length size }
 {
-    let words: &'static [(&'static str, Word)] = &WORDS;
     match size {
-        // The bounds follow the table, which goes by length; a wrong one fails the clause.
-        2 => &words[..4],
-        3 => &words[4..11],
-        4 => &words[11..25],
-        5 => &words[25..32],
-        6 => &words[32..38],
-        7 => &words[38..45],
-        8 => &words[45..48],
-        9 => &words[48..49],
-        10 => &words[49..],
-        _ => &words[..0],
+        2 => OF_TWO,
+        3 => OF_THREE,
+        4 => OF_FOUR,
+        5 => OF_FIVE,
+        6 => OF_SIX,
+        7 => OF_SEVEN,
+        8 => OF_EIGHT,
+        9 => OF_NINE,
+        10 => OF_TEN,
+        _ => &[],
     }
 }
 
