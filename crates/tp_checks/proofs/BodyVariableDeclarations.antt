@@ -1,7 +1,7 @@
 -- The variables of a body: what their rule fixes, and what it says of each.
 use Rattle.std.proofs.Common.{◌⊎◌, inl, inr, ◌≡◌, ℕ, ◌<◌, List, [], ◌∷◌, ◌++◌, Some, length, take, slice_get, refl, sym, ap, ◌∙◌, subst, arith}
 use Rattle.std.proofs.Math.Seq.{take-length}
-use Rattle.std.proofs.lemmas.List.{length_push, take-append-le}
+use Rattle.std.proofs.lemmas.List.{length_push, same_from_push, take-append-le}
 use Rattle.std.proofs.lemmas.Option.{slice_get_within}
 use Rattle.tp_tree.specs.declared.tree.Variable.{Variable}
 use Rattle.tp_play.specs.declared.body.VariableType.{VariableType}
@@ -12,20 +12,9 @@ use Rattle.tp_checks.specs.Bodies.{AreVariables, no_variable, one_variable_more,
 use Rattle.tp_checks.proofs.NameLookupsAreUnique.{held_fixed}
 use Rattle.tp_checks.proofs.PlacedEntriesGrowth.{push_cases}
 
--- two lists with one more behind each
+-- a list with one more isn't empty
 no_push : {A : Type 0} (xs : List A) (x : A) → [] ≡ xs ++ x ∷ [] → ⊥
 no_push xs x e = omega (arith, length_push xs x, ap length e)
-
-push_same : {A : Type 0} (xs ys : List A) (x y : A) → xs ++ x ∷ [] ≡ ys ++ y ∷ [] → (xs ≡ ys) × (x ≡ y)
-push_same [] [] x y e = (refl, cc)
-push_same [] (z ∷ zs) x y e = absurd (no_push zs y (cc))
-push_same (w ∷ ws) [] x y e = absurd (no_push ws x (cc))
-push_same (w ∷ ws) (z ∷ zs) x y e =
-    let rest : ws ++ x ∷ [] ≡ zs ++ y ∷ [] = cc in
-    let head : w ≡ z = cc in
-    let p = push_same ws zs x y rest in
-    let tail : ws ≡ zs = p.0 in
-    (cc, p.1)
 
 same_variables : (vs ws : Variables) → vs.names ≡ ws.names → vs.types ≡ ws.types → vs ≡ ws
 same_variables vs ws p q = ap (λ n. record vs { names = n }) p ∙ ap (λ t. record ws { types = t }) q
@@ -44,7 +33,7 @@ module _ (scope : Scope) where
   variables_as (no_variable vs names types) (one_variable_more ys us ws y h before few is_held new others kinds) e = absurd (no_push ys y e)
   variables_as (one_variable_more xs us vs x g earlier less is_kind fresh names types) (no_variable ws others kinds) e = absurd (no_push xs x (sym e))
   variables_as (one_variable_more xs ts vs x g earlier less is_kind fresh names types) (one_variable_more ys us ws y h before few is_held new others kinds) e =
-      let p = push_same xs ys x y e in
+      let p = same_from_push xs ys x y e in
       let same : ts ≡ us = variables_as earlier before p.0 in
       let one : x ≡ y = p.1 in
       let held : g ≡ h = held_fixed scope y.type_name g h (subst (λ (z : Variable). IsVariableType scope z.type_name g) one is_kind) is_held in

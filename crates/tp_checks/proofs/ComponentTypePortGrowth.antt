@@ -8,7 +8,8 @@ use Rattle.tp_value.specs.declared.types.Ty.{Ty}
 use Rattle.tp_config.specs.declared.port_type.PortType.{PortType}
 use Rattle.tp_config.specs.Setup.{PortDecl}
 use Rattle.tp_config.specs.Shape.{decl_of}
-use Rattle.tp_checks.proofs.NameSetLookups.{place_known, place_unknown, position_map}
+use Rattle.tp_checks.proofs.NameSetLookups.{place_known, place_unknown}
+use Rattle.tp_config.proofs.ComponentAndPortLookups.{position_map}
 
 abbrev pub Entries : Type 0
 Entries = List (String Global × PortType)

@@ -9,7 +9,8 @@ use Rattle.tp_config.specs.Setup.{Setup, Member, names_of_components}
 use Rattle.tp_checks.specs.Tables.{AreDistinct}
 use Rattle.tp_checks.proofs.NameSetLookups.{distinct_more}
 use Rattle.tp_checks.specs.Components.{Adds, AddsAll, Declared, HasSoundVariables, IsMember, creation_of, creations, variable_name}
-use Rattle.tp_checks.proofs.ListPrefixGrowth.{all_push, kept_more, zip_push}
+use Rattle.tp_checks.proofs.ListPrefixGrowth.{kept_more, zip_push}
+use Rattle.std.proofs.lemmas.List.Elements.{All-push}
 
 module _ (xs : List SetupStatement) (i : ℕ) (x : SetupStatement) (lt : i < length xs) (is : x ≡ get_or xs i x) where
   -- a statement that makes no component, and one that makes one
@@ -28,9 +29,9 @@ sound_more types ports names more most xs c before named next distinct apart kno
     let all : more ≡ map variable_name (xs ++ c ∷ []) = next ∙ ap (λ l. l ++ variable_name c ∷ []) named ∙ sym (map_push variable_name xs c) in
     record {
       distinct = subst AreDistinct all distinct;
-      no_port = all_push (λ (c : Creation). Contains ports (variable_name c) → ⊥) xs c before.no_port apart;
-      known = all_push (λ (c : Creation). Contains types c.type_name) xs c before.known known;
-      same = all_push (λ (c : Creation). c.type_name ≡ c.created) xs c before.same same;
+      no_port = All-push (λ (c : Creation). Contains ports (variable_name c) → ⊥) xs c before.no_port apart;
+      known = All-push (λ (c : Creation). Contains types c.type_name) xs c before.known known;
+      same = All-push (λ (c : Creation). c.type_name ≡ c.created) xs c before.same same;
       few = subst (λ n. n ≤ most) (ap length all ∙ length-map (xs ++ c ∷ []) variable_name) few;
     }
 

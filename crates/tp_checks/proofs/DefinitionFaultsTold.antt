@@ -13,7 +13,7 @@ use Rattle.tp_checks.specs.BrokenDefinitions.{DefinitionBreaks, DefinitionsBreak
 use Rattle.tp_checks.specs.Rules.{ArePortTypesKnown, HasFewPorts, IsComponentFault, IsSound}
 use Rattle.tp_checks.proofs.KnownNamesByLookup.{each_known, each_there}
 use Rattle.tp_checks.proofs.NameFaultsTold.{split_here}
-use Rattle.tp_checks.proofs.ModuleFaultPropagation.{tells_from}
+use Rattle.tp_checks.proofs.RuleFaultPropagation.{told_from}
 
 -- what isn't known is told so, at its line
 pub unknown_told : {T : Type 0} (r : Result T ModuleFault) (line : ℕ) (N : Type 0) (Q : ModuleRule → Type 0)
@@ -39,7 +39,7 @@ module _ (types ports components : List (List ℕ)) (system : Option (List ℕ))
       → All (λ (y : Definition). IsSound types ports components system y.defined) (take i xs)
       → TellsAt x.line (DefinitionBreaks types ports components system x.defined) f → Tells (DefinitionsBreak types ports components system xs) f
   definition_among xs i x f lt is each told =
-      tells_from x.line (DefinitionBreaks types ports components system x.defined) (DefinitionsBreak types ports components system xs) f (λ rule b. record {
+      told_from x.line (DefinitionBreaks types ports components system x.defined) (DefinitionsBreak types ports components system xs) f (λ rule b. record {
         before = take i xs;
         definition = x;
         after = drop (i + 1) xs;

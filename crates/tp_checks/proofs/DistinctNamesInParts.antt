@@ -61,17 +61,15 @@ module _ {T : Type 0} (kind : Defined → Option T) where
       omega (arith, ap length all, length-append (of_kind kind (take i xs)) (of_kind kind (drop i xs)))
 
   module _ (name : T → List ℕ) (own : (x : Defined) (y : T) → kind x ≡ Some y → name y ≡ name_of x) where
-    names : List Definition → List (List ℕ)
+    abbrev names : List Definition → List (List ℕ)
     names xs = map (λ (x : Definition). name_of x.defined) xs
 
     all_seen : (P : List ℕ → Type 0) (xs : List Definition) → All P (names xs) → All (λ (x : Definition). P (name_of x.defined)) xs
-    unfolding names
     all_seen P xs each k d below =
         subst P (get_or-map (λ (x : Definition). name_of x.defined) xs k d (name_of d.defined) below)
         (each k (name_of d.defined) (omega (arith, length-map xs (λ (x : Definition). name_of x.defined), below)))
 
-    distinct_among : (xs : List Definition) → AreDistinct (names xs) → AreDistinct (map name (of_kind kind xs))
-    unfolding names
+    pub distinct_among : (xs : List Definition) → AreDistinct (names xs) → AreDistinct (map name (of_kind kind xs))
     distinct_among [] each = each
     distinct_among (x ∷ xs) each = by (kind x.defined) refl (distinct_among xs (distinct_tail (name_of x.defined) (names xs) each)) where
       by : (o : Option T) → kind x.defined ≡ o → AreDistinct (map name (of_kind kind xs)) → AreDistinct (map name (cons_option o (of_kind kind xs)))
@@ -86,7 +84,6 @@ module _ {T : Type 0} (kind : Defined → Option T) where
 
     -- the names of one kind are numbered where those of all definitions are
     pub numbered_among : (xs : List Definition) → IsNumbered (map (λ (x : Definition). name_of x.defined) xs) → IsNumbered (map name (of_kind kind xs))
-    unfolding names
     numbered_among xs h = record {
       few = omega (arith, h.few, length_among xs, length-map (of_kind kind xs) name, length-map xs (λ (x : Definition). name_of x.defined));
       distinct = distinct_among xs h.distinct;

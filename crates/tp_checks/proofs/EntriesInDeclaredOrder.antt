@@ -1,10 +1,10 @@
 -- Entries in the order of the text, and what they stand for in declared order.
-use Rattle.std.proofs.Common.{option_map, ◌⊎◌, inl, inr, ◌≡◌, ◌≢◌, ℕ, zero, suc, ◌+◌, ◌<◌, ◌≤◌, List, [], ◌∷◌, ◌++◌, length, map, take, Some, slice_get, slice_set, get_or, Contains, sym, ap, ◌∙◌, arith, subst, add-one}
+use Rattle.std.proofs.Common.{option_map, ◌⊎◌, inl, inr, ◌≡◌, ◌≢◌, ℕ, zero, suc, ◌+◌, ◌<◌, ◌≤◌, List, [], ◌∷◌, ◌++◌, length, map, take, Some, slice_get, slice_set, get_or, Contains, refl, sym, ap, ◌∙◌, arith, subst, add-one}
 use Rattle.std.proofs.Math.Seq.{take-length}
 use Rattle.std.proofs.lemmas.Bool.{cases_lt}
 use Rattle.std.proofs.lemmas.List.{get_or-set_other, get_or-set_same, length-set, length-map, take_more}
 use Rattle.std.proofs.lemmas.List.Elements.{All-map}
-use Rattle.std.proofs.lemmas.Option.{slice_get-get_or, slice_get_within, get_or_from_slice_get, slice_get-map}
+use Rattle.std.proofs.lemmas.Option.{slice_get-get_or, slice_get_within, slice_get_read, get_or_from_slice_get, same_Some, slice_get-map}
 use Rattle.tp_value.specs.declared.types.Field.{Field}
 use Rattle.tp_checks.specs.Placing.{HaveEntries, IsPlacing, field_names}
 
@@ -48,34 +48,48 @@ module _ {E W : Type 0} (name : E → List ℕ) (R : Field → E → W → Type 
   abbrev pub Filled : List ℕ → ℕ → List W → Type 0
   Filled places n ws = (i k : ℕ) → i < n → slice_get places i ≡ Some k → HasEntry k ws
 
-  -- an entry has the name of the field at its place
-  pub placed_name : {places : List ℕ} → IsPlacing fields (map name entries) places → (n p : ℕ) (f : Field) (x : E) → slice_get places n ≡ Some p
-      → slice_get fields p ≡ Some f → slice_get entries n ≡ Some x → name x ≡ f.name
-  placed_name placing n p f x is_place is_field is_entry =
-      let a : slice_get (field_names fields) p ≡ Some f.name = slice_get-map (λ g. g.name) fields p ∙ ap (option_map (λ g. g.name)) is_field in
-      let b : slice_get (map name entries) n ≡ Some (name x) = slice_get-map name entries n ∙ ap (option_map name) is_entry in
-      let c : slice_get (field_names fields) p ≡ slice_get (map name entries) n = placing.same_name n p is_place in
-      cc
+  -- an entry, and the field at its place
+  pub record Placed (places : List ℕ) (n p : ℕ) (f : Field) (x : E) : Type 0 where
+    pub is_place : slice_get places n ≡ Some p
+    pub is_field : slice_get fields p ≡ Some f
+    pub is_entry : slice_get entries n ≡ Some x
+    pub same : name x ≡ f.name
+
+  pub placed : {places : List ℕ} → IsPlacing fields (map name entries) places → (n p : ℕ) (f : Field) (x : E) → n < length entries → p ≡ get_or places n p
+      → p < length fields → f ≡ get_or fields p f → x ≡ get_or entries n x → Placed places n p f x
+  placed {places} placing n p f x below at within there here = record { is_place = is_place; is_field = is_field; is_entry = is_entry; same = same_name } where
+    is_place : slice_get places n ≡ Some p
+    is_place = slice_get_read places (length places) n p refl (omega (arith, placing.as_many, length-map entries name, below)) at
+
+    is_field : slice_get fields p ≡ Some f
+    is_field = slice_get_read fields (length fields) p f refl within there
+
+    is_entry : slice_get entries n ≡ Some x
+    is_entry = slice_get_read entries (length entries) n x refl below here
+
+    of_field : slice_get (field_names fields) p ≡ Some f.name
+    of_field = slice_get-map (λ g. g.name) fields p ∙ ap (option_map (λ g. g.name)) is_field
+
+    of_entry : slice_get (map name entries) n ≡ Some (name x)
+    of_entry = slice_get-map name entries n ∙ ap (option_map name) is_entry
+
+    same_name : name x ≡ f.name
+    same_name = let c : slice_get (field_names fields) p ≡ slice_get (map name entries) n = placing.same_name n p is_place in same_Some (name x) f.name (sym of_entry ∙ sym c ∙ of_field)
 
   -- one more entry is put at its place
-  pub filled_more : (places : List ℕ) (n : ℕ) (ws : List W) (p : ℕ) (y : W) (f : Field) (x : E) → IsPlacing fields (map name entries) places
-      → length ws ≡ length fields
-      → slice_get places n ≡ Some p → slice_get fields p ≡ Some f → slice_get entries n ≡ Some x → R f x y → Filled places n ws
-      → Filled places (n + 1) (slice_set ws p y)
-  filled_more places n ws p y f x placing many is_place is_field is_entry stands before i k below there = by (cases_lt k p) (cases_lt p k) where
+  pub filled_more : (places : List ℕ) (n : ℕ) (ws : List W) (p : ℕ) (y : W) (f : Field) (x : E) → Placed places n p f x → length ws ≡ length fields → R f x y
+      → Filled places n ws → Filled places (n + 1) (slice_set ws p y)
+  filled_more places n ws p y f x at many stands before i k below there = by (cases_lt k p) (cases_lt p k) where
     inside : p < length fields
-    inside = slice_get_within fields p f is_field
+    inside = slice_get_within fields p f at.is_field
 
     here : slice_get (slice_set ws p y) p ≡ Some y
     here =
         slice_get-get_or (slice_set ws p y) p y (omega (arith, inside, many, length-set ws p y))
         ∙ ap Some (get_or-set_same ws p y y (omega (arith, inside, many)))
 
-    same_name : name x ≡ f.name
-    same_name = placed_name placing n p f x is_place is_field is_entry
-
     new : HasEntry p (slice_set ws p y)
-    new = record { field = f; at = n; entry = x; made = y; is_field = is_field; is_entry = is_entry; is_made = here; same = same_name; stands = stands }
+    new = record { field = f; at = n; entry = x; made = y; is_field = at.is_field; is_entry = at.is_entry; is_made = here; same = at.same; stands = stands }
 
     other : k ≢ p → HasEntry k (slice_set ws p y)
     other differ = by_place (cases_lt i n) where
@@ -97,8 +111,8 @@ module _ {E W : Type 0} (name : E → List ℕ) (R : Field → E → W → Type 
             is_made = slice_get-get_or (slice_set ws p y) k e.made (omega (arith, within, length-set ws p y)) ∙ ap Some read;
           }
       by_place (inr later) =
-          let at : i ≡ n = omega arith in
-          let one : ◌≡◌ (Some k) (Some p) = sym there ∙ ap (slice_get places) at ∙ is_place in
+          let same : i ≡ n = omega arith in
+          let one : ◌≡◌ (Some k) (Some p) = sym there ∙ ap (slice_get places) same ∙ at.is_place in
           absurd (differ (cc))
 
     by : (k < p) ⊎ (p ≤ k) → (p < k) ⊎ (k ≤ p) → HasEntry k (slice_set ws p y)

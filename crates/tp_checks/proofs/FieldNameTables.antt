@@ -8,8 +8,9 @@ use Rattle.tp_value.specs.declared.types.Field.{Field}
 use Rattle.tp_checks.specs.Named.{IsAbsent}
 use Rattle.tp_checks.specs.Tables.{AreDistinct}
 use Rattle.tp_checks.proofs.FirstPlacesOfNames.{position_is_place, position_is_nowhere}
-use Rattle.tp_checks.proofs.NameSetLookups.{key_added, position_map}
+use Rattle.tp_checks.proofs.NameSetLookups.{key_added}
 use Rattle.tp_checks.specs.Placing.{field_names}
+use Rattle.tp_config.proofs.ComponentAndPortLookups.{position_map}
 
 -- a name isn't among those before it
 name_is_new : (names : List (List ℕ)) (i : ℕ) (d : List ℕ) → AreDistinct names → i < length names → Contains (take i names) (get_or names i d) → ⊥

@@ -5,7 +5,6 @@ use Rattle.std.proofs.lemmas.List.{map-append, get_or_past}
 use Rattle.tp_value.specs.declared.types.Ty.{Ty}
 use Rattle.tp_value.specs.declared.types.Field.{Field}
 use Rattle.tp_value.specs.declared.types.Types.{Types}
-use Rattle.tp_value.specs.declared.value.Value.{Value}
 use Rattle.tp_value.specs.HasType.{AllHave, FieldsHave, HasType}
 use Rattle.tp_value.proofs.HasTypeEquations.{has_int, has_bool, has_text, has_record, has_list}
 use Rattle.tp_tree.specs.declared.message.Value.{Value as ValueText}
@@ -27,10 +26,6 @@ module _ {X : Type 0} (k : X → Ty → Type 0) where
   FieldsHave-push (g ∷ fs) (x ∷ xs) f y h one = (h.0, FieldsHave-push fs xs f y h.1 one)
 
 module _ (types : Types) (turns : List (List ℕ)) (zs : List ℤ) (fit : (k : ℕ) → FitsSigned w64 (get_or zs k (pos 0))) where
-  -- a value and its type
-  Has : Value → Ty → Type 0
-  Has x u = HasType types u x
-
   mutual
     pub typed : (u : Ty) (x : ValueText) (w : SendValue) → IsValue types turns u x w → HasType types u (filled zs w)
     typed u x w (int z h) = rw (filled_int, has_int) (refl, h)

@@ -33,14 +33,9 @@ pub mod PairFaultsTold
 pub mod SetupFaultsTold
 pub mod StartFaultsTold
 pub mod PreparationFaultsTold
-pub mod TypeAndReferenceRules
 pub mod PlacedEntriesGrowth
 pub mod EntriesInDeclaredOrder
-pub mod ValueRules
-pub mod TemplateRules
-pub mod OperationRules
-pub mod HeldVariableRules
-pub mod StatementRules
+pub mod DefinitionLines
 pub mod PortNamesGrowth
 pub mod CappedStatementSizes
 pub mod LoopVariablesInScope
@@ -60,7 +55,6 @@ pub mod BodyVariableDeclarations
 pub mod StatementInversions
 pub mod RuleFaultPropagation
 pub mod BrokenValueRules
-pub mod BrokenTemplateRules
 pub mod BrokenOperationRules
 pub mod ValueExclusions
 pub mod TemplateExclusions

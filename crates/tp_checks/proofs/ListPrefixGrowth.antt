@@ -1,30 +1,18 @@
 -- One step of a loop over a list.
-use Rattle.std.proofs.Common.{◌≡◌, ℕ, zero, suc, ◌+◌, ◌<◌, ◌≤◌, ◌⊎◌, inl, inr, List, [], ◌∷◌, ◌++◌, Option, None, Some, length, take, get_or, map, sym, ap, ◌∙◌, refl, subst, arith, All, Contains, add-one, slice_get}
-use Rattle.std.specs.List.{AllZip, filter_map, flat_map, cons_option}
+use Rattle.std.proofs.Common.{◌≡◌, ℕ, zero, suc, ◌+◌, ◌<◌, ◌≤◌, List, [], ◌∷◌, ◌++◌, Option, None, Some, length, take, get_or, map, sym, ap, ◌∙◌, refl, subst, arith, All, Contains, add-one, slice_get}
+use Rattle.std.specs.List.{AllZip, filter_map, flat_map, cons_option, zip}
 use Rattle.std.specs.Option.{option_to_list}
-use Rattle.std.proofs.lemmas.List.{take_more, get_or_push, map_push, flat_map_more, get_or_append_left, length_push, take_all, append_assoc}
-use Rattle.std.proofs.lemmas.List.Elements.{filter_map-append}
-use Rattle.std.proofs.lemmas.Bool.{cases_lt}
+use Rattle.std.proofs.lemmas.List.{take_more, map_push, flat_map_more, take_all, append_assoc}
+use Rattle.std.proofs.lemmas.List.Elements.{All-push, filter_map-append}
 use Rattle.std.proofs.lemmas.Option.{same_Some}
 
 -- the items up to the next one
 pub pushed : {A : Type 0} (xs : List A) (i : ℕ) (x : A) → i < length xs → x ≡ get_or xs i x → take i xs ++ x ∷ [] ≡ take (i + 1) xs
 pushed xs i x lt is = sym (take_more xs i x lt ∙ ap (λ y. take i xs ++ y ∷ []) (sym is))
 
-pub all_push : {A : Type 0} (P : A → Type 0) (xs : List A) (x : A) → All P xs → P x → All P (xs ++ x ∷ [])
-all_push P xs x each here k d below = by (cases_lt k (length xs)) where
-  by : (k < length xs) ⊎ (length xs ≤ k) → P (get_or (xs ++ x ∷ []) k d)
-  by (inl lt) = subst P (sym (get_or_append_left xs (x ∷ []) d k lt)) (each k d lt)
-  by (inr le) =
-      let at : length xs ≡ k = omega (arith, length_push xs x, below, le) in
-      subst P (sym (get_or_push xs x d k at)) here
-
-pub all_none : {A : Type 0} (P : A → Type 0) → All P []
-all_none P k d below = absurd (omega (arith, below))
-
 pub all_more : {A : Type 0} (P : A → Type 0) (xs : List A) (i : ℕ) (x : A) → i < length xs → x ≡ get_or xs i x → All P (take i xs) → P x
     → All P (take (i + 1) xs)
-all_more P xs i x lt is each here = subst (All P) (pushed xs i x lt is) (all_push P (take i xs) x each here)
+all_more P xs i x lt is each here = subst (All P) (pushed xs i x lt is) (All-push P (take i xs) x each here)
 
 pub all_whole : {A : Type 0} (P : A → Type 0) (xs : List A) (i : ℕ) → length xs ≤ i → All P (take i xs) → All P xs
 all_whole P xs i le each = subst (All P) (take_all i xs le) each
@@ -94,10 +82,23 @@ pub zip_maps : {A B C : Type 0} (R : B → C → Type 0) (f : A → B) (g : A �
 zip_maps R f g [] each = tt
 zip_maps R f g (x ∷ xs) each = (each x, zip_maps R f g xs each)
 
--- what stands at a place of the first list, in the other
-pub zip_there : {A B : Type 0} (R : A → B → Type 0) (xs : List A) (ys : List B) (k : ℕ) (x : A) → AllZip R xs ys → slice_get xs k ≡ Some x
-    → None ≡ slice_get ys k → ⊥
-zip_there R [] ys k x each e none = absurd (cc)
-zip_there R (a ∷ xs) [] k x each e none = absurd each
-zip_there R (a ∷ xs) (b ∷ ys) zero x each e none = absurd (cc)
-zip_there R (a ∷ xs) (b ∷ ys) (suc k) x each e none = zip_there R xs ys k x each.1 e none
+-- what stands beside an item of the first list
+pub zip_beside : {A B : Type 0} (R : A → B → Type 0) (xs : List A) (ys : List B) (k : ℕ) (x : A) → AllZip R xs ys → slice_get xs k ≡ Some x
+    → (y : B) × (slice_get ys k ≡ Some y) × R x y
+zip_beside R [] ys k x each e = absurd (cc)
+zip_beside R (a ∷ xs) [] k x each e = absurd each
+zip_beside R (a ∷ xs) (b ∷ ys) zero x each e = (b, refl, subst (λ c. R c b) (same_Some a x e) each.0)
+zip_beside R (a ∷ xs) (b ∷ ys) (suc k) x each e = zip_beside R xs ys k x each.1 e
+
+pub zip_one_more : {A B : Type 0} (xs : List A) (ys : List B) (x : A) (y : B) → length xs ≡ length ys → zip xs ys ++ (x, y) ∷ [] ≡ zip (xs ++ x ∷ []) (ys ++ y ∷ [])
+zip_one_more [] [] x y e = refl
+zip_one_more [] (b ∷ ys) x y e = absurd (omega (arith, e))
+zip_one_more (a ∷ xs) [] x y e = absurd (omega (arith, e))
+zip_one_more (a ∷ xs) (b ∷ ys) x y e = ap (λ l. (a, b) ∷ l) (zip_one_more xs ys x y (omega (arith, e)))
+
+pub zip_pair : {A B : Type 0} (xs : List A) (ys : List B) (k : ℕ) (x : A) (y : B) → slice_get xs k ≡ Some x → slice_get ys k ≡ Some y
+    → slice_get (zip xs ys) k ≡ Some (x, y)
+zip_pair [] ys k x y e f = absurd (cc)
+zip_pair (a ∷ xs) [] k x y e f = absurd (cc)
+zip_pair (a ∷ xs) (b ∷ ys) zero x y e f = cc
+zip_pair (a ∷ xs) (b ∷ ys) (suc k) x y e f = zip_pair xs ys k x y e f

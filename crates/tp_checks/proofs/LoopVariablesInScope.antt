@@ -14,7 +14,6 @@ use Rattle.tp_tree.specs.declared.message.Template.{Template}
 use Rattle.tp_tree.specs.declared.message.TemplateField.{TemplateField}
 use Rattle.tp_tree.specs.declared.tree.SentExpression.{SentExpression}
 use Rattle.tp_tree.specs.declared.message.MessageTemplate.{MessageTemplate}
-use Rattle.tp_tree.specs.declared.tree.Variable.{Variable}
 use Rattle.tp_tree.specs.declared.tree.Statement.{Statement as StatementText}
 use Rattle.tp_tree.specs.declared.tree.Action.{Action}
 use Rattle.tp_tree.specs.declared.tree.Branch.{Branch as BranchText}
@@ -37,7 +36,6 @@ use Rattle.tp_play.specs.declared.body.ResolvedStatement.TheVariants as s
 use Rattle.tp_play.specs.declared.body.ResolvedStatement.TheOpen as o
 use Rattle.tp_play.specs.declared.body.ResolvedStatement.TheFolds.{fold-roll-ResolvedStatement, fold_out-ResolvedBranch}
 use Rattle.tp_play.specs.declared.body.ResolvedBranch.{ResolvedBranch}
-use Rattle.tp_play.specs.declared.body.Body.{Body}
 use Rattle.tp_checks.specs.declared.scope.Scope.{Scope}
 use Rattle.tp_checks.specs.declared.scope.Variables.{Variables}
 use Rattle.tp_checks.specs.Messages as d

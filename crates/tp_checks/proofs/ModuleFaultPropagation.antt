@@ -1,5 +1,5 @@
 -- What a fault tells, handed on.
-use Rattle.std.proofs.Common.{◌≡◌, ◌≤◌, ◌↔◌, ℕ, inl, inr, List, Contains, length, Result, Err, IfErr, refl, sym, subst}
+use Rattle.std.proofs.Common.{◌≡◌, ◌≤◌, ◌↔◌, ℕ, inl, inr, List, Contains, length, Result, Err, IfErr, refl}
 use Rattle.std.specs.Result.{IsErrAnd, IsErrOf}
 use Rattle.std.proofs.lemmas.Result.{err_from_is_err_and}
 use Rattle.tp_checks.specs.declared.fault.ModuleRule.{ModuleRule}
@@ -16,20 +16,6 @@ pub handed : {T : Type 0} (P : ModuleFault → Type 0) (r : Result T ModuleFault
 handed P r f is h =
     let p = err_from_is_err_and r is in
     rw (p.1, p.2) h
-
--- what is told of a part is told of the whole
-pub tells_map : (P Q : ModuleRule → ℕ → Type 0) (f : ModuleFault) → ((rule : ModuleRule) (line : ℕ) → P rule line → Q rule line) → Tells P f → Tells Q f
-tells_map P Q (module_fault.Refused rule line) pass h = pass rule line h
-tells_map P Q (module_fault.Memory m) pass h = tt
-
-pub tells_from : (at : ℕ) (P : ModuleRule → Type 0) (Q : ModuleRule → ℕ → Type 0) (f : ModuleFault) → ((rule : ModuleRule) → P rule → Q rule at)
-    → TellsAt at P f → Tells Q f
-tells_from at P Q (module_fault.Refused rule line) pass (e, h) = subst (λ l. Q rule l) (sym e) (pass rule h)
-tells_from at P Q (module_fault.Memory m) pass h = tt
-
-pub at_map : (at : ℕ) (P Q : ModuleRule → Type 0) (f : ModuleFault) → ((rule : ModuleRule) → P rule → Q rule) → TellsAt at P f → TellsAt at Q f
-at_map at P Q (module_fault.Refused rule line) pass (e, h) = (e, pass rule h)
-at_map at P Q (module_fault.Memory m) pass h = tt
 
 -- out of memory tells nothing
 pub tells_memory : (P : ModuleRule → ℕ → Type 0) (f : ModuleFault) → f ≡ module_fault.Memory (record {}) → Tells P f

@@ -1,8 +1,7 @@
 -- What a refused part says of the whole.
-use Rattle.std.proofs.Common.{◌≡◌, ℕ, ◌+◌, ◌<◌, ◌⊎◌, inl, inr, List, ◌∷◌, ◌++◌, [], All, arith, length, take, drop, get_or, map, sym, ap, ◌∙◌, subst, append_assoc, Result, IfErr, refl}
+use Rattle.std.proofs.Common.{◌≡◌, ℕ, ◌+◌, ◌<◌, ◌⊎◌, inl, inr, List, ◌∷◌, ◌++◌, [], All, arith, length, take, drop, get_or, map, sym, ap, ◌∙◌, subst, append_assoc, Result, IfErr}
 use Rattle.std.specs.List.{flat_map}
 use Rattle.std.specs.Result.{IsErrAnd}
-use Rattle.std.proofs.lemmas.Result.{err_from_is_err_and}
 use Rattle.std.proofs.lemmas.List.{get_or-map, length-map, take-append-drop, map-append, map_push}
 use Rattle.std.proofs.lemmas.List.Concat.{flat_map-append}
 use Rattle.tp_checks.specs.declared.fault.ModuleFault.{ModuleFault}
@@ -11,6 +10,7 @@ use Rattle.tp_checks.specs.declared.name_set.NameFault.{NameFault}
 use Rattle.tp_checks.specs.declared.name_set.NameFault.TheVariants as name_fault
 use Rattle.tp_checks.specs.Refused.{IsRefusedBy}
 use Rattle.tp_checks.proofs.ListPrefixGrowth.{flat_more, pushed}
+use Rattle.tp_checks.proofs.ModuleFaultPropagation.{handed}
 
 -- what breaks a part of a rule breaks the rule
 pub breaks_part : (R P : Type 0) (f : ModuleFault) → (R → P) → IsRefusedBy P f → IsRefusedBy R f
@@ -19,26 +19,7 @@ breaks_part R P f part (inr h) = inr (λ r. h (part r))
 
 -- a `?` hands on a fault that breaks a part of the rule, and one out of memory
 pub handed_on : {T R P : Type 0} (r : Result T ModuleFault) (f : ModuleFault) → IsErrAnd r (λ y. y ≡ f) → IsRefusedBy P f → (R → P) → IfErr r (IsRefusedBy R)
-handed_on {R} {P} r f is broken part =
-    let p = err_from_is_err_and r is in
-    rw (p.1, p.2) (breaks_part R P f part broken)
-
--- a `?` hands on a fault that shows the rule to be broken
-pub handed_break : {T : Type 0} (R : Type 0) (r : Result T ModuleFault) (f : ModuleFault) → IsErrAnd r (λ y. y ≡ f) → (R → ⊥) → IfErr r (IsRefusedBy R)
-handed_break R r f is broken =
-    let p = err_from_is_err_and r is in
-    rw (p.1, p.2) (inr broken)
-
--- a `?` hands on whatever a fault shows
-pub handed_fact : {T : Type 0} (N : Type 0) (r : Result T ModuleFault) (f : ModuleFault) → IsErrAnd r (λ y. y ≡ f) → N → IfErr r (λ _. N)
-handed_fact N r f is fact =
-    let p = err_from_is_err_and r is in
-    rw p.1 fact
-
-pub no_memory : {T : Type 0} (R : Type 0) (r : Result T ModuleFault) → IsErrAnd r (λ y. y ≡ module_fault.Memory (record {})) → IfErr r (IsRefusedBy R)
-no_memory R r is =
-    let p = err_from_is_err_and r is in
-    rw (p.1, p.2) (inl refl)
+handed_on {R} {P} r f is broken part = handed (IsRefusedBy R) r f is (breaks_part R P f part broken)
 
 -- a name that isn't added is refused at its line
 pub name_refused : (R P : Type 0) (fault : NameFault) (made : ModuleFault) → (fault ≡ name_fault.Memory → made ≡ module_fault.Memory (record {}))

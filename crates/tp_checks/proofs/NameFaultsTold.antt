@@ -11,7 +11,7 @@ use Rattle.tp_checks.specs.BrokenNames.{DeclaringBreaks, NameBreaks, port_name_l
 use Rattle.tp_checks.specs.Definitions.{declared, declared_ports}
 use Rattle.tp_checks.proofs.DistinctNamesInParts.{map_twice}
 use Rattle.tp_checks.proofs.ListPrefixGrowth.{pushed}
-use Rattle.tp_checks.proofs.ModuleFaultPropagation.{tells_from, tells_map}
+use Rattle.tp_checks.proofs.RuleFaultPropagation.{told_from, told_on}
 
 -- what stands before and behind an item
 pub split_here : {A : Type 0} (xs : List A) (i : ℕ) (x : A) → i < length xs → x ≡ get_or xs i x → xs ≡ take i xs ++ x ∷ drop (i + 1) xs
@@ -29,7 +29,7 @@ pub name_among : {A : Type 0} (g : A → DeclaredName) (old names : List (List �
     → TellsAt (g x).line (NameBreaks names (declared (g x))) f → Tells (DeclaringBreaks old (map g xs)) f
 name_among g old names xs i x f lt is named numbered told =
     let here : names ≡ old ++ map declared (map g (take i xs)) = named ∙ ap (λ l. old ++ l) (sym (map_twice declared g (take i xs))) in
-    tells_from (g x).line (NameBreaks names (declared (g x))) (DeclaringBreaks old (map g xs)) f (λ rule breaks. record {
+    told_from (g x).line (NameBreaks names (declared (g x))) (DeclaringBreaks old (map g xs)) f (λ rule breaks. record {
       before = map g (take i xs);
       name = g x;
       after = map g (drop (i + 1) xs);
@@ -48,7 +48,7 @@ pub port_among : (old names : List (List ℕ)) (xs : List PortDeclaration) (i : 
     → x ≡ get_or xs i x → names ≡ old ++ declared_ports (take i xs) → Tells (DeclaringBreaks names x.names) f
     → Tells (DeclaringBreaks old (port_name_list xs)) f
 port_among old names xs i x f lt is named told =
-    tells_map (DeclaringBreaks names x.names) (DeclaringBreaks old (port_name_list xs)) f (λ rule line b.
+    told_on (DeclaringBreaks names x.names) (DeclaringBreaks old (port_name_list xs)) f (λ rule line b.
     let first : List DeclaredName = port_name_list (take i xs) in
     let rest : List DeclaredName = port_name_list (drop (i + 1) xs) in
     let all : port_name_list xs ≡ first ++ (x.names ++ rest) =

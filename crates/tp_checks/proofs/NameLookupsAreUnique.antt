@@ -1,8 +1,7 @@
 -- A name stands for one thing: the rules of look-ups fix what they give.
-use Rattle.std.proofs.Common.{Contains, subst, get_or, ◌-◌, length-append, ◌⊎◌, inl, inr, ◌≡◌, ℕ, ◌<◌, ◌≤◌, List, ◌++◌, Option, Some, None, option_map, length, slice_get, refl, sym, ap, ◌∙◌, arith}
+use Rattle.std.proofs.Common.{Contains, subst, ◌⊎◌, inl, inr, ◌≡◌, ℕ, ◌<◌, ◌≤◌, List, ◌++◌, Option, Some, None, option_map, slice_get, refl, sym, ap, ◌∙◌, arith}
 use Rattle.std.proofs.lemmas.Bool.{cases_lt}
 use Rattle.std.proofs.lemmas.Option.{same_Some, slice_get-get_or, slice_get_within, get_or_from_slice_get}
-use Rattle.std.proofs.lemmas.List.{get_or_append_left, get_or-append_right}
 use Rattle.tp_value.specs.declared.types.Ty.{Ty}
 use Rattle.tp_value.specs.declared.types.Ty.TheVariants as ty
 use Rattle.tp_value.specs.declared.types.Types.{Types}
@@ -59,12 +58,6 @@ module _ (types : Types) where
 
   pub type_fixed : (x : TypeName) (u v : Ty) → IsType types x u → IsType types x v → u ≡ v
   type_fixed x u v a b = same_Some u v (sym (type_stands a) ∙ type_stands b)
-
-  pub type_unnamed : (x : TypeName) (n : List ℕ) → x ≡ t.Named n → None ≡ type_number types n → (u : Ty) → IsType types x u → ⊥
-  unfolding stands
-  type_unnamed x n e none u h =
-      let is : Some u ≡ None = sym (type_stands h) ∙ ap stands e ∙ ap (option_map ty.Named) (sym none) in
-      cc
 
   -- a name that stands for no type has no number
   pub no_number : (n : List ℕ) → ((u : Ty) → IsType types (t.Named n) u → ⊥) → type_number types n ≡ None

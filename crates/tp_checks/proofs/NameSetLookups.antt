@@ -1,6 +1,6 @@
 -- Names, and the set that holds them.
-use Rattle.std.proofs.Common.{◌≡◌, ◌≢◌, ℕ, ◌+◌, ◌≤◌, Bool, true, false, cond, not, List, [], ◌∷◌, ◌++◌, Some, None, map, length, get_or, slice_get, option_map, position, nat_lt, Contains, refl, ap, sym, ◌∙◌, arith, add-one, true≢false, ◌||◌}
-use Rattle.std.proofs.lemmas.List.{length-map, get_or_default, map_push}
+use Rattle.std.proofs.Common.{◌≡◌, ◌≢◌, ℕ, ◌+◌, ◌≤◌, Bool, true, false, cond, List, [], ◌∷◌, ◌++◌, Some, None, map, length, get_or, slice_get, option_map, nat_lt, Contains, refl, ap, sym, ◌∙◌, arith, add-one, true≢false, ◌||◌}
+use Rattle.std.proofs.lemmas.List.{get_or_default, map_push}
 use Rattle.std.specs.List.{position_or_len, list_any}
 use Rattle.std.specs.Str.{bytes_eq}
 use Rattle.std.proofs.lemmas.List.Quantifiers.{position-Some, all_pairs_push}
@@ -9,16 +9,6 @@ use Rattle.std.proofs.lemmas.Option.{slice_get-get_or, slice_get-map, same_Some}
 use Rattle.std.proofs.lemmas.Slice.Eq.{bytes_eq-Decides}
 use Rattle.indexmap.specs.IndexSet.{insert_key}
 use Rattle.tp_checks.specs.Tables.{AreDistinct, place_of_name}
-
-place_map : {X Y : Type 0} (v : X → Y) (p : Y → Bool) (xs : List X) → position_or_len (λ x. p (v x)) xs ≡ position_or_len p (map v xs)
-place_map v p [] = refl
-place_map v p (x ∷ xs) = ap (λ n. cond (not (p (v x))) (1 + n) 0) (place_map v p xs)
-
--- a look-up by what is seen of the items
-pub position_map : {X Y : Type 0} (v : X → Y) (p : Y → Bool) (xs : List X) → position (λ x. p (v x)) xs ≡ position p (map v xs)
-position_map v p xs =
-    ap (λ n. cond (nat_lt n (length xs)) (Some n) None) (place_map v p xs)
-    ∙ ap (λ m. cond (nat_lt (position_or_len p (map v xs)) m) (Some (position_or_len p (map v xs))) None) (sym (length-map xs v))
 
 -- the name that has the place is the one that was looked for
 pub place_there : (names : List (List ℕ)) (name : List ℕ) (n : ℕ) → Some n ≡ place_of_name names name → slice_get names n ≡ Some name

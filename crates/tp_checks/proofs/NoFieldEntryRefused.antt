@@ -8,7 +8,9 @@ use Rattle.tp_checks.specs.Named.{IsAbsent}
 use Rattle.tp_checks.specs.Tables.{AreDistinct}
 use Rattle.tp_checks.specs.Placing.{HaveEntries, field_names}
 use Rattle.tp_checks.proofs.PlacedEntriesGrowth.{push_cases}
-use Rattle.tp_checks.proofs.DistinctNamesByCount.{none_other, none_twice}
+use Rattle.tp_checks.proofs.DistinctNamesByCount.{none_other}
+use Rattle.tp_checks.proofs.EachFieldHasEntry.{names_differ}
+use Rattle.tp_checks.proofs.UniqueZipsAndPlaces.{once}
 
 -- the place of each entry is taken, and so is that of one more
 pub placed_more : (taken : List Bool) (places : List ℕ) (p : ℕ) → p < length taken
@@ -52,14 +54,12 @@ module _ (fields : List Field) (names : List (List ℕ)) (apart : AreDistinct (f
       → slice_get names (length places) ≡ Some name → slice_get (field_names fields) p ≡ Some name → Contains places p → ⊥
   no_second places p name same_name there placed (m, below, is) =
       let first : slice_get names m ≡ Some name = sym (same_name m p (slice_get-get_or places m p below ∙ ap Some is)) ∙ placed in
-      none_twice (field_names fields) names apart count all.each m (length places) name (slice_get_within names m name first)
-      (slice_get_within names (length places) name there) (omega arith)
-      (get_or_from_slice_get names m name name first ∙ sym (get_or_from_slice_get names (length places) name name there))
+      omega (arith, below, once names name m (length places) (names_differ fields names apart all) first there)
 
   -- in the end each field has its entry
   pub none_missing : (places : List ℕ) → ((i k : ℕ) → slice_get places i ≡ Some k → slice_get (field_names fields) k ≡ slice_get names i)
       → length places ≡ length names → (k : ℕ) → k < length fields → (j : ℕ) × (slice_get places j ≡ Some k)
-  none_missing places same_name many k below = (at, found (cases_lt place k) (cases_lt k place)) where
+  none_missing places same_name many k below = (at, is_place ∙ ap Some same) where
     within : k < length (field_names fields)
     within = omega (arith, below, length-map fields (λ f. f.name))
 
@@ -81,10 +81,5 @@ module _ (fields : List Field) (names : List (List ℕ)) (apart : AreDistinct (f
     there : slice_get (field_names fields) place ≡ Some name
     there = same_name at place is_place ∙ slice_get-get_or names at name entry.1 ∙ ap Some entry.2
 
-    is_name : get_or (field_names fields) place [] ≡ get_or (field_names fields) k []
-    is_name = get_or_from_slice_get (field_names fields) place name [] there
-
-    found : (place < k) ⊎ (k ≤ place) → (k < place) ⊎ (place ≤ k) → slice_get places at ≡ Some k
-    found (inl lt) after = absurd (apart place k [] lt within is_name)
-    found (inr le) (inl gt) = absurd (apart k place [] gt (slice_get_within (field_names fields) place name there) (sym is_name))
-    found (inr le) (inr ge) = let same : place ≡ k = omega arith in is_place ∙ ap Some same
+    same : place ≡ k
+    same = once (field_names fields) name place k apart there (slice_get-get_or (field_names fields) k [] within)

@@ -1,12 +1,9 @@
 -- A `connect` or a `map` that can't be made.
-use Rattle.std.proofs.Common.{◌≡◌, ◌⊎◌, inl, inr, ℕ, ◌+◌, ◌<◌, Option, List, [], ◌∷◌, ◌++◌, length, take, drop, get_or, map, refl, sym, ap, ◌∙◌, subst}
+use Rattle.std.proofs.Common.{◌≡◌, ℕ, ◌+◌, ◌<◌, Option, List, ◌++◌, length, take, drop, get_or, map, refl, sym, ap, ◌∙◌, subst}
 use Rattle.std.specs.Option.{option_map, option_to_list}
 use Rattle.std.proofs.lemmas.List.{map-append, take-append-drop}
 use Rattle.std.proofs.lemmas.List.Elements.{filter_map-append}
-use Rattle.tp_tree.specs.declared.tree.Creation.{Creation}
 use Rattle.tp_tree.specs.declared.tree.PairEnd.{PairEnd}
-use Rattle.tp_tree.specs.declared.tree.SetupAction.{SetupAction}
-use Rattle.tp_tree.specs.declared.tree.SetupAction.TheVariants as setup_action
 use Rattle.tp_tree.specs.declared.tree.SetupStatement.{SetupStatement}
 use Rattle.tp_config.specs.declared.port_type.PortRef.{PortRef}
 use Rattle.tp_config.specs.declared.connecting.ConnectFault.{ConnectFault}
@@ -16,18 +13,16 @@ use Rattle.tp_config.specs.Causes.{ConnectRefused, MapRefused}
 use Rattle.tp_config.specs.Faults.{connect_refusal, map_refusal}
 use Rattle.tp_checks.specs.declared.fault.ModuleFault.{ModuleFault}
 use Rattle.tp_checks.specs.declared.fault.ModuleFault.TheVariants as module_fault
-use Rattle.tp_checks.specs.declared.name_set.NameFault.{NameFault}
-use Rattle.tp_checks.specs.declared.name_set.NameFault.TheVariants as name_fault
 use Rattle.tp_checks.specs.Refused.{Tells, TellsAt}
 use Rattle.tp_checks.specs.Tables.{IsNumbered}
 use Rattle.tp_checks.specs.Told.{IsAtLine, fault_refusal}
 use Rattle.tp_checks.specs.BrokenSetup.{ConnectBreaks, MapBreaks, PairBreaks, PairsBreak, connect_refused, map_refused}
-use Rattle.tp_checks.specs.Components.{creation_in, creation_of, creations, variable_name, variables}
+use Rattle.tp_checks.specs.Components.{creation_of, creations, variable_name, variables}
 use Rattle.tp_checks.specs.Configuring.{IsPortOfEnd, Makes}
 use Rattle.tp_checks.proofs.SetupStatementGrowth.{variables_more}
 use Rattle.tp_checks.proofs.DistinctNamesInParts.{numbered_first}
 use Rattle.tp_checks.proofs.NameFaultsTold.{split_here}
-use Rattle.tp_checks.proofs.ModuleFaultPropagation.{tells_from}
+use Rattle.tp_checks.proofs.RuleFaultPropagation.{told_from}
 
 module _ (s : Setup) (names : List (List ℕ)) (system : Option ℕ) (x y : PairEnd) (p q : PortRef) (first : IsPortOfEnd s names system x p)
     (second : IsPortOfEnd s names system y q) (line : ℕ) where
@@ -57,7 +52,7 @@ module _ (xs : List SetupStatement) (i : ℕ) (x : SetupStatement) (lt : i < len
   pub pair_among : (system : Option ℕ) (start s : Setup) (f : ModuleFault) → Makes system start (take i xs) s
       → TellsAt x.line (PairBreaks s names system x.action) f → Tells (PairsBreak system start xs) f
   pair_among system start s f makes told =
-      tells_from x.line (PairBreaks s names system x.action) (PairsBreak system start xs) f (λ rule b. record {
+      told_from x.line (PairBreaks s names system x.action) (PairsBreak system start xs) f (λ rule b. record {
         before = take i xs;
         statement = x;
         after = drop (i + 1) xs;

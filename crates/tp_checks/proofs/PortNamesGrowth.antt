@@ -4,7 +4,7 @@ use Rattle.std.specs.Str.{bytes_eq}
 use Rattle.std.proofs.lemmas.Bool.{cases_lt}
 use Rattle.std.proofs.lemmas.Option.{same_Some}
 use Rattle.tp_checks.specs.Named.{IsAbsent}
-use Rattle.tp_checks.proofs.NameSetLookups.{position_map}
+use Rattle.tp_config.proofs.ComponentAndPortLookups.{position_map}
 
 -- what holds of the first names, and of one more
 pub ports_more : (ports parameters : List (List ℕ)) (i : ℕ) (n : List ℕ) → slice_get ports i ≡ Some n → IsAbsent parameters n

@@ -14,7 +14,7 @@ use Rattle.tp_checks.specs.Resolved.{IsPortDecl, port_list}
 use Rattle.tp_checks.specs.Tables.{place_of_name}
 use Rattle.tp_checks.specs.Resolved.{IsMade, IsMadeOf}
 use Rattle.tp_checks.proofs.NameSetLookups.{place_there}
-use Rattle.tp_checks.proofs.ListPrefixGrowth.{contains_at, zip_at, zip_there}
+use Rattle.tp_checks.proofs.ListPrefixGrowth.{contains_at, zip_at, zip_beside}
 
 pub made_of : (types names : List (List ℕ)) (ports : List PortType) (made : List PortLists) (name : List ℕ) (k : ℕ) (found : PortLists)
     → names ≡ map (λ (p : PortType). p.name) ports → AllZip (IsMade types) ports made → Some k ≡ place_of_name names name
@@ -31,7 +31,7 @@ pub made_there : (types names : List (List ℕ)) (ports : List PortType) (made :
     → names ≡ map (λ (p : PortType). p.name) ports → AllZip (IsMade types) ports made → Some k ≡ place_of_name names name → None ≡ slice_get made k → ⊥
 made_there types names ports made name k named each placed none = by (slice_get ports k) refl where
   by : (o : Option PortType) → slice_get ports k ≡ o → ⊥
-  by (Some x) e = zip_there (IsMade types) ports made k x each e none
+  by (Some x) e = let p = zip_beside (IsMade types) ports made k x each e in absurd (cc)
   by None e =
       let text : None ≡ Some name =
       sym (ap (option_map (λ (p : PortType). p.name)) e) ∙ sym (slice_get-map (λ (p : PortType). p.name) ports k)

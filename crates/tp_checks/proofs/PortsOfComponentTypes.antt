@@ -1,5 +1,5 @@
 -- The ports of component types, by their names.
-use Rattle.std.proofs.Common.{◌≡◌, ℕ, ◌<◌, List, Option, None, Some, length, get_or, map, option_map, slice_get, refl, sym, ap, ◌∙◌, subst, arith}
+use Rattle.std.proofs.Common.{List, None, Option, Some, ap, arith, get_or, length, map, option_map, refl, slice_get, subst, sym, ℕ, ◌<◌, ◌∙◌, ◌≡◌}
 use Rattle.std.proofs.lemmas.List.{get_or-map, length-map}
 use Rattle.std.proofs.lemmas.Option.{same_Some, slice_get-get_or, slice_get-map}
 use Rattle.tp_tree.specs.declared.tree.ComponentType.{ComponentType}
@@ -9,7 +9,8 @@ use Rattle.tp_checks.specs.Tables.{AreDistinct, IsNumbered}
 use Rattle.tp_checks.specs.Definitions.{declared_ports}
 use Rattle.tp_checks.specs.Components.{HasPorts, HasSoundVariables, creations}
 use Rattle.tp_checks.specs.Configuring.{AreOwnPorts, CanSetUp, CanSetUpBeside, HaveOwnPorts, HavePorts, most_variables, names_of_ports}
-use Rattle.tp_checks.proofs.StartLookups.{all_got, same_named}
+use Rattle.tp_checks.proofs.StartLookups.{all_got}
+use Rattle.tp_checks.proofs.UniqueZipsAndPlaces.{same_named}
 
 -- component types whose ports have names of their own have these ports
 pub have_ports : (types : List ComponentType) (names : List (List ℕ)) (made : List (List PortDecl))
@@ -46,8 +47,8 @@ pub ports_same : (types : List ComponentType) (names : List (List ℕ)) (name : 
 ports_same types names name p q named apart first second =
     first.ports_are
     ∙ ap (λ (c : ComponentType). declared_ports c.ports)
-    (same_named (λ (c : ComponentType). c.name) types name first.component second.component (subst AreDistinct named apart) first.there
-    second.there first.named second.named)
+    (same_named (λ (c : ComponentType). c.name) types first.component second.component (subst AreDistinct named apart) first.there second.there
+    (first.named ∙ sym second.named))
     ∙ sym second.ports_are
 
 -- a test case that can be set up can be beside the ports that were found

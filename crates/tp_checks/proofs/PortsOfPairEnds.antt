@@ -54,9 +54,6 @@ module _ (s : Setup) (names : List (List ℕ)) (system : Option ℕ) where
       once (port_names s q.comp) x.port p.port q.port (own_names s.types s.components q.comp own) there second.port_known in
       ap (λ i. port_at i p.port) comp ∙ ap (port_at q.comp.0) port
 
-  pub no_component : (x : PairEnd) → end_component_number names system x.component ≡ None → (p : PortRef) × IsPortOfEnd s names system x p → ⊥
-  no_component x none r = let some = r.1.component_known in let e : None ≡ Some r.0.comp.0 = sym none ∙ some in absurd (cc)
-
   -- a port that is unknown
   pub no_port : (x : PairEnd) (comp : CompId) → end_component_number names system x.component ≡ Some comp.0
       → (Contains (port_names s comp) x.port → ⊥) → (p : PortRef) × IsPortOfEnd s names system x p → ⊥

@@ -20,7 +20,7 @@ use Rattle.tp_checks.specs.Rules.{AreComponentTypesKnown}
 use Rattle.tp_checks.specs.Definitions.{declared_ports}
 use Rattle.tp_checks.proofs.AddableComponents.{names_created}
 use Rattle.tp_checks.proofs.RulesOfAddedComponents.{most_small, no_system, tests}
-use Rattle.tp_checks.proofs.ModuleFaultPropagation.{tells_from, tells_map}
+use Rattle.tp_checks.proofs.RuleFaultPropagation.{told_from, told_on}
 
 abbrev most_of : Bool → ℕ
 most_of b = if b then 62 else 63
@@ -142,7 +142,7 @@ module _ (names ports : List (List ℕ)) (types : List (List PortDecl)) (case : 
     pub pairs_told : (after : List SetupStatement) (f : ModuleFault) → case.setups ≡ made ++ after → Tells (PairsBreak system s made) f
         → Tells (SetupBreaks names ports types case line) f
     pairs_told after f split told =
-        tells_map (PairsBreak system s made) (SetupBreaks names ports types case line) f (λ rule at b.
+        told_on (PairsBreak system s made) (SetupBreaks names ports types case line) f (λ rule at b.
         subst (λ l. SetupBreaks names ports types case line rule l) (sym b.line_is)
         (a_pair made after b.before b.statement b.after b.config rule split b.split (carries b.before b.config b.makes)
         (subst (λ n. PairBreaks b.config (variables b.before) n b.statement.action rule) numbered b.breaks))) told
@@ -151,7 +151,7 @@ module _ (names ports : List (List ℕ)) (types : List (List PortDecl)) (case : 
     pub stopped_told : (t : Setup) (f : ModuleFault) → StopsCreating names ports (codes "mtc" ∷ []) (most_variables case) case.setups made f
         → Makes system s made t → Tells (SetupBreaks names ports types case line) f
     stopped_told t f stops makes =
-        tells_from stops.statement.line (CreationBreaks names ports (codes "mtc" ∷ []) (variables made) (most_variables case) stops.creation)
+        told_from stops.statement.line (CreationBreaks names ports (codes "mtc" ∷ []) (variables made) (most_variables case) stops.creation)
         (SetupBreaks names ports types case line) f
         (λ rule b. a_var made stops.statement stops.after stops.creation t rule stops.split stops.makes (carries made t makes) b) stops.told
 
@@ -160,5 +160,5 @@ pub beside_told : (names ports : List (List ℕ)) (types : List ComponentType) (
     → HasPorts types case.runs_on ports → (f : ModuleFault) → Tells (SetupBreaks names ports made case line) f
     → Tells (CaseSetupBreaks names types made case line) f
 beside_told names ports types made case line found f told =
-    tells_map (SetupBreaks names ports made case line) (CaseSetupBreaks names types made case line) f
+    told_on (SetupBreaks names ports made case line) (CaseSetupBreaks names types made case line) f
     (λ rule at b. record { ports = ports; has_ports = found; breaks = b }) told

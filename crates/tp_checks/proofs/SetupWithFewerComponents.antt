@@ -20,6 +20,7 @@ use Rattle.tp_config.specs.Pairs.{partner, partners, same_port}
 use Rattle.tp_config.proofs.CreateTestsDecideCauses.{port_decides}
 use Rattle.tp_checks.specs.Components.{creation_of, creations, variable_name, variables}
 use Rattle.tp_checks.specs.Configuring.{IsPortOfEnd, IsStep, Makes, end_component_number, nothing, one_more}
+use Rattle.tp_config.proofs.RouteLaws.{map_contains}
 
 abbrev port_at : ℕ → ℕ → PortRef
 port_at i j = record { comp = record { 0 = i }; port = j }
@@ -33,9 +34,6 @@ same_test true true P Q first second there back = refl
 same_test true false P Q first second there back = sym (second.1 (there (first.0 refl)))
 same_test false true P Q first second there back = first.1 (back (second.0 refl))
 same_test false false P Q first second there back = refl
-
-contains_map : {A B : Type 0} (f : A → B) (xs : List A) (x : A) → Contains xs x → Contains (map f xs) (f x)
-contains_map f xs x h = (h.0, omega (arith, length-map xs f, h.1), get_or-map f xs h.0 x (f x) h.1 ∙ ap f h.2)
 
 module _ (more : List Member) (number : ℕ → ℕ) (apart : (i j : ℕ) → number i ≡ number j → i ≡ j) where
   abbrev at : PortRef → PortRef
@@ -83,7 +81,7 @@ module _ (more : List Member) (number : ℕ → ℕ) (apart : (i j : ℕ) → nu
       ∙ ap (cons_option (option_map at (partner p pair))) (partners_at pairs p) ∙ cons_at (partner p pair) (partners pairs p)
 
   beside_at : (pairs : List (PortRef × PortRef)) (p q : PortRef) → Contains (partners pairs p) q → Contains (partners (map both pairs) (at p)) (at q)
-  beside_at pairs p q h = subst (λ l. Contains l (at q)) (sym (partners_at pairs p)) (contains_map at (partners pairs p) q h)
+  beside_at pairs p q h = subst (λ l. Contains l (at q)) (sym (partners_at pairs p)) (map_contains at (partners pairs p) q h)
 
   each_at : (P Q : PortRef × PortRef → Type 0) → ((pair : PortRef × PortRef) → P (both pair) → Q pair) → (pairs : List (PortRef × PortRef))
       → All P (map both pairs) → All Q pairs

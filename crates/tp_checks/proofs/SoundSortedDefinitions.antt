@@ -17,7 +17,7 @@ use Rattle.tp_checks.specs.Sorted.{AreSorted, AreSound, HasSoundDefinitions, IsS
 use Rattle.tp_checks.proofs.DistinctNamesInParts.{all_among, numbered_among, type_named}
 use Rattle.tp_checks.proofs.SoundDefinitionRules.{sound_all}
 
-type_itself : (x y : Defined) → type_of x ≡ Some y → x ≡ y
+pub type_itself : (x y : Defined) → type_of x ≡ Some y → x ≡ y
 type_itself (d.Record r) y e = same_Some (d.Record r) y e
 type_itself (d.List l) y e = same_Some (d.List l) y e
 type_itself (d.Port p) y e = absurd (cc)

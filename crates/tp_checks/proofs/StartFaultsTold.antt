@@ -1,9 +1,9 @@
 -- A start that breaks a rule, and what is left behind the last one.
-use Rattle.std.proofs.Common.{◌≡◌, ◌≢◌, ℕ, ◌+◌, ◌<◌, Some, List, [], ◌∷◌, All, Contains, length, take, drop, get_or, map, slice_get, refl, sym, ap, ◌∙◌, subst, arith}
+use Rattle.std.proofs.Common.{All, Contains, List, Some, [], ap, arith, drop, get_or, length, map, refl, slice_get, subst, sym, take, ℕ, ◌+◌, ◌<◌, ◌∷◌, ◌≡◌, ◌≢◌}
 use Rattle.std.specs.List.{AllZip}
 use Rattle.std.proofs.lemmas.List.{length-map}
 use Rattle.std.proofs.lemmas.List.Elements.{All-cons, All-nil}
-use Rattle.std.proofs.lemmas.Option.{slice_get-get_or}
+use Rattle.std.proofs.lemmas.Option.{slice_get_read}
 use Rattle.std.proofs.lemmas.Slice.Zip.{AllZip-long}
 use Rattle.tp_tree.specs.declared.tree.ComponentName.{ComponentName}
 use Rattle.tp_tree.specs.declared.tree.ComponentStart.{ComponentStart}
@@ -22,11 +22,7 @@ use Rattle.tp_checks.specs.Components.{creation_of, creations, variable_name, va
 use Rattle.tp_checks.specs.Starting.{HasParameterType, IsArgument, IsStartOf, IsStartPlace, started_names}
 use Rattle.tp_checks.proofs.NameFaultsTold.{split_here}
 use Rattle.tp_checks.proofs.ListPrefixGrowth.{contains_at}
-use Rattle.tp_checks.proofs.ModuleFaultPropagation.{at_map, tells_from}
-
--- what stands at a place
-pub got : {A : Type 0} (xs : List A) (i : ℕ) (x : A) → i < length xs → x ≡ get_or xs i x → slice_get xs i ≡ Some x
-got {A} xs i x lt is = slice_get-get_or xs i x lt ∙ ap (λ (y : A). Some y) (sym is)
+use Rattle.tp_checks.proofs.RuleFaultPropagation.{told_at, told_from}
 
 -- one of the arguments breaks a rule behind those before it
 pub argument_among : (names types : List (List ℕ)) (ps : List Parameter) (xs : List ComponentName) (i : ℕ) (p : Parameter) (x : ComponentName)
@@ -34,8 +30,8 @@ pub argument_among : (names types : List (List ℕ)) (ps : List Parameter) (xs :
     → AllZip (IsArgument names) (take i xs) made → AllZip (HasParameterType types) (take i ps) made → TellsAt at (ArgumentBreaks names types p x) f
     → TellsAt at (ArgumentsBreak names types ps xs) f
 argument_among names types ps xs i p x made at f same lt isp isx known fits told =
-    at_map at (ArgumentBreaks names types p x) (ArgumentsBreak names types ps xs) f
-    (λ rule b. one_argument i p x made rule same (got ps i p (omega (arith, lt, same)) isp) (got xs i x lt isx) known fits b) told
+    told_at at (ArgumentBreaks names types p x) (ArgumentsBreak names types ps xs) f
+    (λ rule b. one_argument i p x made rule same (slice_get_read ps (length ps) i p refl (omega (arith, lt, same)) isp) (slice_get_read xs (length xs) i x refl lt isx) known fits b) told
 
 -- the function that was found is that of the start
 pub start_function : (functions : List Function) (names : List (List ℕ)) (x : ComponentStart) (place : ℕ) (f : Function)
@@ -52,7 +48,7 @@ pub start_among : (functions : List Function) (names types : List (List ℕ)) (x
     → AllZip (IsStartOf functions names types) (take i xs) made → started ≡ started_names (take i xs) → IsNumbered started
     → TellsAt x.line (StartBreaks functions names types started x) f → Tells (StartBreaksAmong functions names types xs) f
 start_among functions names types xs i x started made f lt is each named once told =
-    tells_from x.line (StartBreaks functions names types started x) (StartBreaksAmong functions names types xs) f (λ rule b. record {
+    told_from x.line (StartBreaks functions names types started x) (StartBreaksAmong functions names types xs) f (λ rule b. record {
       before = take i xs;
       start = x;
       after = drop (i + 1) xs;

@@ -3,7 +3,7 @@ use Rattle.std.proofs.Common.{◌≡◌, ℕ, ◌+◌, ◌<◌, List, [], ◌∷
 use Rattle.std.specs.List.{AllZip}
 use Rattle.std.proofs.lemmas.List.{get_or-map, length-map, map-append, take-append-drop}
 use Rattle.std.proofs.lemmas.List.Elements.{filter_map-append}
-use Rattle.std.proofs.lemmas.Option.{get_or_from_slice_get, slice_get-get_or, slice_get-map, slice_get_within, same_Some}
+use Rattle.std.proofs.lemmas.Option.{get_or_from_slice_get, slice_get-map, slice_get_within, same_Some}
 use Rattle.tp_tree.specs.declared.tree.ComponentStart.{ComponentStart}
 use Rattle.tp_tree.specs.declared.tree.Creation.{Creation}
 use Rattle.tp_tree.specs.declared.tree.Function.{Function}
@@ -25,17 +25,6 @@ named_there f xs names name x named there is =
     subst (λ l. Contains l name) (sym named)
     (subst (Contains (map f xs)) is
     (there.0, omega (arith, length-map xs f, there.1), get_or-map f xs there.0 x (f x) there.1 ∙ ap f there.2))
-
--- what has one name is one, where the names differ
-pub same_named : {A : Type 0} (f : A → List ℕ) (xs : List A) (name : List ℕ) (a b : A) → AreDistinct (map f xs) → Contains xs a → Contains xs b
-    → f a ≡ name → f b ≡ name → a ≡ b
-same_named {A} f xs name a b apart first second is equals =
-    let x : slice_get xs first.0 ≡ Some a = slice_get-get_or xs first.0 a first.1 ∙ ap (λ (y : A). Some y) first.2 in
-    let y : slice_get xs second.0 ≡ Some b = slice_get-get_or xs second.0 b second.1 ∙ ap (λ (y : A). Some y) second.2 in
-    let same : first.0 ≡ second.0 =
-    once (map f xs) name first.0 second.0 apart (slice_get-map f xs first.0 ∙ ap (option_map f) x ∙ ap (λ (n : List ℕ). Some n) is)
-    (slice_get-map f xs second.0 ∙ ap (option_map f) y ∙ ap (λ (n : List ℕ). Some n) equals) in
-    same_Some a b (sym x ∙ ap (slice_get xs) same ∙ y)
 
 -- what holds of each holds of what stands at a place
 pub all_got : {A : Type 0} (P : A → Type 0) (xs : List A) (k : ℕ) (x : A) → All P xs → slice_get xs k ≡ Some x → P x

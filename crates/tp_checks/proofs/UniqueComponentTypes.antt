@@ -1,16 +1,13 @@
 -- The component types that a module defines are determined, as far as their ports go.
-use Rattle.std.proofs.Common.{◌≡◌, ℕ, List, [], ◌∷◌, ◌++◌, Some, map, refl, sym, ap, ◌∙◌, subst}
+use Rattle.std.proofs.Common.{◌≡◌, ℕ, List, [], ◌∷◌, Some, map, refl, sym, ap, ◌∙◌, subst}
 use Rattle.std.specs.List.{AllZip, flat_map}
-use Rattle.std.proofs.lemmas.List.{map-append}
 use Rattle.std.proofs.lemmas.Option.{same_Some}
 use Rattle.tp_tree.specs.declared.message.TypeName.{TypeName}
 use Rattle.tp_tree.specs.declared.tree.ComponentType.{ComponentType}
-use Rattle.tp_tree.specs.declared.tree.DeclaredName.{DeclaredName}
 use Rattle.tp_tree.specs.declared.tree.Defined.{Defined}
 use Rattle.tp_tree.specs.declared.tree.Defined.TheVariants as defined
 use Rattle.tp_tree.specs.declared.tree.Definition.{Definition}
 use Rattle.tp_tree.specs.declared.tree.Module.{Module}
-use Rattle.tp_tree.specs.declared.tree.PortDeclaration.{PortDeclaration}
 use Rattle.tp_tree.specs.declared.tree.PortType.{PortType}
 use Rattle.tp_value.specs.declared.types.Ty.{Ty}
 use Rattle.tp_config.specs.declared.port_type.CompType.{CompType}
@@ -22,23 +19,15 @@ use Rattle.tp_checks.specs.declared.starts.Starts.{Starts}
 use Rattle.tp_checks.specs.Components.{HaveDistinctPorts}
 use Rattle.tp_checks.specs.Configuring.{AreOwnPorts, AreSoundVariables, CanSetUp, IsConfigBySetup, names_of_ports}
 use Rattle.tp_checks.specs.Defining.{IsDefined}
-use Rattle.tp_checks.specs.Definitions.{component_type_of, component_type_names, component_types, declared, declared_ports, functions, inner_names, name_of, port_type_of, port_type_names, port_types, test_cases, type_names}
+use Rattle.tp_checks.specs.Definitions.{component_type_of, component_type_names, component_types, declared_ports, functions, inner_names, port_type_of, port_type_names, port_types, test_cases, type_names}
 use Rattle.tp_checks.specs.Prepared.{IsWellDeclared}
 use Rattle.tp_checks.specs.Resolved.{IsComponentType, IsPortDecl, IsTypeNamed, port_list, received_types, sent_types}
 use Rattle.tp_checks.specs.Rules.{HasUniqueNames}
 use Rattle.tp_checks.specs.Sorted.{component_types_in, functions_in}
 use Rattle.tp_checks.specs.Starting.{AreStarts}
-use Rattle.tp_checks.proofs.StartLookups.{same_named}
-use Rattle.tp_checks.proofs.DistinctNamesInParts.{all_among, numbered_among}
-use Rattle.tp_checks.proofs.UniqueZipsAndPlaces.{zip_same, zip_seen}
-
-own_port : (x : Defined) (p : PortType) → port_type_of x ≡ Some p → p.name ≡ name_of x
-own_port (defined.Record r) p e = absurd (cc)
-own_port (defined.List l) p e = absurd (cc)
-own_port (defined.Port q) p e = ap (λ (p : PortType). p.name) (sym (same_Some q p e))
-own_port (defined.Component c) p e = absurd (cc)
-own_port (defined.Function f) p e = absurd (cc)
-own_port (defined.TestCase c) p e = absurd (cc)
+use Rattle.tp_checks.proofs.DistinctNamesInParts.{all_among, numbered_among, port_named}
+use Rattle.tp_checks.proofs.UniqueZipsAndPlaces.{same_named, zip_same, zip_seen}
+use Rattle.tp_checks.proofs.PortTypesAsDeclared.{ports_named}
 
 own_ports : (x : Defined) (c : ComponentType) → component_type_of x ≡ Some c → inner_names x ≡ declared_ports c.ports
 own_ports (defined.Record r) c e = absurd (cc)
@@ -49,8 +38,8 @@ own_ports (defined.Function f) c e = absurd (cc)
 own_ports (defined.TestCase t) c e = absurd (cc)
 
 -- the port types have names of their own
-ports_apart : (m : Module) → HasUniqueNames m → AreDistinct (port_type_names m)
-ports_apart m unique = (numbered_among port_type_of (λ (p : PortType). p.name) own_port m.definitions unique.definitions).distinct
+pub ports_apart : (m : Module) → HasUniqueNames m → AreDistinct (port_type_names m)
+ports_apart m unique = (numbered_among port_type_of (λ (p : PortType). p.name) port_named m.definitions unique.definitions).distinct
 
 -- and so have the ports of each component type
 pub ports_numbered : (m : Module) → HasUniqueNames m → HaveDistinctPorts (component_types m)
@@ -70,8 +59,8 @@ module _ (types : List (List ℕ)) (ports : List PortType) where
   unfolding lists
   port_same apart x p q first second =
       let one : first.lists.port_type ≡ second.lists.port_type =
-      same_named (λ (p : PortType). p.name) ports x.1 first.lists.port_type second.lists.port_type apart first.lists.there second.lists.there
-      first.lists.named second.lists.named in
+      same_named (λ (p : PortType). p.name) ports first.lists.port_type second.lists.port_type apart first.lists.there second.lists.there
+      (first.lists.named ∙ sym second.lists.named) in
       let ins : p.ins ≡ q.ins =
       types_same (flat_map received_types second.lists.port_type.directions) p.ins q.ins
       (subst (λ (t : PortType). AllZip (IsTypeNamed types) (flat_map received_types t.directions) p.ins) one first.lists.lists.0) second.lists.lists.0 in
@@ -80,27 +69,9 @@ module _ (types : List (List ℕ)) (ports : List PortType) where
       (subst (λ (t : PortType). AllZip (IsTypeNamed types) (flat_map sent_types t.directions) p.outs) one first.lists.lists.1) second.lists.lists.1 in
       ap (λ l. lists l p.outs p.name) ins ∙ ap (λ l. lists q.ins l p.name) outs ∙ ap (lists q.ins q.outs) (first.name ∙ sym second.name)
 
-  component_same : AreDistinct (map (λ (p : PortType). p.name) ports) → (c : ComponentType) (t u : CompType) → IsComponentType types ports c t
+  pub component_same : AreDistinct (map (λ (p : PortType). p.name) ports) → (c : ComponentType) (t u : CompType) → IsComponentType types ports c t
       → IsComponentType types ports c u → ports_of t ≡ ports_of u
   component_same apart c t u first second = zip_same (IsPortDecl types ports) (port_same apart) (port_list c.ports) (ports_of t) (ports_of u) first second
-
-  names_here : (xs : List (List ℕ × List ℕ)) (ports_made : List PortDecl) → AllZip (IsPortDecl types ports) xs ports_made
-      → names_of_ports ports_made ≡ map (λ (x : List ℕ × List ℕ). x.0) xs
-  names_here [] [] each = refl
-  names_here [] (p ∷ ps) each = absurd each
-  names_here (x ∷ xs) [] each = absurd each
-  names_here (x ∷ xs) (p ∷ ps) each = ap (λ n. n ∷ names_of_ports ps) each.0.name ∙ ap (λ l. x.0 ∷ l) (names_here xs ps each.1)
-
-declared_first : (kind : List ℕ) (ns : List DeclaredName) → map (λ (x : List ℕ × List ℕ). x.0) (map (λ n. (declared n, kind)) ns) ≡ map declared ns
-declared_first kind [] = refl
-declared_first kind (n ∷ ns) = ap (λ l. declared n ∷ l) (declared_first kind ns)
-
-listed_first : (ps : List PortDeclaration) → map (λ (x : List ℕ × List ℕ). x.0) (port_list ps) ≡ declared_ports ps
-listed_first [] = refl
-listed_first (p ∷ ps) =
-    map-append (λ (x : List ℕ × List ℕ). x.0) (map (λ n. (declared n, p.type_name)) p.names) (port_list ps)
-    ∙ ap (λ l. l ++ map (λ (x : List ℕ × List ℕ). x.0) (port_list ps)) (declared_first p.type_name p.names)
-    ∙ ap (λ l. map declared p.names ++ l) (listed_first ps)
 
 pub names_made : (types : List (List ℕ)) (ports : List PortType) (cs : List ComponentType) (made : List CompType)
     → AllZip (IsComponentType types ports) cs made → map names_of_ports (map ports_of made) ≡ map (λ (c : ComponentType). declared_ports c.ports) cs
@@ -108,7 +79,7 @@ names_made types ports [] [] each = refl
 names_made types ports [] (t ∷ ts) each = absurd each
 names_made types ports (c ∷ cs) [] each = absurd each
 names_made types ports (c ∷ cs) (t ∷ ts) each =
-    ap (λ n. n ∷ map names_of_ports (map ports_of ts)) (names_here types ports (port_list c.ports) (ports_of t) each.0 ∙ listed_first c.ports)
+    ap (λ n. n ∷ map names_of_ports (map ports_of ts)) (ports_named types ports c.ports (ports_of t) each.0)
     ∙ ap (λ l. declared_ports c.ports ∷ l) (names_made types ports cs ts each.1)
 
 module _ (m : Module) (d : Definitions) (made : IsDefined m d) where

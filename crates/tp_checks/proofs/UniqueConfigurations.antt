@@ -2,7 +2,7 @@
 use Rattle.std.proofs.Common.{◌≡◌, ℕ, ◌+◌, ◌<◌, ◌≤◌, ◌⊎◌, inl, inr, List, [], ◌∷◌, ◌++◌, Option, length, take, drop, get_or, map, refl, sym, ap, ◌∙◌, subst, arith}
 use Rattle.std.specs.Option.{option_map, option_to_list}
 use Rattle.std.proofs.lemmas.Bool.{cases_lt}
-use Rattle.std.proofs.lemmas.List.{append_cancel_left, length_push, map-append, take-append-drop, take-append-le, take_all, take_at}
+use Rattle.std.proofs.lemmas.List.{length_push, map-append, same_from_push, take-append-drop, take-append-le, take_all}
 use Rattle.std.proofs.lemmas.List.Elements.{filter_map-append}
 use Rattle.tp_tree.specs.declared.tree.SetupAction.{SetupAction}
 use Rattle.tp_tree.specs.declared.tree.SetupAction.TheVariants as setup_action
@@ -15,14 +15,6 @@ use Rattle.tp_checks.proofs.SetupStatementGrowth.{variables_more}
 use Rattle.tp_checks.proofs.PortsOfPairEnds.{same_end}
 use Rattle.tp_checks.proofs.DistinctNamesInParts.{numbered_first}
 use Rattle.tp_checks.proofs.ListPrefixGrowth.{pushed}
-
--- two lists that end in one item
-same_ends : {A : Type 0} (xs ys : List A) (x y : A) → xs ++ x ∷ [] ≡ ys ++ y ∷ [] → (xs ≡ ys) × (x ≡ y)
-same_ends {A} xs ys x y e =
-    let count : length xs ≡ length ys = omega (arith, ap length e, length_push xs x, length_push ys y) in
-    let front : xs ≡ ys = sym (take_at xs (x ∷ []) (length xs) refl) ∙ ap (take (length xs)) e ∙ take_at ys (y ∷ []) (length xs) (sym count) in
-    let back : x ∷ [] ≡ y ∷ [] = append_cancel_left ys (x ∷ []) (y ∷ []) (sym (ap (λ l. l ++ x ∷ []) front) ∙ e) in
-    (front, cc)
 
 module _ (names : List (List ℕ)) (system : Option ℕ) where
   -- a setup statement makes one configuration
@@ -70,7 +62,7 @@ module _ (system : Option ℕ) (start : Setup) where
       by : ((ys ≡ []) × (t ≡ start)) ⊎ Last ys t → ((zs : List SetupStatement) (z : Setup) → Makes system start zs z → vs ≡ zs → u ≡ z) → s ≡ t
       by (inl h) again = not_none vs x (sym (e ∙ h.0))
       by (inr h) again =
-          let parts = same_ends vs h.0 x h.1 (e ∙ h.3) in
+          let parts = same_from_push vs h.0 x h.1 (e ∙ h.3) in
           let same : u ≡ h.2 = again h.0 h.2 h.4 parts.0 in
           let other : IsStep u (variables vs) system x.action t =
           subst (λ z. IsStep z (variables vs) system x.action t) (sym same)
@@ -112,7 +104,7 @@ module _ (system : Option ℕ) (start : Setup) where
       by : ((take (i + 1) xs ≡ []) × (h.0 ≡ start)) ⊎ Last (take (i + 1) xs) h.0 → (t : Setup) × IsStep s names system x.action t
       by (inl w) = not_none (take i xs) x (sym (pushed xs i x lt is ∙ w.0))
       by (inr w) =
-          let parts = same_ends (take i xs) w.0 x w.1 (pushed xs i x lt is ∙ w.3) in
+          let parts = same_from_push (take i xs) w.0 x w.1 (pushed xs i x lt is ∙ w.3) in
           let same : w.2 ≡ s = makes_same own w.0 (take i xs) w.2 s w.4 before (sym parts.0) in (
             h.0,
             subst (λ z. IsStep z names system x.action h.0) same

@@ -1,9 +1,9 @@
 -- Two lists that agree item by item, and names that stand once.
-use Rattle.std.proofs.Common.{◌≡◌, ℕ, zero, suc, ◌<◌, inl, inr, List, [], ◌∷◌, ◌++◌, Some, Contains, length, get_or, map, slice_get, refl, sym, ap, ◌∙◌, subst, arith}
+use Rattle.std.proofs.Common.{◌≡◌, ℕ, zero, suc, ◌<◌, inl, inr, List, [], ◌∷◌, ◌++◌, Some, Contains, length, get_or, map, option_map, slice_get, refl, sym, ap, ◌∙◌, subst, arith}
 use Rattle.std.specs.List.{AllZip}
 use Rattle.std.proofs.lemmas.Bool.{cases_lt}
 use Rattle.std.proofs.lemmas.List.{get_or_at, get_or_append_left, length-append}
-use Rattle.std.proofs.lemmas.Option.{slice_get_within, get_or_from_slice_get}
+use Rattle.std.proofs.lemmas.Option.{slice_get-get_or, slice_get-map, slice_get_within, get_or_from_slice_get, same_Some}
 use Rattle.tp_checks.specs.Tables.{AreDistinct}
 
 module _ {A B : Type 0} (R : A → B → Type 0) where
@@ -31,7 +31,8 @@ module _ {A B : Type 0} (R : A → B → Type 0) where
   zip_middle (a ∷ xs) x more (z ∷ zs) each = zip_middle xs x more zs each.1
 
   -- where an item determines what stands beside it, a list does
-  pub zip_same : ((x : A) (y z : B) → R x y → R x z → y ≡ z) → (xs : List A) (ys zs : List B) → AllZip R xs ys → AllZip R xs zs → ys ≡ zs
+  pub zip_same : {Q : A → B → Type 0} → ((x : A) (y z : B) → Q x y → R x z → y ≡ z) → (xs : List A) (ys zs : List B) → AllZip Q xs ys → AllZip R xs zs
+      → ys ≡ zs
   zip_same one [] [] [] first second = refl
   zip_same one [] [] (z ∷ zs) first second = absurd second
   zip_same one [] (y ∷ ys) zs first second = absurd first
@@ -41,6 +42,13 @@ module _ {A B : Type 0} (R : A → B → Type 0) where
       let here : y ≡ z = one x y z first.0 second.0 in
       let rest : ys ≡ zs = zip_same one xs ys zs first.1 second.1 in
       rw (here, rest)
+
+  -- nothing else can stand beside an item
+  abbrev pub Fixes : A → B → Type 0
+  Fixes x y = (z : B) → R x z → y ≡ z
+
+  pub zip_fixed : (xs : List A) (ys zs : List B) → AllZip Fixes xs ys → AllZip R xs zs → ys ≡ zs
+  zip_fixed xs ys zs first second = zip_same {Q = Fixes} (λ x y z only. only z) xs ys zs first second
 
 -- where an item determines what is seen of what stands beside it, a list does
 pub zip_seen : {A B C : Type 0} (R : A → B → Type 0) (f : B → C) → ((x : A) (y z : B) → R x y → R x z → f y ≡ f z) → (xs : List A) (ys zs : List B)
@@ -76,6 +84,17 @@ once names name j k apart e f =
         | inr low ↦ omega (arith, high, low)
       ]
     ]
+
+pub place_in : {A : Type 0} (xs : List A) (x : A) → Contains xs x → (k : ℕ) × (slice_get xs k ≡ Some x)
+place_in xs x (k, below, is) = (k, slice_get-get_or xs k x below ∙ ap Some is)
+
+-- of one name there is one item
+pub same_named : {A : Type 0} (f : A → List ℕ) (xs : List A) (x y : A) → AreDistinct (map f xs) → Contains xs x → Contains xs y → f x ≡ f y → x ≡ y
+same_named f xs x y apart here there e =
+    let i = place_in xs x here in
+    let j = place_in xs y there in
+    let same = once (map f xs) (f x) i.0 j.0 apart (slice_get-map f xs i.0 ∙ ap (option_map f) i.1) (slice_get-map f xs j.0 ∙ ap (option_map f) j.1 ∙ ap Some (sym e)) in
+    same_Some x y (sym i.1 ∙ ap (slice_get xs) same ∙ j.1)
 
 -- a name that stands once behind others is none of them
 pub not_before : (names more : List (List ℕ)) (name : List ℕ) → AreDistinct (names ++ name ∷ more) → Contains names name → ⊥

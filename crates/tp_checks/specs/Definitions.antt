@@ -101,9 +101,6 @@ port_type_names m = map (λ (p : PortType). p.name) (port_types m)
 abbrev pub component_type_names : Module → List (List ℕ)
 component_type_names m = map (λ (c : ComponentType). c.name) (component_types m)
 
-abbrev pub function_names : Module → List (List ℕ)
-function_names m = map (λ (f : Function). f.name) (functions m)
-
 -- a declared name, without its line
 abbrev pub declared : DeclaredName → List ℕ
 declared n = n.name

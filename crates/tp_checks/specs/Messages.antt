@@ -144,16 +144,6 @@ mutual
         → slice_get entries j ≡ Some x → x.name ≡ f.name → IsTemplate types turns f.ty x.template y
         → AreNamedTemplates types turns entries (fs ++ f ∷ []) (rs ++ y ∷ [])
 
--- templates in braces stand for this, as a template of these elements or fields
-pub record IsListTemplate (types : Types) (turns : List (List ℕ)) (u : Ty) (ts : List Template) (r : RecvTemplate)
-    : Type 0 where
-  pub stands : (v : List Template) → v ≡ ts → IsTemplate types turns u (template.List v) r
-
--- the same for templates that are given by the names of fields
-pub record IsRecordTemplate (types : Types) (turns : List (List ℕ)) (u : Ty) (ts : List TemplateField)
-    (r : RecvTemplate) : Type 0 where
-  pub stands : (v : List TemplateField) → v ≡ ts → IsTemplate types turns u (template.Record v) r
-
 -- a message: its type is known, and the value fits it
 pub record IsMessage (types : Types) (turns : List (List ℕ)) (x : Message) (m : SendMsg) : Type 0 where
   pub type_known : IsType types x.type_name m.ty

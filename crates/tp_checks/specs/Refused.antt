@@ -15,5 +15,4 @@ Tells IsBroken (module_fault.Memory m) = Unit {0}
 
 -- the same, for a part that begins at this line
 abbrev pub TellsAt : ℕ → (ModuleRule → Type 0) → ModuleFault → Type 0
-TellsAt line IsBroken (module_fault.Refused rule at) = (at ≡ line) × IsBroken rule
-TellsAt line IsBroken (module_fault.Memory m) = Unit {0}
+TellsAt line IsBroken = Tells (λ rule at. (at ≡ line) × IsBroken rule)

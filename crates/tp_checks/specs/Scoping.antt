@@ -84,12 +84,14 @@ pub record IsNew (scope : Scope) (variables : Variables) (turns : List (List ℕ
 abbrev pub reference_count : Scope → ℕ
 reference_count scope = length scope.parameters.now + length scope.component_variables.now + 2
 
--- what the checks of a body assume about its scope: a component type has at most 64 ports, and no two fields of a
--- record type have the same name
+-- no two fields of a record type have the same name
+abbrev pub OwnNames : Types → Type 0
+OwnNames types = (u : Ty) (fields : List Field) → named types u ≡ Some (type_def.Record fields) → AreDistinct (field_names fields)
+
+-- what the checks of a body assume about its scope: a component type has at most 64 ports
 pub record IsSoundScope (scope : Scope) : Type 0 where
   pub few_ports : length scope.component_type.now.ports.entries ≤ 64
-  pub own_names : (u : Ty) (fields : List Field) → named scope.types.now u ≡ Some (type_def.Record fields)
-      → AreDistinct (field_names fields)
+  pub own_names : OwnNames scope.types.now
 
 -- each variable has a type
 pub record AreTyped (variables : Variables) : Type 0 where

@@ -67,7 +67,7 @@ pub fn lists(types: &TypeList, ty: Ty) -> bool
     types.has(ty)
 }
 
-#[tactic(auto, using(crate::proofs::TypeAndReferenceRules::cases))]
+#[tactic(auto, using(crate::proofs::DefinitionLines::names))]
 pub fn find_type(types: &Types, name: &TypeName) -> Option<Ty>
     ensures there { IfSome result (IsType types.now name.now) }
     ensures absent { IfNone result ((u : Ty) → IsType types.now name.now u → ⊥) }
@@ -107,7 +107,7 @@ fn find_component(scope: &Scope, name: &str) -> Option<usize>
     scope.parameters.len().checked_add(place as usize)
 }
 
-#[tactic(auto, using(crate::proofs::TypeAndReferenceRules::cases))]
+#[tactic(auto, using(crate::proofs::DefinitionLines::names))]
 pub fn find_reference(context: &Context, component: &ComponentName) -> Option<usize>
     ensures there { IfSome result (IsReference
         context.now.scope.now context.now.variables.now (texts context.now.turns.now)

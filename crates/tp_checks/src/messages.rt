@@ -24,7 +24,7 @@ use tp_value::types::{Field, Ty, TypeDef};
 /// missing or given twice, and a variable; 11 `Unknown` for any other name that isn't a loop
 /// variable.
 #[cycle(value)]
-#[tactic(auto, using(crate::proofs::ValueRules::cases))]
+#[tactic(auto, using(crate::proofs::DefinitionLines::values))]
 pub fn resolve_value(
     alloc: Global,
     context: &Context,
@@ -68,7 +68,7 @@ pub fn resolve_value(
 }
 
 #[cycle(value)]
-#[tactic(auto, using(crate::proofs::ValueRules::cases))]
+#[tactic(auto, using(crate::proofs::DefinitionLines::values))]
 fn resolve_in_braces(
     alloc: Global,
     context: &Context,
@@ -95,7 +95,7 @@ fn resolve_in_braces(
 }
 
 #[cycle(value)]
-#[tactic(auto, using(crate::proofs::ValueRules::cases))]
+#[tactic(auto, using(crate::proofs::DefinitionLines::values))]
 fn resolve_elements(
     alloc: Global,
     context: &Context,
@@ -117,7 +117,7 @@ fn resolve_elements(
 }
 
 #[cycle(value)]
-#[tactic(auto, using(crate::proofs::ValueRules::cases))]
+#[tactic(auto, using(crate::proofs::DefinitionLines::values))]
 fn resolve_fields(
     alloc: Global,
     context: &Context,
@@ -143,7 +143,7 @@ fn resolve_fields(
 }
 
 #[cycle(value)]
-#[tactic(auto, using(crate::proofs::ValueRules::cases))]
+#[tactic(auto, using(crate::proofs::DefinitionLines::values))]
 fn resolve_named(
     alloc: Global,
     context: &Context,

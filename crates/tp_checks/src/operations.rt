@@ -125,7 +125,7 @@ fn component_variable(context: &Context, name: &str) -> Result<usize, ModuleFaul
     }
 }
 
-#[tactic(auto, using(crate::proofs::OperationRules::cases))]
+#[tactic(auto, using(crate::proofs::DefinitionLines::operations))]
 fn resolve_sent(
     alloc: Global,
     context: &Context,
@@ -171,7 +171,7 @@ fn is_variable(context: &Context, name: &str) -> bool
     context.variables.names.has(name)
 }
 
-#[tactic(auto, using(crate::proofs::OperationRules::cases))]
+#[tactic(auto, using(crate::proofs::DefinitionLines::operations))]
 fn resolve_component(context: &Context, component: &ComponentName) -> Result<Receiver, ModuleFault>
     ensures stands { IfOk result (IsReceiver
         context.now.scope.now context.now.variables.now (texts context.now.turns.now)
@@ -194,7 +194,7 @@ fn resolve_component(context: &Context, component: &ComponentName) -> Result<Rec
     Ok(Receiver::Reference(place))
 }
 
-#[tactic(auto, using(crate::proofs::OperationRules::cases))]
+#[tactic(auto, using(crate::proofs::DefinitionLines::operations))]
 fn resolve_receiver(context: &Context, to: &Option<Receivers>) -> Result<Receiver, ModuleFault>
     ensures stands { IfOk result (IsReceiver
         context.now.scope.now context.now.variables.now (texts context.now.turns.now) to.now) }
@@ -239,7 +239,7 @@ pub fn resolve_send(
     })
 }
 
-#[tactic(auto, using(crate::proofs::OperationRules::cases))]
+#[tactic(auto, using(crate::proofs::DefinitionLines::operations))]
 fn resolve_wanted(
     alloc: Global,
     context: &Context,
@@ -266,7 +266,7 @@ fn resolve_wanted(
     Ok(RecvMsg::Of(ty, made))
 }
 
-#[tactic(auto, using(crate::proofs::OperationRules::cases))]
+#[tactic(auto, using(crate::proofs::DefinitionLines::operations))]
 fn resolve_sender(
     context: &Context,
     sender: &Option<ComponentName>,
@@ -286,7 +286,7 @@ fn resolve_sender(
     Ok(Some(place))
 }
 
-#[tactic(auto, using(crate::proofs::OperationRules::cases))]
+#[tactic(auto, using(crate::proofs::DefinitionLines::operations))]
 fn resolve_value_target(
     context: &Context,
     wanted: &RecvMsg,
@@ -312,7 +312,7 @@ fn resolve_value_target(
     }
 }
 
-#[tactic(auto, using(crate::proofs::OperationRules::cases))]
+#[tactic(auto, using(crate::proofs::DefinitionLines::operations))]
 fn resolve_sender_target(
     context: &Context,
     target: &Option<Name>,
@@ -368,7 +368,7 @@ pub fn resolve_receive(
 }
 
 /// 13 `WrongType` at the line of the context for `error`.
-#[tactic(auto, using(crate::proofs::OperationRules::cases))]
+#[tactic(auto, using(crate::proofs::DefinitionLines::operations))]
 pub fn resolve_verdict(context: &Context, name: VerdictName) -> Result<Verdict, ModuleFault>
     ensures verdict { IfOk result (IsVerdict name) }
     ensures told { IfErr result (λ fault.

@@ -4,7 +4,7 @@ ghost use Rattle.tp_checks.specs.Named.{texts};
 ghost use Rattle.tp_checks.specs.Refused.{TellsAt};
 ghost use Rattle.tp_checks.specs.Tables.{AreDistinct};
 ghost use Rattle.tp_checks.specs.Messages.{AreElementTemplates, AreFieldTemplates, AreMembers, AreNamedTemplates};
-ghost use Rattle.tp_checks.specs.Messages.{IsElementTemplate, IsListTemplate, IsRecordTemplate, IsTemplate, part_of};
+ghost use Rattle.tp_checks.specs.Messages.{IsElementTemplate, IsTemplate, part_of};
 ghost use Rattle.tp_checks.specs.BrokenTemplates.{ElementTemplatesBreak, EntryTemplatesBreak, FieldTemplatesBreak};
 ghost use Rattle.tp_checks.specs.BrokenTemplates.{ListBreaks, MembersBreak, RangeBreaks, RecordBreaks, TemplateBreaks};
 ghost use Rattle.tp_checks.specs.Placing.{field_names};
@@ -45,7 +45,7 @@ fn parts(alloc: Global, text: &[u8]) -> Result<Items<PatternPart>, ModuleFault>
     Ok(parts)
 }
 
-#[tactic(auto, using(crate::proofs::TemplateRules::cases))]
+#[tactic(auto, using(crate::proofs::DefinitionLines::templates))]
 fn resolve_number(context: &Context, ty: Ty, number: &i64) -> Result<RecvTemplate, ModuleFault>
     ensures stands { IfOk result
         (IsTemplate context.now.scope.now.types.now (texts context.now.turns.now)
@@ -60,7 +60,7 @@ fn resolve_number(context: &Context, ty: Ty, number: &i64) -> Result<RecvTemplat
     Ok(RecvTemplate::Exact(SendValue::Int(number)))
 }
 
-#[tactic(auto, using(crate::proofs::TemplateRules::cases))]
+#[tactic(auto, using(crate::proofs::DefinitionLines::templates))]
 fn resolve_pattern(
     alloc: Global,
     context: &Context,
@@ -79,7 +79,7 @@ fn resolve_pattern(
     Ok(RecvTemplate::Pattern(made))
 }
 
-#[tactic(auto, using(crate::proofs::TemplateRules::cases))]
+#[tactic(auto, using(crate::proofs::DefinitionLines::templates))]
 fn resolve_range(
     context: &Context,
     ty: Ty,
@@ -105,7 +105,7 @@ fn resolve_range(
 /// missing or given twice, and a variable; 11 `Unknown` for any other name that isn't a loop
 /// variable.
 #[cycle(template)]
-#[tactic(auto, using(crate::proofs::TemplateRules::cases))]
+#[tactic(auto, using(crate::proofs::DefinitionLines::templates))]
 pub fn resolve_template(
     alloc: Global,
     context: &Context,
@@ -150,15 +150,16 @@ pub fn resolve_template(
 }
 
 #[cycle(template)]
-#[tactic(auto, using(crate::proofs::TemplateRules::cases))]
+#[tactic(auto, using(crate::proofs::DefinitionLines::templates))]
 fn resolve_list(
     alloc: Global,
     context: &Context,
     ty: Ty,
     members: &[Template],
 ) -> Result<RecvTemplate, ModuleFault>
-    ensures stands { IfOk result (IsListTemplate
-        context.now.scope.now.types.now (texts context.now.turns.now) ty members.now) }
+    ensures stands { IfOk result
+        (IsTemplate context.now.scope.now.types.now (texts context.now.turns.now)
+        ty (Template.List members.now)) }
     ensures told { IsSoundScope context.now.scope.now
         → IfErr result (TellsAt context.now.line (ListBreaks context.now.scope.now.types.now
         context.now.variables.now (texts context.now.turns.now) ty members.now)) }
@@ -177,15 +178,16 @@ fn resolve_list(
 }
 
 #[cycle(template)]
-#[tactic(auto, using(crate::proofs::TemplateRules::cases))]
+#[tactic(auto, using(crate::proofs::DefinitionLines::templates))]
 fn resolve_record(
     alloc: Global,
     context: &Context,
     ty: Ty,
     entries: &[TemplateField],
 ) -> Result<RecvTemplate, ModuleFault>
-    ensures stands { IfOk result (IsRecordTemplate
-        context.now.scope.now.types.now (texts context.now.turns.now) ty entries.now) }
+    ensures stands { IfOk result
+        (IsTemplate context.now.scope.now.types.now (texts context.now.turns.now)
+        ty (Template.Record entries.now)) }
     ensures told { IsSoundScope context.now.scope.now
         → IfErr result (TellsAt context.now.line (RecordBreaks context.now.scope.now.types.now
         context.now.variables.now (texts context.now.turns.now) ty entries.now)) }
@@ -198,7 +200,7 @@ fn resolve_record(
 }
 
 #[cycle(template)]
-#[tactic(auto, using(crate::proofs::TemplateRules::cases))]
+#[tactic(auto, using(crate::proofs::DefinitionLines::templates))]
 fn resolve_members(
     alloc: Global,
     context: &Context,
@@ -220,7 +222,7 @@ fn resolve_members(
 }
 
 #[cycle(template)]
-#[tactic(auto, using(crate::proofs::TemplateRules::cases))]
+#[tactic(auto, using(crate::proofs::DefinitionLines::templates))]
 fn resolve_element_template(
     alloc: Global,
     context: &Context,
@@ -242,7 +244,7 @@ fn resolve_element_template(
 }
 
 #[cycle(template)]
-#[tactic(auto, using(crate::proofs::TemplateRules::cases))]
+#[tactic(auto, using(crate::proofs::DefinitionLines::templates))]
 fn resolve_element_templates(
     alloc: Global,
     context: &Context,
@@ -266,7 +268,7 @@ fn resolve_element_templates(
 }
 
 #[cycle(template)]
-#[tactic(auto, using(crate::proofs::TemplateRules::cases))]
+#[tactic(auto, using(crate::proofs::DefinitionLines::templates))]
 fn resolve_field_templates(
     alloc: Global,
     context: &Context,
@@ -293,7 +295,7 @@ fn resolve_field_templates(
 }
 
 #[cycle(template)]
-#[tactic(auto, using(crate::proofs::TemplateRules::cases))]
+#[tactic(auto, using(crate::proofs::DefinitionLines::templates))]
 fn resolve_named_templates(
     alloc: Global,
     context: &Context,

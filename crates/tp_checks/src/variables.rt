@@ -50,7 +50,7 @@ pub fn is_new(context: &Context, name: &str) -> bool
     true
 }
 
-#[tactic(auto, using(crate::proofs::HeldVariableRules::cases))]
+#[tactic(auto, using(crate::proofs::DefinitionLines::variables))]
 fn find_held(scope: &Scope, name: &TypeName) -> Option<VariableType>
     ensures there { IfSome result (IsVariableType scope.now name.now) }
     ensures absent { IfNone result ((held : VariableType)

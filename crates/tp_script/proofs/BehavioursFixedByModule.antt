@@ -25,8 +25,9 @@ use Rattle.tp_script.specs.Behaviours as d
 use Rattle.tp_script.specs.Behaviours.{AreReferences, Does, Numbers}
 use Rattle.tp_script.specs.Scopes.{Known, IsFunctionBody, IsMainBody}
 use Rattle.tp_script.proofs.BodiesFixedByText.{scoped_body_fixed}
-use Rattle.tp_script.proofs.NamesFixedByPlace.{OwnNames}
-use Rattle.tp_script.proofs.TypesFixedByModule.{one_function_named, place_in, zip_fixed}
+use Rattle.tp_checks.specs.Scoping.{OwnNames}
+use Rattle.tp_checks.proofs.UniqueZipsAndPlaces.{place_in, zip_same}
+use Rattle.tp_script.proofs.TypesFixedByModule.{one_function_named}
 
 abbrev numbers_of : List CompId → List ℕ
 numbers_of xs = map (λ (c : CompId). c.0) xs
@@ -166,7 +167,7 @@ module _ (m : Module) (apart : AreDistinct (definition_names m)) (known : Known)
         record {
           function = one_function_named m f g apart (contains_at (functions m) x.function f known_f) (contains_at (functions m) y.function g known_g)
               (ap (λ (h : Function). h.name) (sym first) ∙ here.named ∙ sym t.2.named ∙ ap (λ (h : Function). h.name) second);
-          arguments = ap numbers_of (zip_fixed (IsArgument (variables case.setups)) (argument_fixed (variables case.setups))
+          arguments = ap numbers_of (zip_same (IsArgument (variables case.setups)) (argument_fixed (variables case.setups))
               t.0.arguments x.arguments.items y.arguments.items here.arguments_known t.2.arguments_known);
         }
 

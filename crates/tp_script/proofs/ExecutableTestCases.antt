@@ -23,10 +23,9 @@ use Rattle.tp_tree.specs.declared.tree.SetupStatement.{SetupStatement}
 use Rattle.tp_tree.specs.declared.tree.SetupAction.{SetupAction}
 use Rattle.tp_tree.specs.declared.tree.SetupAction.TheVariants as a
 use Rattle.tp_config.specs.declared.port_type.CompId.{CompId}
-use Rattle.tp_config.specs.declared.port_type.CompType.{CompType}
 use Rattle.tp_config.specs.declared.port_type.Role.TheVariants as role
 use Rattle.tp_config.specs.Setup.{Setup, Member, PortDecl, is_system_member, is_system_role, ports_at}
-use Rattle.tp_config.specs.Shape.{decl_of, ports_of}
+use Rattle.tp_config.specs.Shape.{ports_of}
 use Rattle.tp_checks.specs.Tables.{AreDistinct, place_of_name}
 use Rattle.tp_checks.proofs.NameSetLookups.{place_there}
 use Rattle.tp_checks.specs.Definitions.{of_kind, component_type_names, declared, function_of, functions, port_type_names, type_names}
@@ -36,7 +35,7 @@ use Rattle.tp_checks.specs.Configuring.{IsStep, Makes, nothing, one_more, interf
 use Rattle.tp_checks.specs.Starting.{HasParameterType, IsStartPlace, IsStartOf, started_names, type_names_of}
 use Rattle.tp_checks.specs.Sorted.{HasSoundDefinitions}
 use Rattle.tp_checks.specs.Prepared.{IsWellDeclared}
-use Rattle.tp_checks.proofs.ListPrefixGrowth.{zip_at}
+use Rattle.tp_checks.proofs.ListPrefixGrowth.{zip_at, zip_beside}
 use Rattle.tp_play.specs.declared.body.Body.{Body}
 use Rattle.tp_checks.specs.declared.scope.BehaviourKind.{BehaviourKind}
 use Rattle.tp_checks.specs.Scoping.{reference_count}
@@ -49,8 +48,9 @@ use Rattle.tp_script.specs.Behaviours.{Does, AreReferences}
 use Rattle.tp_play.specs.TestCases.{Made}
 use Rattle.tp_script.specs.TestCases.{IsTestCaseOf, known_of}
 use Rattle.tp_play.specs.Ready.{CanDo, IsReady, port_count}
-use Rattle.tp_script.proofs.TestCaseFromPasses.{mapped_from, zip_from}
-use Rattle.tp_script.proofs.TypesFixedByModule.{once}
+use Rattle.tp_script.proofs.TestCaseFromPasses.{mapped_from}
+use Rattle.tp_checks.proofs.UniqueZipsAndPlaces.{once}
+use Rattle.tp_config.proofs.PortLookupByFields.{length_ports}
 
 -- a setup statement leaves the component types and the components
 step_leaves : (s t : Setup) (names : List (List ℕ)) (system : Option ℕ) (x : SetupAction) → IsStep s names system x t
@@ -74,10 +74,6 @@ ports_by_kind : (config : Setup) (k : ℕ) (m : Member) (ports : List PortDecl) 
 unfolding ports_at
 ports_by_kind config k m ports here there =
     ap (λ o. option_map_or (λ (m : Member). get_or config.types m.kind []) o []) here ∙ get_or_from_slice_get config.types m.kind ports [] there
-
-pub port_declarations : (t : CompType) → length (ports_of t) ≡ length t.ports.entries
-unfolding ports_of
-port_declarations t = length-map t.ports.entries decl_of
 
 -- a name that has a place stands nowhere else
 placed_once : (names : List (List ℕ)) (name : List ℕ) (j k : ℕ) → AreDistinct names → place_of_name names name ≡ Some j → slice_get names k ≡ Some name → j ≡ k
@@ -188,7 +184,7 @@ module _ (m : Module) (made : Made) (rules : IsWellDeclared m) (of : IsTestCaseO
       (body_played s.scope vs statements body s.is_body)))
     where
       member : (y : Member) × (slice_get config.components k ≡ Some y) × IsMember (component_type_names m) x y
-      member = zip_from (IsMember (component_type_names m)) (component_list case) config.components k x members here
+      member = zip_beside (IsMember (component_type_names m)) (component_list case) config.components k x members here
 
       same_kind : member.0.kind ≡ s.is_scope.kind
       same_kind = same_Some member.0.kind s.is_scope.kind (sym member.2.kind ∙ ap (place_of_name (component_type_names m)) same ∙ s.is_scope.kind_known)
@@ -196,7 +192,7 @@ module _ (m : Module) (made : Made) (rules : IsWellDeclared m) (of : IsTestCaseO
       ports_are : length s.scope.component_type.now.ports.entries ≡ port_count config k
       ports_are =
           sym (ap length (ports_by_kind config k member.0 (ports_of s.scope.component_type.now) member.1 (ap (slice_get config.types) same_kind ∙ s.is_scope.ports))
-          ∙ port_declarations s.scope.component_type.now)
+          ∙ length_ports s.scope.component_type.now)
 
       references_are : reference_count s.scope ≡ length references
       references_are = omega (arith, ap length s.is_scope.parameters, ap length s.is_scope.components, variable_count, long)
@@ -358,7 +354,7 @@ module _ (m : Module) (made : Made) (rules : IsWellDeclared m) (of : IsTestCaseO
 
   pub ready : IsReady made
   ready = record {
-    main = let member = zip_from (IsMember (component_type_names m)) (component_list case) config.components 0 (main_component case) members refl in
+    main = let member = zip_beside (IsMember (component_type_names m)) (component_list case) config.components 0 (main_component case) members refl in
         record { member = member.0; there = member.1; name = member.2.name; role = member.2.role };
     system_last = is_last;
     everyone = of.everyone;

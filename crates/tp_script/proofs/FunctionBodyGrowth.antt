@@ -10,13 +10,13 @@ use Rattle.tp_checks.specs.declared.fault.ModuleFault.{ModuleFault}
 use Rattle.tp_checks.specs.Refused.{IsRefusedBy}
 use Rattle.tp_checks.specs.Tables.{IsNumbered}
 use Rattle.tp_checks.specs.Definitions.{of_kind, declared, function_of, inner_names}
-use Rattle.tp_checks.proofs.ListPrefixGrowth.{kept_more, zip_push}
+use Rattle.tp_checks.proofs.ListPrefixGrowth.{kept_more, zip_beside, zip_push}
 use Rattle.tp_play.specs.declared.body.Body.{Body}
 use Rattle.tp_script.specs.Scopes.{HaveOwnNames, IsFunctionBody, Known}
-use Rattle.tp_script.proofs.TestCaseFromPasses.{zip_from}
-use Rattle.tp_script.proofs.TypesFixedByModule.{contains_more, place_in}
+use Rattle.tp_checks.proofs.UniqueZipsAndPlaces.{place_in}
+use Rattle.tp_script.proofs.TypesFixedByModule.{contains_more}
 use Rattle.tp_script.proofs.ExecutableTestCases.{function_defined}
-use Rattle.tp_script.proofs.RulesBrokenByParts.{breaks_part}
+use Rattle.tp_checks.proofs.ModuleRefusalPropagation.{breaks_part}
 
 module _ {B : Type 0} (R : Function → B → Type 0) (xs : List Definition) (ys : List B) (i : ℕ) (x : Definition) where
   more : (o : Option Function) → i < length xs → x ≡ get_or xs i x → o ≡ function_of x.defined
@@ -55,11 +55,11 @@ module _ (known : Known) (xs : List Definition) (i : ℕ) (x : Definition) (f : 
   one_of_all : ((bodies : List Body) × AllZip (IsFunctionBody known) (of_kind function_of xs) bodies) → (body : Body) × IsFunctionBody known f body
   one_of_all (bodies, each) =
       let there = place_in (of_kind function_of xs) f (kept_at function_of xs i x f (slice_get-get_or xs i x lt ∙ ap Some (sym is)) (sym found)) in
-      let body = zip_from (IsFunctionBody known) (of_kind function_of xs) bodies there.0 f each there.1 in
+      let body = zip_beside (IsFunctionBody known) (of_kind function_of xs) bodies there.0 f each there.1 in
       (body.0, body.2)
 
   -- a function without a body refuses all
   pub one_refused : HaveOwnNames xs → (fault : ModuleFault)
       → (IsNumbered (map (λ p. declared p.name) f.parameters) → IsRefusedBy ((body : Body) × IsFunctionBody known f body) fault)
       → IsRefusedBy ((bodies : List Body) × AllZip (IsFunctionBody known) (of_kind function_of xs) bodies) fault
-  one_refused own fault broken = breaks_part one_of_all fault (broken (own_parameters own))
+  one_refused own fault broken = breaks_part _ _ fault one_of_all (broken (own_parameters own))

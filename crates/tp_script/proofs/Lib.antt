@@ -6,10 +6,7 @@ pub mod ExecutableTestCases
 pub mod ParseAndCheckFaults
 pub mod TypesFixedByModule
 pub mod BodiesInAlikeScopes
-pub mod RulesBrokenByParts
-pub mod NamesFixedByPlace
 pub mod SoundBodyScopes
-pub mod DefinitionNamesDiffer
 pub mod RefusedBodiesInScopes
 pub mod ModuleFaultsTold
 pub mod ValuesFixedByText

@@ -25,7 +25,6 @@ use Rattle.tp_checks.specs.Rules.{AreComponentTypesKnown}
 use Rattle.tp_checks.specs.Sorted.{HasSoundDefinitions}
 use Rattle.tp_checks.proofs.NameFaultsTold.{split_here}
 use Rattle.tp_checks.proofs.PreparationFaultsTold.{case_known}
-use Rattle.tp_checks.proofs.ModuleFaultPropagation.{tells_from, tells_map}
 use Rattle.tp_play.specs.declared.bodies.Bodies.{Bodies}
 use Rattle.tp_play.specs.declared.body.Body.{Body}
 use Rattle.tp_play.specs.declared.instance.Instance.{Instance}
@@ -44,6 +43,7 @@ use Rattle.tp_script.proofs.TestCaseFromPasses.{kinds, kinds_are, known_is, test
 use Rattle.tp_script.proofs.TypesFixedByModule.{one_case}
 use Rattle.tp_script.proofs.ExecutableTestCases.{function_defined}
 use Rattle.tp_script.proofs.SoundBodyScopes.{sound_scope}
+use Rattle.tp_checks.proofs.RuleFaultPropagation.{told_from, told_on}
 
 -- a body breaks a rule in the scope that was made for it
 pub body_told : (known : Known) (plays plays_so : BehaviourKind) (runs_on runs_so : List ℕ) (names named : List (List ℕ)) (begins : ℕ) (s : Scope)
@@ -53,7 +53,7 @@ pub body_told : (known : Known) (plays plays_so : BehaviourKind) (runs_on runs_s
 body_told known plays plays_so runs_on runs_so names named begins s xs ys statements stated r e f g h i sound is told =
     rw (← e, ← f, ← g, ← h, ← i)
     (IfErr-weaker r (Tells (BodyBreaks s begins xs statements)) (Tells (BreaksIn known plays runs_on names begins xs statements))
-    (λ y. tells_map (BodyBreaks s begins xs statements) (BreaksIn known plays runs_on names begins xs statements) y
+    (λ y. told_on (BodyBreaks s begins xs statements) (BreaksIn known plays runs_on names begins xs statements) y
     (λ rule line b. record { scope = s; is_scope = is; breaks = b })) (told (sound_scope known plays runs_on names s sound is)))
 
 module _ (known : Known) (xs : List Definition) (i : ℕ) (x : Definition) (f : Function) (lt : i < length xs) (is : x ≡ get_or xs i x)
@@ -72,7 +72,7 @@ module _ (known : Known) (xs : List Definition) (i : ℕ) (x : Definition) (f : 
   pub function_told : (before : List Body) (fault : ModuleFault) → AllZip (IsFunctionBody known) (of_kind function_of (take i xs)) before
       → Tells (FunctionBreaks known f x.line) fault → Tells (FunctionsBreak known xs) fault
   function_told before fault each told =
-      tells_map (FunctionBreaks known f x.line) (FunctionsBreak known xs) fault (λ rule line b. record {
+      told_on (FunctionBreaks known f x.line) (FunctionsBreak known xs) fault (λ rule line b. record {
         before = take i xs;
         definition = x;
         after = drop (i + 1) xs;
@@ -128,7 +128,7 @@ module _ (m : Module) (p : Prepared) (of : IsPreparedOf m p) (rules : IsWellDecl
   pub bodies_told : (fault : ModuleFault) → Tells (BodiesBreak (known_in p) p.case.case.now p.case.line m.definitions) fault
       → Tells (ModuleBreaks m) fault
   bodies_told fault told =
-      tells_map (BodiesBreak (known_in p) p.case.case.now p.case.line m.definitions) (ModuleBreaks m) fault
+      told_on (BodiesBreak (known_in p) p.case.case.now p.case.line m.definitions) (ModuleBreaks m) fault
       (λ rule line b. bodies p.case.case.now p.case.line p.config p.types rule line rules is_case
       (subst (λ k. BodiesBreak k p.case.case.now p.case.line m.definitions rule line) (known_is m p of) b)) told
 
@@ -154,7 +154,7 @@ module _ (m : Module) (p : Prepared) (of : IsPreparedOf m p) (rules : IsWellDecl
         → Tells (ModuleBreaks m) fault
     size_told list each count fault told =
         let all : Made = record { config = p.config; types = p.types; behaviours = map (behaviour_of made) list } in
-        tells_from p.case.line (λ rule. (rule ≡ module_rule.Limit) × (100000 < sum (map size_of_behaviour (map (behaviour_of made) list)))) (ModuleBreaks m)
+        told_from p.case.line (λ rule. (rule ≡ module_rule.Limit) × (100000 < sum (map size_of_behaviour (map (behaviour_of made) list)))) (ModuleBreaks m)
         fault
         (λ rule b. subst (λ (r : ModuleRule). ModuleBreaks m r p.case.line) (sym b.0)
         (size p.case.case.now p.case.line all rules sound_bodies is_case (test_case_of m p of made main others list each count) b.1)) told

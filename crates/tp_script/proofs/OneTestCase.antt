@@ -1,18 +1,17 @@
 -- A module has one test case, and so has a text; and a right text is accepted.
-use Rattle.std.proofs.Common.{◌≡◌, inl, inr, ℕ, List, Option, length, map, get_or, refl, sym, ap, ◌∙◌, subst, arith}
+use Rattle.std.proofs.Common.{◌≡◌, List, Option, length, map, get_or, refl, sym, ap, ◌∙◌, subst, arith}
 use Rattle.std.proofs.lemmas.List.{same_lists}
-use Rattle.std.proofs.lemmas.Option.{same_Some, slice_get-get_or}
+use Rattle.std.proofs.lemmas.Option.{slice_get-get_or}
 use Rattle.tp_syntax.proofs.AcceptedTexts.{read_texts_are_accepted}
 use Rattle.tp_tree.specs.declared.tree.Module.{Module}
 use Rattle.tp_tree.specs.declared.tree.TestCase.{TestCase}
 use Rattle.tp_syntax.proofs.SameModules.{readings_are_unique}
 use Rattle.tp_value.specs.declared.types.Types.{Types}
 use Rattle.tp_config.specs.Setup.{Member, PortDecl, Setup}
-use Rattle.tp_config.specs.declared.port_type.Role.{Role}
 use Rattle.tp_config.specs.declared.port_type.PortRef.{PortRef}
 use Rattle.tp_config.specs.Shape.{ports_of}
 use Rattle.tp_checks.specs.Definitions.{component_type_names, component_types, functions, port_types, type_names}
-use Rattle.tp_checks.specs.Components.{Declared, IsMember, component_list}
+use Rattle.tp_checks.specs.Components.{IsMember, component_list}
 use Rattle.tp_checks.specs.Configuring.{HaveOwnPorts, Makes, interface_number}
 use Rattle.tp_checks.specs.Prepared.{IsConfigOf}
 use Rattle.tp_checks.specs.Rules.{HasUniqueNames}
@@ -27,23 +26,17 @@ use Rattle.tp_script.specs.Behaviours.{Does}
 use Rattle.tp_script.specs.TestCases.{IsTestCaseOf, WellFormed, known_of}
 use Rattle.tp_script.specs.declared.fault.ScriptRule.TheVariants as script_rule
 use Rattle.tp_script.specs.declared.fault.TestCaseFault.TheVariants as test_case_fault
+use Rattle.tp_checks.proofs.UniqueZipsAndPlaces.{zip_same}
 use Rattle.tp_script.proofs.BehavioursFixedByModule.{does_fixed}
 use Rattle.tp_script.proofs.SoundBodyScopes.{own_names}
-use Rattle.tp_script.proofs.TypesFixedByModule.{kinds_fixed, one_case, types_fixed, zip_fixed}
-
-abbrev member : List ℕ → ℕ → Role → Member
-member name kind role = record { name = name; kind = kind; role = role }
+use Rattle.tp_script.proofs.TypesFixedByModule.{kinds_fixed, one_case, types_fixed}
+use Rattle.tp_checks.proofs.RulesOfAddedComponents.{member_one}
 
 abbrev setup : List (List PortDecl) → List Member → List (PortRef × PortRef) → List (PortRef × PortRef) → Setup
 setup types components connected mapped = record { types = types; components = components; connected = connected; mapped = mapped }
 
 abbrev made_of : Setup → Types → List (Option Behaviour) → Made
 made_of config types behaviours = record { config = config; types = types; behaviours = behaviours }
-
-member_fixed : (names : List (List ℕ)) (x : Declared) (a b : Member) → IsMember names x a → IsMember names x b → a ≡ b
-member_fixed names x a b h k =
-    ap (λ n. member n a.kind a.role) (h.name ∙ sym k.name) ∙ ap (λ n. member b.name n a.role) (same_Some a.kind b.kind (sym h.kind ∙ k.kind))
-    ∙ ap (member b.name b.kind) (h.role ∙ sym k.role)
 
 module _ (m : Module) (unique : HasUniqueNames m) where
   -- the setup statements of a test case make one configuration
@@ -55,13 +48,13 @@ module _ (m : Module) (unique : HasUniqueNames m) where
       types : h.set_up.start.types ≡ k.set_up.start.types
       types =
           h.set_up.types_are
-          ∙ kinds_fixed m unique.definitions.distinct (map ports_of h.types) (map ports_of k.types)
+          ∙ kinds_fixed m unique (map ports_of h.types) (map ports_of k.types)
           (record { types = h.types; of_module = h.types_are; kinds_are = refl }) (record { types = k.types; of_module = k.types_are; kinds_are = refl })
           ∙ sym k.set_up.types_are
 
       components : h.set_up.start.components ≡ k.set_up.start.components
       components =
-          zip_fixed (IsMember (component_type_names m)) (member_fixed (component_type_names m)) (component_list case) h.set_up.start.components
+          zip_same (IsMember (component_type_names m)) (member_one (component_type_names m)) (component_list case) h.set_up.start.components
           k.set_up.start.components h.set_up.components_are k.set_up.components_are
 
       same : h.set_up.start ≡ k.set_up.start

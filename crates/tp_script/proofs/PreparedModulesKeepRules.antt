@@ -26,7 +26,6 @@ use Rattle.tp_script.specs.Instances.{AreFew, AreInstances, instance_count, know
 use Rattle.tp_script.specs.Scopes.{HasBodies, IsFunctionBody, IsMainBody, Known}
 use Rattle.tp_script.specs.TestCases.{HasSoundBodies, WellFormed, known_of, size_of_test_case}
 use Rattle.tp_script.proofs.TestCaseFromPasses.{kinds, known_is, test_case_of}
-use Rattle.tp_script.proofs.DefinitionNamesDiffer.{apart}
 use Rattle.tp_script.proofs.TypesFixedByModule.{kinds_fixed, one_case, types_fixed}
 use Rattle.tp_script.proofs.OneTestCase.{test_case_fixed}
 
@@ -39,7 +38,7 @@ module _ (m : Module) (p : Prepared) (of : IsPreparedOf m p) (rules : IsWellDecl
   same_known : (h : HasSoundBodies m) → known_of m h.case h.config h.types ≡ known_in p
   same_known h =
       ap (λ c. speaks c h.config.types h.types) (one_case m h.case p.case.case.now h.one_test_case of.one_test_case)
-      ∙ ap (λ k. speaks p.case.case.now k h.types) (kinds_fixed m (apart m rules) h.config.types p.config.types h.kinds (kinds m p of))
+      ∙ ap (λ k. speaks p.case.case.now k h.types) (kinds_fixed m rules.names h.config.types p.config.types h.kinds (kinds m p of))
       ∙ ap (λ t. speaks p.case.case.now p.config.types t) (types_fixed m h.types p.types h.types_are of.types)
       ∙ sym (known_is m p of)
 

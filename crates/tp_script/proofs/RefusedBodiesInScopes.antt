@@ -10,7 +10,7 @@ use Rattle.tp_checks.specs.declared.scope.Scope.{Scope}
 use Rattle.tp_checks.specs.Bodies.{IsBody}
 use Rattle.tp_checks.specs.Scoping.{IsSoundScope}
 use Rattle.tp_script.specs.Scopes.{IsScope, IsSoundKnown, Known, IsBodyInScope}
-use Rattle.tp_script.proofs.RulesBrokenByParts.{breaks_part}
+use Rattle.tp_checks.proofs.ModuleRefusalPropagation.{breaks_part}
 use Rattle.tp_script.proofs.SoundBodyScopes.{sound_scope}
 use Rattle.tp_script.proofs.BodiesInAlikeScopes.{in_each_scope}
 
@@ -19,10 +19,10 @@ refused_everywhere : (known : Known) (plays : BehaviourKind) (runs_on : List ℕ
     → IfErr r (IsRefusedBy ((body : Body) × IsBody s xs statements body)) → IfErr r (IsRefusedBy ((body : Body) × IsBodyInScope known plays runs_on names xs statements body))
 refused_everywhere known plays runs_on names s xs statements (Ok body) is refused = tt
 refused_everywhere known plays runs_on names s xs statements (Err f) is refused =
-    breaks_part
+    breaks_part _ _ f
     (λ (stands : (body : Body) × IsBodyInScope known plays runs_on names xs statements body).
     (stands.0, in_each_scope known plays runs_on names stands.1.scope s stands.1.is_scope is xs statements stands.0 stands.1.is_body))
-    f refused
+    refused
 
 -- the same, where the parts of the rule are given by equations
 pub body_refused : (known : Known) (plays plays_so : BehaviourKind) (runs_on runs_so : List ℕ) (names named : List (List ℕ)) (s : Scope) (xs ys : List Variable)

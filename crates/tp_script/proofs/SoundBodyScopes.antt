@@ -1,8 +1,8 @@
 -- What the checks of bodies rely on holds of what was made of a module whose names are its own.
 use Rattle.std.proofs.Common.{◌≡◌, ◌≤◌, ℕ, List, [], ◌∷◌, Option, None, Some, All, length, map, slice_get, option_map, get_or, refl, sym, ap, ◌∙◌, subst}
 use Rattle.std.specs.List.{AllZip}
-use Rattle.std.proofs.lemmas.List.Elements.{All-map, All-contains}
-use Rattle.std.proofs.lemmas.Option.{slice_get_within, get_or_from_slice_get, same_Some}
+use Rattle.std.proofs.lemmas.List.Elements.{All-map}
+use Rattle.std.proofs.lemmas.Option.{same_Some}
 use Rattle.tp_tree.specs.declared.tree.Module.{Module}
 use Rattle.tp_tree.specs.declared.tree.Definition.{Definition}
 use Rattle.tp_tree.specs.declared.tree.Defined.{Defined}
@@ -22,40 +22,29 @@ use Rattle.tp_checks.specs.declared.prepared.Prepared.{Prepared}
 use Rattle.tp_checks.specs.Definitions.{declared, inner_names, type_definitions, type_names, type_of}
 use Rattle.tp_checks.specs.Resolved.{AreTypes, IsField, IsNamedType, IsTypeDef}
 use Rattle.tp_checks.specs.Prepared.{IsPreparedOf}
-use Rattle.tp_checks.proofs.ListPrefixGrowth.{contains_at, zip_at}
+use Rattle.tp_checks.proofs.ListPrefixGrowth.{zip_at}
 use Rattle.tp_checks.specs.declared.scope.BehaviourKind.{BehaviourKind}
 use Rattle.tp_checks.specs.declared.scope.Scope.{Scope}
 use Rattle.tp_checks.specs.Placing.{field_names}
 use Rattle.tp_checks.specs.Scoping.{IsSoundScope}
 use Rattle.tp_script.specs.Instances.{known_in}
-use Rattle.tp_script.proofs.NamesFixedByPlace.{OwnNames}
+use Rattle.tp_checks.specs.Scoping.{OwnNames}
 use Rattle.tp_script.specs.Scopes.{HaveOwnNames, IsScope, IsSoundKnown, Known}
 use Rattle.tp_script.proofs.TestCaseFromPasses.{kinds_are}
-use Rattle.tp_script.proofs.TypesFixedByModule.{behind}
-use Rattle.tp_script.proofs.ExecutableTestCases.{port_declarations}
-
--- what stands at a place obeys what each item obeys
-at_place : {A : Type 0} (P : A → Type 0) (xs : List A) (k : ℕ) (x : A) → All P xs → slice_get xs k ≡ Some x → P x
-at_place P xs k x each e = subst P (get_or_from_slice_get xs k x x e) (each k x (slice_get_within xs k x e))
+use Rattle.tp_checks.proofs.DistinctNamesInParts.{all_among}
+use Rattle.tp_checks.proofs.StartLookups.{all_got}
+use Rattle.tp_checks.proofs.SoundSortedDefinitions.{type_itself}
+use Rattle.tp_config.proofs.PortLookupByFields.{length_ports}
 
 -- a scope is as sound as what it may speak of
 pub sound_scope : (known : Known) (plays : BehaviourKind) (runs_on : List ℕ) (names : List (List ℕ)) (scope : Scope) → IsSoundKnown known
     → IsScope known plays runs_on names scope → IsSoundScope scope
 sound_scope known plays runs_on names scope sound is = record {
   few_ports =
-      subst (λ n. n ≤ 64) (port_declarations scope.component_type.now)
-      (at_place (λ (ports : List PortDecl). length ports ≤ 64) known.ports is.kind (ports_of scope.component_type.now) sound.few_ports is.ports);
+      subst (λ n. n ≤ 64) (length_ports scope.component_type.now)
+      (all_got (λ (ports : List PortDecl). length ports ≤ 64) known.ports is.kind (ports_of scope.component_type.now) sound.few_ports is.ports);
   own_names = λ u fields e. sound.own_names u fields (ap (λ types. named types u) (sym is.types) ∙ e);
 }
-
--- a record or a record of among the definitions is the definition itself
-type_itself : (x y : Defined) → type_of x ≡ Some y → x ≡ y
-type_itself (definition.Record r) y e = same_Some (definition.Record r) y e
-type_itself (definition.List l) y e = same_Some (definition.List l) y e
-type_itself (definition.Port p) y e = absurd (cc)
-type_itself (definition.Component c) y e = absurd (cc)
-type_itself (definition.Function f) y e = absurd (cc)
-type_itself (definition.TestCase c) y e = absurd (cc)
 
 names_of_fields : (types : List (List ℕ)) (xs : List FieldType) (fields : List Field) → AllZip (IsField types) xs fields
     → map (λ (f : FieldType). declared f.name) xs ≡ field_names fields
@@ -92,17 +81,18 @@ pub own_names : (m : Module) (types : Types) → AreTypes m types → HaveOwnNam
 own_names m types are own u fields e =
     let t = type_at types u (type_def.Record fields) e in
     let x = zip_at (IsNamedType (type_names m)) (type_definitions m) types t.0 t.1 are t.2 in
-    let y = behind type_of m.definitions x.0 (contains_at (type_definitions m) t.0 x.0 x.1) in
-    let numbered : IsNumbered (inner_names y.0.defined) = All-contains (λ (d : Definition). IsNumbered (inner_names d.defined)) m.definitions y.0 own y.1 in
-    own_fields (type_names m) x.0 fields (subst (IsTypeDef (type_names m) x.0) t.3 x.2.1)
-    (subst (λ d. AreDistinct (inner_names d)) (type_itself y.0.defined x.0 y.2) numbered.distinct)
+    let HasOwnNames : Defined → Type 0 = λ x. IsNumbered (inner_names x) in
+    let each =
+    all_among type_of HasOwnNames (λ (d : Definition). HasOwnNames d.defined) (λ d y is h. subst HasOwnNames (type_itself d.defined y is) h) m.definitions own in
+    let numbered = all_got HasOwnNames (type_definitions m) t.0 x.0 each x.1 in
+    own_fields (type_names m) x.0 fields (subst (IsTypeDef (type_names m) x.0) t.3 x.2.1) numbered.distinct
 
 module _ (m : Module) (p : Prepared) (of : IsPreparedOf m p) (own : HaveOwnNames m.definitions) where
   few_ports : All (λ (ports : List PortDecl). length ports ≤ 64) p.config.types
   few_ports =
       subst (All (λ (ports : List PortDecl). length ports ≤ 64)) (sym (kinds_are m p of))
       (All-map (λ (ports : List PortDecl). length ports ≤ 64) ports_of of.config.types
-      (λ k d below. subst (λ n. n ≤ 64) (sym (port_declarations (get_or of.config.types k d))) (of.config.few_ports k d below)))
+      (λ k d below. subst (λ n. n ≤ 64) (sym (length_ports (get_or of.config.types k d))) (of.config.few_ports k d below)))
 
   pub sound_known : IsSoundKnown (known_in p)
   sound_known = record { few_ports = few_ports; own_names = own_names m p.types of.types own }

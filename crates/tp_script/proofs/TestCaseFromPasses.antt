@@ -1,5 +1,5 @@
 -- From what the passes make to the test case.
-use Rattle.std.proofs.Common.{◌≡◌, ℕ, zero, suc, ◌+◌, List, [], ◌∷◌, Option, None, Some, IsSome, is_some, if◌then◌else◌, Contains, length, map, slice_get, option_map, refl, sym, ap, ◌∙◌, subst, arith, add-one}
+use Rattle.std.proofs.Common.{◌≡◌, ℕ, ◌+◌, List, ◌∷◌, Option, None, Some, IsSome, is_some, if◌then◌else◌, Contains, length, map, slice_get, option_map, refl, sym, ap, ◌∙◌, subst, arith}
 use Rattle.std.specs.List.{AllZip}
 use Rattle.std.proofs.lemmas.List.{length-map, length-append}
 use Rattle.std.proofs.lemmas.Option.{slice_get-map, same_Some}
@@ -20,7 +20,7 @@ use Rattle.tp_checks.specs.Components.{IsMember, component_list, creations, crea
 use Rattle.tp_checks.specs.Configuring.{IsStep, Makes, nothing, one_more, interface_number}
 use Rattle.tp_checks.specs.Starting.{IsStartPlace, IsStartOf, started_names, type_names_of}
 use Rattle.tp_checks.specs.Prepared.{IsPreparedOf}
-use Rattle.tp_checks.proofs.ListPrefixGrowth.{zip_at}
+use Rattle.tp_checks.proofs.ListPrefixGrowth.{contains_at, zip_at, zip_beside}
 use Rattle.tp_play.specs.declared.body.Body.{Body}
 use Rattle.tp_play.specs.declared.bodies.Bodies.{Bodies}
 use Rattle.tp_play.specs.declared.instance.Instance.{Instance}
@@ -48,25 +48,12 @@ makes_keeps system start xs s (one_more ys r x t before step) =
     let here = step_keeps r t (variables ys) system x.action step in
     (here.0 ∙ earlier.0, here.1 ∙ earlier.1)
 
--- what stands in the other list at the place of an item
-pub zip_from : {A B : Type 0} (R : A → B → Type 0) (xs : List A) (ys : List B) (k : ℕ) (x : A) → AllZip R xs ys → slice_get xs k ≡ Some x
-    → (y : B) × (slice_get ys k ≡ Some y) × R x y
-zip_from R [] ys k x each e = absurd (cc)
-zip_from R (a ∷ xs) [] k x each e = absurd each
-zip_from R (a ∷ xs) (b ∷ ys) zero x each e = (b, refl, subst (λ z. R z b) (same_Some a x e) each.0)
-zip_from R (a ∷ xs) (b ∷ ys) (suc k) x each e = zip_from R xs ys k x each.1 e
-
 -- what an item of a list was made of
 pub mapped_from : {A B : Type 0} (f : A → B) (xs : List A) (k : ℕ) (y : B) → slice_get (map f xs) k ≡ Some y → (x : A) × (slice_get xs k ≡ Some x) × (f x ≡ y)
 mapped_from {A} {B} f xs k y e = by (slice_get xs k) refl (sym (slice_get-map f xs k) ∙ e) where
   by : (o : Option A) → slice_get xs k ≡ o → option_map f o ≡ Some y → (x : A) × (slice_get xs k ≡ Some x) × (f x ≡ y)
   by None is made = absurd (cc)
   by (Some x) is made = (x, is, same_Some (f x) y made)
-
-contains_at : {A : Type 0} (xs : List A) (k : ℕ) (x : A) → slice_get xs k ≡ Some x → Contains xs x
-contains_at [] k x e = absurd (cc)
-contains_at (a ∷ xs) zero x e = (0, omega arith, same_Some a x e)
-contains_at (a ∷ xs) (suc k) x e = let r = contains_at xs k x e in (r.0 + 1, omega (arith, r.1), rw add-one r.2)
 
 interface_length : (case : TestCase) → length (interface case) ≡ (if is_some case.system then 1 else 0)
 interface_length case = by case.system where
@@ -126,7 +113,7 @@ module _ (m : Module) (p : Prepared) (of : IsPreparedOf m p) where
         let begun =
         zip_at (IsStartOf (functions m) (variables p.case.case.now.setups) (type_names_of p.case.case.now)) p.case.case.now.starts
         p.starts.starts.items place s of.starts.starts start in
-        let found = zip_from (IsFunctionBody (known_in p)) (functions m) bodies.functions.items s.function begun.2.function others begun.2.function_known in
+        let found = zip_beside (IsFunctionBody (known_in p)) (functions m) bodies.functions.items s.function begun.2.function others begun.2.function_known in
         subst (Does (known_in p) (functions m) p.case.case.now p.starts (j + 1)) (sym (made_of instance found.0 (ap (body_in bodies) src ∙ found.1)))
         (d.started j place s begun.2.function (record { body = found.0; references = map (λ c. c.0) instance.references.items }) there start
         begun.2.function_known
@@ -135,7 +122,7 @@ module _ (m : Module) (p : Prepared) (of : IsPreparedOf m p) where
         let named =
         mapped_from (λ (f : Function). f.name) (functions m) place sut
         (ap (λ l. slice_get l place) (sym of.sorted.functions.names_are) ∙ place_there p.sorted.function_names sut place (sym placed)) in
-        let found = zip_from (IsFunctionBody (known_in p)) (functions m) bodies.functions.items place named.0 others named.1 in
+        let found = zip_beside (IsFunctionBody (known_in p)) (functions m) bodies.functions.items place named.0 others named.1 in
         subst (Does (known_in p) (functions m) p.case.case.now p.starts n) (sym (made_of instance found.0 (ap (body_in bodies) src ∙ found.1)))
         (d.system n named.0 (record { body = found.0; references = map (λ c. c.0) instance.references.items }) (numbered n there is)
         (contains_at (functions m) place named.0 named.1) named.2 found.2 refs)

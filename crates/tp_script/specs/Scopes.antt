@@ -7,14 +7,10 @@ use Rattle.tp_tree.specs.declared.tree.Function.{Function}
 use Rattle.tp_tree.specs.declared.tree.Statement.{Statement}
 use Rattle.tp_tree.specs.declared.tree.TestCase.{TestCase}
 use Rattle.tp_tree.specs.declared.tree.Variable.{Variable}
-use Rattle.tp_value.specs.declared.types.Ty.{Ty}
-use Rattle.tp_value.specs.declared.types.Field.{Field}
-use Rattle.tp_value.specs.declared.types.TypeDef.TheVariants as type_def
 use Rattle.tp_value.specs.declared.types.Types.{Types}
-use Rattle.tp_value.specs.Types.{named}
 use Rattle.tp_config.specs.Setup.{PortDecl}
 use Rattle.tp_config.specs.Shape.{ports_of}
-use Rattle.tp_checks.specs.Tables.{AreDistinct, IsNumbered, place_of_name}
+use Rattle.tp_checks.specs.Tables.{IsNumbered, place_of_name}
 use Rattle.tp_checks.specs.Definitions.{declared, inner_names}
 use Rattle.tp_checks.specs.Rules.{AreComponentTypesKnown, sut}
 use Rattle.tp_play.specs.declared.body.Body.{Body}
@@ -22,7 +18,7 @@ use Rattle.tp_checks.specs.declared.scope.BehaviourKind.{BehaviourKind}
 use Rattle.tp_checks.specs.declared.scope.BehaviourKind.TheVariants as behaviour_kind
 use Rattle.tp_checks.specs.declared.scope.Scope.{Scope}
 use Rattle.tp_checks.specs.Bodies.{IsBody}
-use Rattle.tp_checks.specs.Placing.{field_names}
+use Rattle.tp_checks.specs.Scoping.{OwnNames}
 
 -- what each body of a module may use: the types of messages, the component types by their names, with their ports, and
 -- the component variables of the test case
@@ -75,12 +71,10 @@ pub record HasBodies (known : Known) (case : TestCase) (functions : List Functio
   pub bodies : List Body
   pub function_bodies : AllZip (IsFunctionBody known) functions bodies
 
--- what the checks of bodies assume: a component type has at most 64 ports, and no two fields of a record type have the
--- same name
+-- what the checks of bodies assume: a component type has at most 64 ports
 pub record IsSoundKnown (known : Known) : Type 0 where
   pub few_ports : All (λ (ports : List PortDecl). length ports ≤ 64) known.ports
-  pub own_names : (u : Ty) (fields : List Field) → named known.types u ≡ Some (type_def.Record fields)
-      → AreDistinct (field_names fields)
+  pub own_names : OwnNames known.types
 
 -- a behaviour may run on the component type of this name
 pub record CanRun (known : Known) (name : List ℕ) : Type 0 where

@@ -3,7 +3,7 @@ use Rattle.tp_checks.specs.BrokenNames.{NameBreaks}
 use Rattle.tp_checks.specs.BrokenSetup.{CreationBreaks}
 use Rattle.tp_checks.specs.Components.{variable_name}
 use Rattle.tp_checks.proofs.CreationFaultsTold.{taken_told}
-use Rattle.tp_checks.proofs.ModuleFaultPropagation.{at_map, name_told}
+use Rattle.tp_checks.proofs.ModuleFaultPropagation.{name_told}
 use Rattle.std.proofs.Common.{◌≡◌, ◌++◌, ◌∷◌, [], ◌∙◌, Bool, true, false, Contains, ap, arith, length, not, refl, subst, sym, true≢false}
 use Rattle.std.proofs.lemmas.List.{length_push}
 use Rattle.std.proofs.lemmas.Slice.Eq.{bytes_eq-Decides}
@@ -11,13 +11,14 @@ use Rattle.tp_checks.specs.Tables.{AreDistinct}
 use Rattle.tp_checks.specs.BrokenSetup.{many, other_type, port, unknown_type}
 use Rattle.tp_checks.proofs.DistinctNamesInParts.{repeated}
 use Rattle.tp_checks.proofs.components.check_variable.Goals as goal
+use Rattle.tp_checks.proofs.RuleFaultPropagation.{told_at}
 
 pub returns-in-Err-clause-told : goal.returns-in-Err-clause-told
 returns-in-Err-clause-told c = λ others small.
     let names = c.args.variables.now in
     let one = c.args.creation.now in
     let rules = c.args.rules.now in
-    at_map c.args.line (NameBreaks names (variable_name one)) (CreationBreaks rules.type_names.now rules.port_names.now others names rules.most one) c.at.result
+    told_at c.args.line (NameBreaks names (variable_name one)) (CreationBreaks rules.type_names.now rules.port_names.now others names rules.most one) c.at.result
     (taken_told rules.type_names.now rules.port_names.now others names rules.most one small)
     (name_told names (variable_name one) c.args.line c.in-Err.fault c.at.result c.at.ensures.duplicate c.at.ensures.limit c.at.ensures.memory
     (rw c.as_str.ensures at c.in-Err.ensures.duplicate) c.in-Err.ensures.limit)

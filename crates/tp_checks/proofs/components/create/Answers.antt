@@ -6,8 +6,9 @@ use Rattle.tp_checks.specs.Additions.{AdditionBreaks, HasRoomForVariables}
 use Rattle.tp_checks.specs.BrokenSetup.{CreationBreaks}
 use Rattle.tp_checks.specs.Components.{created}
 use Rattle.tp_checks.proofs.CreationFaultsTold.{component_told}
-use Rattle.tp_checks.proofs.ModuleFaultPropagation.{at_map, handed}
+use Rattle.tp_checks.proofs.ModuleFaultPropagation.{handed}
 use Rattle.tp_checks.proofs.components.create.Goals as goal
+use Rattle.tp_checks.proofs.RuleFaultPropagation.{told_at}
 
 pub returns-in_err-check_variable-clause-told : goal.returns-in_err-check_variable-clause-told
 returns-in_err-check_variable-clause-told c = λ others (room : HasRoomForVariables _ _ _ _ _).
@@ -23,7 +24,7 @@ returns-in_err-add_component-clause-told c = λ others (room : HasRoomForVariabl
     let ok = c.in_ok-check_variable.ensures in
     handed (TellsAt c.args.at.line (CreationBreaks rules.type_names.now rules.port_names.now others names rules.most one))
     c.from_residual-in_err-add_component.result _ c.from_residual-in_err-add_component.ensures.1
-    (at_map c.args.at.line (AdditionBreaks rules.type_names.now (created one) c.args.config.now)
+    (told_at c.args.at.line (AdditionBreaks rules.type_names.now (created one) c.args.config.now)
     (CreationBreaks rules.type_names.now rules.port_names.now others names rules.most one) c.in_err-add_component.field-0.0
     (component_told rules.type_names.now rules.port_names.now others names rules.most one c.args.config.now room (record {
       numbered = subst IsNumbered ok.added ok.numbered;

@@ -2,7 +2,6 @@
 use Rattle.std.proofs.Common.{◌≡◌, ◌∙◌, true}
 use Rattle.std.proofs.lemmas.Result.{IfErr-weaker}
 use Rattle.tp_checks.specs.Sorted.{IsSoundIn}
-use Rattle.tp_checks.proofs.ModuleRefusalPropagation.{handed_fact}
 use Rattle.tp_checks.proofs.SoundDefinitionRules.{sound_component, sound_function, unsound_component, unsound_port}
 use Rattle.std.proofs.Common.{IsTrue, subst, sym}
 use Rattle.tp_checks.specs.Refused.{TellsAt}
@@ -30,7 +29,7 @@ returns-in_ok-check_function-in-Function-clause-sound c =
 
 pub returns-in_err-check_component-in-Component-clause-refused : goal.returns-in_err-check_component-in-Component-clause-refused
 returns-in_err-check_component-in-Component-clause-refused c =
-    handed_fact _ c.from_residual.result _ c.from_residual.ensures.1
+    handed _ c.from_residual.result _ c.from_residual.ensures.1
     (unsound_component c.args.sorted.now.type_names c.args.sorted.now.port_names c.args.sorted.now.component_names
     c.args.system.now c.args.definition.now.defined
     c.in-Component.component c.args.definition.now.line _ c.in-Component.is c.in_err-check_component-in-Component.ensures.refused)

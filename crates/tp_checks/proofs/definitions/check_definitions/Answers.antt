@@ -1,7 +1,7 @@
 -- The next definition obeys the rules, and at the end each does.
 use Rattle.std.proofs.Common.{arith}
 use Rattle.tp_checks.specs.Sorted.{AreSound, IsSoundIn}
-use Rattle.tp_checks.proofs.ModuleRefusalPropagation.{all_at, handed_fact}
+use Rattle.tp_checks.proofs.ModuleRefusalPropagation.{all_at}
 use Rattle.tp_checks.proofs.ListPrefixGrowth.{all_more, all_whole}
 use Rattle.tp_checks.specs.Refused.{Tells}
 use Rattle.tp_checks.specs.BrokenDefinitions.{DefinitionsBreak}
@@ -22,7 +22,7 @@ returns-clause-sound c =
 
 pub returns-in_err-check_definition-clause-refused : goal.returns-in_err-check_definition-clause-refused
 returns-in_err-check_definition-clause-refused c =
-    handed_fact _ c.from_residual.result _ c.from_residual.ensures.1
+    handed _ c.from_residual.result _ c.from_residual.ensures.1
     (λ (h : AreSound c.args.sorted.now c.args.system.now c.args.definitions.now). c.in_err-check_definition.ensures.refused
     (all_at (IsSoundIn c.args.sorted.now c.args.system.now) c.args.definitions.now c.loop-definition.definition-index
     c.definition-item.result (omega arith) c.definition-item.is h))

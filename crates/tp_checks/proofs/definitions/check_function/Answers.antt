@@ -2,7 +2,6 @@
 use Rattle.std.proofs.Common.{◌∙◌, refl, sym, true≢false}
 use Rattle.tp_checks.specs.Rules.{IsSoundFunction}
 use Rattle.tp_checks.proofs.KnownNamesByLookup.{each_known, each_there}
-use Rattle.tp_checks.proofs.ModuleRefusalPropagation.{handed_fact}
 use Rattle.tp_checks.specs.Refused.{TellsAt}
 use Rattle.tp_tree.specs.declared.tree.Defined.TheVariants as defined
 use Rattle.tp_checks.specs.BrokenDefinitions.{DefinitionBreaks, no_system, unknown_component_type}
@@ -11,7 +10,7 @@ use Rattle.tp_checks.proofs.definitions.check_function.Goals as goal
 
 pub returns-in_err-known-2-clause-refused : goal.returns-in_err-known-2-clause-refused
 returns-in_err-known-2-clause-refused c =
-    handed_fact _ c.from_residual-in_err-known-2.result _ c.from_residual-in_err-known-2.ensures.1
+    handed _ c.from_residual-in_err-known-2.result _ c.from_residual-in_err-known-2.ensures.1
     (λ (h : IsSoundFunction c.args.components.now c.args.system.now c.args.function.now).
     c.in_err-known-2.ensures.refused
     (c.are_parameters_known.ensures

@@ -1,9 +1,9 @@
 -- The names that were sorted out are the module's, so its definitions obey the rules.
-use Rattle.std.proofs.Common.{subst, sym}
+use Rattle.std.proofs.Common.{inr, subst, sym}
 use Rattle.tp_checks.specs.Definitions.{type_names, port_type_names, component_type_names}
 use Rattle.tp_checks.specs.Rules.{HasUniqueNames}
 use Rattle.tp_checks.specs.Sorted.{AreSound, HasSoundDefinitions}
-use Rattle.tp_checks.proofs.ModuleRefusalPropagation.{handed_break, handed_on}
+use Rattle.tp_checks.proofs.ModuleRefusalPropagation.{handed_on}
 use Rattle.tp_checks.proofs.SoundDefinitionRules.{sound_all}
 use Rattle.tp_checks.specs.Refused.{Tells}
 use Rattle.tp_checks.specs.BrokenDefinitions.{DefinitionsBreak, DefinitionsOfBreak}
@@ -29,12 +29,12 @@ pub returns-in_err-check_definitions-clause-refused : goal.returns-in_err-check_
 returns-in_err-check_definitions-clause-refused c =
     let s = c.in_ok-sorted.sorted in
     let m = c.args.parsed.now in
-    handed_break _ c.from_residual-in_err-check_definitions.result _ c.from_residual-in_err-check_definitions.ensures.1
-    (λ (h : HasUniqueNames m × HasSoundDefinitions m c.args.case.now). c.in_err-check_definitions.ensures.refused
+    handed _ c.from_residual-in_err-check_definitions.result _ c.from_residual-in_err-check_definitions.ensures.1
+    (inr (λ (h : HasUniqueNames m × HasSoundDefinitions m c.args.case.now). c.in_err-check_definitions.ensures.refused
     (subst (AreSound s c.args.case.now.system) (sym c.as_slice.ensures)
     (sound_all (type_names m) s.type_names (port_type_names m) s.port_names (component_type_names m) s.component_names
     c.args.case.now.system m.definitions (sym c.in_ok-sorted.ensures.sorted.types.names_are)
-    (sym c.in_ok-sorted.ensures.sorted.ports.names_are) (sym c.in_ok-sorted.ensures.sorted.components.names_are) h.1)))
+    (sym c.in_ok-sorted.ensures.sorted.ports.names_are) (sym c.in_ok-sorted.ensures.sorted.components.names_are) h.1))))
 
 pub returns-in_err-sorted-clause-told : goal.returns-in_err-sorted-clause-told
 returns-in_err-sorted-clause-told c = λ unique.

@@ -1,7 +1,6 @@
 -- The next value stands for what is made of it, and at the end each field has one.
-use Rattle.std.proofs.Common.{◌≡◌, ◌≤◌, length, arith, ap, sym, ◌∙◌, refl, map, slice_get, Some, get_or, rules, subst, take, All}
+use Rattle.std.proofs.Common.{◌≡◌, ◌≤◌, length, arith, ap, sym, ◌∙◌, map, Some, get_or, rules, subst, take, All, refl}
 use Rattle.std.proofs.lemmas.List.Elements.{All-push}
-use Rattle.std.proofs.lemmas.Option.{slice_get_read}
 use Rattle.std.proofs.lemmas.List.{length-set, length-map}
 use Rattle.std.proofs.lemmas.Result.{IfErr-weaker}
 use Rattle.tp_value.specs.declared.types.TypeDef.TheVariants as def
@@ -9,33 +8,16 @@ use Rattle.tp_value.specs.Types.{named}
 use Rattle.tp_checks.specs.declared.fault.ModuleRule.TheVariants as rule
 use Rattle.tp_checks.specs.Named.{texts}
 use Rattle.tp_checks.specs.Placing.{IsPlacing}
-use Rattle.tp_checks.specs.Messages.{IsValue, no_element, no_field, no_name, one_name_more, AreNamed}
+use Rattle.tp_checks.specs.Messages.{IsValue, no_name, one_name_more, AreNamed}
 use Rattle.tp_checks.specs.BrokenValues as b
 use Rattle.tp_checks.specs.BrokenValues.{IsEntry}
-use Rattle.tp_checks.proofs.EntriesInDeclaredOrder.{place_below, placed_entries, placed_name, filled_more, all_filled, in_order}
-use Rattle.tp_checks.proofs.ValueRules.{elements_more, fields_more, pushed}
+use Rattle.tp_checks.proofs.EntriesInDeclaredOrder.{place_below, placed, placed_entries, filled_more, all_filled, in_order}
+use Rattle.tp_checks.proofs.ListPrefixGrowth.{pushed}
 use Rattle.tp_checks.proofs.RuleFaultPropagation.{tells_at, tells_rule, told_at, told_rule}
-use Rattle.tp_checks.proofs.BrokenValueRules.{breaks_element, breaks_field, record_behind}
+use Rattle.tp_checks.proofs.BrokenValueRules.{record_behind}
 use Rattle.tp_checks.proofs.messages.+value.Goals as goal
 use Rattle.tp_checks.proofs.messages.+value.Goals.{resolve_value-in_default-via-in-Some+in_default, resolve_value-in_default-via-in_default}
-
-pub resolve_elements-loop-value-init : goal.resolve_elements-loop-value-init
-resolve_elements-loop-value-init t c = rw c.new-made.ensures (no_element c.args.ty)
-
-pub resolve_elements-loop-value-preserved : goal.resolve_elements-loop-value-preserved
-resolve_elements-loop-value-preserved t c =
-    rw c.in_ok-push.ensures.ok (elements_more _ _ c.args.ty c.args.values.now c.loop-value.value-index c.value-item.result c.loop-value.made c.in_ok-one.one
-    (omega arith) c.value-item.is c.loop-value.invariant c.in_ok-one.ensures.stands)
-
-pub resolve_fields-loop-index-init : goal.resolve_fields-loop-index-init
-resolve_fields-loop-index-init t c = rw c.new-made.ensures no_field
-
-pub resolve_fields-loop-index-preserved : goal.resolve_fields-loop-index-preserved
-resolve_fields-loop-index-preserved t c =
-    rw c.in_ok-push.ensures.ok (fields_more _ _ c.args.fields.now c.args.values.now c.loop-index.index
-    (get_or c.args.fields.now c.loop-index.index c.index-fields-index.result) c.index-values-index.result c.loop-index.made c.in_ok-one.one
-    (omega arith) (ap (get_or c.args.fields.now c.loop-index.index) c.index-fields-index.is) (omega arith) c.index-values-index.is c.loop-index.invariant
-    c.in_ok-one.ensures.stands)
+use Rattle.std.proofs.lemmas.Option.{slice_get_read}
 
 pub resolve_named-index_mut-requires : goal.resolve_named-index_mut-requires
 resolve_named-index_mut-requires t c = omega (arith, c.in-Some.ensures.lookup.3.0, c.loop-index.invariant.as_many, c.loop-index.made.ok.0)
@@ -52,26 +34,17 @@ resolve_named-loop-index-preserved t c =
     let i = c.loop-index.invariant in
     let placing : IsPlacing c.args.fields.now (map (λ x. x.name) c.args.entries.now) c.in_ok-places.places.items =
     c.in_ok-places.ensures.placed in
-    let is_place : slice_get c.in_ok-places.places.items c.loop-index.index ≡ Some c.index-place.result.now =
-    slice_get_read c.in_ok-places.places.items (length c.in_ok-places.places.items) c.loop-index.index c.index-place.result.now refl
-    (omega (arith, placing.as_many, length-map c.args.entries.now (λ x. x.name))) c.index-place.ensures in
-    let is_field : slice_get c.args.fields.now c.index-place.result.now ≡ Some c.in-Some.field.now =
-    slice_get_read c.args.fields.now (length c.args.fields.now) c.index-place.result.now c.in-Some.field.now refl c.in-Some.ensures.lookup.3.0
-    c.in-Some.ensures.lookup.1 in
-    let is_entry : slice_get c.args.entries.now c.loop-index.index ≡ Some c.index-entries-index.result =
-    slice_get_read c.args.entries.now (length c.args.entries.now) c.loop-index.index c.index-entries-index.result refl (omega arith)
-    c.index-entries-index.is in
-    let same : c.index-entries-index.result.name ≡ c.in-Some.field.now.name =
-    placed_name (λ x. x.name) (λ f x. IsValue c.args.context.now.scope.now.types.now (texts c.args.context.now.turns.now) f.ty x.value)
-    c.args.entries.now c.args.fields.now placing c.loop-index.index c.index-place.result.now c.in-Some.field.now c.index-entries-index.result is_place is_field
-    is_entry in
+    let at =
+    placed (λ x. x.name) (λ f x. IsValue c.args.context.now.scope.now.types.now (texts c.args.context.now.turns.now) f.ty x.value)
+    c.args.entries.now c.args.fields.now placing c.loop-index.index c.index-place.result.now c.in-Some.field.now c.index-entries-index.result (omega arith)
+    c.index-place.ensures c.in-Some.ensures.lookup.3.0 c.in-Some.ensures.lookup.1 c.index-entries-index.is in
     let fits : IsEntry c.args.context.now.scope.now.types.now (texts c.args.context.now.turns.now) c.args.fields.now c.index-entries-index.result =
     record {
       place = c.index-place.result.now;
       field = c.in-Some.field.now;
       made = c.in_ok-one.one;
-      declared = is_field;
-      same_name = same;
+      declared = at.is_field;
+      same_name = at.same;
       fits = c.in_ok-one.ensures.stands;
     } in
     record {
@@ -84,7 +57,7 @@ resolve_named-loop-index-preserved t c =
           filled_more (λ x. x.name) (λ f x. IsValue c.args.context.now.scope.now.types.now (texts c.args.context.now.turns.now) f.ty x.value)
           c.args.entries.now c.args.fields.now
           c.in_ok-places.places.items c.loop-index.index c.loop-index.made.items c.index-place.result.now c.in_ok-one.one c.in-Some.field.now
-          c.index-entries-index.result placing i.as_many is_place is_field is_entry c.in_ok-one.ensures.stands i.filled;
+          c.index-entries-index.result at i.as_many c.in_ok-one.ensures.stands i.filled;
     }
 
 pub resolve_named-returns-clause-named : goal.resolve_named-returns-clause-named
@@ -105,8 +78,8 @@ resolve_named-returns-clause-named t c =
 pub resolve_elements-returns-in_err-one-clause-told : goal.resolve_elements-returns-in_err-one-clause-told
 resolve_elements-returns-in_err-one-clause-told t c = λ sound.
     tells_at _ _ _ c.from_residual.result c.in_err-one.field-0.0 c.from_residual.ensures.1
-    (breaks_element c.args.context.now.scope.now.types.now c.args.context.now.variables.now (texts c.args.context.now.turns.now) c.args.ty c.args.values.now
-    c.loop-value.made c.loop-value.value-index c.value-item.result (omega arith) c.value-item.is c.loop-value.invariant)
+    (λ r broken. b.element c.args.ty c.args.values.now c.loop-value.made c.loop-value.value-index c.value-item.result r c.loop-value.invariant
+    (slice_get_read c.args.values.now (length c.args.values.now) c.loop-value.value-index c.value-item.result refl (omega arith) c.value-item.is) broken)
     (c.in_err-one.ensures.told sound)
 
 pub resolve_fields-returns-then-fields-values-clause-told : goal.resolve_fields-returns-then-fields-values-clause-told
@@ -115,11 +88,12 @@ resolve_fields-returns-then-fields-values-clause-told t c = λ sound.
 
 pub resolve_fields-returns-in_err-one-clause-told : goal.resolve_fields-returns-in_err-one-clause-told
 resolve_fields-returns-in_err-one-clause-told t c = λ sound.
+    let i = c.loop-index.index in
+    let f = get_or c.args.fields.now i c.index-fields-index.result in
     tells_at _ _ _ c.from_residual.result c.in_err-one.field-0.0 c.from_residual.ensures.1
-    (breaks_field c.args.context.now.scope.now.types.now c.args.context.now.variables.now (texts c.args.context.now.turns.now) c.args.fields.now
-    c.args.values.now c.loop-index.made c.loop-index.index (get_or c.args.fields.now c.loop-index.index c.index-fields-index.result)
-    c.index-values-index.result c.if-fields-values.false (omega arith) (ap (get_or c.args.fields.now c.loop-index.index) c.index-fields-index.is) (omega arith)
-    c.index-values-index.is c.loop-index.invariant)
+    (λ r broken. b.place c.args.fields.now c.args.values.now c.loop-index.made i f c.index-values-index.result r c.if-fields-values.false c.loop-index.invariant
+    (slice_get_read c.args.fields.now (length c.args.fields.now) i f refl (omega arith) (ap (get_or c.args.fields.now i) c.index-fields-index.is))
+    (slice_get_read c.args.values.now (length c.args.values.now) i c.index-values-index.result refl (omega arith) c.index-values-index.is) broken)
     (c.in_err-one.ensures.told sound)
 
 pub resolve_named-returns-in_err-places-clause-told : goal.resolve_named-returns-in_err-places-clause-told
@@ -143,23 +117,14 @@ pub resolve_named-returns-in_err-one-clause-told : goal.resolve_named-returns-in
 resolve_named-returns-in_err-one-clause-told t c = λ sound apart.
     let placing : IsPlacing c.args.fields.now (map (λ x. x.name) c.args.entries.now) c.in_ok-places.places.items =
     c.in_ok-places.ensures.placed in
-    let is_place : slice_get c.in_ok-places.places.items c.loop-index.index ≡ Some c.index-place.result.now =
-    slice_get_read c.in_ok-places.places.items (length c.in_ok-places.places.items) c.loop-index.index c.index-place.result.now refl
-    (omega (arith, placing.as_many, length-map c.args.entries.now (λ x. x.name))) c.index-place.ensures in
-    let is_field : slice_get c.args.fields.now c.index-place.result.now ≡ Some c.in-Some.field.now =
-    slice_get_read c.args.fields.now (length c.args.fields.now) c.index-place.result.now c.in-Some.field.now refl c.in-Some.ensures.lookup.3.0
-    c.in-Some.ensures.lookup.1 in
-    let is_entry : slice_get c.args.entries.now c.loop-index.index ≡ Some c.index-entries-index.result =
-    slice_get_read c.args.entries.now (length c.args.entries.now) c.loop-index.index c.index-entries-index.result refl (omega arith)
-    c.index-entries-index.is in
-    let same : c.index-entries-index.result.name ≡ c.in-Some.field.now.name =
-    placed_name (λ x. x.name) (λ f x. IsValue c.args.context.now.scope.now.types.now (texts c.args.context.now.turns.now) f.ty x.value)
-    c.args.entries.now c.args.fields.now placing c.loop-index.index c.index-place.result.now c.in-Some.field.now c.index-entries-index.result is_place is_field
-    is_entry in
+    let at =
+    placed (λ x. x.name) (λ f x. IsValue c.args.context.now.scope.now.types.now (texts c.args.context.now.turns.now) f.ty x.value)
+    c.args.entries.now c.args.fields.now placing c.loop-index.index c.index-place.result.now c.in-Some.field.now c.index-entries-index.result (omega arith)
+    c.index-place.ensures c.in-Some.ensures.lookup.3.0 c.in-Some.ensures.lookup.1 c.index-entries-index.is in
     tells_at _ _ _ c.from_residual-in_err-one.result c.in_err-one.field-0.0 c.from_residual-in_err-one.ensures.1
     (λ r broken. b.entry c.args.fields.now c.args.entries.now c.loop-index.index c.index-place.result.now c.in-Some.field.now c.index-entries-index.result r
     (placed_entries c.args.fields.now (map (λ x. x.name) c.args.entries.now) c.in_ok-places.places.items placing) c.loop-index.invariant.fit
-    is_entry is_field same broken)
+    at.is_entry at.is_field at.same broken)
     (c.in_err-one.ensures.told sound)
 
 pub resolve_value-returns-in_err-place-in-Name-clause-told : goal.resolve_value-returns-in_err-place-in-Name-clause-told

@@ -5,8 +5,9 @@ use Rattle.tp_checks.specs.Sorted.{port_types_in}
 use Rattle.tp_checks.specs.Rules.{IsSoundComponent}
 use Rattle.tp_checks.specs.Sorted.{component_types_in}
 use Rattle.tp_checks.proofs.ModuleRefusalPropagation.{all_at_map, handed_on}
-use Rattle.tp_checks.proofs.ListPrefixGrowth.{all_push, zip_map_more}
+use Rattle.tp_checks.proofs.ListPrefixGrowth.{zip_map_more}
 use Rattle.tp_checks.proofs.ports.make_components.Goals as goal
+use Rattle.std.proofs.lemmas.List.Elements.{All-push}
 
 pub loop-component-preserved : goal.loop-component-preserved
 loop-component-preserved c =
@@ -15,7 +16,7 @@ loop-component-preserved c =
       components = zip_map_more (IsComponentType c.args.sorted.now.type_names (port_types_in c.args.sorted.now)) (λ x. x.now) c.deref-component-items.result.now
           c.loop-component.components.items c.loop-component.component-index
           c.component-item.result c.in_ok-one.one (omega arith) c.component-item.is c.loop-component.invariant.components c.in_ok-one.ensures.ports;
-      few = all_push (λ t. length t.ports.entries ≤ 64) c.loop-component.components.items c.in_ok-one.one c.loop-component.invariant.few
+      few = All-push (λ t. length t.ports.entries ≤ 64) c.loop-component.components.items c.in_ok-one.one c.loop-component.invariant.few
           c.in_ok-one.ensures.few;
     })
 

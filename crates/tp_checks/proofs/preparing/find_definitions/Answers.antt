@@ -7,8 +7,9 @@ use Rattle.tp_checks.specs.Broken.{DeclarationsBreak, definitions, names}
 use Rattle.tp_checks.specs.BrokenDefinitions.{DefinitionsOfBreak}
 use Rattle.tp_checks.specs.BrokenNames.{NamesBreak}
 use Rattle.tp_checks.proofs.PreparationFaultsTold.{begins_kept}
-use Rattle.tp_checks.proofs.ModuleFaultPropagation.{handed, tells_map}
+use Rattle.tp_checks.proofs.ModuleFaultPropagation.{handed}
 use Rattle.tp_checks.proofs.preparing.find_definitions.Goals as goal
+use Rattle.tp_checks.proofs.RuleFaultPropagation.{told_on}
 
 pub returns-in_err-case-clause-refused : goal.returns-in_err-case-clause-refused
 returns-in_err-case-clause-refused c =
@@ -19,14 +20,14 @@ pub returns-in_err-case-clause-told : goal.returns-in_err-case-clause-told
 returns-in_err-case-clause-told c =
     let m = c.args.parsed.now in
     handed (Tells (DeclarationsBreak m)) c.from_residual.result _ c.from_residual.ensures.1
-    (tells_map (NamesBreak m) (DeclarationsBreak m) c.in_err-case.field-0.0 (λ rule line b. names rule line b) c.in_err-case.ensures.told)
+    (told_on (NamesBreak m) (DeclarationsBreak m) c.in_err-case.field-0.0 (λ rule line b. names rule line b) c.in_err-case.ensures.told)
 
 pub returns-clause-told : goal.returns-clause-told
 returns-clause-told c =
     let m = c.args.parsed.now in
     let case = c.in_ok-case.case.case.now in
     IfErr-weaker c.define.result (Tells (DefinitionsOfBreak m case)) (Tells (DeclarationsBreak m))
-    (λ f told. tells_map (DefinitionsOfBreak m case) (DeclarationsBreak m) f
+    (λ f told. told_on (DefinitionsOfBreak m case) (DeclarationsBreak m) f
     (λ rule line b. definitions case rule line c.in_ok-case.ensures.names c.in_ok-case.ensures.case b) told)
     (c.define.ensures.told c.in_ok-case.ensures.names)
 

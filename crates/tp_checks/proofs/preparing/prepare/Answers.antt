@@ -13,8 +13,9 @@ use Rattle.tp_checks.specs.Refused.{Tells}
 use Rattle.tp_checks.specs.Broken.{DeclarationsBreak, ThirdPassBreaks, third_pass}
 use Rattle.tp_checks.specs.Sorted.{component_types_in, functions_in}
 use Rattle.tp_checks.proofs.PreparationFaultsTold.{case_known, third_told}
-use Rattle.tp_checks.proofs.ModuleFaultPropagation.{handed, tells_map}
+use Rattle.tp_checks.proofs.ModuleFaultPropagation.{handed}
 use Rattle.tp_checks.proofs.preparing.prepare.Goals as goal
+use Rattle.tp_checks.proofs.RuleFaultPropagation.{told_on}
 
 pub set_up_and_start-requires-clause-components : goal.set_up_and_start-requires-clause-components
 set_up_and_start-requires-clause-components c =
@@ -90,7 +91,7 @@ returns-in_err-configured-clause-told c =
     let line = d.case.line in
     let found = c.in_ok-case.ensures in
     handed (Tells (DeclarationsBreak m)) c.from_residual-in_err-configured.result _ c.from_residual-in_err-configured.ensures.1
-    (tells_map
+    (told_on
     (ThirdPassBreaks d.sorted.component_names (component_types_in d.sorted) (map ports_of d.component_types.items) (functions_in d.sorted) case line)
     (DeclarationsBreak m) c.in_err-configured.field-0.0
     (λ rule at b. third_pass case line rule at

@@ -6,8 +6,9 @@ use Rattle.tp_checks.specs.Broken.{ThirdPassBreaks, on_setup, on_starts}
 use Rattle.tp_checks.specs.BrokenSetup.{CaseSetupBreaks}
 use Rattle.tp_checks.specs.BrokenStarts.{StartsBreak}
 use Rattle.tp_checks.specs.Sorted.{component_types_in, functions_in}
-use Rattle.tp_checks.proofs.ModuleFaultPropagation.{handed, tells_map}
+use Rattle.tp_checks.proofs.ModuleFaultPropagation.{handed}
 use Rattle.tp_checks.proofs.preparing.set_up_and_start.Goals as goal
+use Rattle.tp_checks.proofs.RuleFaultPropagation.{told_on}
 
 pub returns-in_err-made-clause-told : goal.returns-in_err-made-clause-told
 returns-in_err-made-clause-told c = λ own known.
@@ -17,7 +18,7 @@ returns-in_err-made-clause-told c = λ own known.
     let made = map ports_of c.args.components.items in
     let P = ThirdPassBreaks s.component_names (component_types_in s) made (functions_in s) case line in
     handed (Tells P) c.from_residual.result _ c.from_residual.ensures.1
-    (tells_map (CaseSetupBreaks s.component_names (component_types_in s) made case line) P c.in_err-made.field-0.0 (λ rule at b. on_setup rule at b)
+    (told_on (CaseSetupBreaks s.component_names (component_types_in s) made case line) P c.in_err-made.field-0.0 (λ rule at b. on_setup rule at b)
     (c.in_err-made.ensures.told own known))
 
 pub returns-in_err-starts-clause-told : goal.returns-in_err-starts-clause-told
@@ -28,6 +29,6 @@ returns-in_err-starts-clause-told c = λ own known.
     let made = map ports_of c.args.components.items in
     let P = ThirdPassBreaks s.component_names (component_types_in s) made (functions_in s) case line in
     handed (Tells P) c.from_residual-in_err-starts.result _ c.from_residual-in_err-starts.ensures.1
-    (tells_map (StartsBreak (functions_in s) case line) P c.in_err-starts.field-0.0
+    (told_on (StartsBreak (functions_in s) case line) P c.in_err-starts.field-0.0
     (λ rule at b. on_starts c.in_ok-made.made.config rule at c.in_ok-made.ensures.sound c.in_ok-made.ensures.config b)
     (c.in_err-starts.ensures.told c.in_ok-made.ensures.numbered))

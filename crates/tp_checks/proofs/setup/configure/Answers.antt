@@ -16,8 +16,9 @@ use Rattle.tp_checks.specs.Additions.{InterfaceBreaks}
 use Rattle.tp_checks.specs.BrokenSetup.{CaseSetupBreaks, PairsBreak}
 use Rattle.tp_checks.specs.Components.{AddsAll, created, creations, main_component}
 use Rattle.tp_checks.proofs.SetupFaultsTold.{awaits, beside_told, interface_breaks, pairs_told, small_variables}
-use Rattle.tp_checks.proofs.ModuleFaultPropagation.{handed, tells_from}
+use Rattle.tp_checks.proofs.ModuleFaultPropagation.{handed}
 use Rattle.tp_checks.proofs.setup.configure.Goals as goal
+use Rattle.tp_checks.proofs.RuleFaultPropagation.{told_from}
 
 pub returns-clause-config : goal.returns-clause-config
 returns-clause-config c =
@@ -64,7 +65,7 @@ returns-in_err-system-clause-told c = λ own known.
     subst (λ (z : Setup). AddsAll names (main_component case ∷ map created (creations case.setups)) z s) c.requires.empty
     c.in_ok-add_components.ensures.added in
     handed (Tells (CaseSetupBreaks names types made case line)) c.from_residual-in_err-system.result _ c.from_residual-in_err-system.ensures.1
-    (tells_from line (InterfaceBreaks case s) (CaseSetupBreaks names types made case line) c.in_err-system.field-0.0
+    (told_from line (InterfaceBreaks case s) (CaseSetupBreaks names types made case line) c.in_err-system.field-0.0
     (λ rule b. record {
       ports = sound.ports;
       has_ports = sound.has_ports;

@@ -4,8 +4,9 @@ use Rattle.tp_checks.proofs.PortsOfPairEnds.{connect_broken}
 use Rattle.tp_checks.specs.Refused.{TellsAt}
 use Rattle.tp_checks.specs.BrokenSetup.{ConnectBreaks, EndsBreak, connect_ends}
 use Rattle.tp_checks.proofs.PairFaultsTold.{connect_told}
-use Rattle.tp_checks.proofs.ModuleFaultPropagation.{at_map, handed}
+use Rattle.tp_checks.proofs.ModuleFaultPropagation.{handed}
 use Rattle.tp_checks.proofs.setup.connect_ends.Goals as goal
+use Rattle.tp_checks.proofs.RuleFaultPropagation.{told_at}
 
 pub returns-in-Err-clause-refused : goal.returns-in-Err-clause-refused
 returns-in-Err-clause-refused c = λ few own. connect_broken c.args.config.now c.args.known.now (component_number c.args.system) own c.args.ends.0.now
@@ -18,7 +19,7 @@ returns-in_err-p-clause-told c = λ few.
     let system = component_number c.args.system in
     handed (TellsAt c.args.line (ConnectBreaks s c.args.known.now system c.args.ends.0.now c.args.ends.1.now)) c.from_residual.result _
     c.from_residual.ensures.1
-    (at_map c.args.line (EndsBreak s c.args.known.now system c.args.ends.0.now c.args.ends.1.now)
+    (told_at c.args.line (EndsBreak s c.args.known.now system c.args.ends.0.now c.args.ends.1.now)
     (ConnectBreaks s c.args.known.now system c.args.ends.0.now c.args.ends.1.now) c.in_err-p.field-0.0 (λ rule b. connect_ends rule b)
     (c.in_err-p.ensures.told few))
 

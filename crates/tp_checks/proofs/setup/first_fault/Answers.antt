@@ -8,9 +8,9 @@ use Rattle.tp_checks.proofs.SetupBeforeRefusedCreate.{before_can}
 use Rattle.tp_checks.specs.Additions.{InterfaceBreaks, StopsCreating}
 use Rattle.tp_checks.specs.BrokenSetup.{SetupBreaks}
 use Rattle.tp_checks.proofs.SetupFaultsTold.{awaits, interface_breaks, pairs_told, small_variables, stopped_told}
-use Rattle.tp_checks.proofs.ModuleFaultPropagation.{tells_from}
 use Rattle.tp_checks.proofs.setup.first_fault.Goals as goal
 use Rattle.tp_checks.proofs.setup.first_fault.Goals.{in-Ok-connect_all, in-Err-connect_all}
+use Rattle.tp_checks.proofs.RuleFaultPropagation.{told_from}
 
 pub returns-in-Err-clause-broken : goal.returns-in-Err-clause-broken
 returns-in-Err-clause-broken c = λ have.
@@ -39,7 +39,7 @@ returns-in-Err-clause-told c = λ have known (stops : StopsCreating _ _ _ _ _ _ 
     let s = c.args.config.now in
     let before = c.args.stopped.before.now in
     let first = c.requires.first in
-    tells_from line (InterfaceBreaks case s) (SetupBreaks rules.type_names.now rules.port_names.now s.types case line) c.in-Err.fault
+    told_from line (InterfaceBreaks case s) (SetupBreaks rules.type_names.now rules.port_names.now s.types case line) c.in-Err.fault
     (interface_breaks rules.type_names.now rules.port_names.now s.types case line before stops.sound s first.added first.rest first.all)
     (c.in-Err.ensures.told (awaits rules.type_names.now rules.port_names.now s.types case line before stops.sound s first.added have known))
 

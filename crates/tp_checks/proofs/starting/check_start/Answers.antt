@@ -13,8 +13,9 @@ use Rattle.tp_checks.proofs.NameSetLookups.{place_known, place_unknown}
 use Rattle.std.proofs.Common.{Contains, subst}
 use Rattle.tp_checks.specs.BrokenStarts.{ArgumentsBreak, IsStartFunction, StartBreaks, other_arguments, other_type, starts_sut, unknown_function, unknown_variable}
 use Rattle.tp_checks.proofs.StartFaultsTold.{start_function}
-use Rattle.tp_checks.proofs.ModuleFaultPropagation.{at_map, handed}
+use Rattle.tp_checks.proofs.ModuleFaultPropagation.{handed}
 use Rattle.tp_checks.proofs.starting.check_start.Goals as goal
+use Rattle.tp_checks.proofs.RuleFaultPropagation.{told_at}
 
 -- the place of the name of a component variable, whose component is the one behind it
 place_before : (o : Option ℕ) (n : ℕ) → option_map (λ k. k + 1) o ≡ Some n → (k : ℕ) × (o ≡ Some k) × (n ≡ k + 1)
@@ -156,7 +157,7 @@ returns-in_err-arguments-clause-told c = λ started few new.
     start_function xs c.args.sorted.now.function_names x c.in-Some-find.place one c.requires
     (rw c.as_str-2.ensures at c.in-Some-find.ensures.place) there in
     handed (TellsAt x.line (StartBreaks xs names types started x)) c.from_residual.result _ c.from_residual.ensures.1
-    (at_map x.line (ArgumentsBreak names types one.parameters x.arguments) (StartBreaks xs names types started x)
+    (told_at x.line (ArgumentsBreak names types one.parameters x.arguments) (StartBreaks xs names types started x)
     c.in_err-arguments.field-0.0
     (λ rule b. other_arguments one known.0 rule known.1 new function
     (λ h. true≢false (sym (c.is_sut.ensures.1 (c.as_str-3.ensures ∙ h)) ∙ c.if-is_sut.false))

@@ -6,8 +6,9 @@ use Rattle.tp_checks.specs.BrokenStarts.{AfterStartsBreaks, AreStarted, StartBre
 use Rattle.tp_checks.specs.Components.{variables}
 use Rattle.tp_checks.specs.Sorted.{functions_in}
 use Rattle.tp_checks.specs.Starting.{started_names, type_names_of}
-use Rattle.tp_checks.proofs.ModuleFaultPropagation.{handed, tells_map}
+use Rattle.tp_checks.proofs.ModuleFaultPropagation.{handed}
 use Rattle.tp_checks.proofs.starting.check_starts.Goals as goal
+use Rattle.tp_checks.proofs.RuleFaultPropagation.{told_on}
 
 pub returns-clause-starts : goal.returns-clause-starts
 returns-clause-starts c = record {
@@ -24,7 +25,7 @@ returns-in_err-started-clause-told c = λ few.
     let fault = c.in_err-started.field-0.0 in
     let P = StartsBreak functions case c.args.case.line in
     handed (Tells P) c.from_residual.result _ c.from_residual.ensures.1
-    (tells_map (StartBreaksAmong functions (variables case.setups) (type_names_of case) case.starts) P fault
+    (told_on (StartBreaksAmong functions (variables case.setups) (type_names_of case) case.starts) P fault
     (λ rule line b. a_start rule line b)
     (subst (λ n. Tells (StartBreaksAmong functions n (type_names_of case) case.starts) fault) c.requires.variables
     (c.in_err-started.ensures.told few)))
@@ -42,5 +43,5 @@ returns-in_err-places-clause-told c = λ few.
       once = subst IsNumbered named c.in_ok-started.ensures.numbered;
     } in
     handed (Tells P) c.from_residual-in_err-places.result _ c.from_residual-in_err-places.ensures.1
-    (tells_map (AfterStartsBreaks (started_names case.starts) case c.args.case.line) P fault (λ rule line b. after_starts rule line obey b)
+    (told_on (AfterStartsBreaks (started_names case.starts) case c.args.case.line) P fault (λ rule line b. after_starts rule line obey b)
     (subst (λ n. Tells (AfterStartsBreaks n case c.args.case.line) fault) named c.in_err-places.ensures.told))

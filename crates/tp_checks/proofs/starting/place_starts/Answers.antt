@@ -11,8 +11,9 @@ use Rattle.tp_checks.specs.declared.fault.ModuleRule.TheVariants.{NotStarted}
 use Rattle.tp_checks.specs.Refused.{Tells}
 use Rattle.tp_checks.specs.BrokenStarts.{AfterStartsBreaks, IsNeverStarted, never_started, no_done}
 use Rattle.tp_checks.proofs.StartFaultsTold.{all_started, some_creations}
-use Rattle.tp_checks.proofs.ModuleFaultPropagation.{handed, tells_map}
+use Rattle.tp_checks.proofs.ModuleFaultPropagation.{handed}
 use Rattle.tp_checks.proofs.starting.place_starts.Goals as goal
+use Rattle.tp_checks.proofs.RuleFaultPropagation.{told_on}
 
 pub returns-clause-places : goal.returns-clause-places
 returns-clause-places c = rw (← c.as_slice.ensures) c.in_ok-places.ensures.places
@@ -32,7 +33,7 @@ returns-in_err-places-clause-told c =
     let case = c.args.case.case.now in
     let P = AfterStartsBreaks c.args.started.now case c.args.case.line in
     handed (Tells P) c.from_residual.result _ c.from_residual.ensures.1
-    (tells_map (λ (rule : ModuleRule) (line : ℕ). (rule ≡ NotStarted) × IsNeverStarted c.args.started.now case.setups line) P
+    (told_on (λ (rule : ModuleRule) (line : ℕ). (rule ≡ NotStarted) × IsNeverStarted c.args.started.now case.setups line) P
     c.in_err-places.field-0.0 (λ rule line b. subst (λ r. P r line) (sym b.0) (never_started line b.1))
     (rw c.as_slice.ensures at c.in_err-places.ensures.told))
 

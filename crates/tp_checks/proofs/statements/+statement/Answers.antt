@@ -7,32 +7,11 @@ use Rattle.tp_tree.specs.declared.tree.Counted.{out-Counted}
 use Rattle.tp_checks.specs.declared.fault.ModuleRule.TheVariants as rule
 use Rattle.tp_checks.specs.Named.{texts}
 use Rattle.tp_checks.specs.Scoping.{IsNew}
-use Rattle.tp_checks.specs.Bodies.{IsBlock, no_statement, no_branch, branch}
-use Rattle.tp_checks.proofs.StatementRules.{block_more, branches_more, statement_for}
+use Rattle.tp_checks.specs.Bodies.{IsBlock, counted}
 use Rattle.tp_checks.specs.BrokenBodies as b
 use Rattle.tp_checks.specs.BrokenBodies.{AfterBreaks, BlockBreaks, StatementBreaks}
 use Rattle.tp_checks.proofs.RuleFaultPropagation.{tells_from, tells_on, told_here, told_on}
 use Rattle.tp_checks.proofs.statements.+statement.Goals as goal
-
-pub resolve_block-loop-statement-init : goal.resolve_block-loop-statement-init
-resolve_block-loop-statement-init t c = rw c.new-made.ensures (no_statement (texts c.args.context.now.turns.now))
-
-pub resolve_block-loop-statement-preserved : goal.resolve_block-loop-statement-preserved
-resolve_block-loop-statement-preserved t c =
-    rw c.in_ok-push.ensures.ok (block_more _ _ _ c.args.block.now c.loop-statement.statement-index c.statement-item.result c.loop-statement.made c.in_ok-one.one
-    (omega arith) c.statement-item.is c.loop-statement.invariant c.in_ok-one.ensures.stands)
-
-pub resolve_branches-loop-branch-init : goal.resolve_branches-loop-branch-init
-resolve_branches-loop-branch-init t c = rw c.new-made.ensures (no_branch (texts c.args.context.now.turns.now))
-
-pub resolve_branches-loop-branch-preserved : goal.resolve_branches-loop-branch-preserved
-resolve_branches-loop-branch-preserved t c =
-    rw c.in_ok-push.ensures.ok (branches_more _ _ _ c.args.branches.now c.loop-branch.branch-index c.branch-item.result c.loop-branch.made c.in_ok-one.one
-    (omega arith) c.branch-item.is c.loop-branch.invariant c.in_ok-one.ensures.stands)
-
-pub resolve_branch-returns-clause-stands : goal.resolve_branch-returns-clause-stands
-resolve_branch-returns-clause-stands t c =
-    branch (texts c.args.context.now.turns.now) c.args.branch.now _ c.in_ok-receiving.ensures.stands c.in_ok-block.ensures.stands
 
 pub resolve_for-returns-clause-stands : goal.resolve_for-returns-clause-stands
 resolve_for-returns-clause-stands t c =
@@ -45,7 +24,7 @@ resolve_for-returns-clause-stands t c =
     ap texts c.deref.ensures.value ∙ c.in_ok-inside.ensures.inside ∙ ap (λ x. turns ++ x ∷ []) c.as_str-name.ensures in
     let inside : IsBlock scope variables (turns ++ looped.turns.name ∷ []) looped.block c.in_ok-block.block =
     rw (sym row, sym c.as_slice.ensures) c.in_ok-block.ensures.stands in
-    rw c.counted_for.ensures (statement_for scope variables turns (action.For c.args.looped.now) c.args.looped.now c.in_ok-block.block refl new inside)
+    rw c.counted_for.ensures (counted turns c.args.looped.now c.in_ok-block.block new inside)
 
 pub resolve_block-returns-in_err-one-clause-told : goal.resolve_block-returns-in_err-one-clause-told
 resolve_block-returns-in_err-one-clause-told t c = λ sound typed.

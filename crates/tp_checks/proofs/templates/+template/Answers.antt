@@ -1,7 +1,6 @@
 -- The next template stands for what is made of it, and at the end each field has one.
-use Rattle.std.proofs.Common.{◌≡◌, ◌≤◌, length, arith, ap, sym, ◌∙◌, refl, map, slice_get, Some, get_or, rules, subst, take, All}
+use Rattle.std.proofs.Common.{◌≡◌, ◌≤◌, length, arith, ap, sym, ◌∙◌, map, Some, get_or, rules, subst, take, All, refl}
 use Rattle.std.proofs.lemmas.List.Elements.{All-push}
-use Rattle.std.proofs.lemmas.Option.{slice_get_read}
 use Rattle.std.proofs.lemmas.Result.{IfErr-weaker}
 use Rattle.std.proofs.lemmas.List.{length-set, length-map}
 use Rattle.tp_value.specs.declared.types.TypeDef.TheVariants as def
@@ -9,35 +8,16 @@ use Rattle.tp_value.specs.Types.{named}
 use Rattle.tp_checks.specs.declared.fault.ModuleRule.TheVariants as rule
 use Rattle.tp_checks.specs.Named.{texts}
 use Rattle.tp_checks.specs.Placing.{IsPlacing}
-use Rattle.tp_checks.specs.Messages.{IsTemplate, no_member, no_element_template, no_field_template, no_name_template, one_name_template_more, AreNamedTemplates}
+use Rattle.tp_checks.specs.Messages.{IsTemplate, no_name_template, one_name_template_more, AreNamedTemplates}
 use Rattle.tp_checks.specs.BrokenTemplates as b
 use Rattle.tp_checks.specs.BrokenTemplates.{IsTemplateEntry}
-use Rattle.tp_checks.proofs.EntriesInDeclaredOrder.{place_below, placed_entries, placed_name, filled_more, all_filled, in_order}
-use Rattle.tp_checks.proofs.ValueRules.{pushed}
-use Rattle.tp_checks.proofs.TemplateRules.{members_more, element_templates_more, field_templates_more}
+use Rattle.tp_checks.proofs.EntriesInDeclaredOrder.{place_below, placed, placed_entries, filled_more, all_filled, in_order}
+use Rattle.tp_checks.proofs.ListPrefixGrowth.{pushed}
 use Rattle.tp_checks.proofs.RuleFaultPropagation.{tells_at, tells_rule, told_at, told_rule}
 use Rattle.tp_checks.proofs.BrokenValueRules.{record_behind}
-use Rattle.tp_checks.proofs.BrokenTemplateRules.{breaks_element, breaks_field, breaks_member}
 use Rattle.tp_checks.proofs.templates.+template.Goals as goal
 use Rattle.tp_checks.proofs.templates.+template.Goals.{resolve_record-in_default-via-in-Some+in_default, resolve_record-in_default-via-in_default}
-
-pub resolve_element_templates-loop-member-init : goal.resolve_element_templates-loop-member-init
-resolve_element_templates-loop-member-init t c = rw c.new-made.ensures (no_element_template c.args.ty)
-
-pub resolve_element_templates-loop-member-preserved : goal.resolve_element_templates-loop-member-preserved
-resolve_element_templates-loop-member-preserved t c =
-    rw c.in_ok-push.ensures.ok (element_templates_more _ _ c.args.ty c.args.members.now c.loop-member.member-index c.member-item.result c.loop-member.made
-    c.in_ok-one.one (omega arith) c.member-item.is c.loop-member.invariant c.in_ok-one.ensures.stands)
-
-pub resolve_field_templates-loop-index-init : goal.resolve_field_templates-loop-index-init
-resolve_field_templates-loop-index-init t c = rw c.new-made.ensures no_field_template
-
-pub resolve_field_templates-loop-index-preserved : goal.resolve_field_templates-loop-index-preserved
-resolve_field_templates-loop-index-preserved t c =
-    rw c.in_ok-push.ensures.ok (field_templates_more _ _ c.args.fields.now c.args.members.now c.loop-index.index
-    (get_or c.args.fields.now c.loop-index.index c.index-fields-index.result) c.index-members-index.result c.loop-index.made c.in_ok-one.one
-    (omega arith) (ap (get_or c.args.fields.now c.loop-index.index) c.index-fields-index.is) (omega arith) c.index-members-index.is c.loop-index.invariant
-    c.in_ok-one.ensures.stands)
+use Rattle.std.proofs.lemmas.Option.{slice_get_read}
 
 pub resolve_named_templates-index_mut-requires : goal.resolve_named_templates-index_mut-requires
 resolve_named_templates-index_mut-requires t c = omega (arith, c.in-Some.ensures.lookup.3.0, c.loop-index.invariant.as_many, c.loop-index.made.ok.0)
@@ -54,26 +34,17 @@ resolve_named_templates-loop-index-preserved t c =
     let i = c.loop-index.invariant in
     let placing : IsPlacing c.args.fields.now (map (λ x. x.name) c.args.entries.now) c.in_ok-places.places.items =
     c.in_ok-places.ensures.placed in
-    let is_place : slice_get c.in_ok-places.places.items c.loop-index.index ≡ Some c.index-place.result.now =
-    slice_get_read c.in_ok-places.places.items (length c.in_ok-places.places.items) c.loop-index.index c.index-place.result.now refl
-    (omega (arith, placing.as_many, length-map c.args.entries.now (λ x. x.name))) c.index-place.ensures in
-    let is_field : slice_get c.args.fields.now c.index-place.result.now ≡ Some c.in-Some.field.now =
-    slice_get_read c.args.fields.now (length c.args.fields.now) c.index-place.result.now c.in-Some.field.now refl c.in-Some.ensures.lookup.3.0
-    c.in-Some.ensures.lookup.1 in
-    let is_entry : slice_get c.args.entries.now c.loop-index.index ≡ Some c.index-entries-index.result =
-    slice_get_read c.args.entries.now (length c.args.entries.now) c.loop-index.index c.index-entries-index.result refl (omega arith)
-    c.index-entries-index.is in
-    let same : c.index-entries-index.result.name ≡ c.in-Some.field.now.name =
-    placed_name (λ x. x.name) (λ f x. IsTemplate c.args.context.now.scope.now.types.now (texts c.args.context.now.turns.now) f.ty x.template)
-    c.args.entries.now c.args.fields.now placing c.loop-index.index c.index-place.result.now c.in-Some.field.now c.index-entries-index.result is_place is_field
-    is_entry in
+    let at =
+    placed (λ x. x.name) (λ f x. IsTemplate c.args.context.now.scope.now.types.now (texts c.args.context.now.turns.now) f.ty x.template)
+    c.args.entries.now c.args.fields.now placing c.loop-index.index c.index-place.result.now c.in-Some.field.now c.index-entries-index.result (omega arith)
+    c.index-place.ensures c.in-Some.ensures.lookup.3.0 c.in-Some.ensures.lookup.1 c.index-entries-index.is in
     let fits : IsTemplateEntry c.args.context.now.scope.now.types.now (texts c.args.context.now.turns.now) c.args.fields.now c.index-entries-index.result =
     record {
       place = c.index-place.result.now;
       field = c.in-Some.field.now;
       made = c.in_ok-one.one;
-      declared = is_field;
-      same_name = same;
+      declared = at.is_field;
+      same_name = at.same;
       fits = c.in_ok-one.ensures.stands;
     } in
     record {
@@ -87,7 +58,7 @@ resolve_named_templates-loop-index-preserved t c =
           filled_more (λ x. x.name) (λ f x. IsTemplate c.args.context.now.scope.now.types.now (texts c.args.context.now.turns.now) f.ty x.template)
           c.args.entries.now c.args.fields.now
           c.in_ok-places.places.items c.loop-index.index c.loop-index.made.items c.index-place.result.now c.in_ok-one.one c.in-Some.field.now
-          c.index-entries-index.result placing i.as_many is_place is_field is_entry c.in_ok-one.ensures.stands i.filled;
+          c.index-entries-index.result at i.as_many c.in_ok-one.ensures.stands i.filled;
     }
 
 pub resolve_named_templates-returns-clause-named : goal.resolve_named_templates-returns-clause-named
@@ -105,19 +76,12 @@ resolve_named_templates-returns-clause-named t c =
     (all_filled (λ x. x.name) (λ f x. IsTemplate types turns f.ty x.template) c.args.entries.now c.args.fields.now c.in_ok-places.places.items
     c.loop-index.index c.loop-index.made.items placing end i.filled))
 
-pub resolve_members-loop-member-init : goal.resolve_members-loop-member-init
-resolve_members-loop-member-init t c = rw c.new-made.ensures (no_member c.args.ty)
-
-pub resolve_members-loop-member-preserved : goal.resolve_members-loop-member-preserved
-resolve_members-loop-member-preserved t c =
-    rw c.in_ok-push.ensures.ok (members_more _ _ c.args.ty c.args.members.now c.loop-member.member-index c.member-item.result c.loop-member.made c.in_ok-one.one
-    (omega arith) c.member-item.is c.loop-member.invariant c.in_ok-one.ensures.stands)
-
 pub resolve_element_templates-returns-in_err-one-clause-told : goal.resolve_element_templates-returns-in_err-one-clause-told
 resolve_element_templates-returns-in_err-one-clause-told t c = λ sound.
     tells_at _ _ _ c.from_residual.result c.in_err-one.field-0.0 c.from_residual.ensures.1
-    (breaks_element c.args.context.now.scope.now.types.now c.args.context.now.variables.now (texts c.args.context.now.turns.now) c.args.ty c.args.members.now
-    c.loop-member.made c.loop-member.member-index c.member-item.result (omega arith) c.member-item.is c.in_err-one.ensures.no_star c.loop-member.invariant)
+    (λ r broken. b.element c.args.ty c.args.members.now c.loop-member.made c.loop-member.member-index c.member-item.result r c.loop-member.invariant
+    (slice_get_read c.args.members.now (length c.args.members.now) c.loop-member.member-index c.member-item.result refl (omega arith) c.member-item.is)
+    c.in_err-one.ensures.no_star broken)
     (c.in_err-one.ensures.told sound)
 
 pub resolve_field_templates-returns-then-fields-members-clause-told : goal.resolve_field_templates-returns-then-fields-members-clause-told
@@ -126,11 +90,12 @@ resolve_field_templates-returns-then-fields-members-clause-told t c = λ sound.
 
 pub resolve_field_templates-returns-in_err-one-clause-told : goal.resolve_field_templates-returns-in_err-one-clause-told
 resolve_field_templates-returns-in_err-one-clause-told t c = λ sound.
+    let i = c.loop-index.index in
+    let f = get_or c.args.fields.now i c.index-fields-index.result in
     tells_at _ _ _ c.from_residual.result c.in_err-one.field-0.0 c.from_residual.ensures.1
-    (breaks_field c.args.context.now.scope.now.types.now c.args.context.now.variables.now (texts c.args.context.now.turns.now) c.args.fields.now
-    c.args.members.now c.loop-index.made c.loop-index.index (get_or c.args.fields.now c.loop-index.index c.index-fields-index.result)
-    c.index-members-index.result c.if-fields-members.false (omega arith) (ap (get_or c.args.fields.now c.loop-index.index) c.index-fields-index.is)
-    (omega arith) c.index-members-index.is c.loop-index.invariant)
+    (λ r broken. b.place c.args.fields.now c.args.members.now c.loop-index.made i f c.index-members-index.result r c.if-fields-members.false c.loop-index.invariant
+    (slice_get_read c.args.fields.now (length c.args.fields.now) i f refl (omega arith) (ap (get_or c.args.fields.now i) c.index-fields-index.is))
+    (slice_get_read c.args.members.now (length c.args.members.now) i c.index-members-index.result refl (omega arith) c.index-members-index.is) broken)
     (c.in_err-one.ensures.told sound)
 
 pub resolve_list-returns-in_err-made-in-Some-ListOf-clause-told : goal.resolve_list-returns-in_err-made-in-Some-ListOf-clause-told
@@ -153,8 +118,8 @@ resolve_list-returns-in_err-made-in-Some-Record-clause-told t c = λ sound.
 pub resolve_members-returns-in_err-one-clause-told : goal.resolve_members-returns-in_err-one-clause-told
 resolve_members-returns-in_err-one-clause-told t c = λ sound.
     tells_at _ _ _ c.from_residual.result c.in_err-one.field-0.0 c.from_residual.ensures.1
-    (breaks_member c.args.context.now.scope.now.types.now c.args.context.now.variables.now (texts c.args.context.now.turns.now) c.args.ty c.args.members.now
-    c.loop-member.made c.loop-member.member-index c.member-item.result (omega arith) c.member-item.is c.loop-member.invariant)
+    (λ r broken. b.member c.args.ty c.args.members.now c.loop-member.made c.loop-member.member-index c.member-item.result r c.loop-member.invariant
+    (slice_get_read c.args.members.now (length c.args.members.now) c.loop-member.member-index c.member-item.result refl (omega arith) c.member-item.is) broken)
     (c.in_err-one.ensures.told sound)
 
 pub resolve_named_templates-returns-in_err-places-clause-told : goal.resolve_named_templates-returns-in_err-places-clause-told
@@ -178,23 +143,14 @@ pub resolve_named_templates-returns-in_err-one-clause-told : goal.resolve_named_
 resolve_named_templates-returns-in_err-one-clause-told t c = λ sound apart.
     let placing : IsPlacing c.args.fields.now (map (λ x. x.name) c.args.entries.now) c.in_ok-places.places.items =
     c.in_ok-places.ensures.placed in
-    let is_place : slice_get c.in_ok-places.places.items c.loop-index.index ≡ Some c.index-place.result.now =
-    slice_get_read c.in_ok-places.places.items (length c.in_ok-places.places.items) c.loop-index.index c.index-place.result.now refl
-    (omega (arith, placing.as_many, length-map c.args.entries.now (λ x. x.name))) c.index-place.ensures in
-    let is_field : slice_get c.args.fields.now c.index-place.result.now ≡ Some c.in-Some.field.now =
-    slice_get_read c.args.fields.now (length c.args.fields.now) c.index-place.result.now c.in-Some.field.now refl c.in-Some.ensures.lookup.3.0
-    c.in-Some.ensures.lookup.1 in
-    let is_entry : slice_get c.args.entries.now c.loop-index.index ≡ Some c.index-entries-index.result =
-    slice_get_read c.args.entries.now (length c.args.entries.now) c.loop-index.index c.index-entries-index.result refl (omega arith)
-    c.index-entries-index.is in
-    let same : c.index-entries-index.result.name ≡ c.in-Some.field.now.name =
-    placed_name (λ x. x.name) (λ f x. IsTemplate c.args.context.now.scope.now.types.now (texts c.args.context.now.turns.now) f.ty x.template)
-    c.args.entries.now c.args.fields.now placing c.loop-index.index c.index-place.result.now c.in-Some.field.now c.index-entries-index.result is_place is_field
-    is_entry in
+    let at =
+    placed (λ x. x.name) (λ f x. IsTemplate c.args.context.now.scope.now.types.now (texts c.args.context.now.turns.now) f.ty x.template)
+    c.args.entries.now c.args.fields.now placing c.loop-index.index c.index-place.result.now c.in-Some.field.now c.index-entries-index.result (omega arith)
+    c.index-place.ensures c.in-Some.ensures.lookup.3.0 c.in-Some.ensures.lookup.1 c.index-entries-index.is in
     tells_at _ _ _ c.from_residual-in_err-one.result c.in_err-one.field-0.0 c.from_residual-in_err-one.ensures.1
     (λ r broken. b.entry c.args.fields.now c.args.entries.now c.loop-index.index c.index-place.result.now c.in-Some.field.now c.index-entries-index.result r
     (placed_entries c.args.fields.now (map (λ x. x.name) c.args.entries.now) c.in_ok-places.places.items placing) c.loop-index.invariant.fit
-    is_entry is_field same broken)
+    at.is_entry at.is_field at.same broken)
     (c.in_err-one.ensures.told sound)
 
 pub resolve_record-returns-in_err-made-clause-told : goal.resolve_record-returns-in_err-made-clause-told

@@ -8,10 +8,11 @@ use Rattle.tp_checks.specs.Cases.{cases_of}
 use Rattle.tp_checks.specs.Definitions.{of_kind, case_of, inner_names, name_of, test_cases}
 use Rattle.tp_checks.specs.Rules.{AreNamed, HasOneTestCase, HasUniqueNames}
 use Rattle.tp_checks.proofs.TestCaseFaultsTold.{some_case}
-use Rattle.tp_checks.proofs.ModuleFaultPropagation.{handed, tells_map}
+use Rattle.tp_checks.proofs.ModuleFaultPropagation.{handed}
 use Rattle.tp_checks.proofs.DistinctNamesInParts.{no_case}
 use Rattle.tp_checks.proofs.ModuleRefusalPropagation.{handed_on}
 use Rattle.tp_checks.proofs.unique_names.check_names.Goals as goal
+use Rattle.tp_checks.proofs.RuleFaultPropagation.{told_on}
 
 pub returns-in-Some-clause-names : goal.returns-in-Some-clause-names
 returns-in-Some-clause-names c = record {
@@ -47,7 +48,7 @@ returns-in_err-found-clause-told c =
     let some : test_cases m ≢ [] =
     some_case m.definitions (rw c.as_slice.ensures at (sym c.has_case.ensures ∙ c.if-not-has_case.false)) in
     handed (Tells (NamesBreak m)) c.from_residual.result _ c.from_residual.ensures.1
-    (tells_map (DefinitionNamesBreak m.definitions) (NamesBreak m) c.in_err-found.field-0.0 (λ rule line b. in_definition rule line some b)
+    (told_on (DefinitionNamesBreak m.definitions) (NamesBreak m) c.in_err-found.field-0.0 (λ rule line b. in_definition rule line some b)
     (rw c.as_slice-2.ensures at c.in_err-found.ensures.told))
 
 pub returns-in-None-clause-told : goal.returns-in-None-clause-told

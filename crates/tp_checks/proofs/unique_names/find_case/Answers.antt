@@ -1,5 +1,5 @@
 -- The next definition has a new name and none twice in it, and is a test case or not.
-use Rattle.std.proofs.Common.{◌++◌, ◌∷◌, [], ◌∙◌, ap, arith, drop, ◌+◌, map, sym, take, subst, All, IfSome}
+use Rattle.std.proofs.Common.{All, IfSome, [], ap, arith, drop, inr, map, subst, sym, take, ◌++◌, ◌+◌, ◌∙◌, ◌∷◌}
 use Rattle.std.proofs.lemmas.List.{map_push, take_all}
 use Rattle.std.specs.Option.{option_to_list}
 use Rattle.tp_tree.specs.declared.tree.Definition.{Definition}
@@ -10,11 +10,12 @@ use Rattle.tp_checks.specs.BrokenNames.{DefinitionNamesBreak, GivenNamesBreak}
 use Rattle.tp_checks.specs.Definitions.{BeginsAmong, of_kind, case_of, inner_names, name_of}
 use Rattle.tp_checks.specs.Rules.{AreNamed}
 use Rattle.tp_checks.proofs.TestCaseFaultsTold.{begins_more, given_told, second_told}
-use Rattle.tp_checks.proofs.ModuleFaultPropagation.{handed, tells_map}
+use Rattle.tp_checks.proofs.ModuleFaultPropagation.{handed}
 use Rattle.tp_checks.proofs.DistinctNamesInParts.{many_cases, numbered_first}
-use Rattle.tp_checks.proofs.ModuleRefusalPropagation.{all_at, handed_break, handed_on, mapped_behind}
+use Rattle.tp_checks.proofs.ModuleRefusalPropagation.{all_at, handed_on, mapped_behind}
 use Rattle.tp_checks.proofs.ListPrefixGrowth.{all_more, kept_more, pushed}
 use Rattle.tp_checks.proofs.unique_names.find_case.Goals as goal
+use Rattle.tp_checks.proofs.RuleFaultPropagation.{told_on}
 
 pub loop-definition-preserved : goal.loop-definition-preserved
 loop-definition-preserved c =
@@ -72,9 +73,9 @@ returns-in_err-check_name-clause-refused c =
 
 pub returns-in_err-case-clause-refused : goal.returns-in_err-case-clause-refused
 returns-in_err-case-clause-refused c =
-    handed_break (AreNamed c.args.definitions.now) c.from_residual-in_err-case.result _ c.from_residual-in_err-case.ensures.1
-    (λ h. many_cases c.args.definitions.now c.loop-definition.definition-index c.definition-item.result (cases_of c.loop-definition.case) (omega arith)
-    c.definition-item.is c.loop-definition.invariant.case c.in_err-case.ensures.refused h.one_case)
+    handed _ c.from_residual-in_err-case.result _ c.from_residual-in_err-case.ensures.1
+    (inr (λ (h : AreNamed c.args.definitions.now). many_cases c.args.definitions.now c.loop-definition.definition-index c.definition-item.result (cases_of c.loop-definition.case) (omega arith)
+    c.definition-item.is c.loop-definition.invariant.case c.in_err-case.ensures.refused h.one_case))
 
 pub returns-in_err-check_name-clause-told : goal.returns-in_err-check_name-clause-told
 returns-in_err-check_name-clause-told c =
@@ -82,7 +83,7 @@ returns-in_err-check_name-clause-told c =
     let x = c.definition-item.result in
     let before = c.loop-definition.invariant in
     handed (Tells (DefinitionNamesBreak items)) c.from_residual.result _ c.from_residual.ensures.1
-    (tells_map (GivenNamesBreak c.loop-definition.names x) (DefinitionNamesBreak items) c.in_err-check_name.field-0.0
+    (told_on (GivenNamesBreak c.loop-definition.names x) (DefinitionNamesBreak items) c.in_err-check_name.field-0.0
     (given_told items c.loop-definition.definition-index x (omega arith) c.definition-item.is c.loop-definition.names c.loop-definition.case before.names
     before.numbered before.case before.inner) c.in_err-check_name.ensures.told)
 

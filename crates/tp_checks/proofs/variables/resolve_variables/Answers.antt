@@ -4,7 +4,7 @@ use Rattle.std.proofs.lemmas.List.{length_push}
 use Rattle.std.proofs.lemmas.Option.{slice_get_read}
 use Rattle.tp_checks.specs.declared.fault.ModuleRule.TheVariants as rule
 use Rattle.tp_checks.specs.Bodies.{AreVariables, no_variable, one_variable_more}
-use Rattle.tp_checks.proofs.ValueRules.{pushed}
+use Rattle.tp_checks.proofs.ListPrefixGrowth.{pushed}
 use Rattle.tp_checks.specs.BrokenBodies.{VariablesBreak, in_variable, no_type, not_new, too_many}
 use Rattle.tp_checks.proofs.NameLookupsAreUnique.{absent_contained}
 use Rattle.tp_checks.proofs.RuleFaultPropagation.{tells_from, told_here}

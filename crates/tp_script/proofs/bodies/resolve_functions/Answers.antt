@@ -4,7 +4,6 @@ use Rattle.std.specs.List.{AllZip}
 use Rattle.tp_script.specs.Instances.{known_in}
 use Rattle.tp_script.specs.Scopes.{IsFunctionBody}
 use Rattle.tp_script.proofs.FunctionBodyGrowth.{no_function, one_function, one_refused, own_parameters}
-use Rattle.tp_script.proofs.RulesBrokenByParts.{handed_on}
 use Rattle.tp_checks.specs.Refused.{Tells}
 use Rattle.tp_checks.proofs.ModuleFaultPropagation.{handed}
 use Rattle.tp_script.specs.BrokenModules.{FunctionsBreak}
@@ -27,7 +26,7 @@ loop-definition-preserved c =
 pub returns-in_err-body-clause-refused : goal.returns-in_err-body-clause-refused
 returns-in_err-body-clause-refused c = λ sound own.
     let fault = c.in_err-body.field-0.0 in
-    handed_on c.from_residual.result fault c.from_residual.ensures.1 (λ all. all)
+    handed _ c.from_residual.result fault c.from_residual.ensures.1
     (one_refused (known_in c.args.prepared.now) c.args.definitions.now c.loop-definition.definition-index c.definition-item.result c.in-Some.function.now
     (omega arith) c.definition-item.is c.in-Some.ensures own fault (c.in_err-body.ensures.refused sound))
 

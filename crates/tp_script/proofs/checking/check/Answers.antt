@@ -8,9 +8,10 @@ use Rattle.tp_script.proofs.TestCaseFromPasses.{kinds, known_is, test_case_of}
 use Rattle.tp_script.proofs.ExecutableTestCases.{ready}
 use Rattle.tp_checks.specs.Refused.{Tells}
 use Rattle.tp_checks.specs.Broken.{DeclarationsBreak}
-use Rattle.tp_checks.proofs.ModuleFaultPropagation.{handed, tells_map}
+use Rattle.tp_checks.proofs.ModuleFaultPropagation.{handed}
 use Rattle.tp_script.specs.BrokenModules.{ModuleBreaks, declarations}
 use Rattle.tp_script.proofs.checking.check.Goals as goal
+use Rattle.tp_checks.proofs.RuleFaultPropagation.{told_on}
 
 -- the module obeys the rules, so that its test case can be executed
 pub assemble-requires : goal.assemble-requires
@@ -58,7 +59,7 @@ pub returns-in_err-prepared-clause-told : goal.returns-in_err-prepared-clause-to
 returns-in_err-prepared-clause-told c =
     let m = c.args.parsed.now in
     handed (Tells (ModuleBreaks m)) c.from_residual.result _ c.from_residual.ensures.1
-    (tells_map (DeclarationsBreak m) (ModuleBreaks m) c.in_err-prepared.field-0.0 (λ rule line b. declarations rule line b)
+    (told_on (DeclarationsBreak m) (ModuleBreaks m) c.in_err-prepared.field-0.0 (λ rule line b. declarations rule line b)
     c.in_err-prepared.ensures.told)
 
 pub returns-in_err-behaviours-clause-told : goal.returns-in_err-behaviours-clause-told

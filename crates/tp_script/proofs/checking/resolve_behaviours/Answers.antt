@@ -1,12 +1,10 @@
 -- Bodies that are refused, or a size, are those of a module that doesn't obey the rules.
-use Rattle.std.proofs.Common.{◌≤◌, List, Option, map, sum, subst}
+use Rattle.std.proofs.Common.{List, Option, inl, map, subst, sum, ◌≤◌}
 use Rattle.tp_checks.specs.Refused.{IsRefusedBy}
 use Rattle.tp_play.specs.Behaviours.{size_of_behaviour}
 use Rattle.tp_play.specs.Instances.{behaviour_of}
 use Rattle.tp_play.specs.declared.instance.Instance.{Instance}
-use Rattle.tp_script.specs.TestCases.{WellFormed}
-use Rattle.tp_script.proofs.DefinitionNamesDiffer.{own_names}
-use Rattle.tp_script.proofs.RulesBrokenByParts.{handed_on, no_memory}
+use Rattle.tp_checks.proofs.ModuleRefusalPropagation.{handed_on}
 use Rattle.tp_script.proofs.SoundBodyScopes.{sound_known}
 use Rattle.tp_script.proofs.PreparedModulesKeepRules.{are_few, has_bodies, is_small}
 use Rattle.std.proofs.Common.{◌≡◌, ◌<◌}
@@ -20,30 +18,30 @@ use Rattle.tp_script.proofs.checking.resolve_behaviours.Goals as goal
 pub returns-in_err-bodies-clause-refused : goal.returns-in_err-bodies-clause-refused
 returns-in_err-bodies-clause-refused c = λ of rules.
     let m = c.args.parsed.now in
-    let own = own_names m rules in
-    handed_on c.from_residual.result c.in_err-bodies.field-0.0 c.from_residual.ensures.1 (has_bodies m c.args.prepared.now of rules)
-    (c.in_err-bodies.ensures.refused (sound_known m c.args.prepared.now of own) own)
+    let own = rules.names.inner in
+    handed_on c.from_residual.result c.in_err-bodies.field-0.0 c.from_residual.ensures.1
+    (c.in_err-bodies.ensures.refused (sound_known m c.args.prepared.now of own) own) (has_bodies m c.args.prepared.now of rules)
 
 pub returns-in_err-instances-clause-refused : goal.returns-in_err-instances-clause-refused
 returns-in_err-instances-clause-refused c = λ of rules.
-    no_memory (WellFormed c.args.parsed.now) c.from_residual-in_err-instances.result c.in_err-instances.field-0.0 c.from_residual-in_err-instances.ensures.1
-    (c.in_err-instances.ensures.refused (are_few c.args.parsed.now c.args.prepared.now of rules))
+    handed _ c.from_residual-in_err-instances.result c.in_err-instances.field-0.0 c.from_residual-in_err-instances.ensures.1
+    (inl (c.in_err-instances.ensures.refused (are_few c.args.parsed.now c.args.prepared.now of rules)))
 
 pub returns-in_err-check_size-clause-refused : goal.returns-in_err-check_size-clause-refused
 returns-in_err-check_size-clause-refused c = λ of rules.
     let bodies = c.in_ok-bodies.bodies in
     let instances = c.in_ok-instances.instances.items in
     handed_on c.from_residual-in_err-check_size.result c.in_err-check_size.field-0.0 c.from_residual-in_err-check_size.ensures.1
-    (is_small c.args.parsed.now c.args.prepared.now of rules bodies c.in_ok-bodies.ensures.main c.in_ok-bodies.ensures.functions instances
-    c.in_ok-instances.ensures.instances c.in_ok-instances.ensures.count)
     (subst (λ (l : List (Option Instance)). IsRefusedBy (sum (map size_of_behaviour (map (behaviour_of bodies) l)) ≤ 100000) c.in_err-check_size.field-0.0)
     c.deref.ensures.value c.in_err-check_size.ensures.refused)
+    (is_small c.args.parsed.now c.args.prepared.now of rules bodies c.in_ok-bodies.ensures.main c.in_ok-bodies.ensures.functions instances
+    c.in_ok-instances.ensures.instances c.in_ok-instances.ensures.count)
 
 pub returns-in_err-bodies-clause-told : goal.returns-in_err-bodies-clause-told
 returns-in_err-bodies-clause-told c = λ of rules.
     let m = c.args.parsed.now in
     let p = c.args.prepared.now in
-    let own = own_names m rules in
+    let own = rules.names.inner in
     handed (Tells (ModuleBreaks m)) c.from_residual.result c.in_err-bodies.field-0.0 c.from_residual.ensures.1
     (bodies_told m p of rules c.in_err-bodies.field-0.0
     (c.in_err-bodies.ensures.told (sound_known m p of own) own (main_runs m p of rules) (all_run m p of rules)))

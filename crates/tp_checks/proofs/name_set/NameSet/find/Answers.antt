@@ -2,9 +2,10 @@
 use Rattle.std.proofs.Common.{◌∙◌, ap, subst}
 use Rattle.std.specs.Str.{bytes_eq}
 use Rattle.tp_checks.specs.Tables.{AreDistinct, place_of_name}
-use Rattle.tp_checks.proofs.NameSetLookups.{position_map, place_known, place_unknown}
+use Rattle.tp_checks.proofs.NameSetLookups.{place_known, place_unknown}
 use Rattle.tp_checks.proofs.FirstPlacesOfNames.{position_is_place, position_is_nowhere}
 use Rattle.tp_checks.proofs.name_set.NameSet.find.Goals as goal
+use Rattle.tp_config.proofs.ComponentAndPortLookups.{position_map}
 
 pub returns-in-Some-clause-place : goal.returns-in-Some-clause-place
 returns-in-Some-clause-place c =

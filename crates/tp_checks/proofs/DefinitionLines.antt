@@ -1,0 +1,120 @@
+-- The lines of the definitions of what a text stands for, as lists for the tactics.
+use Rattle.std.proofs.Common.{◌≡◌, List, ℕ, ℤ, FitsSigned, w64, subst}
+use Rattle.tp_value.specs.declared.types.Ty.{Ty}
+use Rattle.tp_value.specs.declared.types.Ty.TheVariants as ty
+use Rattle.tp_value.specs.declared.types.Types.{Types}
+use Rattle.tp_tree.specs.declared.message.TypeName.{TypeName}
+use Rattle.tp_tree.specs.declared.message.TypeName.TheVariants as type_name
+use Rattle.tp_tree.specs.declared.message.Value.{Value}
+use Rattle.tp_tree.specs.declared.message.Value.TheVariants as v
+use Rattle.tp_tree.specs.declared.message.Template.{Template}
+use Rattle.tp_tree.specs.declared.message.Template.TheVariants as t
+use Rattle.tp_play.specs.declared.body.SendValue.TheVariants as w
+use Rattle.tp_play.specs.declared.body.RecvTemplate.TheVariants as r
+use Rattle.tp_play.specs.declared.body.VariableType.TheVariants as kind
+use Rattle.tp_checks.specs.declared.scope.Scope.{Scope}
+use Rattle.tp_checks.specs.Named.{IsPlace}
+use Rattle.tp_checks.specs.Scoping as s
+use Rattle.tp_checks.specs.Scoping.{IsType}
+use Rattle.tp_checks.specs.Messages as m
+use Rattle.tp_checks.specs.Messages.{IsTemplate, IsValue}
+use Rattle.tp_checks.specs.Bodies as b
+use Rattle.tp_checks.specs.Bodies.{IsVariableType}
+use Rattle.tp_checks.proofs.NameLookupsAreUnique.{no_number}
+use Rattle.tp_checks.proofs.ListPrefixGrowth.{pushed}
+
+-- the tactics don't match the two lines of a number with 64 bits, so these say what is equal
+module _ (types : Types) (turns : List (List ℕ)) (u : Ty) where
+  pub int : (x : Value) (z : ℤ) → x ≡ v.Int z → u ≡ ty.Integer → FitsSigned w64 z → IsValue types turns u x (w.Int z)
+  int x z e f h = rw (e, f) (m.int z h)
+
+  pub int_template : (x : Template) (z : ℤ) → x ≡ t.Int z → u ≡ ty.Integer → FitsSigned w64 z → IsTemplate types turns u x (r.Exact (w.Int z))
+  int_template x z e f h = rw (e, f) (m.int_template z h)
+
+-- nor do they find that a name is no type's
+pub held_component : (scope : Scope) (x : TypeName) (n : List ℕ) (k : ℕ) → x ≡ type_name.Named n → ((u : Ty) → IsType scope.types.now x u → ⊥)
+    → IsPlace scope.component_types.now n k → IsVariableType scope x kind.Component
+held_component scope x n k e none p = rw e (b.component n k (no_number scope.types.now n (subst (λ y. (u : Ty) → IsType scope.types.now y u → ⊥) e none)) p)
+
+pub ruleset names = (s.integer, s.boolean, s.charstring, s.type_named, s.mtc, s.itself, s.component_named)
+
+pub ruleset values = (
+  int,
+  m.bool,
+  m.text,
+  m.turn,
+  m.elements,
+  m.places,
+  m.fields,
+  m.no_element,
+  m.one_element_more,
+  m.no_field,
+  m.one_field_more,
+  pushed,
+)
+
+pub ruleset templates = (
+  int_template,
+  m.bool_template,
+  m.text_template,
+  m.turn_template,
+  m.any,
+  m.one_of,
+  m.none_of,
+  m.range,
+  m.pattern,
+  m.element_templates,
+  m.place_templates,
+  m.field_templates,
+  m.no_member,
+  m.one_member_more,
+  m.no_element_template,
+  m.one_element_template_more,
+  m.many,
+  m.single,
+  m.no_field_template,
+  m.one_field_template_more,
+  pushed,
+)
+
+pub ruleset operations = (
+  b.written,
+  b.counter,
+  b.held,
+  b.nobody,
+  b.all,
+  b.reference,
+  b.variable,
+  b.every_message,
+  b.matching,
+  b.whoever,
+  b.this_one,
+  b.no_target,
+  b.target,
+  b.no_sender_target,
+  b.sender_target,
+  b.no_verdict,
+  b.pass,
+  b.inconc,
+  b.fail,
+)
+
+pub ruleset statements = (
+  b.send,
+  b.receive,
+  b.control,
+  b.all_ports,
+  b.set_verdict,
+  b.alt,
+  b.alt_else,
+  b.no_statement,
+  b.one_statement_more,
+  b.branch,
+  b.nothing,
+  b.block,
+  b.no_branch,
+  b.one_branch_more,
+  pushed,
+)
+
+pub ruleset variables = (b.message, held_component)
