@@ -26,11 +26,17 @@ written, and 4 for a wrong command line.
 from __future__ import annotations
 
 import os
-import re
 import sys
-from collections import defaultdict
 
 sys.dont_write_bytecode = True
+sys.path.insert(0, os.path.dirname(os.path.realpath(__file__)))  # Python leaves it out if PYTHONSAFEPATH is set
+
+from tpr_tools.interrupts import let_interrupts_end
+
+let_interrupts_end()
+
+import re
+from collections import defaultdict
 
 from tpr_tools import command
 

@@ -24,11 +24,10 @@ from explore_runs import (
     tells_faults,
 )
 from tool_calls import (
-    ROOT, Ended, judged, must, prints, prints_nothing, program_of, ruled, run, says_alone, says_nothing,
+    ROOT, TAKES_SIGNALS, Ended, judged, must, prints, prints_nothing, program_of, ruled, run, says_alone, says_nothing,
 )  # fmt: skip
 
 MOST_SECONDS = 60
-TAKES_SIGNALS = ("env", "--default-signal=HUP,INT,PIPE,TERM")  # before a command, so that it ignores none of them
 WANTS = "reports need tpr_ordered, "
 FAULT = "a fault in tpr or its tools:"
 TO_PASS, TO_FAIL = "mtc a mtc a b b b", "mtc a a mtc b b b"  # orders of OVERTAKEN

@@ -267,6 +267,9 @@ def other_answers(asked: Explaining) -> None:
     by_another("no answer of tpr", 1, "hello", "FILE: hello\n")
     long = f"refused {'9' * 5000} Limit"
     by_another("a number that is none", 1, long, f"FILE: {long}\n")
+    killed = program_of(asked.room / "killed", "kill -9 $$")
+    by_signal = prints(f"FILE: {killed} was ended by signal 9\n")
+    judged("a program that is ended by a signal", asked.of_script(program=killed), 1, by_signal)
     asked.script.write_bytes(b" " * 2 * MEBIBYTE)
     too_long = "refused 15 Limit line 0"
     case("another number of a long text", "refused 14 Direction line 3", LISTED, too_long, LISTED)
@@ -286,7 +289,7 @@ def at_length(asked: Explaining) -> None:
 
 GROUPS = (
     (tables, 8), (example, 4), (numbers, 7), (places, 10), (words, 14), (warnings, 12), (texts_that_are_none, 6),
-    (calls, 8), (other_answers, 11), (at_length, 1),
+    (calls, 8), (other_answers, 12), (at_length, 1),
 )  # fmt: skip
 
 

@@ -248,6 +248,14 @@ def refusals_of_releases(tree: Tree) -> None:
     with case("a folder that is a file"):
         said = f"release: a_file/tpr-{tree.version}-amd64.tar.gz can't be written"
         tree.release("--unchecked", "a_file").must_say(said, 3)
+    temporary = tree.room / "temporary"
+    temporary.mkdir()
+    with case("a full folder for temporary files"):
+        words = 'ulimit -f 100; exec "$0" refused --unchecked'
+        command = tree.folder / "tools" / "release"
+        ended = run("sh", "-c", words, command, folder=tree.room, more={"TMPDIR": str(temporary)})
+        ended.must_say("release: a temporary file for ldd can't be written: ", 1)
+        must(not [*temporary.iterdir()] and not (tree.room / "refused").exists(), "something is left")
 
 
 # What this machine can test
@@ -257,7 +265,7 @@ def groups(tree: Tree) -> list[Group]:
     found = [
         Group(partial(makes_both, tree), 4, "releases"),
         Group(partial(tells_planted, tree, OF_RELEASES), 8, "planted releases"),
-        Group(partial(refusals_of_releases, tree), 29, "refusals of releases"),
+        Group(partial(refusals_of_releases, tree), 30, "refusals of releases"),
         Group(partial(manual_page, tree), 12, "the manual page"),
         Group(partial(archive_is_used, tree), 4, "the archive that is used"),
         Group(partial(library_is_used, tree), 0, "the library that is used"),

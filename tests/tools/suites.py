@@ -120,6 +120,12 @@ def suites_that_cannot_be(room: Path, tpr: str) -> None:
     with case("a suite without the program"):
         missing = str(it.file("missing"))
         it.run(missing, file).must_say(f"suite: {missing} can't be run", 1)
+    with case("a JUnit file of a suite without the program"):
+        it.write("old.xml", "old")
+        for name in ("new.xml", "old.xml"):
+            it.run(missing, file, "--junit", name).must_say(f"suite: {missing} can't be run", 1)
+        must(not it.file("new.xml").exists(), "it is made")
+        must(it.file("old.xml").read_bytes() == b"old", "an older one is changed")
     with case("a suite where the program can't be built"):
         it.run("/bin/false", file).must_say("suite: /bin/false queue, on no text, ended with status 1", 1)
     with case("a JUnit file that can't be written"):
@@ -223,7 +229,7 @@ def main() -> int:
         [
             Group(partial(suites_of_scripts, room, tpr, called), 14, "suites of scripts"),
             Group(partial(other_suites.of_another_program, room, tpr), 8, "suites of another program"),
-            Group(partial(suites_that_cannot_be, room, tpr), 20, "suites that can't be"),
+            Group(partial(suites_that_cannot_be, room, tpr), 21, "suites that can't be"),
             Group(partial(suites_of_what_is_wanted, room, tpr), 9, "suites of what is wanted"),
             Group(partial(schedule_suites.of_the_schedule, room, tpr), 21, "suites of the schedule"),
             Group(partial(other_suites.that_lose_nothing, room, tpr), 20, "suites that lose nothing"),

@@ -31,6 +31,7 @@ EXAMPLES = ROOT / "examples"
 MOST_SECONDS = 900
 MOST_LINES = 40  # of a text that is shown for a wrong result
 SHOWN = 2000  # characters of the message about a broken rule
+TAKES_SIGNALS = ("env", "--default-signal=HUP,INT,PIPE,TERM")  # before a command, so that it ignores none of them
 
 Asked = TypeVar("Asked")
 Text = Union[str, bytes]

@@ -1,5 +1,6 @@
 #!/usr/bin/env python3
-"""Tests what all tools have in common: their behaviour if their output can't be written, and if memory runs out.
+"""Tests what all tools have in common: how they start, and their behaviour if their output can't be written, and if
+memory runs out.
 
     tests/tools/tool_words.py
 """
@@ -14,11 +15,13 @@ from pathlib import Path
 
 sys.dont_write_bytecode = True
 
-from tool_calls import ROOT, Group, case, must, onto_a_full_device, run, try_groups
+from tool_calls import ROOT, TAKES_SIGNALS, Group, case, file_of, must, onto_a_full_device, room, run, try_groups
 
 TOOLS = ("chart", "compare", "explain", "explore", "lsp", "release", "rewrite", "suite", "titan", "why")
 NEEDS_MUCH = """from tpr_tools import command
 command.run("tool", lambda: len(bytes(1 << 62)))"""
+INTERRUPTS = """import os, signal
+os.kill(os.getpid(), signal.SIGINT)"""
 
 
 def words_that_nobody_gets() -> None:
@@ -34,6 +37,7 @@ def words_that_nobody_gets() -> None:
             ended = run("sh", "-c", 'exec "$0" --nothing 2>&-', command).must_end(4)
             must(not ended.printed, "it printed something")
     version_that_each_says()
+    start_of_each()
     what_tools_import()
     what_titan_cannot_read()
     memory_that_is_refused()
@@ -48,6 +52,19 @@ def version_that_each_says() -> None:
             ended.must(re.fullmatch(form, ended.text), f"a line of the form {form!r} is to be printed")
     with case("the version onto a full device"):
         onto_a_full_device(ROOT / "tools" / "why", "--version").must_say("why: the answer can't be written", 3)
+
+
+def start_of_each() -> None:
+    """Each tool is called by a link, as in the package."""
+    with room() as folder:
+        file_of(folder / "argparse.py", INTERRUPTS)
+        for tool in (*TOOLS, "costs.py"):
+            link = folder / tool
+            link.symlink_to(ROOT / "tools" / tool)
+            with case(f"{tool} without its folder on the path of modules"):
+                run(link, "--version", more={"PYTHONSAFEPATH": "1"}).must_say_nothing()
+            with case(f"an interrupt while the modules of {tool} are imported"):
+                run(*TAKES_SIGNALS, link, "--version", more={"PYTHONPATH": str(folder)}).must_print("", 130)
 
 
 def what_tools_import() -> None:
@@ -103,4 +120,4 @@ def memory_that_is_refused() -> None:
 if __name__ == "__main__":
     # Without it, output that couldn't be written stays in the buffer, and is written again at the very end.
     os.environ.pop("PYTHONUNBUFFERED", None)
-    sys.exit(try_groups([Group(words_that_nobody_gets, 43, "words that nobody gets")]))
+    sys.exit(try_groups([Group(words_that_nobody_gets, 65, "words that nobody gets")]))

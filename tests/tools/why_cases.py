@@ -20,8 +20,8 @@ sys.dont_write_bytecode = True
 import example_reports
 import why_rules
 from tool_calls import (
-    ROOT, Ended, Test, Tool, block_of, file_of, judged, must, prints, prints_line, read, room, ruled, run, says,
-    says_alone, says_nothing, says_usage, texts_in, try_groups_of, words_of,
+    ROOT, Ended, Test, Tool, block_of, file_of, judged, must, prints, prints_line, program_of, read, room, ruled, run,
+    says, says_alone, says_nothing, says_usage, texts_in, try_groups_of, words_of,
 )  # fmt: skip
 
 WHYS = Path("tests/tools/whys")
@@ -164,12 +164,15 @@ def bad_input(asked: Reasoning) -> None:
 
 
 def calls(asked: Reasoning) -> None:
-    """Wrong command lines, a full device, a missing program, and the help."""
+    """Wrong command lines, a full device, a program that is missing or is killed, and the help."""
     script, case = f"{KITCHEN}.ttcn", asked.tool.case
     no_program = says_alone(f"why: {asked.missing} can't be run")
     asked.nowhere.case("a program that isn't there", [script], 1, no_program)
     asked.nowhere.case("a summary without a program", ["--summary", script, LOGIN], 1, no_program)
     asked.tool.full_device("onto a full device", script)
+    killed = Tool("why", ("--tpr", program_of(asked.room / "killed", "echo component mtc", "kill -9 $$")))
+    by_signal = f"why: {script}: {asked.room / 'killed'} was ended by signal 9"
+    killed.case("a program that is ended by a signal", [script], 1, says_alone(by_signal))
     case("no script", [], 4, says_usage("why"))
     case("a script without a name", [""], 2, says_alone("why: a file without a name can't be read"))
     case("too many files", [script, "a", "b"], 4, says_usage("why"))
@@ -219,7 +222,7 @@ def last_is_told(ended: Ended) -> bool:
 
 GROUPS = (
     (lines_of_reports, 137), (causes_of_results, 42), (one_script, 8), (several_scripts, 4), (misfits, 13),
-    (bad_input, 6), (calls, 7), (charts, 4), (at_length, 1),
+    (bad_input, 6), (calls, 8), (charts, 4), (at_length, 1),
 )  # fmt: skip
 
 

@@ -11,11 +11,12 @@ import re
 import sys
 from typing import TYPE_CHECKING, Callable, NoReturn, Optional, Sequence, TypeVar, Union
 
+from .interrupts import INTERRUPTED as INTERRUPTED, let_interrupts_raise
+
 if TYPE_CHECKING:
     from .report.report import NotAReport, Report
 
 DONE, NOT_BUILT, REFUSED, NOT_WRITTEN, WRONG_USAGE, NOT_SO = range(6)
-INTERRUPTED = 130
 
 Result = TypeVar("Result")
 # Nested parts of a script are handled by nested calls.
@@ -202,6 +203,7 @@ def run(name: str, tool: Callable[[], int], at_once: bool = False) -> NoReturn:
     # The tools make no cycles, and looking for them costs a quarter of the time.
     gc.disable()
     try:
+        let_interrupts_raise()
         status = tool()
     except Stop as stop:
         say(f"{called(name)}: {stop.text}\n")

@@ -23,6 +23,10 @@ class NoProgram(Stop):
         super().__init__(NOT_BUILT, text)
 
 
+class EndedBySignal(Stop):
+    """A signal ended the program, so its output isn't its whole answer."""
+
+
 def program_of(named: Optional[str], root: str) -> str:
     """The program of the command line or of TPR; otherwise the one in the folder that contains the tools."""
     return os.path.abspath(named or os.environ.get("TPR") or os.path.join(root, "tpr"))
@@ -44,6 +48,8 @@ def printed_by(program: str, *words: str, given: bytes = b"") -> bytes:
         raise NoProgram(f"{program} can't be run: {getattr(error, 'strerror', None) or error}") from None
     if run.returncode == NOT_BUILT:
         raise NoProgram(f"{program} can't be built")
+    if run.returncode < 0:
+        raise EndedBySignal(NOT_BUILT, f"{program} was ended by signal {-run.returncode}")
     return run.stdout
 
 

@@ -154,16 +154,24 @@ def _libraries_of(programs: tuple[bytes, ...]) -> list[str]:
 
 def _linked_with(program: bytes) -> list[str]:
     """The names of the libraries, as `ldd` prints them."""
-    with tempfile.NamedTemporaryFile() as file:
-        file.write(program)
-        file.flush()
-        os.chmod(file.name, 0o755)
-        try:
-            ran = subprocess.run(["ldd", file.name], capture_output=True, check=False)
-        except OSError as error:
-            raise Stop(NOT_BUILT, f"ldd can't be run: {error.strerror}") from None
+    try:
+        with tempfile.NamedTemporaryFile() as file:
+            file.write(program)
+            file.flush()
+            os.chmod(file.name, 0o755)
+            ran = _ldd(file.name)
+    except OSError as error:
+        told = f"a temporary file for ldd can't be written: {error.strerror}; TMPDIR can name another folder"
+        raise Stop(NOT_BUILT, told) from None
     lines = ran.stdout.decode("utf-8", "replace").splitlines()
     if ran.returncode != 0 or not lines:
         raise Stop(REFUSED, "ldd doesn't take a program for one")
     named = [os.path.basename(line.split()[0]) for line in lines if "statically linked" not in line]
     return [name for name in named if name != _OF_THE_KERNEL]
+
+
+def _ldd(file: str) -> subprocess.CompletedProcess[bytes]:
+    try:
+        return subprocess.run(["ldd", file], capture_output=True, check=False)
+    except OSError as error:
+        raise Stop(NOT_BUILT, f"ldd can't be run: {error.strerror}") from None

@@ -19,10 +19,13 @@ SKIPPED = "the suite ended before this script was done"
 
 
 def look_whether_written(file: str) -> None:
-    """Refuses a file that can't be written, before anything is run."""
+    """Refuses a file that can't be written, before anything is run. Leaves no file that wasn't there."""
+    is_new = not os.path.exists(file)
     try:
         with open(file, "ab"):
             pass
+        if is_new:
+            os.remove(os.path.realpath(file))
     except OSError as error:
         raise Stop(NOT_WRITTEN, f"{file} can't be written: {error.strerror}") from None
 
