@@ -1,5 +1,5 @@
 -- The reserved words by their lengths, and by their spelling.
-use Rattle.std.proofs.Common.{◌≡◌, ◌≢◌, ℕ, ◌<◌, true, false, true≢false, List, [], ◌∷◌, length, filter, suc, ◌&&◌, refl, ap, sym, ◌∙◌, inl, inr, Option, Some, map, subst, if◌then◌else◌, ◌==◌, arith, ne_eqb}
+use Rattle.std.proofs.Common.{◌≡◌, ◌≢◌, ℕ, true, false, true≢false, List, [], ◌∷◌, length, filter, suc, ◌&&◌, refl, ap, sym, ◌∙◌, inl, inr, Option, Some, map, subst, if◌then◌else◌, ◌==◌}
 use Rattle.std.specs.Str.{bytes_eq}
 use Rattle.std.proofs.lemmas.Bool.Decides.{eqb_tells}
 use Rattle.std.proofs.lemmas.Bool.{cases_Bool}
@@ -38,26 +38,6 @@ found_spelling bs word (v ∷ ws) e = elim (cases_Bool (bytes_eq bs (word_spelli
   | inl same ↦ (bytes_eq-Decides bs (word_spelling v)).0 same ∙ ap (λ (found : Option Word). word_spelling (unwrap_or found v)) (rw same at e)
   | inr other ↦ found_spelling bs word ws (rw other at e)
 ]
-
--- each word has from two to ten characters
-word_length : (word : Word) → (1 < length (word_spelling word)) × (length (word_spelling word) < 11)
-word_length w.Module = (omega arith, omega arith)
-word_length word = (omega arith, omega arith)
-
-no_other : (n : ℕ) → ((word : Word) → length (word_spelling word) ≢ n) → (ws : List Word)
-    → [] ≡ filter (λ (entry : List ℕ × Word). length entry.0 == n) (map (λ word. (word_spelling word, word)) ws)
-no_other n apart [] = refl
-no_other n apart (w ∷ ws) = rw (ne_eqb _ _ (apart w)) (no_other n apart ws)
-
--- no word has another length
-pub others : (n : ℕ) → n ≢ 2 → n ≢ 3 → n ≢ 4 → n ≢ 5 → n ≢ 6 → n ≢ 7 → n ≢ 8 → n ≢ 9 → n ≢ 10 → [] ≡ words_of_length n
-unfolding reserved words_of_length
-others n not2 not3 not4 not5 not6 not7 not8 not9 not10 =
-    no_other n
-    (λ word same.
-    let within = word_length word in
-    omega (arith, not2, not3, not4, not5, not6, not7, not8, not9, not10, within.0, within.1, same))
-    words
 
 -- each word is found
 known : (word : Word) → word_of (word_spelling word) ≡ Some word

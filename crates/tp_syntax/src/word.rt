@@ -161,7 +161,7 @@ pub(crate) fn word_spelled(bytes: &[u8]) -> Option<Word>
     first_spelled(bytes, words_of_length(bytes.len()))
 }
 
-#[tactic(auto, using(crate::proofs::ReservedWordsByLength::others), unfolding(crate::specs::Word::reserved, crate::specs::Word::words_of_length))]
+#[tactic(auto, unfolding(crate::specs::Word::reserved, crate::specs::Word::words_of_length))]
 fn words_of_length(size: usize) -> &'static [(&'static str, Word)]
     ensures { map (λ entry. (entry.0.now, entry.1)) result.now ≡ words_of_length size }
 {
