@@ -1,5 +1,5 @@
 //! Stamped messages as entries and envelopes keep them, in less room.
-ghost use Rattle.std.specs.Prelude.{◌≡◌, IfErr, IfOk};
+ghost use Rattle.std.specs.Prelude.{◌≡◌, IfErr, IfOk, OnOk};
 ghost use Rattle.tp_inbox.specs.Noted.{IsShortType, NoteCause};
 
 use crate::note_fault::NoteFault;
@@ -43,6 +43,7 @@ impl NotedMessage {
     /// 65,536 or more.
     pub(crate) fn of(stamped: Stamped) -> Result<NotedMessage, Stamped>
         ensures ok { IfOk result (λ noted. noted ≡ stamped) }
+        ensures short { OnOk result (IsShortType stamped.message.ty) }
         ensures err { IfErr result (λ back.
             (back ≡ stamped) × ¬ IsShortType stamped.message.ty) }
     {
@@ -58,6 +59,7 @@ impl NotedMessage {
         })
     }
 
+    /// The message again. Its type has room in a `NotedMessage`.
     pub(crate) fn into_stamped(self) -> Stamped
         ensures same { result ≡ self }
         ensures short { IsShortType result.message.ty }

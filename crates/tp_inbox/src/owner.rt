@@ -133,7 +133,7 @@ fn deliver(
                 stamp,
                 message: back.msg,
             };
-            // It was noted before.
+            // The message came out of a `NotedMessage`, so that its type has room in one.
             let Ok(stamped) = NotedMessage::of(stamped) else {
                 unreachable!()
             };

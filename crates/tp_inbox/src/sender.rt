@@ -8,6 +8,7 @@ ghost use Rattle.tp_inbox.specs.Desks.{adding};
 ghost use Rattle.tp_inbox.specs.Rule.{sender_pass};
 ghost use Rattle.tp_inbox.specs.InboxEndFields.{inbox_of};
 ghost use Rattle.tp_inbox.specs.Ledgers.{end_of, extended, first_sender, put_on_way, putting};
+ghost use Rattle.tp_inbox.specs.Noted.{IsShortType};
 ghost use Rattle.tp_inbox.specs.Routed.{route_at};
 
 use crate::channel::Channel;
@@ -150,6 +151,7 @@ impl Sender {
         ensures number { IfOk result (λ number. number ≡ length (put_on_way self.old way)) }
         ensures ok { OnOk result (self.new ≡ putting self.old way stamped) }
         ensures room { OnOk result (length (put_on_way self.old way) < 100000) }
+        ensures short { OnOk result (IsShortType stamped.message.ty) }
         ensures err { IfErr result (λ back. (back.1 ≡ stamped) × (self.new ≡ self.old)) }
         ensures limit { IfErr result (λ back.
             back.0 ≡ PutFault.Limit ↔ 100000 ≤ length (put_on_way self.old way)) }
