@@ -50,6 +50,7 @@ impl Write for LineRoom {
 
     ghost contents = { λ r. Some r };
 
+    // Inlined, because a line has many small pieces.
     #[inline(always)]
     fn write(&mut self, buf: &[u8]) -> io::Result<usize>
         ensures bound { WritesAtMost result buf.now }
