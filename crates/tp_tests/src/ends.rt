@@ -86,6 +86,16 @@ impl Mailbox {
     {
         self.owner.drain_some(rt, &mut self.desk, most)
     }
+
+    pub fn note_sending(
+        &mut self,
+        route: RouteId,
+        message: Message,
+    ) -> Result<Stamped, (Memory, Message)>
+        ensures { self.new.0.inbox ≡ self.old.0.inbox }
+    {
+        self.desk.note_sending(route, 0, message)
+    }
 }
 
 #[derive(Drop)]
