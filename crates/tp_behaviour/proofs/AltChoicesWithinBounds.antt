@@ -1,6 +1,6 @@
 -- What an `alt` goes on with: what it waits for is within the component's ports, and the branch that is chosen is one of its own.
-use Rattle.std.proofs.Common.{◌≡◌, ℕ, ◌<◌, Bool, true, Option, Some, List, [], ◌∷◌, length, ap, sym, subst, arith}
-use Rattle.std.specs.Prelude.{All}
+use Rattle.std.proofs.Common.{◌≡◌, ℕ, ◌<◌, Bool, true, Option, Some, None, List, [], ◌∷◌, length, slice_get, ap, sym, subst, arith}
+use Rattle.std.specs.Prelude.{All, IfSome}
 use Rattle.std.proofs.lemmas.List.{length-map}
 use Rattle.std.proofs.lemmas.List.Elements.{All-nil, All-cons}
 use Rattle.tp_common.specs.declared.event.Env.{Env}
@@ -9,14 +9,16 @@ use Rattle.tp_play.specs.declared.body.ResolvedBranch.{ResolvedBranch}
 use Rattle.tp_play.specs.Playable.{CanEnterAll, Stage}
 use Rattle.tp_play.proofs.PlayableStatementRules.{enters_receive}
 use Rattle.tp_inbox.specs.declared.entry.Entry.{Entry}
+use Rattle.tp_inbox.specs.History.{last_chosen}
 use Rattle.tp_behaviour.specs.declared.choice.Guard.{Guard}
 use Rattle.tp_behaviour.specs.declared.choosing.Choice.TheVariants as choice
+use Rattle.tp_behaviour.specs.declared.deciding.Decision.TheVariants as decision
 use Rattle.tp_behaviour.specs.declared.held.Held.{Held}
 use Rattle.tp_behaviour.specs.declared.task.Task.{Task}
 use Rattle.tp_behaviour.specs.declared.worker.Worker.{Worker}
-use Rattle.tp_behaviour.specs.Held.{Actor, Values, guard_of}
+use Rattle.tp_behaviour.specs.Held.{Actor, Values, guard_of, redirected}
 use Rattle.tp_behaviour.specs.Outcomes.{stage_at}
-use Rattle.tp_behaviour.specs.PartOutcomes.{Enters, IsEntered}
+use Rattle.tp_behaviour.specs.PartOutcomes.{Enters, IsDecisionOf, IsEntered}
 use Rattle.tp_behaviour.specs.Paths.{guards_of}
 use Rattle.tp_behaviour.specs.LookOutcomes.{Chose, TraceGrew}
 use Rattle.tp_behaviour.specs.Workers.{IsConsistent, role_of}
@@ -36,18 +38,40 @@ guards_within p s n vs xs gs consistent can is =
     (subst (All (λ (g : Guard). g.port < (stage_at p).ports)) (sym is) (below_each (stage_at p) n (role_of p) vs xs can))
 
 -- the branch that is chosen is there
-pub chose_within : (r : Actor) (vs : Values) (xs : List ResolvedBranch) (gs : List Guard) (has_else : Bool) (i : ℕ) (e : Env Message) (k n : List Entry)
-    → gs ≡ guards_of r vs xs → TraceGrew (Chose gs has_else (choice.Branch i e)) k n → i < length xs
-chose_within r vs xs gs has_else i e k n is grew =
+pub chose_within : (r : Actor) (vs : Values) (xs : List ResolvedBranch) (gs : List Guard) (has_else : Bool) (i : ℕ) (k n : List Entry)
+    → gs ≡ guards_of r vs xs → TraceGrew (Chose gs has_else n (choice.Branch i)) k n → i < length xs
+chose_within r vs xs gs has_else i k n is grew =
     let t = grew.2 in
-    let below : i < length gs = chosen_below gs true t.1 (Some (i, e)) (t.4 true) in
+    let below : i < length gs = chosen_below gs true t.2.1 (Some (i, t.0)) (t.2.4 true) in
     omega (arith, ap length is, length-map xs (λ (x : ResolvedBranch). guard_of r vs x.receiving))
 
+-- the variables are set, if there was an envelope
+pub sets : (x : ResolvedBranch) (xs : List ResolvedBranch) (i : ℕ) (vs ws : List (Option Held)) (o : Option (Env Message)) → slice_get xs i ≡ Some x
+    → IfSome o (λ e. ws ≡ redirected x.receiving e vs) → IfSome o (λ e. IsEntered xs i e vs ws)
+sets x xs i vs ws None there set = tt
+sets x xs i vs ws (Some e) there set = record { branch = x; there = there; set = set }
+
+-- its variables are set, so it is there
+pub entered_there : (gs : List Guard) (has_else : Bool) (i : ℕ) (xs : List ResolvedBranch) (vs ws : List (Option Held)) (k n : List Entry)
+    → TraceGrew (Chose gs has_else n (choice.Branch i)) k n → IfSome (last_chosen n) (λ e. IsEntered xs i e vs ws) → IsDecisionOf xs (decision.Branch i)
+entered_there gs has_else i xs vs ws k n chose set =
+    let e : IsEntered xs i chose.2.0 vs ws = subst (λ o. IfSome o (λ e. IsEntered xs i e vs ws)) chose.2.1 set in
+    (e.branch, e.there)
+
 -- a branch was chosen, and its variables set
-pub entered : (r : Actor) (vs : Values) (xs : List ResolvedBranch) (gs : List Guard) (has_else : Bool) (i : ℕ) (e : Env Message) (ws : List (Option Held))
+pub entered : (r : Actor) (vs : Values) (xs : List ResolvedBranch) (gs : List Guard) (has_else : Bool) (i : ℕ) (ws : List (Option Held))
     (k n : List Entry)
-    → gs ≡ guards_of r vs xs → TraceGrew (Chose gs has_else (choice.Branch i e)) k n → IsEntered xs i e vs.variables ws
+    → gs ≡ guards_of r vs xs → TraceGrew (Chose gs has_else n (choice.Branch i)) k n
+    → IfSome (last_chosen n) (λ e. IsEntered xs i e vs.variables ws)
     → TraceGrew (Enters xs (guards_of r vs xs) i vs.variables ws) k n
-entered r vs xs gs has_else i e ws k n is grew set =
-    let h = subst (λ (ys : List Guard). TraceGrew (Chose ys has_else (choice.Branch i e)) k n) is grew in
-    (h.0, h.1, record { env = e; chosen = h.2; entered = set })
+entered r vs xs gs has_else i ws k n is grew set =
+    let h : TraceGrew (Chose (guards_of r vs xs) has_else n (choice.Branch i)) k n =
+    subst (λ (ys : List Guard). TraceGrew (Chose ys has_else n (choice.Branch i)) k n) is grew in (
+      h.0,
+      h.1,
+      record {
+        env = h.2.0;
+        chosen = h.2.2;
+        entered = subst (λ o. IfSome o (λ e. IsEntered xs i e vs.variables ws)) h.2.1 set;
+      },
+    )

@@ -21,11 +21,12 @@ one_more P n xs x is h p = rw (add-one) (one_longer P n xs x is h p)
 -- what trying one branch comes to, of which none before is open, trying all comes to
 pub looked : (gs : List Guard) (d : Journal) (i : ℕ) (g : Guard) (s : LookResult) (after : Journal) → slice_get gs i ≡ Some g
     → NoneOpen d.log (take i gs) → Tried g i d s after → (s ≡ look.Nothing → ⊥) → Looked gs d s after
-looked gs d i g (look.Taken j e) after is none t not = (
-  chosen g.kind g.port e i,
-  subst (λ (n : ℕ). (has_else : _) → IsChoice gs has_else (moment d (chosen g.kind g.port e i)) (Some (n, e))) (sym t.0)
-      (λ has_else. IsChoice.branch d.log i g e is t.1 none),
-  t.2,
+looked gs d i g (look.Taken j) after is none t not = (
+  t.0,
+  chosen g.kind g.port t.0 i,
+  subst (λ (n : ℕ). (has_else : _) → IsChoice gs has_else (moment d (chosen g.kind g.port t.0 i)) (Some (n, t.0))) (sym t.1)
+      (λ has_else. IsChoice.branch d.log i g t.0 is t.2 none),
+  t.3,
 )
 looked gs d i g look.Discarded after is none t not =
     (entry.Dropped g.port i t.0, IsDrop.dropped d.log i g t.0 is t.1 t.2 t.3 none, t.4)

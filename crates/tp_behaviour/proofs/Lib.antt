@@ -1,5 +1,6 @@
 pub mod TraceGrowth
 mod FixedValueRules
+mod LastChosenEntry
 mod LastingStatementRules
 mod GuardViewsByPlace
 mod BranchLookOutcomes

@@ -1,5 +1,5 @@
 -- What a receiving operation comes to, and what the variables hold after it.
-use Rattle.std.proofs.Common.{◌≡◌, ℕ, zero, suc, ◌<◌, ℤ, Bool, false, Option, Some, None, List, [], ◌∷◌, length, slice_get, refl, sym, ap, subst, arith}
+use Rattle.std.proofs.Common.{◌≡◌, ℕ, zero, suc, ◌<◌, ℤ, Bool, false, Option, Some, None, List, [], ◌∷◌, ◌++◌, length, slice_get, refl, sym, ap, subst, arith}
 use Rattle.std.specs.Prelude.{slice_set, IfSome}
 use Rattle.std.proofs.lemmas.Option.{same_Some, slice_get_within}
 use Rattle.tp_common.specs.declared.event.Env.{Env}
@@ -14,6 +14,7 @@ use Rattle.tp_play.proofs.PlayableStatementRules.{keeps_sender, keeps_value}
 use Rattle.tp_config.specs.declared.port_type.CompId.{CompId}
 use Rattle.tp_inbox.specs.declared.entry.Entry.{Entry}
 use Rattle.tp_inbox.specs.declared.ending.End.TheVariants as ending
+use Rattle.tp_inbox.specs.History.{last_chosen}
 use Rattle.tp_behaviour.specs.declared.choice.Guard.{Guard}
 use Rattle.tp_behaviour.specs.declared.choosing.Choice.TheVariants as choice
 use Rattle.tp_behaviour.specs.declared.held.Held.{Held}
@@ -32,27 +33,32 @@ the_first : (g : Guard) (has_else : Bool) (t : Moment) (i : ℕ) (e : Env Messag
 the_first g has_else t i e chosen = let h : i < 1 = chosen_below (g ∷ []) has_else t (Some (i, e)) chosen in omega (arith, h)
 
 -- an operation that stands alone is carried out once it is chosen
-pub received : (r : Actor) (turns : List ℤ) (vs : List (Option Held)) (x : Receiving) (gs : List Guard) (i : ℕ) (e : Env Message) (k n : List Entry)
-    → gs ≡ guard_of r (record { turns = turns; variables = vs }) x ∷ [] → TraceGrew (Chose gs false (choice.Branch i e)) k n
-    → TraceGrew (λ ts. IsStep r turns vs (b.Receive x) ts (redirected x e vs)) k n
-received r turns vs x gs i e k n are h =
+pub received : (r : Actor) (turns : List ℤ) (vs ws : List (Option Held)) (x : Receiving) (gs : List Guard) (i : ℕ) (k n : List Entry)
+    → gs ≡ guard_of r (record { turns = turns; variables = vs }) x ∷ [] → TraceGrew (Chose gs false n (choice.Branch i)) k n
+    → IfSome (last_chosen n) (λ e. ws ≡ redirected x e vs)
+    → TraceGrew (λ ts. IsStep r turns vs (b.Receive x) ts ws) k n
+received r turns vs ws x gs i k n are h set =
     let g : Guard = guard_of r (record { turns = turns; variables = vs }) x in
-    let one : TraceGrew (Chose (g ∷ []) false (choice.Branch i e)) k n = subst (λ l. TraceGrew (Chose l false (choice.Branch i e)) k n) are h in
-    let t : Moment = one.2.1 in
-    let chosen : IsChoice (g ∷ []) false t (Some (i, e)) = one.2.4 false in
+    let one : TraceGrew (Chose (g ∷ []) false n (choice.Branch i)) k n = subst (λ l. TraceGrew (Chose l false n (choice.Branch i)) k n) are h in
+    let e : Env Message = one.2.0 in
+    let same : ws ≡ redirected x e vs = subst (λ o. IfSome o (λ e. ws ≡ redirected x e vs)) one.2.1 set in
+    let drops : List Moment = one.2.2.0 in
+    let t : Moment = one.2.2.1 in
+    let chosen : IsChoice (g ∷ []) false t (Some (i, e)) = one.2.2.4 false in
     let first : IsChoice (g ∷ []) false t (Some (0, e)) = subst (λ j. IsChoice (g ∷ []) false t (Some (j, e))) (the_first g false t i e chosen) chosen in (
       one.0,
       one.1,
-      subst (λ ts. IsStep r turns vs (b.Receive x) ts (redirected x e vs)) (sym one.2.2) (IsStep.receive turns vs x one.2.0 t e one.2.3 first),
+      subst (λ ts. IsStep r turns vs (b.Receive x) ts ws) (sym one.2.2.2)
+          (subst (IsStep r turns vs (b.Receive x) (drops ++ t ∷ [])) (sym same) (IsStep.receive turns vs x drops t e one.2.2.3 first)),
     )
 
 -- or waits for just these
 pub waits_for : (r : Actor) (turns : List ℤ) (vs : List (Option Held)) (x : Receiving) (gs : List Guard) (k n : List Entry)
-    → gs ≡ guard_of r (record { turns = turns; variables = vs }) x ∷ [] → TraceGrew (Chose gs false choice.Waits) k n
+    → gs ≡ guard_of r (record { turns = turns; variables = vs }) x ∷ [] → TraceGrew (Chose gs false n choice.Waits) k n
     → TraceGrew (λ ts. StopsWithin r (λ ys. ys ≡ gs) ending.Waiting turns vs (b.Receive x) ts) k n
 waits_for r turns vs x gs k n are h =
     let g : Guard = guard_of r (record { turns = turns; variables = vs }) x in
-    let one : TraceGrew (Chose (g ∷ []) false choice.Waits) k n = subst (λ l. TraceGrew (Chose l false choice.Waits) k n) are h in
+    let one : TraceGrew (Chose (g ∷ []) false n choice.Waits) k n = subst (λ l. TraceGrew (Chose l false n choice.Waits) k n) are h in
     (one.0, one.1, StopsWithin.waits turns vs x one.0 one.2.1 (sym are))
 
 -- as many variables are held as are declared

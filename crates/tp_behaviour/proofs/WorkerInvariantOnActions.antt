@@ -12,7 +12,7 @@ use Rattle.tp_common.specs.declared.operation.ReceiveKind.{ReceiveKind}
 use Rattle.tp_common.specs.declared.operation.ReceiveKind.TheVariants as kind
 use Rattle.tp_inbox.specs.declared.entry.Entry.{Entry}
 use Rattle.tp_inbox.specs.declared.entry.Entry.TheVariants as entry
-use Rattle.tp_inbox.specs.History.{IsTimely, is_arrival, arrivals, posted_on, sending_to, sent_on, sent_to}
+use Rattle.tp_inbox.specs.History.{IsTimely, is_arrival, arrivals, last_chosen, posted_on, sending_to, sent_on, sent_to}
 use Rattle.tp_inbox.specs.Desks.{Journal, adding}
 use Rattle.tp_inbox.specs.Ledgers.{IsDeskOf}
 use Rattle.tp_inbox.proofs.ComponentMessagesByRoute.{sent_by_routes}
@@ -28,6 +28,7 @@ use Rattle.tp_behaviour.specs.Moments.{Moment, moments}
 use Rattle.tp_behaviour.specs.Outboxes.{routes_of}
 use Rattle.tp_behaviour.specs.LookOutcomes.{Saw}
 use Rattle.tp_behaviour.specs.Workers.{IsConsistent, IsLedgerOf, IsPlain, IsSentBy}
+use Rattle.tp_behaviour.proofs.LastChosenEntry.{choice_takes, last_is}
 use Rattle.tp_behaviour.proofs.RouteHistoryGrowth.{sent_to_more}
 use Rattle.tp_behaviour.proofs.WorkerInvariantOnArrivals.{all_as}
 use Rattle.tp_behaviour.proofs.TraceGrowth.{moments-own}
@@ -131,9 +132,11 @@ plain_drop gs _ (IsDrop.dropped k i g e at kd top not none) = tt
 -- the worker, once its branches were looked at
 pub looked_at : (r : Actor) (s : Worker) (gs : List Guard) (x : LookResult) (d : Journal) → IsConsistent r s → HasOwn r.comp s.desk.log → Looked gs s.desk x d
     → Saw r.comp gs x s.desk.log d.log × IsConsistent r (record { owner = s.owner; desk = d; outbox = s.outbox })
-looked_at r s gs (look.Taken i e) d m own (t, choice, grown) =
+looked_at r s gs (look.Taken i) d m own (e, t, choice, grown) =
     let h = noted r s d t m grown (plain_choice gs false (moment s.desk t) i e (choice false)) (λ _. own) in
-    ((moment s.desk t ∷ [], h.0, (moment s.desk t, refl, choice)), h.1)
+    let last : last_chosen d.log ≡ Some e =
+    ap (λ (j : Journal). last_chosen j.log) grown ∙ last_is s.desk.log t ∙ choice_takes gs false (moment s.desk t) i e (choice false) in
+    ((e, last, (moment s.desk t ∷ [], h.0, (moment s.desk t, refl, choice))), h.1)
 looked_at r s gs look.Discarded d m own (t, drop, grown) =
     let h = noted r s d t m grown (plain_drop gs (moment s.desk t) drop) (λ _. own) in
     ((moment s.desk t ∷ [], h.0, (moment s.desk t, refl, drop)), h.1)

@@ -18,7 +18,8 @@ use Rattle.tp_behaviour.specs.Choices.{IsOpen, NoneOpen, IsChoice, IsDrop, chose
 
 -- the result of trying the branch at place i, and the desk after it
 abbrev pub Tried : Guard → ℕ → Journal → LookResult → Journal → Type 0
-Tried g i d (look.Taken j e) after = (j ≡ i) × Finds (Admits g.wanted) g.sender (at_port d g.port) e
+Tried g i d (look.Taken j) after =
+    (e : Env Message) × (j ≡ i) × Finds (Admits g.wanted) g.sender (at_port d g.port) e
     × (after ≡ adding d (chosen g.kind g.port e i))
 Tried g i d look.Discarded after =
     (e : Env Message) × (g.kind ≡ receive_kind.Trigger) × (top (at_port d g.port) ≡ Some e)
@@ -33,7 +34,7 @@ moment d t = record { before = d.log; entry = t }
 -- the result of trying all branches, and the desk after it: the choice of a branch, a message that a `trigger`
 -- discarded, or nothing if no branch is open
 abbrev pub Looked : List Guard → Journal → LookResult → Journal → Type 0
-Looked gs d (look.Taken i e) after =
-    (t : Entry) × ((has_else : Bool) → IsChoice gs has_else (moment d t) (Some (i, e))) × (after ≡ adding d t)
+Looked gs d (look.Taken i) after =
+    (e : Env Message) × (t : Entry) × ((has_else : Bool) → IsChoice gs has_else (moment d t) (Some (i, e))) × (after ≡ adding d t)
 Looked gs d look.Discarded after = (t : Entry) × IsDrop gs (moment d t) × (after ≡ adding d t)
 Looked gs d look.Nothing after = NoneOpen d.log gs × (after ≡ d)

@@ -4,12 +4,11 @@ ghost use Rattle.tp_behaviour.specs.Looks.{Looked, Tried};
 ghost use Rattle.tp_behaviour.specs.Views.{all_viewed, viewed};
 
 use crate::gate::Gate;
-use std::alloc::Global;
-use tp_common::event::{Env, TriggerAnswer};
 use tp_common::memory::Memory;
 use tp_common::operation::ReceiveKind;
 use tp_common::payload::Wanted;
 use tp_inbox::desk::Desk;
+use tp_inbox::triggered::Triggered;
 use tp_value::message::{Message, MsgTemplate};
 
 /// A receiving operation with the values of its loop variables and references.
@@ -54,9 +53,10 @@ pub struct GuardView<'t> {
 }
 
 /// The result of trying branches.
-#[derive(Drop)]
+#[derive(Clone, Copy)]
 pub enum LookResult {
-    Taken(usize, Env<Message>),
+    /// The branch at this place took or found the message in the last entry of the history.
+    Taken(usize),
     Discarded,
     Nothing,
 }
@@ -67,9 +67,10 @@ fn try_receive(desk: &mut Desk, guard: &GuardView<'_>, branch: usize) -> Result<
     requires kind { guard.now.kind ≡ ReceiveKind.Receive }
     ensures { IfOk result (λ look. Tried (viewed guard.now) branch desk.old look desk.new) }
 {
-    match desk.receive(guard.port, &guard.wanted, guard.sender, branch)? {
-        Some(env) => Ok(LookResult::Taken(branch, env)),
-        None => Ok(LookResult::Nothing),
+    if desk.receive(guard.port, &guard.wanted, guard.sender, branch)? {
+        Ok(LookResult::Taken(branch))
+    } else {
+        Ok(LookResult::Nothing)
     }
 }
 
@@ -80,34 +81,25 @@ fn try_trigger(desk: &mut Desk, guard: &GuardView<'_>, branch: usize) -> Result<
     ensures { IfOk result (λ look. Tried (viewed guard.now) branch desk.old look desk.new) }
 {
     match desk.trigger(guard.port, &guard.wanted, guard.sender, branch)? {
-        TriggerAnswer::Took(env) => Ok(LookResult::Taken(branch, env)),
-        TriggerAnswer::Dropped(_) => Ok(LookResult::Discarded),
-        TriggerAnswer::Nothing => Ok(LookResult::Nothing),
+        Triggered::Took => Ok(LookResult::Taken(branch)),
+        Triggered::Dropped => Ok(LookResult::Discarded),
+        Triggered::Nothing => Ok(LookResult::Nothing),
     }
 }
 
-/// Tries a `check` (22.4), which copies the message that it finds.
-fn try_check(
-    alloc: Global,
-    desk: &mut Desk,
-    guard: &GuardView<'_>,
-    branch: usize,
-) -> Result<LookResult, Memory>
+/// Tries a `check` (22.4).
+fn try_check(desk: &mut Desk, guard: &GuardView<'_>, branch: usize) -> Result<LookResult, Memory>
     requires within { guard.now.port < desk.old.ports }
     requires kind { guard.now.kind ≡ ReceiveKind.Check }
     ensures { IfOk result (λ look. Tried (viewed guard.now) branch desk.old look desk.new) }
 {
     match desk.check(guard.port, &guard.wanted, guard.sender, branch)? {
-        Some(env) => {
-            let env = env.copy(alloc)?;
-            Ok(LookResult::Taken(branch, env))
-        }
+        Some(_) => Ok(LookResult::Taken(branch)),
         None => Ok(LookResult::Nothing),
     }
 }
 
 pub(crate) fn attempt(
-    alloc: Global,
     desk: &mut Desk,
     guard: &GuardView<'_>,
     branch: usize,
@@ -118,7 +110,7 @@ pub(crate) fn attempt(
     match guard.kind {
         ReceiveKind::Receive => try_receive(desk, guard, branch),
         ReceiveKind::Trigger => try_trigger(desk, guard, branch),
-        ReceiveKind::Check => try_check(alloc, desk, guard, branch),
+        ReceiveKind::Check => try_check(desk, guard, branch),
     }
 }
 
@@ -126,7 +118,6 @@ pub(crate) fn attempt(
 /// gate before each.
 pub(crate) fn snapshot<G: Gate>(
     gate: &G,
-    alloc: Global,
     desk: &mut Desk,
     guards: &[GuardView<'_>],
 ) -> Result<LookResult, Memory>
@@ -135,7 +126,7 @@ pub(crate) fn snapshot<G: Gate>(
 {
     for (branch, guard) in guards.iter().enumerate() {
         gate.inside(desk.comp(), guard.port);
-        match attempt(alloc, &mut *desk, guard, branch)? {
+        match attempt(&mut *desk, guard, branch)? {
             LookResult::Nothing => {}
             look => return Ok(look),
         }

@@ -11,16 +11,16 @@ use crate::looking::{look_at_branches, note};
 use crate::task::Task;
 use crate::worker::Worker;
 use std::sync::Wait;
-use tp_common::event::Env;
 use tp_common::memory::Memory;
 use tp_floor::notifier::Woken;
 use tp_inbox::entry::Entry;
 use tp_inbox::owner::Owner;
-use tp_value::message::Message;
 
-#[derive(Drop)]
+/// What an `alt` goes on with.
+#[derive(Clone, Copy)]
 pub enum Choice {
-    Branch(usize, Env<Message>),
+    /// The branch at this place, with the message in the last entry of the history.
+    Branch(usize),
     Else,
     Waits,
 }
@@ -53,13 +53,13 @@ pub(crate) fn choose<R: Wait, G: Gate>(
     ensures consistent { OnOk result (IsConsistent (role_of execution.now.task.now) worker.new) }
     ensures same { OnOk result (KeepsInboxes worker.old worker.new) }
     ensures chose { IfOk result (λ choice.
-        TraceGrew (Chose (all_viewed guards.now) has_else choice)
+        TraceGrew (Chose (all_viewed guards.now) has_else worker.new.desk.log choice)
         worker.old.desk.log worker.new.desk.log) }
 {
     let mut last = false;
     for _ in execution.rt.forever() {
         match look_at_branches(execution, &mut *worker, guards)? {
-            LookResult::Taken(branch, env) => return Ok(Choice::Branch(branch, env)),
+            LookResult::Taken(branch) => return Ok(Choice::Branch(branch)),
             LookResult::Discarded => {}
             LookResult::Nothing => {
                 if has_else {

@@ -1,6 +1,7 @@
 //! The block that an `alt` goes on with.
-ghost use Rattle.std.specs.Prelude.{◌≡◌, ◌<◌, IfOk, OnOk, length};
+ghost use Rattle.std.specs.Prelude.{◌≡◌, ◌<◌, IfOk, IfSome, IsSome, OnOk, length};
 ghost use Rattle.tp_play.specs.Playable.{CanEnterAll};
+ghost use Rattle.tp_inbox.specs.History.{last_chosen};
 ghost use Rattle.tp_behaviour.specs.Lasting.{AreLastingBranches};
 ghost use Rattle.tp_behaviour.specs.Outcomes.{HoldsAsDeclared, depth_of, stage_at};
 ghost use Rattle.tp_behaviour.specs.PartOutcomes.{Decided, IsEntered, IsDecisionOf, RestsWithin};
@@ -15,10 +16,9 @@ use crate::receiving::{fill_guards, redirect, view_guards};
 use crate::task::Task;
 use crate::worker::{Frame, Worker};
 use std::sync::Wait;
-use tp_common::event::Env;
 use tp_common::memory::Memory;
+use tp_inbox::desk::Desk;
 use tp_play::body::ResolvedBranch;
-use tp_value::message::Message;
 
 /// The block that follows an `alt`, if there is one.
 #[derive(Drop)]
@@ -28,23 +28,25 @@ pub enum Decision {
     Waits(Vec<Guard>),
 }
 
-/// Stores what the branch at this place took or found in the variables that it names (22.2.2).
+/// Stores what the branch at this place just took or found in the variables that it names (22.2.2).
 fn enter(
     task: &Task<'_>,
+    desk: &Desk,
     frame: &mut Frame,
     branches: &[ResolvedBranch],
     place: usize,
-    env: Env<Message>,
-)
+) -> Result<(), Memory>
     requires there { place < length branches.now }
     requires held { HoldsAsDeclared task.now frame.old }
     requires can { CanEnterAll (stage_at task.now) (depth_of frame.old) branches.now }
-    ensures held { HoldsAsDeclared task.now frame.new }
-    ensures turns { frame.new.turns.items ≡ frame.old.turns.items }
-    ensures set { IsEntered branches.now place env
-        frame.old.variables.items frame.new.variables.items }
+    requires chosen { IsSome (last_chosen desk.now.log) }
+    ensures held { OnOk result (HoldsAsDeclared task.now frame.new) }
+    ensures turns { OnOk result (frame.new.turns.items ≡ frame.old.turns.items) }
+    ensures set { OnOk result (IfSome (last_chosen desk.now.log) (λ e.
+        IsEntered branches.now place e frame.old.variables.items frame.new.variables.items)) }
 {
-    redirect(task, &mut *frame, &branches[place].receiving, env);
+    redirect(task, desk, &mut *frame, &branches[place].receiving)?;
+    Ok(())
 }
 
 /// Executes an `alt` up to the block that it goes on with (ES 201 873-1, 20.2).
@@ -71,8 +73,14 @@ pub(crate) fn decide<R: Wait, G: Gate>(
 {
     let views = view_guards(execution.task, &*frame, alt.branches, alt.lasting)?;
     match choose(execution, &mut *worker, views.as_slice(), alt.has_else)? {
-        Choice::Branch(place, env) => {
-            enter(execution.task, &mut *frame, alt.branches, place, env);
+        Choice::Branch(place) => {
+            enter(
+                execution.task,
+                &worker.desk,
+                &mut *frame,
+                alt.branches,
+                place,
+            )?;
             Ok(Decision::Branch(place))
         }
         Choice::Else => Ok(Decision::Else),

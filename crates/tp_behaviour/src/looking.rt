@@ -137,7 +137,7 @@ fn try_branches<G: Gate>(
     ensures saw { IfOk result (λ look. Saw task.now.comp (all_viewed guards.now) look
         worker.old.desk.log worker.new.desk.log) }
 {
-    let look = snapshot(gate, task.alloc, &mut worker.desk, guards)?;
+    let look = snapshot(gate, &mut worker.desk, guards)?;
     Ok(look)
 }
 
@@ -171,7 +171,8 @@ fn look_early<R: Wait, G: Gate>(
     if !is_served(task, &*worker, port) {
         return Ok(LookResult::Nothing);
     }
-    try_branches(gate, task, &mut *worker, guards)
+    let look = try_branches(gate, task, &mut *worker, guards)?;
+    Ok(look)
 }
 
 /// Moves what has arrived to the ports, if a look can see it, and tries the branches.
@@ -194,5 +195,6 @@ pub(crate) fn look_at_branches<R: Wait, G: Gate>(
         look => return Ok(look),
     }
     look_in(execution.rt, execution.task, &mut *worker)?;
-    try_branches(execution.gate, execution.task, &mut *worker, guards)
+    let look = try_branches(execution.gate, execution.task, &mut *worker, guards)?;
+    Ok(look)
 }

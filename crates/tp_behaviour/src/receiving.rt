@@ -1,9 +1,11 @@
 //! Receiving operations of a behaviour.
-ghost use Rattle.std.specs.Prelude.{◌≡◌, ◌<◌, ◌≤◌, IfOk, IfSome, OnOk, length};
+ghost use Rattle.std.specs.Prelude.{◌≡◌, ◌<◌, ◌≤◌, IfOk, IfSome, IsSome, OnOk, length};
 ghost use Rattle.std.specs.Option.{option_map};
 ghost use Rattle.std.specs.List.{slice_index_or};
 ghost use Rattle.tp_play.specs.declared.body.ResolvedStatement.TheVariants as statement;
 ghost use Rattle.tp_play.specs.Playable.{CanEnterAll, CanExpect, CanReceive};
+ghost use Rattle.tp_inbox.specs.History.{last_chosen};
+ghost use Rattle.tp_behaviour.specs.declared.held.Held.TheVariants as held;
 ghost use Rattle.tp_behaviour.specs.Held.{guard_of, redirected, set_to};
 ghost use Rattle.tp_behaviour.specs.Lasting.{AreLastingBranches, IsWantedAlways};
 ghost use Rattle.tp_behaviour.specs.Outcomes.{HoldsAsDeclared, Stepped, WaitsWithin, depth_of, stage_at};
@@ -23,9 +25,10 @@ use crate::task::Task;
 use crate::worker::{Frame, Worker};
 use std::alloc::Global;
 use std::sync::Wait;
-use tp_common::event::Env;
 use tp_common::memory::Memory;
 use tp_config::port_type::CompId;
+use tp_inbox::desk::Desk;
+use tp_inbox::noted::NotedEnvelope;
 use tp_play::body::{Receiving, RecvMsg, ResolvedBranch};
 use tp_play::fill::fill_template;
 use tp_value::message::{Message, MsgTemplate};
@@ -144,30 +147,52 @@ fn keep(variables: &mut Vec<Option<Held>>, place: Option<usize>, held: Held)
     }
 }
 
-/// Stores what was taken or found in the variables that the operation names: first the value, then
-/// the sender (ES 201 873-1, 22.2.2).
+/// Copies the message into the variable at this place, if an operation names one.
 #[inline(always)]
-pub(crate) fn redirect(task: &Task<'_>, frame: &mut Frame, receiving: &Receiving, env: Env<Message>)
+fn keep_message(
+    alloc: Global,
+    variables: &mut Vec<Option<Held>>,
+    place: Option<usize>,
+    env: &NotedEnvelope,
+) -> Result<(), Memory>
+    requires { IfSome place (λ k. k < length variables.old.items) }
+    ensures { OnOk result
+        (variables.new.items ≡ set_to place (held.Value env.now.msg) variables.old.items) }
+{
+    if let Some(place) = place {
+        let value = env.value().copy(alloc)?;
+        variables[place] = Some(Held::Value(Message {
+            ty: env.ty(),
+            value,
+        }));
+    }
+    Ok(())
+}
+
+/// Stores what was just taken or found in the variables that the operation names: first the value,
+/// then the sender (ES 201 873-1, 22.2.2).
+#[inline(always)]
+pub(crate) fn redirect(
+    task: &Task<'_>,
+    desk: &Desk,
+    frame: &mut Frame,
+    receiving: &Receiving,
+) -> Result<(), Memory>
     requires can { CanReceive (stage_at task.now) (depth_of frame.old) receiving.now }
     requires held { HoldsAsDeclared task.now frame.old }
-    ensures turns { frame.new.turns.items ≡ frame.old.turns.items }
-    ensures set { frame.new.variables.items
-        ≡ redirected receiving.now env frame.old.variables.items }
-    ensures held { HoldsAsDeclared task.now frame.new }
+    requires chosen { IsSome (last_chosen desk.now.log) }
+    ensures turns { OnOk result (frame.new.turns.items ≡ frame.old.turns.items) }
+    ensures set { OnOk result (IfSome (last_chosen desk.now.log) (λ e.
+        frame.new.variables.items ≡ redirected receiving.now e frame.old.variables.items)) }
+    ensures held { OnOk result (HoldsAsDeclared task.now frame.new) }
 {
-    // Contracts alone ask where the behaviour is carried out.
-    let _task = task;
-    let Env {
-        sender,
-        number: _,
-        msg,
-    } = env;
-    keep(&mut frame.variables, receiving.value_to, Held::Value(msg));
-    keep(
-        &mut frame.variables,
-        receiving.sender_to,
-        Held::Component(CompId(sender)),
-    );
+    let Some(env) = desk.last_chosen() else {
+        unreachable!()
+    };
+    let sender = Held::Component(CompId(env.sender()));
+    keep_message(task.alloc, &mut frame.variables, receiving.value_to, env)?;
+    keep(&mut frame.variables, receiving.sender_to, sender);
+    Ok(())
 }
 
 /// Executes a receiving operation that stands alone (22.2.2 to 22.2.4).
@@ -195,8 +220,8 @@ pub(crate) fn receive<R: Wait, G: Gate>(
 {
     let view = view_guard(execution.task, &*frame, receiving, lasting)?;
     match choose(execution, &mut *worker, &[view], false)? {
-        Choice::Branch(_, env) => {
-            redirect(execution.task, &mut *frame, receiving, env);
+        Choice::Branch(_) => {
+            redirect(execution.task, &worker.desk, &mut *frame, receiving)?;
             Ok(())
         }
         Choice::Waits => {

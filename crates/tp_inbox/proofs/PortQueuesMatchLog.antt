@@ -22,7 +22,7 @@ use Rattle.tp_inbox.specs.declared.entry.Entry.{Entry}
 use Rattle.tp_inbox.specs.declared.entry.Entry.TheVariants as entry
 use Rattle.tp_inbox.specs.History.{IsTimely, clock_of, event_at, history_of, next_of, stamp_of}
 use Rattle.tp_inbox.proofs.HistoryClockGrowth.{clock_of-push, clocked-front, clocked-push, clocked_at_start}
-use Rattle.tp_inbox.specs.Desks.{IsKept, NamesNoPort, IsWithin, Journal, NotesSending, ReceivesAt, adding, at_port}
+use Rattle.tp_inbox.specs.Desks.{IsKept, NamesNoPort, IsWithin, Journal, NotesSending, adding, at_port}
 
 either : {A : Type 0} → Dec A → A ⊎ (¬ A)
 either (yes e) = inl e
@@ -248,21 +248,13 @@ kept_at_start queues log n q l =
       clocked = clocked_at_start;
     }
 
--- what was copied of the top is what is taken out
-pub same_top : (t : Option (Env Message)) (e f : Env Message) → Some e ≡ t → t ≡ Some f → e ≡ f
-same_top t e f is there = same_Some e f (is ∙ there)
-
--- what is taken out is what was found, and it is received
+-- what is taken out is what was found
 pub taken_is : (admits : Message → Type 0) (from : Option ℕ) (h : List (Event Message)) (after : QueueState Message) (e : Env Message) (r : Option (Env Message))
     → Finds admits from h e → TakesOut h r after → (r ≡ Some e) × StandsFor after (h ++ event.Took e ∷ [])
 taken_is admits from h after e None finds out = absurd (let none : None ≡ Some e = sym out.0 ∙ finds.0 in cc)
 taken_is admits from h after e (Some f) finds out =
     let same : f ≡ e = same_Some f e (sym out.0 ∙ finds.0) in
     (ap (λ x. Some x) same, subst (λ (x : Env Message). StandsFor after (h ++ event.Took x ∷ [])) same (out.1 true))
-
-pub receives_at : (admits : Message → Type 0) (from : Option ℕ) (port branch : ℕ) (d after : Journal) (e : Env Message) (r : Option (Env Message))
-    → Finds admits from (at_port d port) e → r ≡ Some e → after ≡ adding d (entry.Took port branch e) → ReceivesAt admits from port branch d r after
-receives_at admits from port branch d after e r finds is grown = rw is (finds, grown)
 
 -- the desk with one more entry, from its fields
 pub adding_is : (d was : Journal) (ports : ℕ) (log : List Entry) (e : Entry) → was ≡ d → ports ≡ was.ports → log ≡ was.log ++ e ∷ []

@@ -1,9 +1,7 @@
 -- What contracts see of a desk, and what its calls return and do.
-use Rattle.std.specs.Prelude.{◌≡◌, ℕ, ◌<◌, Option, Some, None, List, [], ◌∷◌, ◌++◌, length, slice_index_or, All}
+use Rattle.std.specs.Prelude.{◌≡◌, ℕ, ◌<◌, Bool, true, false, Option, Some, None, List, [], ◌∷◌, ◌++◌, length, slice_index_or, All}
 use Rattle.tp_common.specs.declared.event.Env.{Env}
 use Rattle.tp_common.specs.declared.event.Event.{Event}
-use Rattle.tp_common.specs.declared.event.TriggerAnswer.{TriggerAnswer}
-use Rattle.tp_common.specs.declared.event.TriggerAnswer.TheVariants as trigger_answer
 use Rattle.tp_queue.specs.History.{top}
 use Rattle.tp_common.specs.Criteria.{Satisfies}
 use Rattle.tp_queue.specs.Answers.{Finds, FindsNone}
@@ -13,6 +11,8 @@ use Rattle.tp_config.specs.declared.port_type.CompId.{CompId}
 use Rattle.tp_config.specs.declared.port_type.RouteId.{RouteId}
 use Rattle.tp_inbox.specs.declared.entry.Entry.{Entry}
 use Rattle.tp_inbox.specs.declared.entry.Entry.TheVariants as entry
+use Rattle.tp_inbox.specs.declared.triggered.Triggered.{Triggered}
+use Rattle.tp_inbox.specs.declared.triggered.Triggered.TheVariants as triggered
 use Rattle.tp_inbox.specs.History.{IsClocked, clock_of, history_of, next_of}
 
 -- a desk: its component, the number of that component's ports, and its history
@@ -66,18 +66,19 @@ abbrev pub at_port : Journal → ℕ → List (Event Message)
 at_port d port = history_of port d.log
 
 -- the result of `receive`, and the desk after it
-abbrev pub ReceivesAt : (Message → Type 0) → Option ℕ → ℕ → ℕ → Journal → Option (Env Message) → Journal → Type 0
-ReceivesAt admits from port branch d (Some e) after =
-    Finds admits from (at_port d port) e × (after ≡ adding d (entry.Took port branch e))
-ReceivesAt admits from port branch d None after = FindsNone admits from (at_port d port) × (after ≡ d)
+abbrev pub ReceivesAt : (Message → Type 0) → Option ℕ → ℕ → ℕ → Journal → Bool → Journal → Type 0
+ReceivesAt admits from port branch d true after =
+    (e : Env Message) × Finds admits from (at_port d port) e × (after ≡ adding d (entry.Took port branch e))
+ReceivesAt admits from port branch d false after = FindsNone admits from (at_port d port) × (after ≡ d)
 
 -- the result of `trigger`, and the desk after it
-abbrev pub TriggersAt : (Message → Type 0) → Option ℕ → ℕ → ℕ → Journal → TriggerAnswer Message → Journal → Type 0
-TriggersAt admits from port branch d (trigger_answer.Took e) after =
-    Finds admits from (at_port d port) e × (after ≡ adding d (entry.Took port branch e))
-TriggersAt admits from port branch d (trigger_answer.Dropped e) after =
-    (top (at_port d port) ≡ Some e) × ¬ Satisfies admits from e × (after ≡ adding d (entry.Dropped port branch e))
-TriggersAt admits from port branch d trigger_answer.Nothing after = (top (at_port d port) ≡ None) × (after ≡ d)
+abbrev pub TriggersAt : (Message → Type 0) → Option ℕ → ℕ → ℕ → Journal → Triggered → Journal → Type 0
+TriggersAt admits from port branch d triggered.Took after =
+    (e : Env Message) × Finds admits from (at_port d port) e × (after ≡ adding d (entry.Took port branch e))
+TriggersAt admits from port branch d triggered.Dropped after =
+    (e : Env Message) × (top (at_port d port) ≡ Some e) × ¬ Satisfies admits from e
+    × (after ≡ adding d (entry.Dropped port branch e))
+TriggersAt admits from port branch d triggered.Nothing after = (top (at_port d port) ≡ None) × (after ≡ d)
 
 -- the desk after a `check` with this result
 abbrev pub checked_at : ℕ → ℕ → Journal → Option (Env Message) → Journal

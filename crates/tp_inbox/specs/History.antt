@@ -1,9 +1,11 @@
 -- The history of a component, and what it says about each port, about each route, and about the actions of the
 -- behaviour. A history is the whole list of the component's entries, the oldest first. It only grows, and the
 -- definitions filter it.
-use Rattle.std.specs.Prelude.{◌≡◌, ℕ, ◌+◌, ◌<◌, max, Bool, true, false, not, ◌&&◌, ◌==◌, cond, Option, Some, None, List}
-use Rattle.std.specs.Prelude.{[], ◌∷◌, filter, slice_get, take}
+use Rattle.std.specs.Prelude.{◌≡◌, ℕ, ◌+◌, ◌-◌, ◌<◌, max, Bool, true, false, not, ◌&&◌, ◌==◌, cond, Option, Some, None, List}
+use Rattle.std.specs.Prelude.{[], ◌∷◌, filter, length, slice_get, take}
 use Rattle.std.specs.List.{filter_map}
+use Rattle.std.specs.Option.{option_and_then}
+use Rattle.tp_common.specs.declared.event.Env.{Env}
 use Rattle.tp_common.specs.declared.event.Event.{Event}
 use Rattle.tp_common.specs.declared.event.Event.TheVariants as event
 use Rattle.tp_value.specs.declared.message.Message.{Message}
@@ -32,6 +34,16 @@ event_at port (entry.Failed fault) = None
 -- the history of a port: the events of the entries that name it, in order
 unfoldable pub history_of : ℕ → List Entry → List (Event Message)
 history_of port k = filter_map (event_at port) k
+
+-- the envelope that the entry took or found, if it did
+abbrev pub chosen_by : Entry → Option (Env Message)
+chosen_by (entry.Took port branch env) = Some env
+chosen_by (entry.Found port branch env) = Some env
+chosen_by _ = None
+
+-- the envelope that the last entry of a history took or found, if it did
+abbrev pub last_chosen : List Entry → Option (Env Message)
+last_chosen k = option_and_then chosen_by (slice_get k (length k - 1))
 
 abbrev pub is_arrival : Entry → Bool
 is_arrival (entry.Arrive p stamp env) = true

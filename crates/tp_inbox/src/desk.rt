@@ -8,15 +8,16 @@ ghost use Rattle.tp_queue.specs.Answers.{Checks, halted_count};
 ghost use Rattle.tp_queue.specs.Queues.{StandsFor};
 ghost use Rattle.tp_config.specs.Setup.{IsComponent, ports_at};
 ghost use Rattle.tp_inbox.specs.declared.entry.Entry.TheVariants as entry;
-ghost use Rattle.tp_inbox.specs.History.{IsClocked, IsTimely, arrivals, clock_of, next_of};
+ghost use Rattle.tp_inbox.specs.History.{IsClocked, IsTimely, arrivals, clock_of, last_chosen, next_of};
 ghost use Rattle.tp_inbox.specs.Desks.{NamesNoPort, IsWithin, Journal, NotesSending, ReceivesAt, TriggersAt};
 ghost use Rattle.tp_inbox.specs.Desks.{adding, at_port, new_desk};
 ghost use Rattle.tp_inbox.specs.Lending.{ends_checked_at};
 
 use crate::entry::Entry;
-use crate::noted::{NotedEnvelope, NotedRoute};
+use crate::noted::{NotedEnvelope, NotedRoute, has_room_for};
 use crate::noted_message::NotedMessage;
 use crate::stamped::Stamped;
+use crate::triggered::Triggered;
 use std::alloc::Global;
 use std::marker::Model;
 use tp_common::event::{Env, TriggerAnswer};
@@ -152,41 +153,49 @@ impl Desk {
         Ok(())
     }
 
-    /// [`Queue::receive`] at this port, in this branch. The history notes what it took. 50 `Memory`
-    /// also if a number has no room in the entry, as for `trigger` and `check`.
+    /// [`Queue::receive`] at this port, in this branch. Returns whether it took a message, which it
+    /// moves into the history. 50 `Memory` also if a number has no room in the entry, as for
+    /// `trigger` and `check`.
     pub fn receive<W: Wanted<Message>>(
         &mut self,
         port: u32,
         wanted: &W,
         from: Option<u32>,
         branch: usize,
-    ) -> Result<Option<Env<Message>>, Memory>
+    ) -> Result<bool, Memory>
         requires { port < self.old.ports }
-        ensures ok { IfOk result (λ answer.
-            ReceivesAt (W.admits wanted.now) from port branch self.old answer self.new) }
+        ensures ok { IfOk result (λ took.
+            ReceivesAt (W.admits wanted.now) from port branch self.old took self.new) }
         ensures err { OnErr result (self.new ≡ self.old) }
     {
         let (place, branch) = short_place(port, branch)?;
         reserve_entry(&mut self.log)?;
         let queue = &mut self.ports[port as usize];
-        let noted = match queue.check(wanted, from) {
-            None => return Ok(None),
-            Some(env) => NotedEnvelope::copy_of(self.alloc, env)?,
+        let has_room = match queue.check(wanted, from) {
+            None => return Ok(false),
+            Some(env) => has_room_for(env),
         };
-        let taken = queue.take_top();
+        if !has_room {
+            return Err(Memory);
+        }
+        let Some(env) = queue.take_top() else {
+            // It was found just now.
+            unreachable!()
+        };
+        let noted = NotedEnvelope::of(env);
         self.log.push_reserved(Entry::Took(place, branch, noted));
-        Ok(taken)
+        Ok(true)
     }
 
-    /// [`Queue::trigger`] at this port, in this branch. The history notes what it took or
-    /// discarded.
+    /// [`Queue::trigger`] at this port, in this branch. It moves what it took or discarded into the
+    /// history.
     pub fn trigger<W: Wanted<Message>>(
         &mut self,
         port: u32,
         wanted: &W,
         from: Option<u32>,
         branch: usize,
-    ) -> Result<TriggerAnswer<Message>, Memory>
+    ) -> Result<Triggered, Memory>
         requires { port < self.old.ports }
         ensures ok { IfOk result (λ answer.
             TriggersAt (W.admits wanted.now) from port branch self.old answer self.new) }
@@ -195,20 +204,25 @@ impl Desk {
         let (place, branch) = short_place(port, branch)?;
         reserve_entry(&mut self.log)?;
         let queue = &mut self.ports[port as usize];
-        let noted = match queue.top() {
-            None => return Ok(TriggerAnswer::Nothing),
-            Some(env) => NotedEnvelope::copy_of(self.alloc, env)?,
+        let has_room = match queue.top() {
+            None => return Ok(Triggered::Nothing),
+            Some(env) => has_room_for(env),
         };
+        if !has_room {
+            return Err(Memory);
+        }
         match queue.trigger(wanted, from) {
             TriggerAnswer::Took(env) => {
+                let noted = NotedEnvelope::of(env);
                 self.log.push_reserved(Entry::Took(place, branch, noted));
-                Ok(TriggerAnswer::Took(env))
+                Ok(Triggered::Took)
             }
             TriggerAnswer::Dropped(env) => {
+                let noted = NotedEnvelope::of(env);
                 self.log.push_reserved(Entry::Dropped(place, branch, noted));
-                Ok(TriggerAnswer::Dropped(env))
+                Ok(Triggered::Dropped)
             }
-            // There is a top: it was copied just now.
+            // There was a top just now.
             TriggerAnswer::Nothing => unreachable!(),
         }
     }
@@ -378,6 +392,17 @@ impl Desk {
         ensures clocked { IsClocked self.now.log }
     {
         self.log.as_slice()
+    }
+
+    /// The envelope that the last entry of the history took or found. `None` if it did neither.
+    pub fn last_chosen(&self) -> Option<&NotedEnvelope>
+        ensures { option_copied result ≡ last_chosen self.now.log }
+    {
+        match self.log.last() {
+            Some(Entry::Took(_, _, env)) => Some(env),
+            Some(Entry::Found(_, _, env)) => Some(env),
+            _ => None,
+        }
     }
 
     pub fn entry_count(&self) -> u64

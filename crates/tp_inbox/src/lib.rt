@@ -24,6 +24,7 @@ pub mod send_fault;
 pub mod sender;
 pub mod settled;
 pub mod stamped;
+pub mod triggered;
 pub mod type_kind;
 
 pub use tp_floor::floor::Floor;

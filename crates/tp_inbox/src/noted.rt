@@ -1,5 +1,5 @@
 //! Envelopes and routes as an entry keeps them, in less room.
-ghost use Rattle.std.specs.Prelude.{◌≡◌, IfErr, IfOk, SomeIff};
+ghost use Rattle.std.specs.Prelude.{◌≡◌, ◌↔◌, IfErr, IfOk, IsTrue, SomeIff};
 ghost use Rattle.tp_inbox.specs.Noted.{IsShortEnvelope, IsShortRoute, NoteCause};
 
 use crate::note_fault::NoteFault;
@@ -43,29 +43,51 @@ impl Model for NotedEnvelope {
     } };
 }
 
+/// Returns whether an entry has room for the envelope.
+pub(crate) fn has_room_for(env: &Env<Message>) -> bool
+    ensures { IsTrue result ↔ IsShortEnvelope env.now }
+{
+    u8::try_from(env.sender).is_ok()
+        && u32::try_from(env.number).is_ok()
+        && kind_of(env.msg.ty).is_some()
+}
+
 impl NotedEnvelope {
+    /// The envelope itself.
+    pub(crate) fn of(env: Env<Message>) -> NotedEnvelope
+        requires { IsShortEnvelope env }
+        ensures { result ≡ env }
+    {
+        let Env {
+            sender,
+            number,
+            msg,
+        } = env;
+        let Some((kind, named)) = kind_of(msg.ty) else {
+            unreachable!()
+        };
+        NotedEnvelope {
+            sender: sender as u8,
+            kind,
+            named,
+            number: number as u32,
+            value: msg.value,
+        }
+    }
+
     /// A copy of an envelope. `NoRoom` if and only if its sender's number is 256 or more, its own
     /// number 2^32 or more, or the number of its type 65,536 or more.
     pub fn copy_of(alloc: Global, env: &Env<Message>) -> Result<NotedEnvelope, NoteFault>
         ensures ok { IfOk result (λ noted. noted ≡ env.now) }
         ensures err { IfErr result (NoteCause (IsShortEnvelope env.now)) }
     {
-        let (Ok(sender), Ok(number)) = (u8::try_from(env.sender), u32::try_from(env.number)) else {
+        if !has_room_for(env) {
             return Err(NoteFault::NoRoom);
-        };
-        let Some((kind, named)) = kind_of(env.msg.ty) else {
-            return Err(NoteFault::NoRoom);
-        };
-        let Ok(value) = env.msg.value.copy(alloc) else {
+        }
+        let Ok(twin) = env.copy(alloc) else {
             return Err(NoteFault::Memory);
         };
-        Ok(NotedEnvelope {
-            sender,
-            kind,
-            named,
-            number,
-            value,
-        })
+        Ok(NotedEnvelope::of(twin))
     }
 
     pub fn sender(&self) -> u32

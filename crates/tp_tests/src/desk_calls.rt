@@ -39,6 +39,7 @@ enum DeskCall {
     Receive(Option<Ty>, Option<u32>, usize),
     Check(Option<Ty>, Option<u32>, usize),
     Trigger(Option<Ty>, Option<u32>, usize),
+    LastChosen,
     Clear,
     Start,
     Stop,
@@ -90,6 +91,7 @@ fn answer<R: AllocGlobal + Abort>(rt: &R, desk: &mut Desk, call: DeskCall) -> St
             rt,
             desk.trigger(0, &wanted(ty), from, branch),
         ),
+        DeskCall::LastChosen => debug(rt, desk.last_chosen()),
         DeskCall::Clear => debug(rt, desk.clear(0)),
         DeskCall::Start => debug(rt, desk.start(0)),
         DeskCall::Stop => debug(rt, desk.stop(0)),
@@ -132,26 +134,36 @@ const CALLS_OF_A_DESK: &[(DeskCall, &str)] = &[
     (DeskCall::Arrive(1, 1), "Ok(())"),
     (DeskCall::Arrive(2, 2), "Ok(())"),
     (DeskCall::Arrive(3, 3), "Ok(())"),
-    (DeskCall::Receive(Some(Ty::Integer), Some(1), 0), "Ok(None)"),
+    (
+        DeskCall::Receive(Some(Ty::Integer), Some(1), 0),
+        "Ok(false)",
+    ),
     (
         DeskCall::Check(Some(Ty::Integer), Some(0), 2),
         "Ok(Some(Env { sender: 0, number: 0, \
         msg: Message { ty: Integer, value: Int(0) } }))",
     ),
     (
-        DeskCall::Receive(None, None, 1),
-        "Ok(Some(Env { sender: 0, number: 0, \
-        msg: Message { ty: Integer, value: Int(0) } }))",
+        DeskCall::LastChosen,
+        "Some(NotedEnvelope { sender: 0, kind: Integer, named: 0, \
+        number: 0, value: Int(0) })",
+    ),
+    (DeskCall::Receive(None, None, 1), "Ok(true)"),
+    (
+        DeskCall::LastChosen,
+        "Some(NotedEnvelope { sender: 0, kind: Integer, named: 0, \
+        number: 0, value: Int(0) })",
     ),
     (
         DeskCall::Trigger(Some(Ty::Integer), Some(1), 3),
-        "Ok(Dropped(Env { sender: 0, number: 1, \
-        msg: Message { ty: Integer, value: Int(1) } }))",
+        "Ok(Dropped)",
     ),
+    (DeskCall::LastChosen, "None"),
+    (DeskCall::Trigger(Some(Ty::Integer), Some(0), 0), "Ok(Took)"),
     (
-        DeskCall::Trigger(Some(Ty::Integer), Some(0), 0),
-        "Ok(Took(Env { sender: 0, number: 2, \
-        msg: Message { ty: Integer, value: Int(2) } }))",
+        DeskCall::LastChosen,
+        "Some(NotedEnvelope { sender: 0, kind: Integer, named: 0, \
+        number: 2, value: Int(2) })",
     ),
     (DeskCall::Halt, "Ok(Some(1))"),
     (DeskCall::Clear, "Ok(1)"),
@@ -239,6 +251,8 @@ fn number_without_room_is_refused(rt: HostRuntime) {
     }
     assert!(rt; desk.port_count() > 0);
     assert!(rt; desk.receive(0, &wanted(None), None, 4_294_967_296).is_err());
+    assert!(rt; desk.trigger(0, &wanted(None), None, 4_294_967_296).is_err());
+    assert!(rt; desk.check(0, &wanted(None), None, 4_294_967_296).is_err());
     is_noted(&rt, desk.log(), LOG);
     drop(desk);
 }
@@ -353,9 +367,17 @@ fn part_of_an_inbox_keeps_an_owner_current(rt: HostRuntime) {
     says(&rt, 1, debug(&rt, ends.put(&rt, 0, 0, 5)), "Some(Ok(1))");
     says(&rt, 2, debug(&rt, ends.mailbox.drain_some(&rt, 1)), "Ok(1)");
     assert!(rt; ends.mailbox.owner.is_current(&ends.mailbox.desk));
-    says(&rt, 3, debug(&rt, ends.mailbox.drain(&rt)), "Ok(1)");
-    says(&rt, 4, debug(&rt, ends.put(&rt, 0, 0, 6)), "Some(Ok(2))");
-    says(&rt, 5, debug(&rt, ends.mailbox.drain_some(&rt, 1)), "Ok(1)");
+    assert!(rt;
+        ends.mailbox
+            .note_sending(route(1, 0, 0), integer(7))
+            .is_ok()
+    );
+    says(&rt, 3, debug(&rt, ends.put(&rt, 0, 0, 6)), "Some(Ok(2))");
+    says(&rt, 4, debug(&rt, ends.mailbox.drain_some(&rt, 1)), "Ok(1)");
+    assert!(rt; !ends.mailbox.owner.is_current(&ends.mailbox.desk));
+    says(&rt, 5, debug(&rt, ends.mailbox.drain(&rt)), "Ok(1)");
+    says(&rt, 6, debug(&rt, ends.put(&rt, 0, 0, 7)), "Some(Ok(3))");
+    says(&rt, 7, debug(&rt, ends.mailbox.drain_some(&rt, 1)), "Ok(1)");
     assert!(rt; ends.mailbox.owner.is_current(&ends.mailbox.desk));
     drop((ends, floor));
 }

@@ -1,7 +1,7 @@
 -- The variables are set as the chosen branch says.
-use Rattle.std.proofs.Common.{get_or}
 use Rattle.std.proofs.lemmas.Option.{slice_get-get_or}
 use Rattle.tp_behaviour.specs.Outcomes.{depth_of, stage_at}
+use Rattle.tp_behaviour.proofs.AltChoicesWithinBounds.{sets}
 use Rattle.tp_behaviour.proofs.PlayableBlocksAndBranches.{receives_at}
 use Rattle.tp_behaviour.proofs.deciding.enter.Goals as goal
 
@@ -12,8 +12,6 @@ redirect-requires-clause-can c =
 
 -- they are those of the branch at this place
 pub returns-clause-set : goal.returns-clause-set
-returns-clause-set c = record {
-  branch = get_or c.args.branches.now c.args.place c.index-branches-place.result;
-  there = slice_get-get_or c.args.branches.now c.args.place c.index-branches-place.result c.requires.there;
-  set = c.redirect.ensures.set;
-}
+returns-clause-set c =
+    sets _ c.args.branches.now c.args.place _ _ _ (slice_get-get_or c.args.branches.now c.args.place c.index-branches-place.result c.requires.there)
+    c.in_ok-redirect.ensures.set

@@ -1,0 +1,12 @@
+//! The result of a `trigger` at a desk.
+
+/// The result of a `trigger` (ES 201 873-1, 22.2.3). The last entry of the history has the message.
+#[derive(Clone, Copy, Debug)]
+pub enum Triggered {
+    /// The top message matched, and was taken out.
+    Took,
+    /// The top message didn't match, and was discarded.
+    Dropped,
+    /// No message is deliverable.
+    Nothing,
+}
