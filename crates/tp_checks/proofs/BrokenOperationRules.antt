@@ -13,7 +13,7 @@ use Rattle.tp_checks.specs.declared.scope.Variables.{Variables}
 use Rattle.tp_checks.specs.Scoping as d
 use Rattle.tp_checks.specs.Scoping.{IsReference}
 use Rattle.tp_checks.specs.BrokenOperations as b
-use Rattle.tp_checks.specs.BrokenOperations.{FromBreaks, NamesNoComponent, NamesNoVariable, ReceiverBreaks}
+use Rattle.tp_checks.specs.BrokenOperations.{FromBreaks, NamesNoComponent, ReceiverBreaks}
 use Rattle.tp_tree.specs.declared.tree.Receivers.TheVariants as destination
 use Rattle.tp_checks.proofs.NameLookupsAreUnique.{absent_contained, absent_place}
 use Rattle.tp_checks.proofs.RuleFaultPropagation.{told_rule}
@@ -26,14 +26,6 @@ only_named scope variables turns c.SelfComponent none = absurd (none 1 d.itself)
 only_named scope variables turns (c.Named n) none = (n, refl)
 
 module _ (scope : Scope) (variables : Variables) (turns : List (List ℕ)) (line : ℕ) (f : ModuleFault) where
-  pub no_variable_told : (name : List ℕ) → IsAbsent turns name → IsAbsent variables.names name
-      → ((Contains scope.parameters.now name ⊎ Contains scope.component_variables.now name) × (f ≡ module_fault.Refused rule.WrongType line))
-      ⊎ ((Contains scope.parameters.now name → ⊥) × (Contains scope.component_variables.now name → ⊥) × (f ≡ module_fault.Refused rule.Unknown line))
-      → TellsAt line (NamesNoVariable scope variables turns name) f
-  no_variable_told name absent none (inl (inl there, is)) = told_rule _ _ _ f is (b.parameter absent none there)
-  no_variable_told name absent none (inl (inr there, is)) = told_rule _ _ _ f is (b.component absent none there)
-  no_variable_told name absent none (inr (other, nor, is)) = told_rule _ _ _ f is (b.unknown absent none other nor)
-
   -- what is told of a name behind `from` that is no reference
   pub no_reference_told : (x : ComponentName) (n : List ℕ) → x ≡ c.Named n → ((k : ℕ) → IsReference scope variables turns x k → ⊥)
       → (Contains variables.names n × (f ≡ module_fault.Refused rule.WrongType line))

@@ -23,6 +23,8 @@ use Rattle.tp_checks.specs.Components.{AddsAll, Declared, HasSoundVariables, IsS
 use Rattle.tp_checks.proofs.AddableComponents.{names_created}
 use Rattle.tp_checks.proofs.DistinctNamesInParts.{repeated}
 use Rattle.tp_checks.proofs.NameFaultsTold.{split_here}
+use Rattle.tp_checks.specs.BrokenSetup as b
+use Rattle.tp_checks.proofs.NameSetLookups.{place_unknown}
 
 -- a create that is refused
 pub addition_told : (types : List (List ℕ)) (x : Declared) (s : Setup) (name : List ℕ) (kind : ℕ) (f : CreateFault) (fault : ModuleFault) (line : ℕ)
@@ -108,3 +110,5 @@ interface_told types case s name e w rule (addition_taken (inl there)) = interfa
 interface_told types case s name e w rule (addition_taken (inr (f, there))) = absurd (w.tests there)
 interface_told types case s name e w rule (addition_many many) =
     let room = w.room (ap is_some e) in absurd (omega (arith, room, many))
+
+pub ruleset creations_told = (b.taken, b.port, b.unknown_type, addition_told, addition_unknown, taken_told, component_told, interface_told, place_unknown)

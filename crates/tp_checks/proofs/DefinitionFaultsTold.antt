@@ -1,25 +1,18 @@
 -- A definition that breaks a rule.
-use Rattle.std.proofs.Common.{◌≡◌, ◌<◌, inl, inr, ℕ, ◌+◌, Option, List, All, Result, Ok, Err, IfErr, length, take, drop, get_or, refl, sym, subst, arith}
+use Rattle.std.proofs.Common.{◌≡◌, ◌<◌, inl, inr, ℕ, ◌+◌, Option, List, All, length, take, drop, get_or, refl, sym, subst, arith}
 use Rattle.tp_tree.specs.declared.tree.ComponentType.{ComponentType}
 use Rattle.tp_tree.specs.declared.tree.Defined.{Defined}
 use Rattle.tp_tree.specs.declared.tree.Defined.TheVariants as d
 use Rattle.tp_tree.specs.declared.tree.Definition.{Definition}
-use Rattle.tp_checks.specs.declared.fault.ModuleRule.{ModuleRule}
-use Rattle.tp_checks.specs.declared.fault.ModuleRule.TheVariants as module_rule
 use Rattle.tp_checks.specs.declared.fault.ModuleFault.{ModuleFault}
-use Rattle.tp_checks.specs.declared.fault.ModuleFault.TheVariants as module_fault
 use Rattle.tp_checks.specs.Refused.{Tells, TellsAt}
 use Rattle.tp_checks.specs.BrokenDefinitions.{DefinitionBreaks, DefinitionsBreak, many_ports, unknown_port_type}
 use Rattle.tp_checks.specs.Rules.{ArePortTypesKnown, HasFewPorts, IsComponentFault, IsSound}
-use Rattle.tp_checks.proofs.KnownNamesByLookup.{each_known, each_there}
+use Rattle.tp_checks.proofs.KnownNamesByLookup.{each_known, each_there, messages_there}
 use Rattle.tp_checks.proofs.NameFaultsTold.{split_here}
 use Rattle.tp_checks.proofs.RuleFaultPropagation.{told_from}
-
--- what isn't known is told so, at its line
-pub unknown_told : {T : Type 0} (r : Result T ModuleFault) (line : ℕ) (N : Type 0) (Q : ModuleRule → Type 0)
-    → IfErr r (λ f. f ≡ module_fault.Refused module_rule.Unknown line) → IfErr r (λ _. ¬ N) → (¬ N → Q module_rule.Unknown) → IfErr r (TellsAt line Q)
-unknown_told (Ok x) line N Q e isnt pass = tt
-unknown_told (Err y) line N Q e isnt pass = rw e (refl, pass isnt)
+use Rattle.tp_checks.specs.BrokenDefinitions as b
+use Rattle.tp_checks.proofs.SoundDefinitionRules.{soundness}
 
 module _ (types ports components : List (List ℕ)) (system : Option (List ℕ)) where
   -- a component type that is refused
@@ -53,3 +46,5 @@ module _ (types ports components : List (List ℕ)) (system : Option (List ℕ))
 pub told_all : (t u p q c d : List (List ℕ)) (system : Option (List ℕ)) (xs : List Definition) (f : ModuleFault) → t ≡ u → p ≡ q → c ≡ d
     → Tells (DefinitionsBreak t p c system xs) f → Tells (DefinitionsBreak u q d system xs) f
 told_all t u p q c d system xs f e g h told = rw (← e, ← g, ← h) told
+
+pub ruleset definitions = (soundness, b.unknown_type, b.unknown_component_type, component_type_told, messages_there)

@@ -1,4 +1,4 @@
--- The lines of the definitions of what a text stands for, as lists for the tactics.
+-- The lines of the definitions of what a text stands for, and of the rules that it breaks, as lists for the tactics.
 use Rattle.std.proofs.Common.{◌≡◌, List, ℕ, ℤ, FitsSigned, w64, subst}
 use Rattle.tp_value.specs.declared.types.Ty.{Ty}
 use Rattle.tp_value.specs.declared.types.Ty.TheVariants as ty
@@ -20,8 +20,12 @@ use Rattle.tp_checks.specs.Messages as m
 use Rattle.tp_checks.specs.Messages.{IsTemplate, IsValue}
 use Rattle.tp_checks.specs.Bodies as b
 use Rattle.tp_checks.specs.Bodies.{IsVariableType}
+use Rattle.tp_checks.specs.BrokenValues as bv
+use Rattle.tp_checks.specs.BrokenTemplates as bt
+use Rattle.tp_checks.specs.BrokenOperations as bo
+use Rattle.tp_checks.specs.BrokenBodies as bb
 use Rattle.tp_checks.proofs.NameLookupsAreUnique.{no_number}
-use Rattle.tp_checks.proofs.ListPrefixGrowth.{pushed}
+use Rattle.tp_checks.proofs.ListPrefixGrowth.{pushed, there}
 
 -- the tactics don't match the two lines of a number with 64 bits, so these say what is equal
 module _ (types : Types) (turns : List (List ℕ)) (u : Ty) where
@@ -51,6 +55,21 @@ pub ruleset values = (
   m.no_field,
   m.one_field_more,
   pushed,
+  bv.ValueBreaks.no_integer,
+  bv.no_boolean,
+  bv.text,
+  bv.name,
+  bv.no_braces,
+  bv.elements,
+  bv.places,
+  bv.no_record,
+  bv.fields,
+  bv.element,
+  bv.count,
+  bv.place,
+  bv.names,
+  bv.entry,
+  there,
 )
 
 pub ruleset templates = (
@@ -75,6 +94,31 @@ pub ruleset templates = (
   m.no_field_template,
   m.one_field_template_more,
   pushed,
+  bt.no_range,
+  bt.disordered,
+  bt.no_integer,
+  bt.no_boolean,
+  bt.text,
+  bt.name,
+  bt.any_or_none,
+  bt.one_of,
+  bt.none_of,
+  bt.range,
+  bt.no_pattern,
+  bt.list,
+  bt.record_of_names,
+  bt.member,
+  bt.no_braces,
+  bt.elements,
+  bt.places,
+  bt.no_record,
+  bt.fields,
+  bt.element,
+  bt.count,
+  bt.place,
+  bt.names,
+  bt.entry,
+  there,
 )
 
 pub ruleset operations = (
@@ -97,6 +141,39 @@ pub ruleset operations = (
   b.pass,
   b.inconc,
   b.fail,
+  bo.turn,
+  bo.parameter,
+  bo.component,
+  bo.unknown,
+  bo.no_variable,
+  bo.holds_component,
+  bo.no_variable_either,
+  bo.holds_message,
+  bo.no_type,
+  bo.not_sendable,
+  bo.value,
+  bo.written,
+  bo.counter,
+  bo.no_message,
+  bo.held,
+  bo.to_message,
+  bo.to_nobody,
+  bo.no_port,
+  bo.sent,
+  bo.receiver,
+  bo.no_such_type,
+  bo.not_receivable,
+  bo.template,
+  bo.from_variable,
+  bo.from_nobody,
+  bo.holds_no_message,
+  bo.holds_other,
+  bo.holds_no_component,
+  bo.at_no_port,
+  bo.wanted,
+  bo.from,
+  bo.value_target,
+  bo.sender_target,
 )
 
 pub ruleset statements = (
@@ -115,6 +192,31 @@ pub ruleset statements = (
   b.no_branch,
   b.one_branch_more,
   pushed,
+  bb.send,
+  bb.receive,
+  bb.control_in_sut,
+  bb.control_of_no_port,
+  bb.all_ports_in_sut,
+  bb.verdict_in_sut,
+  bb.error_verdict,
+  bb.branches,
+  bb.otherwise,
+  bb.old_name,
+  bb.counted,
+  bb.in_statement,
+  bb.operation,
+  bb.behind,
+  bb.in_block,
+  bb.in_branch,
+  there,
 )
 
 pub ruleset variables = (b.message, held_component)
+
+pub ruleset plain = (
+  bv.no_charstring,
+  bv.unprintable,
+  bv.ValueNameBreaks.no_integer,
+  bv.variable,
+  bv.unknown,
+)

@@ -23,6 +23,8 @@ use Rattle.tp_checks.proofs.SetupStatementGrowth.{variables_more}
 use Rattle.tp_checks.proofs.DistinctNamesInParts.{numbered_first}
 use Rattle.tp_checks.proofs.NameFaultsTold.{split_here}
 use Rattle.tp_checks.proofs.RuleFaultPropagation.{told_from}
+use Rattle.tp_checks.specs.BrokenSetup as b
+use Rattle.tp_checks.proofs.ModuleFaultPropagation.{really_broken}
 
 module _ (s : Setup) (names : List (List ℕ)) (system : Option ℕ) (x y : PairEnd) (p q : PortRef) (first : IsPortOfEnd s names system x p)
     (second : IsPortOfEnd s names system y q) (line : ℕ) where
@@ -62,3 +64,5 @@ module _ (xs : List SetupStatement) (i : ℕ) (x : SetupStatement) (lt : i < len
         breaks = subst (λ l. PairBreaks s l system x.action rule) named b;
         line_is = refl;
       }) told
+
+pub ruleset pairs = (b.first_end, b.second_end, really_broken, b.connect_ends, b.map_ends, connect_told, map_told)

@@ -40,10 +40,6 @@ module _ (line : ℕ) (rule : ModuleRule) (Q : ModuleRule → ℕ → Type 0) wh
   pub told_here : (f : ModuleFault) → f ≡ module_fault.Refused rule line → Q rule line → Tells Q f
   told_here f is broken = rw is broken
 
-  pub tells_here : {T : Type 0} (r : Result T ModuleFault) (f : ModuleFault) → IsErrAnd r (λ y. y ≡ f) → f ≡ module_fault.Refused rule line → Q rule line
-      → IfErr r (Tells Q)
-  tells_here r f is refused broken = handed (Tells Q) r f is (told_here f refused broken)
-
 module _ (line : ℕ) (rule : ModuleRule) (Q : ModuleRule → Type 0) where
   pub told_rule : (f : ModuleFault) → f ≡ module_fault.Refused rule line → Q rule → TellsAt line Q f
   told_rule f is broken = rw is (refl, broken)

@@ -15,7 +15,7 @@ use Rattle.tp_config.specs.declared.port_type.CompId.{CompId}
 use Rattle.tp_checks.specs.declared.fault.ModuleFault.{ModuleFault}
 use Rattle.tp_checks.specs.Refused.{Tells, TellsAt}
 use Rattle.tp_checks.specs.Tables.{IsNumbered, place_of_name}
-use Rattle.tp_checks.proofs.NameSetLookups.{named_at, place_known}
+use Rattle.tp_checks.proofs.NameSetLookups.{named_at, place_known, place_unknown}
 use Rattle.tp_checks.specs.declared.starts.StartedComponent.{StartedComponent}
 use Rattle.tp_checks.specs.BrokenStarts.{ArgumentBreaks, ArgumentsBreak, IsNeverStarted, IsStartFunction, StartBreaks, StartBreaksAmong, one_argument}
 use Rattle.tp_checks.specs.Components.{creation_of, creations, variable_name, variables}
@@ -23,6 +23,7 @@ use Rattle.tp_checks.specs.Starting.{HasParameterType, IsArgument, IsStartOf, Is
 use Rattle.tp_checks.proofs.NameFaultsTold.{split_here}
 use Rattle.tp_checks.proofs.ListPrefixGrowth.{contains_at}
 use Rattle.tp_checks.proofs.RuleFaultPropagation.{told_at, told_from}
+use Rattle.tp_checks.specs.BrokenStarts as b
 
 -- one of the arguments breaks a rule behind those before it
 pub argument_among : (names types : List (List ℕ)) (ps : List Parameter) (xs : List ComponentName) (i : ℕ) (p : Parameter) (x : ComponentName)
@@ -92,3 +93,5 @@ some_creations started xs places each some none =
       length-map (creations xs) variable_name,
       ap length none,
     ))
+
+pub ruleset starts = (b.unknown_argument, b.other_argument, b.count, argument_among, b.unknown_variable, b.started_twice, b.many_starts, never_among, b.never_started, place_unknown)

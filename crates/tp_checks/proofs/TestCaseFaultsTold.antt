@@ -13,7 +13,10 @@ use Rattle.tp_checks.specs.declared.unique_names.CaseAt.{CaseAt}
 use Rattle.tp_checks.specs.Cases.{cases_of}
 use Rattle.tp_checks.specs.BrokenNames.{DefinedNameBreaks, DefinitionNamesBreak, GivenNamesBreak, given, names_before, second_case}
 use Rattle.tp_checks.specs.Definitions.{BeginsAmong, of_kind, case_of, inner_names, name_of}
-use Rattle.tp_checks.proofs.NameFaultsTold.{split_here}
+use Rattle.tp_checks.specs.BrokenNames.{in_definition, inner_name, no_test_case, own_name}
+use Rattle.tp_checks.proofs.DistinctNamesInParts.{no_case}
+use Rattle.tp_checks.proofs.ModuleFaultPropagation.{name_told}
+use Rattle.tp_checks.proofs.NameFaultsTold.{name_among, split_here}
 use Rattle.tp_checks.proofs.ListPrefixGrowth.{kept_more, pushed}
 
 one_case : (o : Option CaseAt) → length (cases_of o) ≤ 1
@@ -83,3 +86,5 @@ some_case (x ∷ xs) e = by (case_of x.defined) refl (some_case xs) e where
       → (is_some o || list_any (λ (x : Definition). is_some (case_of x.defined)) xs) ≡ true → cons_option o (of_kind case_of xs) ≢ []
   by None f rest e same = rest e same
   by (Some c) f rest e same = cc
+
+pub ruleset names = (name_told, name_among, own_name, inner_name, given_told, second_told, no_test_case, in_definition, some_case, no_case)

@@ -1,4 +1,6 @@
 //! The third pass of the checks: the components of the test case.
+#![tactic(auto, using(crate::proofs::CreationFaultsTold::creations_told))]
+
 ghost use Rattle.std.specs.Prelude.{◌≡◌, All, ◌<◌, ◌≤◌, ◌+◌, ◌++◌, ◌∷◌, [], List, ℕ, Contains, IfErr, IfNone, IfOk};
 ghost use Rattle.std.specs.Prelude.{IfSome, None, OnErr, OnOk, Some, length, map, option_map, slice_get};
 ghost use Rattle.std.specs.Option.{option_copied};

@@ -1,4 +1,6 @@
 //! The second pass of the checks: everything that definitions name is defined.
+#![tactic(auto, using(crate::proofs::DefinitionFaultsTold::definitions))]
+
 ghost use Rattle.std.specs.Prelude.{◌≡◌, ◌≤◌, ◌↔◌, ℕ, All, Contains, IfErr, IfOk, IfSome, IsTrue, List, OnOk, is_some};
 ghost use Rattle.std.specs.Prelude.{length};
 ghost use Rattle.std.specs.List.{AllZip, list_all};
@@ -174,7 +176,6 @@ fn check_case(components: &NameSet, case: &TestCase, line: u32) -> Result<(), Mo
     }
 }
 
-#[tactic(auto, using(crate::proofs::SoundDefinitionRules::soundness))]
 fn check_definition(
     sorted: &Sorted,
     system: &Option<Name>,

@@ -1,4 +1,6 @@
 //! Values of messages.
+#![tactic(auto, using(crate::proofs::DefinitionLines::values))]
+
 ghost use Rattle.std.specs.Prelude.{◌≡◌, IfErr, IfOk, length};
 ghost use Rattle.tp_checks.specs.Named.{texts};
 ghost use Rattle.tp_checks.specs.Refused.{TellsAt};
@@ -24,7 +26,6 @@ use tp_value::types::{Field, Ty, TypeDef};
 /// missing or given twice, and a variable; 11 `Unknown` for any other name that isn't a loop
 /// variable.
 #[cycle(value)]
-#[tactic(auto, using(crate::proofs::DefinitionLines::values))]
 pub fn resolve_value(
     alloc: Global,
     context: &Context,
@@ -68,7 +69,6 @@ pub fn resolve_value(
 }
 
 #[cycle(value)]
-#[tactic(auto, using(crate::proofs::DefinitionLines::values))]
 fn resolve_in_braces(
     alloc: Global,
     context: &Context,
@@ -95,7 +95,6 @@ fn resolve_in_braces(
 }
 
 #[cycle(value)]
-#[tactic(auto, using(crate::proofs::DefinitionLines::values))]
 fn resolve_elements(
     alloc: Global,
     context: &Context,
@@ -117,7 +116,6 @@ fn resolve_elements(
 }
 
 #[cycle(value)]
-#[tactic(auto, using(crate::proofs::DefinitionLines::values))]
 fn resolve_fields(
     alloc: Global,
     context: &Context,
@@ -143,7 +141,6 @@ fn resolve_fields(
 }
 
 #[cycle(value)]
-#[tactic(auto, using(crate::proofs::DefinitionLines::values))]
 fn resolve_named(
     alloc: Global,
     context: &Context,

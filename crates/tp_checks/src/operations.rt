@@ -1,4 +1,6 @@
 //! Sends and receiving operations.
+#![tactic(auto, using(crate::proofs::DefinitionLines::operations))]
+
 ghost use Rattle.std.specs.Prelude.{◌≡◌, ◌↔◌, Contains, IfErr, IfOk, IsTrue, OnErr, Some};
 ghost use Rattle.tp_checks.specs.Named.{IsAbsent, texts};
 ghost use Rattle.tp_checks.specs.Refused.{TellsAt};
@@ -125,7 +127,6 @@ fn component_variable(context: &Context, name: &str) -> Result<usize, ModuleFaul
     }
 }
 
-#[tactic(auto, using(crate::proofs::DefinitionLines::operations))]
 fn resolve_sent(
     alloc: Global,
     context: &Context,
@@ -171,7 +172,6 @@ fn is_variable(context: &Context, name: &str) -> bool
     context.variables.names.has(name)
 }
 
-#[tactic(auto, using(crate::proofs::DefinitionLines::operations))]
 fn resolve_component(context: &Context, component: &ComponentName) -> Result<Receiver, ModuleFault>
     ensures stands { IfOk result (IsReceiver
         context.now.scope.now context.now.variables.now (texts context.now.turns.now)
@@ -194,7 +194,6 @@ fn resolve_component(context: &Context, component: &ComponentName) -> Result<Rec
     Ok(Receiver::Reference(place))
 }
 
-#[tactic(auto, using(crate::proofs::DefinitionLines::operations))]
 fn resolve_receiver(context: &Context, to: &Option<Receivers>) -> Result<Receiver, ModuleFault>
     ensures stands { IfOk result (IsReceiver
         context.now.scope.now context.now.variables.now (texts context.now.turns.now) to.now) }
@@ -239,7 +238,6 @@ pub fn resolve_send(
     })
 }
 
-#[tactic(auto, using(crate::proofs::DefinitionLines::operations))]
 fn resolve_wanted(
     alloc: Global,
     context: &Context,
@@ -266,7 +264,6 @@ fn resolve_wanted(
     Ok(RecvMsg::Of(ty, made))
 }
 
-#[tactic(auto, using(crate::proofs::DefinitionLines::operations))]
 fn resolve_sender(
     context: &Context,
     sender: &Option<ComponentName>,
@@ -286,7 +283,6 @@ fn resolve_sender(
     Ok(Some(place))
 }
 
-#[tactic(auto, using(crate::proofs::DefinitionLines::operations))]
 fn resolve_value_target(
     context: &Context,
     wanted: &RecvMsg,
@@ -312,7 +308,6 @@ fn resolve_value_target(
     }
 }
 
-#[tactic(auto, using(crate::proofs::DefinitionLines::operations))]
 fn resolve_sender_target(
     context: &Context,
     target: &Option<Name>,
@@ -368,7 +363,6 @@ pub fn resolve_receive(
 }
 
 /// 13 `WrongType` at the line of the context for `error`.
-#[tactic(auto, using(crate::proofs::DefinitionLines::operations))]
 pub fn resolve_verdict(context: &Context, name: VerdictName) -> Result<Verdict, ModuleFault>
     ensures verdict { IfOk result (IsVerdict name) }
     ensures told { IfErr result (λ fault.

@@ -1,4 +1,6 @@
 //! Texts and names of loop variables, in values and in templates.
+#![tactic(auto, using(crate::proofs::DefinitionLines::plain))]
+
 ghost use Rattle.std.specs.Prelude.{◌≡◌, IfErr, IfOk, OnOk};
 ghost use Rattle.tp_checks.specs.Named.{IsPlace, texts};
 ghost use Rattle.tp_checks.specs.Refused.{TellsAt};

@@ -1,4 +1,6 @@
 //! The third pass of the checks: the connections and mappings of the test case.
+#![tactic(auto, using(crate::proofs::PairFaultsTold::pairs))]
+
 ghost use Rattle.std.specs.Prelude.{◌≡◌, ◌≤◌, ◌++◌, ◌∷◌, [], codes, All, IfErr, IfNone, IfOk, IfSome, None, OnOk};
 ghost use Rattle.std.specs.Prelude.{length, map};
 ghost use Rattle.tp_checks.specs.Refused.{IsRefusedBy, Tells, TellsAt};

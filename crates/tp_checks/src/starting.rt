@@ -1,4 +1,6 @@
 //! The third pass of the checks: the rules for starts.
+#![tactic(auto, using(crate::proofs::StartFaultsTold::starts))]
+
 ghost use Rattle.std.specs.Prelude.{◌≡◌, ◌∷◌, ◌++◌, ◌↔◌, [], ◌<◌, ℕ, List, Contains, IfErr, IfNone, IfOk, IfSome};
 ghost use Rattle.std.specs.Prelude.{IsSome, IsTrue, None, OnOk, Some, length, map, slice_get};
 ghost use Rattle.std.specs.Option.{option_copied};

@@ -1,4 +1,6 @@
 //! Statements and bodies.
+#![tactic(auto, using(crate::proofs::DefinitionLines::statements))]
+
 ghost use Rattle.std.specs.Prelude.{◌≡◌, ◌≢◌, ◌∷◌, ◌++◌, [], IfErr, IfOk, List, OnOk, length};
 ghost use Rattle.tp_checks.specs.Named.{texts};
 ghost use Rattle.tp_checks.specs.Refused.{IsRefusedBy, Tells, TellsAt};
@@ -43,7 +45,6 @@ fn counted_for(turns: &Turns, block: Items<ResolvedStatement>) -> ResolvedStatem
     ResolvedStatement::For(turns.first, turns.bound, block)
 }
 
-#[tactic(auto, using(crate::proofs::DefinitionLines::statements))]
 fn resolve_control(context: &Context, control: &Control) -> Result<ResolvedStatement, ModuleFault>
     ensures stands { IfOk result (IsStatement
         context.now.scope.now context.now.variables.now (texts context.now.turns.now)
@@ -60,7 +61,6 @@ fn resolve_control(context: &Context, control: &Control) -> Result<ResolvedState
     Ok(ResolvedStatement::Control(place, control.operation))
 }
 
-#[tactic(auto, using(crate::proofs::DefinitionLines::statements))]
 fn resolve_all_ports(
     context: &Context,
     operation: PortOperation,
@@ -76,7 +76,6 @@ fn resolve_all_ports(
     Ok(ResolvedStatement::AllPorts(operation))
 }
 
-#[tactic(auto, using(crate::proofs::DefinitionLines::statements))]
 fn resolve_set_verdict(
     context: &Context,
     name: VerdictName,
@@ -97,7 +96,6 @@ fn resolve_set_verdict(
 /// those of a send, of a receiving operation, of an operation on ports and of `setverdict`, and 12
 /// `Duplicate` for a loop variable whose name isn't new, before the faults of its block.
 #[cycle(statement)]
-#[tactic(auto, using(crate::proofs::DefinitionLines::statements))]
 fn resolve_statement<'m>(
     alloc: Global,
     context: &Context<'_, '_, 'm>,
@@ -135,7 +133,6 @@ fn resolve_statement<'m>(
 }
 
 #[cycle(statement)]
-#[tactic(auto, using(crate::proofs::DefinitionLines::statements))]
 fn resolve_for<'m>(
     alloc: Global,
     context: &Context<'_, '_, 'm>,
@@ -163,7 +160,6 @@ fn resolve_for<'m>(
 }
 
 #[cycle(statement)]
-#[tactic(auto, using(crate::proofs::DefinitionLines::statements))]
 fn resolve_block<'m>(
     alloc: Global,
     context: &Context<'_, '_, 'm>,
@@ -189,7 +185,6 @@ fn resolve_block<'m>(
 }
 
 #[cycle(statement)]
-#[tactic(auto, using(crate::proofs::DefinitionLines::statements))]
 fn resolve_after<'m>(
     alloc: Global,
     context: &Context<'_, '_, 'm>,
@@ -209,7 +204,6 @@ fn resolve_after<'m>(
 }
 
 #[cycle(statement)]
-#[tactic(auto, using(crate::proofs::DefinitionLines::statements))]
 fn resolve_branch<'m>(
     alloc: Global,
     context: &Context<'_, '_, 'm>,
@@ -232,7 +226,6 @@ fn resolve_branch<'m>(
 }
 
 #[cycle(statement)]
-#[tactic(auto, using(crate::proofs::DefinitionLines::statements))]
 fn resolve_branches<'m>(
     alloc: Global,
     context: &Context<'_, '_, 'm>,

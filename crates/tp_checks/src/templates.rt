@@ -1,4 +1,6 @@
 //! Templates of receiving operations.
+#![tactic(auto, using(crate::proofs::DefinitionLines::templates))]
+
 ghost use Rattle.std.specs.Prelude.{◌≡◌, ◌≢◌, IfErr, IfOk, OnErr, length, map};
 ghost use Rattle.tp_checks.specs.Named.{texts};
 ghost use Rattle.tp_checks.specs.Refused.{TellsAt};
@@ -45,7 +47,6 @@ fn parts(alloc: Global, text: &[u8]) -> Result<Items<PatternPart>, ModuleFault>
     Ok(parts)
 }
 
-#[tactic(auto, using(crate::proofs::DefinitionLines::templates))]
 fn resolve_number(context: &Context, ty: Ty, number: &i64) -> Result<RecvTemplate, ModuleFault>
     ensures stands { IfOk result
         (IsTemplate context.now.scope.now.types.now (texts context.now.turns.now)
@@ -60,7 +61,6 @@ fn resolve_number(context: &Context, ty: Ty, number: &i64) -> Result<RecvTemplat
     Ok(RecvTemplate::Exact(SendValue::Int(number)))
 }
 
-#[tactic(auto, using(crate::proofs::DefinitionLines::templates))]
 fn resolve_pattern(
     alloc: Global,
     context: &Context,
@@ -79,7 +79,6 @@ fn resolve_pattern(
     Ok(RecvTemplate::Pattern(made))
 }
 
-#[tactic(auto, using(crate::proofs::DefinitionLines::templates))]
 fn resolve_range(
     context: &Context,
     ty: Ty,
@@ -105,7 +104,6 @@ fn resolve_range(
 /// missing or given twice, and a variable; 11 `Unknown` for any other name that isn't a loop
 /// variable.
 #[cycle(template)]
-#[tactic(auto, using(crate::proofs::DefinitionLines::templates))]
 pub fn resolve_template(
     alloc: Global,
     context: &Context,
@@ -150,7 +148,6 @@ pub fn resolve_template(
 }
 
 #[cycle(template)]
-#[tactic(auto, using(crate::proofs::DefinitionLines::templates))]
 fn resolve_list(
     alloc: Global,
     context: &Context,
@@ -178,7 +175,6 @@ fn resolve_list(
 }
 
 #[cycle(template)]
-#[tactic(auto, using(crate::proofs::DefinitionLines::templates))]
 fn resolve_record(
     alloc: Global,
     context: &Context,
@@ -200,7 +196,6 @@ fn resolve_record(
 }
 
 #[cycle(template)]
-#[tactic(auto, using(crate::proofs::DefinitionLines::templates))]
 fn resolve_members(
     alloc: Global,
     context: &Context,
@@ -222,7 +217,6 @@ fn resolve_members(
 }
 
 #[cycle(template)]
-#[tactic(auto, using(crate::proofs::DefinitionLines::templates))]
 fn resolve_element_template(
     alloc: Global,
     context: &Context,
@@ -244,7 +238,6 @@ fn resolve_element_template(
 }
 
 #[cycle(template)]
-#[tactic(auto, using(crate::proofs::DefinitionLines::templates))]
 fn resolve_element_templates(
     alloc: Global,
     context: &Context,
@@ -268,7 +261,6 @@ fn resolve_element_templates(
 }
 
 #[cycle(template)]
-#[tactic(auto, using(crate::proofs::DefinitionLines::templates))]
 fn resolve_field_templates(
     alloc: Global,
     context: &Context,
@@ -295,7 +287,6 @@ fn resolve_field_templates(
 }
 
 #[cycle(template)]
-#[tactic(auto, using(crate::proofs::DefinitionLines::templates))]
 fn resolve_named_templates(
     alloc: Global,
     context: &Context,

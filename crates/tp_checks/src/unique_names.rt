@@ -1,4 +1,6 @@
 //! The first pass of the checks: names are given once, and there is one test case.
+#![tactic(auto, using(crate::proofs::TestCaseFaultsTold::names))]
+
 ghost use Rattle.std.specs.Prelude.{◌≡◌, ◌<◌, ◌∷◌, ◌++◌, ◌⊎◌, [], All, IfErr, IfOk, IfSome, OnOk, Some, is_some};
 ghost use Rattle.std.specs.Prelude.{length, map};
 ghost use Rattle.std.specs.List.{list_any};
@@ -39,15 +41,57 @@ fn add_name<'m>(names: &mut NameSet<'m>, name: &'m DeclaredName) -> Result<(), M
     }
 }
 
-fn declare_all<'m>(names: &mut NameSet<'m>, list: &'m [DeclaredName]) -> Result<(), ModuleFault>
+/// What declares a name: a field, a parameter, or the name itself.
+pub trait Declares {
+    ghost use Rattle.tp_tree.specs.declared.tree.DeclaredName.{DeclaredName};
+
+    ghost declared_name: { Self → DeclaredName };
+
+    fn declared_name(&self) -> &DeclaredName
+        ensures { result.now ≡ declared_name self.now };
+}
+
+impl Declares for DeclaredName {
+    ghost declared_name = { λ name. name };
+
+    fn declared_name(&self) -> &DeclaredName {
+        self
+    }
+}
+
+impl Declares for FieldType {
+    ghost declared_name = { λ field. field.name };
+
+    fn declared_name(&self) -> &DeclaredName {
+        &self.name
+    }
+}
+
+impl Declares for Parameter {
+    ghost declared_name = { λ parameter. parameter.name };
+
+    fn declared_name(&self) -> &DeclaredName {
+        &self.name
+    }
+}
+
+/// 12 `Duplicate` at the line of a name that is there already, 15 `Limit` at the line of a name
+/// after 4,294,967,295 others. The names before it stay added.
+pub fn declare_all<'m, D: Declares>(
+    names: &mut NameSet<'m>,
+    list: &'m [D],
+) -> Result<(), ModuleFault>
     requires { IsNumbered names.old }
-    ensures names { OnOk result (names.new ≡ names.old ++ map declared list.now) }
+    ensures names { OnOk result (names.new
+        ≡ names.old ++ map (λ x. declared (D.declared_name x)) list.now) }
     ensures numbered { IsNumbered names.new }
-    ensures refused { IfErr result (IsRefusedBy (IsNumbered (names.old ++ map declared list.now))) }
-    ensures told { IfErr result (Tells (DeclaringBreaks names.old list.now)) }
+    ensures refused { IfErr result (IsRefusedBy (IsNumbered (
+        names.old ++ map (λ x. declared (D.declared_name x)) list.now))) }
+    ensures told { IfErr result (
+        Tells (DeclaringBreaks names.old (map D.declared_name list.now))) }
 {
-    for name in list {
-        add_name(names, name)?;
+    for item in list {
+        add_name(names, item.declared_name())?;
     }
     Ok(())
 }
@@ -70,43 +114,6 @@ pub(crate) fn declare_ports<'m>(
     Ok(())
 }
 
-fn declare_fields<'m>(names: &mut NameSet<'m>, fields: &'m [FieldType]) -> Result<(), ModuleFault>
-    requires { IsNumbered names.old }
-    ensures names { OnOk result (names.new ≡ names.old ++ map (λ f. declared f.name) fields.now) }
-    ensures numbered { IsNumbered names.new }
-    ensures refused { IfErr result (IsRefusedBy (IsNumbered (
-        names.old ++ map (λ f. declared f.name) fields.now))) }
-    ensures told { IfErr result (
-        Tells (DeclaringBreaks names.old (map (λ f. f.name) fields.now))) }
-{
-    for field in fields {
-        add_name(names, &field.name)?;
-    }
-    Ok(())
-}
-
-/// 12 `Duplicate` at the line of a name that is there already, 15 `Limit` at the line of a name
-/// after 4,294,967,295 others. The names before it stay added.
-pub fn declare_parameters<'m>(
-    names: &mut NameSet<'m>,
-    parameters: &'m [Parameter],
-) -> Result<(), ModuleFault>
-    requires { AreDistinct names.old }
-    ensures names { OnOk result (names.new
-        ≡ names.old ++ map (λ p. declared p.name) parameters.now) }
-    ensures distinct { AreDistinct names.new }
-    ensures numbered { IsNumbered names.old → IsNumbered names.new }
-    ensures refused { IfErr result (IsRefusedBy (IsNumbered (
-        names.old ++ map (λ p. declared p.name) parameters.now))) }
-    ensures told { IsNumbered names.old → IfErr result (
-        Tells (DeclaringBreaks names.old (map (λ p. p.name) parameters.now))) }
-{
-    for parameter in parameters {
-        add_name(names, &parameter.name)?;
-    }
-    Ok(())
-}
-
 fn declare_inner<'m>(names: &mut NameSet<'m>, defined: &'m Defined) -> Result<(), ModuleFault>
     requires empty { names.old ≡ [] }
     requires numbered { IsNumbered names.old }
@@ -115,9 +122,9 @@ fn declare_inner<'m>(names: &mut NameSet<'m>, defined: &'m Defined) -> Result<()
     ensures told { IfErr result (Tells (DeclaringBreaks [] (inner_declared defined.now))) }
 {
     match defined {
-        Defined::Record(record) => declare_fields(names, record.fields.as_slice()),
+        Defined::Record(record) => declare_all(names, record.fields.as_slice()),
         Defined::Component(component) => declare_ports(names, component.ports.as_slice()),
-        Defined::Function(function) => declare_parameters(names, function.parameters.as_slice()),
+        Defined::Function(function) => declare_all(names, function.parameters.as_slice()),
         Defined::List(_) | Defined::Port(_) | Defined::TestCase(_) => Ok(()),
     }
 }

@@ -13,7 +13,7 @@ use tp_checks::fault::{ModuleFault, ModuleRule, refused};
 use tp_checks::name_set::NameSet;
 use tp_checks::prepared::Prepared;
 use tp_checks::scope::{BehaviourKind, Scope};
-use tp_checks::unique_names::declare_parameters;
+use tp_checks::unique_names::declare_all;
 use tp_config::port_type::CompType;
 use tp_tree::tree::Parameter;
 
@@ -31,7 +31,7 @@ pub fn parameter_names(alloc: Global, parameters: &[Parameter]) -> Result<NameSe
         (map (λ p. declared p.name) parameters.now))) }
 {
     let mut names = NameSet::new(alloc);
-    declare_parameters(&mut names, parameters)?;
+    declare_all(&mut names, parameters)?;
     Ok(names)
 }
 

@@ -4,14 +4,7 @@ use Rattle.tp_checks.specs.Components.{CanAdd, interface}
 use Rattle.tp_checks.proofs.AddableComponents.{interface_is, only_one}
 use Rattle.tp_checks.proofs.ModuleRefusalPropagation.{handed_on}
 use Rattle.tp_checks.proofs.CreatedComponentGrowth.{adds_more, adds_none}
-use Rattle.std.proofs.Common.{codes}
-use Rattle.tp_config.specs.declared.port_type.Role.TheVariants as role
-use Rattle.tp_checks.specs.Refused.{TellsAt}
-use Rattle.tp_checks.specs.Additions.{AdditionBreaks, AwaitsInterface, InterfaceBreaks}
-use Rattle.tp_checks.proofs.CreationFaultsTold.{interface_told}
-use Rattle.tp_checks.proofs.ModuleFaultPropagation.{handed}
 use Rattle.tp_checks.proofs.components.add_interface.Goals as goal
-use Rattle.tp_checks.proofs.RuleFaultPropagation.{told_at}
 
 pub returns-clause-added : goal.returns-clause-added
 returns-clause-added c =
@@ -25,12 +18,3 @@ returns-in_err-number-clause-refused c =
     (λ each. rw c.as_str.ensures
     (only_one (λ x. CanAdd c.args.types.now x c.args.config.now) (interface c.args.case.now) _
     (interface_is c.args.case.now c.in-Some.system c.in-Some.is) each))
-
-pub returns-in_err-number-clause-told : goal.returns-in_err-number-clause-told
-returns-in_err-number-clause-told c = λ (w : AwaitsInterface _ _ _).
-    handed (TellsAt c.args.line (InterfaceBreaks c.args.case.now c.args.config.now)) c.from_residual.result _ c.from_residual.ensures.1
-    (told_at c.args.line
-    (AdditionBreaks c.args.types.now (record { name = codes "system"; type_name = c.in-Some.system; role = role.System }) c.args.config.now)
-    (InterfaceBreaks c.args.case.now c.args.config.now) c.in_err-number.field-0.0
-    (interface_told c.args.types.now c.args.case.now c.args.config.now c.in-Some.system c.in-Some.is w)
-    (rw c.as_str.ensures at (c.in_err-number.ensures.told w.typed)))

@@ -16,16 +16,6 @@ returns-in_err-known-2-clause-refused c =
     (c.are_parameters_known.ensures
     ∙ rw c.as_slice.ensures (each_there c.args.components.now (λ p. p.type_name) c.args.function.now.parameters h.0.1)))
 
-pub returns-in_err-known-clause-told : goal.returns-in_err-known-clause-told
-returns-in_err-known-clause-told c = λ types ports.
-    handed (TellsAt c.args.line (DefinitionBreaks types ports c.args.components.now c.args.system.now
-    (defined.Function c.args.function.now))) c.from_residual.result _ c.from_residual.ensures.1
-    (rw c.in_err-known.ensures.told (
-      refl,
-      unknown_component_type (λ h. c.in_err-known.ensures.refused
-          (c.has.ensures.known.1 (rw c.as_str.ensures h.0))),
-    ))
-
 pub returns-in_err-known-2-clause-told : goal.returns-in_err-known-2-clause-told
 returns-in_err-known-2-clause-told c = λ types ports.
     handed (TellsAt c.args.line (DefinitionBreaks types ports c.args.components.now c.args.system.now

@@ -1,10 +1,8 @@
 -- The next value stands for what is made of it, and at the end each field has one.
-use Rattle.std.proofs.Common.{◌≡◌, ◌≤◌, length, arith, ap, sym, ◌∙◌, map, Some, get_or, rules, subst, take, All, refl}
+use Rattle.std.proofs.Common.{◌≡◌, ◌≤◌, length, arith, ◌∙◌, map, Some, rules, subst, take, All}
 use Rattle.std.proofs.lemmas.List.Elements.{All-push}
 use Rattle.std.proofs.lemmas.List.{length-set, length-map}
-use Rattle.std.proofs.lemmas.Result.{IfErr-weaker}
 use Rattle.tp_value.specs.declared.types.TypeDef.TheVariants as def
-use Rattle.tp_value.specs.Types.{named}
 use Rattle.tp_checks.specs.declared.fault.ModuleRule.TheVariants as rule
 use Rattle.tp_checks.specs.Named.{texts}
 use Rattle.tp_checks.specs.Placing.{IsPlacing}
@@ -13,11 +11,10 @@ use Rattle.tp_checks.specs.BrokenValues as b
 use Rattle.tp_checks.specs.BrokenValues.{IsEntry}
 use Rattle.tp_checks.proofs.EntriesInDeclaredOrder.{place_below, placed, placed_entries, filled_more, all_filled, in_order}
 use Rattle.tp_checks.proofs.ListPrefixGrowth.{pushed}
-use Rattle.tp_checks.proofs.RuleFaultPropagation.{tells_at, tells_rule, told_at, told_rule}
+use Rattle.tp_checks.proofs.RuleFaultPropagation.{tells_at, told_rule}
 use Rattle.tp_checks.proofs.BrokenValueRules.{record_behind}
 use Rattle.tp_checks.proofs.messages.+value.Goals as goal
 use Rattle.tp_checks.proofs.messages.+value.Goals.{resolve_value-in_default-via-in-Some+in_default, resolve_value-in_default-via-in_default}
-use Rattle.std.proofs.lemmas.Option.{slice_get_read}
 
 pub resolve_named-index_mut-requires : goal.resolve_named-index_mut-requires
 resolve_named-index_mut-requires t c = omega (arith, c.in-Some.ensures.lookup.3.0, c.loop-index.invariant.as_many, c.loop-index.made.ok.0)
@@ -75,32 +72,6 @@ resolve_named-returns-clause-named t c =
     (all_filled (λ x. x.name) (λ f x. IsValue types turns f.ty x.value) c.args.entries.now c.args.fields.now c.in_ok-places.places.items
     c.loop-index.index c.loop-index.made.items placing end i.filled))
 
-pub resolve_elements-returns-in_err-one-clause-told : goal.resolve_elements-returns-in_err-one-clause-told
-resolve_elements-returns-in_err-one-clause-told t c = λ sound.
-    tells_at _ _ _ c.from_residual.result c.in_err-one.field-0.0 c.from_residual.ensures.1
-    (λ r broken. b.element c.args.ty c.args.values.now c.loop-value.made c.loop-value.value-index c.value-item.result r c.loop-value.invariant
-    (slice_get_read c.args.values.now (length c.args.values.now) c.loop-value.value-index c.value-item.result refl (omega arith) c.value-item.is) broken)
-    (c.in_err-one.ensures.told sound)
-
-pub resolve_fields-returns-then-fields-values-clause-told : goal.resolve_fields-returns-then-fields-values-clause-told
-resolve_fields-returns-then-fields-values-clause-told t c = λ sound.
-    told_rule _ _ _ _ (cc) (b.count c.args.fields.now c.args.values.now c.if-fields-values.true)
-
-pub resolve_fields-returns-in_err-one-clause-told : goal.resolve_fields-returns-in_err-one-clause-told
-resolve_fields-returns-in_err-one-clause-told t c = λ sound.
-    let i = c.loop-index.index in
-    let f = get_or c.args.fields.now i c.index-fields-index.result in
-    tells_at _ _ _ c.from_residual.result c.in_err-one.field-0.0 c.from_residual.ensures.1
-    (λ r broken. b.place c.args.fields.now c.args.values.now c.loop-index.made i f c.index-values-index.result r c.if-fields-values.false c.loop-index.invariant
-    (slice_get_read c.args.fields.now (length c.args.fields.now) i f refl (omega arith) (ap (get_or c.args.fields.now i) c.index-fields-index.is))
-    (slice_get_read c.args.values.now (length c.args.values.now) i c.index-values-index.result refl (omega arith) c.index-values-index.is) broken)
-    (c.in_err-one.ensures.told sound)
-
-pub resolve_named-returns-in_err-places-clause-told : goal.resolve_named-returns-in_err-places-clause-told
-resolve_named-returns-in_err-places-clause-told t c = λ sound apart.
-    tells_at _ _ _ c.from_residual.result c.in_err-places.field-0.0 c.from_residual.ensures.1
-    (λ r h. rw h.0 (b.names c.args.fields.now c.args.entries.now h.1)) (c.in_err-places.ensures.told apart)
-
 pub resolve_named-returns-in_default-clause-told : goal.resolve_named-returns-in_default-clause-told
 resolve_named-returns-in_default-clause-told t c =
     let placing : IsPlacing c.args.fields.now (map (λ x. x.name) c.args.entries.now) c.in_ok-places.places.items =
@@ -126,62 +97,6 @@ resolve_named-returns-in_err-one-clause-told t c = λ sound apart.
     (placed_entries c.args.fields.now (map (λ x. x.name) c.args.entries.now) c.in_ok-places.places.items placing) c.loop-index.invariant.fit
     at.is_entry at.is_field at.same broken)
     (c.in_err-one.ensures.told sound)
-
-pub resolve_value-returns-in_err-place-in-Name-clause-told : goal.resolve_value-returns-in_err-place-in-Name-clause-told
-resolve_value-returns-in_err-place-in-Name-clause-told t c = λ sound.
-    tells_at _ _ _ c.from_residual-in_err-place-in-Name.result c.in_err-place-in-Name.field-0.0 c.from_residual-in_err-place-in-Name.ensures.1
-    (λ r broken. rw c.in-Name.is (b.name c.args.ty c.in-Name.name r broken))
-    (rw c.as_str.ensures at c.in_err-place-in-Name.ensures.told)
-
-pub resolve_in_braces-returns-in_err-made-in-Some-Record-clause-told : goal.resolve_in_braces-returns-in_err-made-in-Some-Record-clause-told
-resolve_in_braces-returns-in_err-made-in-Some-Record-clause-told t c = λ sound.
-    let defined : named c.args.context.now.scope.now.types.now c.args.ty ≡ Some (def.Record c.in-Some-Record.fields) =
-    sym c.in-Some-Record.ensures ∙ ap Some c.in-Some-Record.field-0-is in
-    tells_at _ _ _ c.from_residual-in_err-made-in-Some-Record.result c.in_err-made-in-Some-Record.field-0.0
-    c.from_residual-in_err-made-in-Some-Record.ensures.1
-    (λ r broken. b.places c.args.ty c.in-Some-Record.fields c.args.values.now r defined broken)
-    (rw c.as_slice.ensures at (c.in_err-made-in-Some-Record.ensures.told sound))
-
-pub resolve_value-returns-in_err-check_type-in-Int-clause-told : goal.resolve_value-returns-in_err-check_type-in-Int-clause-told
-resolve_value-returns-in_err-check_type-in-Int-clause-told t c = λ sound.
-    tells_rule _ rule.WrongType _ c.from_residual.result _ c.from_residual.ensures.1 c.in_err-check_type-in-Int.ensures.err
-    (rw c.in-Int.is (b.no_integer c.args.ty c.in-Int.number c.in_err-check_type-in-Int.ensures.other))
-
-pub resolve_value-returns-in_err-check_type-in-Bool-clause-told : goal.resolve_value-returns-in_err-check_type-in-Bool-clause-told
-resolve_value-returns-in_err-check_type-in-Bool-clause-told t c = λ sound.
-    tells_rule _ rule.WrongType _ c.from_residual-in_err-check_type-in-Bool.result _ c.from_residual-in_err-check_type-in-Bool.ensures.1
-    c.in_err-check_type-in-Bool.ensures.err (rw c.in-Bool.is (b.no_boolean c.args.ty c.in-Bool.truth c.in_err-check_type-in-Bool.ensures.other))
-
-pub resolve_value-returns-in_err-text-in-Text-clause-told : goal.resolve_value-returns-in_err-text-in-Text-clause-told
-resolve_value-returns-in_err-text-in-Text-clause-told t c = λ sound.
-    tells_at _ _ _ c.from_residual-in_err-text-in-Text.result _ c.from_residual-in_err-text-in-Text.ensures.1
-    (λ r broken. rw c.in-Text.is (b.text c.args.ty c.in-Text.text r broken)) (rw c.as_slice.ensures at c.in_err-text-in-Text.ensures.told)
-
-pub resolve_in_braces-returns-in_err-made-in-Some-ListOf-clause-told : goal.resolve_in_braces-returns-in_err-made-in-Some-ListOf-clause-told
-resolve_in_braces-returns-in_err-made-in-Some-ListOf-clause-told t c = λ sound.
-    let defined : named c.args.context.now.scope.now.types.now c.args.ty ≡ Some (def.ListOf c.in-Some-ListOf.element) =
-    sym c.in-Some-ListOf.ensures ∙ ap Some c.in-Some-ListOf.field-0-is in
-    tells_at _ _ _ c.from_residual.result _ c.from_residual.ensures.1
-    (λ r broken. b.elements c.args.ty c.in-Some-ListOf.element c.args.values.now r defined broken)
-    (c.in_err-made-in-Some-ListOf.ensures.told sound)
-
-pub resolve_in_braces-returns-in-None-clause-told : goal.resolve_in_braces-returns-in-None-clause-told
-resolve_in_braces-returns-in-None-clause-told t c = λ sound.
-    told_rule _ rule.WrongType _ _ (cc) (b.no_braces c.args.ty c.args.values.now (sym c.in-None.ensures))
-
-pub resolve_value-returns-in-List-clause-told : goal.resolve_value-returns-in-List-clause-told
-resolve_value-returns-in-List-clause-told t c = λ sound.
-    IfErr-weaker c.resolve_in_braces.result _ _ (λ f. told_at _ _ _ f (λ r broken. rw c.in-List.is broken))
-    (rw c.as_slice-in-List.ensures at (c.resolve_in_braces.ensures.told sound))
-
-pub resolve_value-returns-in_err-made-in-Record-clause-told : goal.resolve_value-returns-in_err-made-in-Record-clause-told
-resolve_value-returns-in_err-made-in-Record-clause-told t c = λ sound.
-    let defined : named c.args.context.now.scope.now.types.now c.args.ty ≡ Some (def.Record c.in-Some-Record.fields) =
-    sym c.in-Some-Record.ensures ∙ ap Some c.in-Some-Record.field-0-is in
-    tells_at _ _ _ c.from_residual-in_err-made-in-Record.result _ c.from_residual-in_err-made-in-Record.ensures.1
-    (λ r broken. rw c.in-Record.is (b.fields c.args.ty c.in-Some-Record.fields c.in-Record.entries r defined broken))
-    ((rw (c.as_slice-in-Record.ensures, c.as_slice-in-Record-2.ensures) at c.in_err-made-in-Record.ensures.told) sound
-    (sound.own_names c.args.ty c.in-Some-Record.fields defined))
 
 pub resolve_value-returns-in_default-clause-told : goal.resolve_value-returns-in_default-clause-told
 resolve_value-returns-in_default-clause-told t c = λ sound.

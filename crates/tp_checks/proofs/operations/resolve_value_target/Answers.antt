@@ -2,13 +2,8 @@
 use Rattle.std.proofs.Common.{◌≡◌}
 use Rattle.tp_checks.specs.declared.fault.ModuleRule.TheVariants as rule
 use Rattle.tp_checks.specs.BrokenOperations as b
-use Rattle.tp_checks.proofs.RuleFaultPropagation.{tells_at, tells_rule, told_rule}
+use Rattle.tp_checks.proofs.RuleFaultPropagation.{tells_rule, told_rule}
 use Rattle.tp_checks.proofs.operations.resolve_value_target.Goals as goal
-
-pub returns-in_err-place-clause-told : goal.returns-in_err-place-clause-told
-returns-in_err-place-clause-told c = λ typed.
-    tells_at _ _ _ c.from_residual.result _ c.from_residual.ensures.1 (λ r broken. rw c.in-Some.is (b.holds_no_message c.in-Some.name r broken))
-    (rw c.as_str.ensures at (c.in_err-place.ensures.told typed))
 
 pub returns-in_err-check_type-in-Of-clause-told : goal.returns-in_err-check_type-in-Of-clause-told
 returns-in_err-check_type-in-Of-clause-told c = λ typed.

@@ -5,11 +5,7 @@ use Rattle.tp_checks.specs.Starting.{HasParameterType, IsArgument}
 use Rattle.tp_checks.proofs.ModuleRefusalPropagation.{handed_on}
 use Rattle.tp_checks.proofs.ListPrefixGrowth.{zip_more}
 use Rattle.tp_checks.proofs.UniqueZipsAndPlaces.{zip_both}
-use Rattle.std.proofs.Common.{◌≡◌, ◌∙◌, refl}
-use Rattle.tp_checks.specs.Refused.{TellsAt}
-use Rattle.tp_checks.specs.BrokenStarts.{ArgumentsBreak, count}
-use Rattle.tp_checks.proofs.StartFaultsTold.{argument_among}
-use Rattle.tp_checks.proofs.ModuleFaultPropagation.{handed}
+use Rattle.std.proofs.Common.{◌≡◌, ◌∙◌}
 use Rattle.tp_checks.proofs.starting.check_arguments.Goals as goal
 
 pub loop-i-preserved : goal.loop-i-preserved
@@ -38,20 +34,3 @@ returns-in_err-comp-clause-refused c = λ few.
     c.args.parameters.now r.0 c.loop-i.i c.index-arguments-i.result c.index-parameters-i.result r.1 r.2
     (omega (arith, ap length c.as_slice-arguments.ensures))
     (rw (← c.as_slice-arguments.ensures) c.index-arguments-i.is) c.index-parameters-i.is)
-
-pub returns-then-arguments-parameters-clause-told : goal.returns-then-arguments-parameters-clause-told
-returns-then-arguments-parameters-clause-told c = λ few.
-    rw c.refused.ensures (refl, count (λ same. c.if-arguments-parameters.true (ap length c.as_slice-arguments.ensures ∙ same)))
-
-pub returns-in_err-comp-clause-told : goal.returns-in_err-comp-clause-told
-returns-in_err-comp-clause-told c = λ few.
-    let types = map (λ t. t.now) c.args.types.now in
-    let xs = c.args.start.now.arguments in
-    let same : length xs ≡ length c.args.parameters.now = omega (arith, ap length c.as_slice-arguments.ensures) in
-    let known = rw c.as_slice-arguments.ensures at c.loop-i.invariant.known in
-    handed (TellsAt c.args.start.now.line (ArgumentsBreak c.args.variables.now types c.args.parameters.now xs)) c.from_residual.result _
-    c.from_residual.ensures.1
-    (argument_among c.args.variables.now types c.args.parameters.now xs c.loop-i.i c.index-parameters-i.result c.index-arguments-i.result
-    c.loop-i.made.items c.args.start.now.line c.in_err-comp.field-0.0 same (omega (arith, ap length c.as_slice-arguments.ensures))
-    c.index-parameters-i.is (rw (← c.as_slice-arguments.ensures) c.index-arguments-i.is) known c.loop-i.invariant.fits
-    (c.in_err-comp.ensures.told few))

@@ -7,9 +7,6 @@ use Rattle.tp_checks.specs.Starting.{IsStartPlace}
 use Rattle.tp_checks.proofs.CreatedComponentGrowth.{no_creation, one_creation}
 use Rattle.tp_checks.proofs.ListPrefixGrowth.{zip_push}
 use Rattle.tp_checks.proofs.StartLookups.{not_started}
-use Rattle.std.proofs.Common.{refl}
-use Rattle.tp_checks.proofs.NameSetLookups.{place_unknown}
-use Rattle.tp_checks.proofs.StartFaultsTold.{never_among}
 use Rattle.tp_checks.proofs.starting.find_starts.Goals as goal
 
 pub loop-setup-preserved-in_default : goal.loop-setup-preserved-in_default
@@ -33,12 +30,3 @@ pub returns-in_default-find-clause-refused : goal.returns-in_default-find-clause
 returns-in_default-find-clause-refused c =
     inr (not_started c.args.setups.now c.loop-setup.setup-index c.setup-item.result (omega arith) c.setup-item.is c.in-Some.creation.now c.in-Some.ensures
     c.args.started.now (rw c.as_str.ensures at c.in_default-find.ensures.place))
-
-pub returns-in_default-find-clause-told : goal.returns-in_default-find-clause-told
-returns-in_default-find-clause-told c =
-    rw c.refused.ensures (
-      refl,
-      never_among c.args.started.now c.args.setups.now c.loop-setup.setup-index c.setup-item.result c.in-Some.creation.now c.loop-setup.places.items
-          (omega arith) c.setup-item.is c.in-Some.ensures c.loop-setup.invariant
-          (place_unknown c.args.started.now (variable_name c.in-Some.creation.now) (rw c.as_str.ensures at c.in_default-find.ensures.place)),
-    )

@@ -5,15 +5,11 @@ use Rattle.std.proofs.lemmas.List.{length-map}
 use Rattle.std.proofs.lemmas.Slice.Zip.{AllZip-long}
 use Rattle.tp_checks.specs.Components.{creations, variable_name, variables}
 use Rattle.tp_checks.specs.Starting.{IsStartPlace}
-use Rattle.std.proofs.Common.{ℕ}
-use Rattle.tp_checks.specs.declared.fault.ModuleRule.{ModuleRule}
-use Rattle.tp_checks.specs.declared.fault.ModuleRule.TheVariants.{NotStarted}
 use Rattle.tp_checks.specs.Refused.{Tells}
-use Rattle.tp_checks.specs.BrokenStarts.{AfterStartsBreaks, IsNeverStarted, never_started, no_done}
+use Rattle.tp_checks.specs.BrokenStarts.{AfterStartsBreaks, no_done}
 use Rattle.tp_checks.proofs.StartFaultsTold.{all_started, some_creations}
 use Rattle.tp_checks.proofs.ModuleFaultPropagation.{handed}
 use Rattle.tp_checks.proofs.starting.place_starts.Goals as goal
-use Rattle.tp_checks.proofs.RuleFaultPropagation.{told_on}
 
 pub returns-clause-places : goal.returns-clause-places
 returns-clause-places c = rw (← c.as_slice.ensures) c.in_ok-places.ensures.places
@@ -27,15 +23,6 @@ returns-clause-done c =
     AllZip-long (IsStartPlace c.args.started.now) (variables case.setups) c.in_ok-places.places.items all
     ∙ length-map (creations case.setups) variable_name in
     λ some. c.in_ok-check_done.ensures.done (subst (λ l. 0 < length l) (sym c.deref.ensures.value) (omega (arith, some, count)))
-
-pub returns-in_err-places-clause-told : goal.returns-in_err-places-clause-told
-returns-in_err-places-clause-told c =
-    let case = c.args.case.case.now in
-    let P = AfterStartsBreaks c.args.started.now case c.args.case.line in
-    handed (Tells P) c.from_residual.result _ c.from_residual.ensures.1
-    (told_on (λ (rule : ModuleRule) (line : ℕ). (rule ≡ NotStarted) × IsNeverStarted c.args.started.now case.setups line) P
-    c.in_err-places.field-0.0 (λ rule line b. subst (λ r. P r line) (sym b.0) (never_started line b.1))
-    (rw c.as_slice.ensures at c.in_err-places.ensures.told))
 
 pub returns-in_err-check_done-clause-told : goal.returns-in_err-check_done-clause-told
 returns-in_err-check_done-clause-told c =

@@ -2,17 +2,11 @@
 use Rattle.std.proofs.Common.{◌≡◌, ◌≢◌, ◌∷◌, [], ◌∙◌, All, ap, arith, inr, length, map, subst, sym}
 use Rattle.tp_tree.specs.declared.tree.Definition.{Definition}
 use Rattle.tp_checks.specs.Tables.{IsNumbered}
-use Rattle.tp_checks.specs.Refused.{Tells}
-use Rattle.tp_checks.specs.BrokenNames.{DefinitionNamesBreak, NamesBreak, in_definition, no_test_case}
-use Rattle.tp_checks.specs.Cases.{cases_of}
-use Rattle.tp_checks.specs.Definitions.{of_kind, case_of, inner_names, name_of, test_cases}
+use Rattle.tp_checks.specs.Definitions.{of_kind, case_of, inner_names, name_of}
 use Rattle.tp_checks.specs.Rules.{AreNamed, HasOneTestCase, HasUniqueNames}
-use Rattle.tp_checks.proofs.TestCaseFaultsTold.{some_case}
-use Rattle.tp_checks.proofs.ModuleFaultPropagation.{handed}
 use Rattle.tp_checks.proofs.DistinctNamesInParts.{no_case}
 use Rattle.tp_checks.proofs.ModuleRefusalPropagation.{handed_on}
 use Rattle.tp_checks.proofs.unique_names.check_names.Goals as goal
-use Rattle.tp_checks.proofs.RuleFaultPropagation.{told_on}
 
 pub returns-in-Some-clause-names : goal.returns-in-Some-clause-names
 returns-in-Some-clause-names c = record {
@@ -35,25 +29,3 @@ returns-in_err-found-clause-refused c =
       inner = h.0.inner;
       one_case = omega (arith, ap length h.1.1);
     }))
-
-pub returns-then-not-has_case-clause-told : goal.returns-then-not-has_case-clause-told
-returns-then-not-has_case-clause-told c =
-    let none : of_kind case_of c.args.parsed.now.definitions ≡ [] =
-    no_case c.args.parsed.now.definitions (rw c.as_slice.ensures at (sym c.has_case.ensures ∙ c.if-not-has_case.true)) in
-    rw c.refused.ensures (no_test_case none)
-
-pub returns-in_err-found-clause-told : goal.returns-in_err-found-clause-told
-returns-in_err-found-clause-told c =
-    let m = c.args.parsed.now in
-    let some : test_cases m ≢ [] =
-    some_case m.definitions (rw c.as_slice.ensures at (sym c.has_case.ensures ∙ c.if-not-has_case.false)) in
-    handed (Tells (NamesBreak m)) c.from_residual.result _ c.from_residual.ensures.1
-    (told_on (DefinitionNamesBreak m.definitions) (NamesBreak m) c.in_err-found.field-0.0 (λ rule line b. in_definition rule line some b)
-    (rw c.as_slice-2.ensures at c.in_err-found.ensures.told))
-
-pub returns-in-None-clause-told : goal.returns-in-None-clause-told
-returns-in-None-clause-told c =
-    let m = c.args.parsed.now in
-    let none : test_cases m ≡ [] =
-    ap (of_kind case_of) (sym c.as_slice-2.ensures) ∙ sym c.in_ok-found.ensures.case ∙ ap cases_of c.in-None.is in
-    rw c.refused-in-None.ensures (no_test_case none)

@@ -4,5 +4,8 @@ use Rattle.tp_checks.specs.Tables.{IsNumbered}
 use Rattle.tp_checks.specs.Definitions.{declared}
 use Rattle.tp_checks.proofs.unique_names.declare_all.Given as goal
 
-abbrev pub invariant-loop-name : goal.invariant-loop-name
-invariant-loop-name l = record { names : l.names ≡ l.fn.names ++ map declared (take l.name-index l.list); numbered : IsNumbered l.names }
+abbrev pub invariant-loop-item : goal.invariant-loop-item
+invariant-loop-item g l = record {
+  names : l.names ≡ l.fn.names ++ map (λ x. declared (g.D.Declares.declared_name x)) (take l.item-index l.list);
+  numbered : IsNumbered l.names;
+}

@@ -9,7 +9,7 @@ use Rattle.tp_checks.specs.Refused.{Tells}
 use Rattle.tp_checks.specs.BrokenNames.{DefinitionNamesBreak, GivenNamesBreak}
 use Rattle.tp_checks.specs.Definitions.{BeginsAmong, of_kind, case_of, inner_names, name_of}
 use Rattle.tp_checks.specs.Rules.{AreNamed}
-use Rattle.tp_checks.proofs.TestCaseFaultsTold.{begins_more, given_told, second_told}
+use Rattle.tp_checks.proofs.TestCaseFaultsTold.{begins_more, given_told}
 use Rattle.tp_checks.proofs.ModuleFaultPropagation.{handed}
 use Rattle.tp_checks.proofs.DistinctNamesInParts.{many_cases, numbered_first}
 use Rattle.tp_checks.proofs.ModuleRefusalPropagation.{all_at, handed_on, mapped_behind}
@@ -86,14 +86,3 @@ returns-in_err-check_name-clause-told c =
     (told_on (GivenNamesBreak c.loop-definition.names x) (DefinitionNamesBreak items) c.in_err-check_name.field-0.0
     (given_told items c.loop-definition.definition-index x (omega arith) c.definition-item.is c.loop-definition.names c.loop-definition.case before.names
     before.numbered before.case before.inner) c.in_err-check_name.ensures.told)
-
-pub returns-in_err-case-clause-told : goal.returns-in_err-case-clause-told
-returns-in_err-case-clause-told c =
-    let items = c.args.definitions.now in
-    let x = c.definition-item.result in
-    let before = c.loop-definition.invariant in
-    handed (Tells (DefinitionNamesBreak items)) c.from_residual-in_err-case.result _ c.from_residual-in_err-case.ensures.1
-    (rw c.in_err-case.ensures.told
-    (second_told items c.loop-definition.definition-index x (omega arith) c.definition-item.is c.loop-definition.names c.loop-definition.case before.names
-    before.numbered before.case before.inner (subst IsNumbered c.in_ok-check_name.ensures.names c.in_ok-check_name.ensures.numbered)
-    c.in_ok-check_name.ensures.inner c.in_err-case.ensures.refused))
