@@ -35,6 +35,7 @@ moment d t = record { before = d.log; entry = t }
 -- discarded, or nothing if no branch is open
 abbrev pub Looked : List Guard → Journal → LookResult → Journal → Type 0
 Looked gs d (look.Taken i) after =
-    (e : Env Message) × (t : Entry) × ((has_else : Bool) → IsChoice gs has_else (moment d t) (Some (i, e))) × (after ≡ adding d t)
+    (e : Env Message) × (t : Entry) × ((has_else : Bool) → IsChoice gs has_else (moment d t) (Some (i, e)))
+    × (after ≡ adding d t)
 Looked gs d look.Discarded after = (t : Entry) × IsDrop gs (moment d t) × (after ≡ adding d t)
 Looked gs d look.Nothing after = NoneOpen d.log gs × (after ≡ d)

@@ -171,8 +171,8 @@ fn look_early<R: Wait, G: Gate>(
     if !is_served(task, &*worker, port) {
         return Ok(LookResult::Nothing);
     }
-    let look = try_branches(gate, task, &mut *worker, guards)?;
-    Ok(look)
+    let early = try_branches(gate, task, &mut *worker, guards)?;
+    Ok(early)
 }
 
 /// Moves what has arrived to the ports, if a look can see it, and tries the branches.

@@ -136,7 +136,7 @@ pub(crate) fn fill_guards(
     Ok(guards)
 }
 
-// Most operations name none: inlined, it is a test, and nothing is made for them.
+// Most operations name none: inlined, this and the next are a test, and nothing is made for them.
 #[inline(always)]
 fn keep(variables: &mut Vec<Option<Held>>, place: Option<usize>, held: Held)
     requires { IfSome place (λ k. k < length variables.old.items) }
@@ -187,6 +187,7 @@ pub(crate) fn redirect(
     ensures held { OnOk result (HoldsAsDeclared task.now frame.new) }
 {
     let Some(env) = desk.last_chosen() else {
+        // The last entry took or found one, by the condition.
         unreachable!()
     };
     let sender = Held::Component(CompId(env.sender()));

@@ -1,5 +1,6 @@
 -- What contracts see of a desk, and what its calls return and do.
-use Rattle.std.specs.Prelude.{◌≡◌, ℕ, ◌<◌, Bool, true, false, Option, Some, None, List, [], ◌∷◌, ◌++◌, length, slice_index_or, All}
+use Rattle.std.specs.Prelude.{◌≡◌, ℕ, ◌<◌, Bool, true, false, Option, Some, None, List, [], ◌∷◌, ◌++◌, length}
+use Rattle.std.specs.Prelude.{slice_index_or, All}
 use Rattle.tp_common.specs.declared.event.Env.{Env}
 use Rattle.tp_common.specs.declared.event.Event.{Event}
 use Rattle.tp_queue.specs.History.{top}

@@ -1,8 +1,8 @@
 -- The history of a component, and what it says about each port, about each route, and about the actions of the
 -- behaviour. A history is the whole list of the component's entries, the oldest first. It only grows, and the
 -- definitions filter it.
-use Rattle.std.specs.Prelude.{◌≡◌, ℕ, ◌+◌, ◌-◌, ◌<◌, max, Bool, true, false, not, ◌&&◌, ◌==◌, cond, Option, Some, None, List}
-use Rattle.std.specs.Prelude.{[], ◌∷◌, filter, length, slice_get, take}
+use Rattle.std.specs.Prelude.{◌≡◌, ℕ, ◌+◌, ◌-◌, ◌<◌, max, Bool, true, false, not, ◌&&◌, ◌==◌, cond, Option}
+use Rattle.std.specs.Prelude.{Some, None, List, [], ◌∷◌, filter, length, slice_get, take}
 use Rattle.std.specs.List.{filter_map}
 use Rattle.std.specs.Option.{option_and_then}
 use Rattle.tp_common.specs.declared.event.Env.{Env}

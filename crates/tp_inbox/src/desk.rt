@@ -1,5 +1,5 @@
 //! A component's desk: its ports and its history.
-ghost use Rattle.std.specs.Prelude.{◌≡◌, [], ℕ, ◌+◌, ◌^◌, ◌<◌, ◌≤◌};
+ghost use Rattle.std.specs.Prelude.{◌≡◌, [], ℕ, ◌+◌, ◌^◌, ◌<◌};
 ghost use Rattle.std.specs.Prelude.{All, SomeIff, length, IfErr, IfOk, OnErr, OnOk, vec_capacity, vec_len};
 ghost use Rattle.std.specs.Option.{option_copied};
 ghost use Rattle.std.specs.Borrow.{sem};
@@ -8,13 +8,14 @@ ghost use Rattle.tp_queue.specs.Answers.{Checks, halted_count};
 ghost use Rattle.tp_queue.specs.Queues.{StandsFor};
 ghost use Rattle.tp_config.specs.Setup.{IsComponent, ports_at};
 ghost use Rattle.tp_inbox.specs.declared.entry.Entry.TheVariants as entry;
-ghost use Rattle.tp_inbox.specs.History.{IsClocked, IsTimely, arrivals, clock_of, last_chosen, next_of};
+ghost use Rattle.tp_inbox.specs.History.{IsClocked, IsTimely, arrivals, clock_of, last_chosen};
+ghost use Rattle.tp_inbox.specs.History.{next_of};
 ghost use Rattle.tp_inbox.specs.Desks.{NamesNoPort, IsWithin, Journal, NotesSending, ReceivesAt, TriggersAt};
 ghost use Rattle.tp_inbox.specs.Desks.{adding, at_port, new_desk};
 ghost use Rattle.tp_inbox.specs.Lending.{ends_checked_at};
 
 use crate::entry::Entry;
-use crate::noted::{NotedEnvelope, NotedRoute, has_room_for};
+use crate::noted::{NotedEnvelope, NotedRoute, check_room};
 use crate::noted_message::NotedMessage;
 use crate::stamped::Stamped;
 use crate::triggered::Triggered;
@@ -171,12 +172,9 @@ impl Desk {
         let (place, branch) = short_place(port, branch)?;
         reserve_entry(&mut self.log)?;
         let queue = &mut self.ports[port as usize];
-        let has_room = match queue.check(wanted, from) {
+        match queue.check(wanted, from) {
             None => return Ok(false),
-            Some(env) => has_room_for(env),
-        };
-        if !has_room {
-            return Err(Memory);
+            Some(env) => check_room(env)?,
         }
         let Some(env) = queue.take_top() else {
             // It was found just now.
@@ -204,12 +202,9 @@ impl Desk {
         let (place, branch) = short_place(port, branch)?;
         reserve_entry(&mut self.log)?;
         let queue = &mut self.ports[port as usize];
-        let has_room = match queue.top() {
+        match queue.top() {
             None => return Ok(Triggered::Nothing),
-            Some(env) => has_room_for(env),
-        };
-        if !has_room {
-            return Err(Memory);
+            Some(env) => check_room(env)?,
         }
         match queue.trigger(wanted, from) {
             TriggerAnswer::Took(env) => {

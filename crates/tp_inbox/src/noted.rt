@@ -1,5 +1,5 @@
 //! Envelopes and routes as an entry keeps them, in less room.
-ghost use Rattle.std.specs.Prelude.{◌≡◌, ◌↔◌, IfErr, IfOk, IsTrue, SomeIff};
+ghost use Rattle.std.specs.Prelude.{◌≡◌, IfErr, IfOk, OnOk, SomeIff};
 ghost use Rattle.tp_inbox.specs.Noted.{IsShortEnvelope, IsShortRoute, NoteCause};
 
 use crate::note_fault::NoteFault;
@@ -43,13 +43,19 @@ impl Model for NotedEnvelope {
     } };
 }
 
-/// Returns whether an entry has room for the envelope.
-pub(crate) fn has_room_for(env: &Env<Message>) -> bool
-    ensures { IsTrue result ↔ IsShortEnvelope env.now }
+/// `NoRoom` if and only if an entry has no room for the envelope ([`NotedEnvelope::copy_of`]).
+pub(crate) fn check_room(env: &Env<Message>) -> Result<(), NoteFault>
+    ensures ok { OnOk result (IsShortEnvelope env.now) }
+    ensures err { IfErr result (λ fault.
+        (fault ≡ NoteFault.NoRoom) × ¬ IsShortEnvelope env.now) }
 {
-    u8::try_from(env.sender).is_ok()
+    let has_room = u8::try_from(env.sender).is_ok()
         && u32::try_from(env.number).is_ok()
-        && kind_of(env.msg.ty).is_some()
+        && kind_of(env.msg.ty).is_some();
+    if !has_room {
+        return Err(NoteFault::NoRoom);
+    }
+    Ok(())
 }
 
 impl NotedEnvelope {
@@ -64,6 +70,7 @@ impl NotedEnvelope {
             msg,
         } = env;
         let Some((kind, named)) = kind_of(msg.ty) else {
+            // There is room for it, by the condition.
             unreachable!()
         };
         NotedEnvelope {
@@ -81,9 +88,7 @@ impl NotedEnvelope {
         ensures ok { IfOk result (λ noted. noted ≡ env.now) }
         ensures err { IfErr result (NoteCause (IsShortEnvelope env.now)) }
     {
-        if !has_room_for(env) {
-            return Err(NoteFault::NoRoom);
-        }
+        check_room(env)?;
         let Ok(twin) = env.copy(alloc) else {
             return Err(NoteFault::Memory);
         };
