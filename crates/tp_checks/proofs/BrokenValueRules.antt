@@ -1,5 +1,5 @@
 -- The lines of the definition of broken values, as rules on values that are known by an equation.
-use Rattle.std.proofs.Common.{◌⊎◌, ◌≡◌, List, Option, None, Some, Bor, refl}
+use Rattle.std.proofs.Common.{◌≡◌, List, Option, None, Some, Bor, refl}
 use Rattle.std.specs.Option.{option_copied}
 use Rattle.tp_value.specs.declared.types.Field.{Field}
 use Rattle.tp_value.specs.declared.types.TypeDef.{TypeDef}

@@ -2,7 +2,7 @@
 #![tactic(auto, using(crate::proofs::CreationFaultsTold::creations_told))]
 
 ghost use Rattle.std.specs.Prelude.{◌≡◌, All, ◌<◌, ◌≤◌, ◌+◌, ◌++◌, ◌∷◌, [], List, ℕ, Contains, IfErr, IfNone, IfOk};
-ghost use Rattle.std.specs.Prelude.{IfSome, None, OnErr, OnOk, Some, length, map, option_map, slice_get};
+ghost use Rattle.std.specs.Prelude.{IfSome, None, OnErr, OnOk, Some, length, map, option_map};
 ghost use Rattle.std.specs.Option.{option_copied};
 ghost use Rattle.tp_checks.specs.Tables.{AreDistinct, IsNumbered, place_of_name};
 ghost use Rattle.tp_checks.specs.Refused.{IsRefusedBy, TellsAt};
@@ -22,7 +22,7 @@ use crate::unique_names::declare_ports;
 use std::alloc::Global;
 use tp_config::config::Config;
 use tp_config::port_type::{CompId, Role};
-use tp_tree::tree::{ComponentType, Creation, SetupAction, SetupStatement, TestCase};
+use tp_tree::tree::{Creation, SetupAction, SetupStatement, TestCase};
 
 #[derive(Clone, Copy)]
 pub(crate) struct DeclaredComponent<'a> {

@@ -1,9 +1,9 @@
 //! Statements and bodies.
 #![tactic(auto, using(crate::proofs::DefinitionLines::statements))]
 
-ghost use Rattle.std.specs.Prelude.{◌≡◌, ◌≢◌, ◌∷◌, ◌++◌, [], IfErr, IfOk, List, OnOk, length};
+ghost use Rattle.std.specs.Prelude.{◌≡◌, ◌∷◌, ◌++◌, [], IfErr, IfOk, List, length};
 ghost use Rattle.tp_checks.specs.Named.{texts};
-ghost use Rattle.tp_checks.specs.Refused.{IsRefusedBy, Tells, TellsAt};
+ghost use Rattle.tp_checks.specs.Refused.{IsRefusedBy, Tells};
 ghost use Rattle.tp_checks.specs.Bodies.{AreBranches, IsAfter, IsBlock, IsBody, IsBranch, IsStatement};
 ghost use Rattle.tp_checks.specs.BrokenBodies.{AfterBreaks, BlockBreaks, BodyBreaks, BranchBreaks, BranchesBreak};
 ghost use Rattle.tp_checks.specs.BrokenBodies.{StatementBreaks};

@@ -1,5 +1,5 @@
 -- Why the component of a `var` is refused.
-use Rattle.std.proofs.Common.{◌≤◌, arith}
+use Rattle.std.proofs.Common.{arith}
 use Rattle.tp_checks.specs.Refused.{TellsAt}
 use Rattle.tp_checks.specs.Additions.{HasRoomForVariables}
 use Rattle.tp_checks.specs.BrokenSetup.{CreationBreaks}

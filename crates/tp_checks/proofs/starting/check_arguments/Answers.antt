@@ -5,7 +5,6 @@ use Rattle.tp_checks.specs.Starting.{HasParameterType, IsArgument}
 use Rattle.tp_checks.proofs.ModuleRefusalPropagation.{handed_on}
 use Rattle.tp_checks.proofs.ListPrefixGrowth.{zip_more}
 use Rattle.tp_checks.proofs.UniqueZipsAndPlaces.{zip_both}
-use Rattle.std.proofs.Common.{◌≡◌, ◌∙◌}
 use Rattle.tp_checks.proofs.starting.check_arguments.Goals as goal
 
 pub loop-i-preserved : goal.loop-i-preserved

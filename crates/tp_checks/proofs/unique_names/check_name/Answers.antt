@@ -1,5 +1,4 @@
 -- The name of the definition can't be given, or one in it.
-use Rattle.std.proofs.Common.{◌++◌, ◌∷◌, ◌∙◌}
 use Rattle.tp_checks.specs.BrokenNames.{GivenNamesBreak, NameBreaks, own_name}
 use Rattle.tp_checks.specs.Definitions.{name_of}
 use Rattle.tp_checks.proofs.ModuleFaultPropagation.{name_told}

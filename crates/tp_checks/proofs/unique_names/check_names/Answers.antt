@@ -1,5 +1,5 @@
 -- No two definitions of the module have one name, nor any two names within a definition.
-use Rattle.std.proofs.Common.{◌≡◌, ◌≢◌, ◌∷◌, [], ◌∙◌, All, ap, arith, inr, length, map, subst, sym}
+use Rattle.std.proofs.Common.{◌≡◌, ◌∷◌, [], ◌∙◌, All, ap, arith, inr, length, map, subst, sym}
 use Rattle.tp_tree.specs.declared.tree.Definition.{Definition}
 use Rattle.tp_checks.specs.Tables.{IsNumbered}
 use Rattle.tp_checks.specs.Definitions.{of_kind, case_of, inner_names, name_of}
