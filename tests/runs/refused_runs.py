@@ -128,12 +128,12 @@ def of_runs(refusing: Refusing) -> Iterator[Case]:
         yield f"each allocation of {name}", Example(refusing, "run", name).each_allocation
     for name in ("login_is_answered", "all_wait_for_each_other"):
         yield f"each read of {name}", Example(refusing, "run", name).each_read
-    for name, threads in (("two_senders_to_one_that_ended", 4), ("all_wait_for_each_other", 2)):
+    for name, threads in (("two_senders_to_one_that_ended", 3), ("all_wait_for_each_other", 1)):
         yield f"each thread of {name}", functools.partial(Example(refusing, "run", name).each_thread, threads)
     for name, thread in (
         ("two_senders_to_one_that_ended", 1),
-        ("two_senders_to_one_that_ended", 4),
-        ("all_wait_for_each_other", 2),
+        ("two_senders_to_one_that_ended", 3),
+        ("all_wait_for_each_other", 1),
     ):
         both = functools.partial(Example(refusing, "run", name).thread_and_each_allocation, thread)
         yield f"thread {thread} and each allocation of {name}", both
@@ -142,7 +142,7 @@ def of_runs(refusing: Refusing) -> Iterator[Case]:
     yield "each read of a trace", Example(refusing, "trace", "login_is_answered").each_read
     yield "each allocation of a long history", functools.partial(grows_as_it_is_used, refusing)
     trace = Example(refusing, "trace", "two_senders_to_one_that_ended")
-    yield "each thread of a trace", functools.partial(trace.each_thread, 4)
+    yield "each thread of a trace", functools.partial(trace.each_thread, 3)
 
 
 def fills_once(refusing: Refusing) -> None:

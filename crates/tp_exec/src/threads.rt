@@ -26,6 +26,9 @@ use tp_floor::floor::Floor;
 use tp_inbox::owner::Closer;
 use tp_play::test_case::TestCase;
 
+/// The main test component is the first one.
+const MTC: CompId = CompId(0);
+
 /// The parts that all behaviours of a run share. It owns them: if a closure kept a struct of
 /// references, the prover would know nothing of the closure where it is called.
 #[derive(Drop)]
@@ -37,12 +40,12 @@ pub(crate) struct RunContext {
 }
 
 #[derive(Drop)]
-struct Was {
+struct ThreadPromise {
     test_case: Snapshot<TestCase>,
     worker: Snapshot<Worker>,
 }
 
-impl Promise<Result<Played, Memory>> for Was {
+impl Promise<Result<Played, Memory>> for ThreadPromise {
     ghost use Rattle.std.specs.Prelude.{IfOk};
     ghost use Rattle.tp_exec.specs.Returns.{IsBack};
 
@@ -51,7 +54,9 @@ impl Promise<Result<Played, Memory>> for Was {
 
 #[derive(Drop)]
 enum Child {
-    Running(PromisedHandle<Result<Played, Memory>, Was>),
+    Running(PromisedHandle<Result<Played, Memory>, ThreadPromise>),
+    /// `mtc`, which executes its behaviour in the calling thread once all others have been started.
+    Here(Worker),
     /// It has nothing to do, and so no thread.
     Done(Played),
 }
@@ -100,7 +105,7 @@ fn play<R: Wait, G: Gate>(
 
 /// The whole life of a component that has something to do. It leaves the floor however its
 /// behaviour ended.
-fn live<R: Wait, G: Gate>(
+fn run_component<R: Wait, G: Gate>(
     rt: &R,
     gate: &G,
     test_case: &TestCase,
@@ -128,9 +133,10 @@ fn done_at_once(worker: Worker) -> Played
     }
 }
 
-/// Starts a component in a thread of its own, or finishes it at once if it has nothing to do.
-/// `None` if the thread was refused: its behaviour has then ended, and has left the floor.
-fn set_out<'s, E, R: Wait + Sync, G: Gate>(
+/// Starts a component in a thread of its own, or finishes it at once if it has nothing to do. `mtc`
+/// is left for the calling thread. `None` if the thread was refused: its behaviour has then ended,
+/// and has left the floor.
+fn start_component<'s, E, R: Wait + Sync, G: Gate>(
     rt: &'s R,
     scope: &Scope<'s, E>,
     gate: &'s G,
@@ -142,60 +148,75 @@ fn set_out<'s, E, R: Wait + Sync, G: Gate>(
     ensures identity { IfSome result (λ child. identity_at child ≡ identity_of worker) }
     ensures child { IfSome result (IsChild test_case.now) }
 {
-    if test_case.body(worker.desk.comp()).is_none() {
+    let comp = worker.desk.comp();
+    if test_case.body(comp).is_none() {
         return Some(Child::Done(done_at_once(worker)));
     }
-    let was = Was {
+    if comp == MTC {
+        return Some(Child::Here(worker));
+    }
+    let promise = ThreadPromise {
         test_case: Snapshot::of(test_case),
         worker: Snapshot::of(&worker),
     };
     let play = move || -> Result<Played, Memory>
         requires { IsYetToBegin test_case.now worker × IsBusy test_case.now worker }
         ensures { IfOk result (IsBack test_case.entry.now worker) }
-    { live(rt, gate, test_case, context, worker) };
-    let Ok(handle) = scope.spawn_with(was, play) else {
+    { run_component(rt, gate, test_case, context, worker) };
+    let Ok(handle) = scope.spawn_with(promise, play) else {
         leave(rt, context);
         return None;
     };
     Some(Child::Running(handle))
 }
 
-fn fetch<R: Threads>(rt: &R, child: Child) -> Result<Played, Memory>
+fn join_child<R: Threads + Wait, G: Gate>(
+    rt: &R,
+    gate: &G,
+    test_case: &TestCase,
+    context: &RunContext,
+    child: Child,
+) -> Result<Played, Memory>
+    requires { IsChild test_case.now child }
     ensures identity { IfOk result (λ p. identity_of p.worker ≡ identity_at child) }
-    ensures returned { IfOk result (λ p.
-        (made : Made) → IsChild made child → HasReturned made p) }
+    ensures returned { IfOk result (HasReturned test_case.now) }
 {
     match child {
         Child::Running(handle) => handle.join(rt),
+        Child::Here(worker) => run_component(rt, gate, test_case, context, worker),
         Child::Done(played) => Ok(played),
     }
 }
 
-/// Joins all threads, even if one returns 50 `Memory`, which is then the result. Puts the
-/// components into `list`, in their order. It doesn't allocate.
-fn join_all<R: Threads>(
+/// Executes `mtc`, and joins all threads, even if one returns 50 `Memory`, which is then the
+/// result. Puts the components into `list`, in their order. `mtc` is the first, as the others may
+/// wait for its messages. The list isn't allocated here.
+fn join_all<R: Threads + Wait, G: Gate>(
     rt: &R,
+    gate: &G,
+    test_case: &TestCase,
+    context: &RunContext,
     list: Vec<Played>,
     children: Vec<Child>,
 ) -> Result<Vec<Played>, RunFault>
     requires empty { list.items ≡ [] }
     requires space { length children.items ≤ vec_capacity list }
+    requires children { All (IsChild test_case.now) children.items }
     ensures identities { IfOk result (λ back.
         identities_of back.items ≡ map identity_at children.items) }
-    ensures returned { IfOk result (λ back. (made : Made) →
-        All (IsChild made) children.items → All (HasReturned made) back.items) }
+    ensures returned { IfOk result (λ back. All (HasReturned test_case.now) back.items) }
     ensures fault { IfErr result IsThreadFault }
 {
     let mut back = list;
-    let mut short = false;
+    let mut is_out_of_memory = false;
     for child in children {
-        match fetch(rt, child) {
+        match join_child(rt, gate, test_case, context, child) {
             Ok(played) => back.push_reserved(played),
             // The others are joined all the same: a thread that isn't joined may be cut off.
-            Err(Memory) => short = true,
+            Err(Memory) => is_out_of_memory = true,
         }
     }
-    if short {
+    if is_out_of_memory {
         return Err(RunFault::Memory);
     }
     Ok(back)
@@ -236,12 +257,12 @@ fn play_each<R: Threads + Wait + Sync, G: Gate>(
             for worker in workers {
                 // A thread keeps what it is lent, so each is lent copies of these references.
                 let (rt, gate, test_case, context) = (rt, gate, test_case, context);
-                match set_out(rt, scope, gate, test_case, context, worker) {
+                match start_component(rt, scope, gate, test_case, context, worker) {
                     Some(child) => children.push_reserved(child),
                     None => refused = true,
                 }
             }
-            let joined = join_all(rt, back, children);
+            let joined = join_all(rt, gate, test_case, context, back, children);
             // 51 takes precedence over the 50 of another behaviour.
             if refused {
                 return Err(RunFault::NoThread);

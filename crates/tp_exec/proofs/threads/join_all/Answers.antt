@@ -11,21 +11,16 @@ use Rattle.tp_exec.proofs.threads.join_all.Goals as goal
 pub loop-child-preserved-in-Ok : goal.loop-child-preserved-in-Ok
 loop-child-preserved-in-Ok g c =
     let was = c.loop-child.invariant in
+    let made = c.args.test_case.now in
     let steps = c.in-Some.ensures.steps.0 in
     let pushed = c.push_reserved.ensures.items in
-    let rest = into_iter_items c.next.new.self in
     let x = c.in-Ok.played in
-    let s = c.in-Some.child in
     record {
       identities = λ fresh. moved (λ (p : Played). identity_of p.worker) identity_at _ _ _ _ _ _ _ pushed steps c.in-Ok.ensures.identity (was.identities fresh);
-      returned = λ made all.
-          let both = was.returned made all in
-          let left = subst (All (IsChild made)) steps both.1 in
-          let here = c.in-Ok.ensures.returned made (All-head (IsChild made) s rest left) in (
-            subst (All (HasReturned made)) (sym pushed)
-                (All-append (HasReturned made) c.loop-child.back.items (x ∷ []) both.0 (All-cons (HasReturned made) x [] here (All-nil (HasReturned made)))),
-            All-rest (IsChild made) s rest _ steps both.1,
-          );
+      returned = subst (All (HasReturned made)) (sym pushed)
+          (All-append (HasReturned made) c.loop-child.back.items (x ∷ []) was.returned
+          (All-cons (HasReturned made) x [] c.in-Ok.ensures.returned (All-nil (HasReturned made))));
+      children = All-rest (IsChild made) c.in-Some.child (into_iter_items c.next.new.self) _ steps was.children;
       space = let a = c.push_reserved.ensures.len in let b = c.push_reserved.ensures.capacity in let d = ap length steps in let e = was.space in omega arith;
     }
 
@@ -33,12 +28,14 @@ pub loop-child-preserved : goal.loop-child-preserved
 loop-child-preserved g c =
     let was = c.loop-child.invariant in
     let steps = c.in-Some.ensures.steps.0 in
-    let rest = into_iter_items c.next.new.self in
     record {
       identities = λ fresh. absurd (true≢false fresh);
-      returned = λ made all. let both = was.returned made all in (both.0, All-rest (IsChild made) c.in-Some.child rest _ steps both.1);
+      returned = was.returned;
+      children = All-rest (IsChild c.args.test_case.now) c.in-Some.child (into_iter_items c.next.new.self) _ steps was.children;
       space = let d = ap length steps in let e = was.space in omega arith;
     }
 
-pub returns-clause-returned : goal.returns-clause-returned
-returns-clause-returned g c = λ made all. (c.loop-child.invariant.returned made all).0
+pub join_child-requires-after_bounds : goal.join_child-requires-after_bounds
+join_child-requires-after_bounds g c κs within =
+    All-head (IsChild c.args.test_case.now) c.in-Some.child (into_iter_items c.next.new.self)
+    (subst (All (IsChild c.args.test_case.now)) c.in-Some.ensures.steps.0 c.loop-child.invariant.children)

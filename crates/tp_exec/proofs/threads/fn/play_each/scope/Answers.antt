@@ -12,22 +12,22 @@ use Rattle.tp_exec.specs.Returns.{IsYetToBegin, identity_of}
 use Rattle.tp_exec.specs.Children.{IsChild, identity_at}
 use Rattle.tp_exec.proofs.threads.fn.play_each.scope.Goals as goal
 
-pub loop-worker-preserved-in-Some-set_out : goal.loop-worker-preserved-in-Some-set_out
-loop-worker-preserved-in-Some-set_out g c =
+pub loop-worker-preserved-in-Some-start_component : goal.loop-worker-preserved-in-Some-start_component
+loop-worker-preserved-in-Some-start_component g c =
     let was = c.loop-worker.invariant in
     let made = c.captures.test_case.now in
     let steps = c.in-Some.ensures.steps.0 in
     let long = ap length steps in
     let pushed = c.push_reserved.ensures.items in
     let rest = into_iter_items c.next.new.self in
-    let child = c.in-Some-set_out.child in
+    let child = c.in-Some-start_component.child in
     let a = c.push_reserved.ensures.len in
     let b = c.push_reserved.ensures.capacity in
     record {
-      identities = λ fresh. moved identity_at identity_of _ _ _ _ _ _ _ pushed steps c.in-Some-set_out.ensures.identity (was.identities fresh);
+      identities = λ fresh. moved identity_at identity_of _ _ _ _ _ _ _ pushed steps c.in-Some-start_component.ensures.identity (was.identities fresh);
       children = subst (All (IsChild made)) (sym pushed)
           (All-append (IsChild made) c.loop-worker.children.items (child ∷ []) was.children
-          (All-cons (IsChild made) child [] c.in-Some-set_out.ensures.child (All-nil (IsChild made))));
+          (All-cons (IsChild made) child [] c.in-Some-start_component.ensures.child (All-nil (IsChild made))));
       workers = All-rest (IsYetToBegin made) c.in-Some.worker rest _ steps was.workers;
       space = let e = was.space in omega arith;
       empty = was.empty;
@@ -69,6 +69,6 @@ returns g c =
     ∙ ap (map identity_of) gives in
     record {
       identities = IfOk-weaker c.join_all-joined.result _ _ (λ back h. h ∙ all) c.join_all-joined.ensures.identities;
-      returned = IfOk-weaker c.join_all-joined.result _ _ (λ back h. h c.captures.test_case.now was.children) c.join_all-joined.ensures.returned;
+      returned = IfOk-weaker c.join_all-joined.result _ _ (λ back h. h) c.join_all-joined.ensures.returned;
       fault = c.join_all-joined.ensures.fault;
     }

@@ -5,7 +5,7 @@ use Rattle.tp_config.specs.declared.port_type.CompId.{CompId}
 use Rattle.tp_play.specs.TestCases.{behaviour_at}
 use Rattle.tp_exec.specs.Returns.{IsTaskOf}
 use Rattle.tp_exec.proofs.BehavioursBackFromThreads.{behaved_back, desk_comp, waiting_begins}
-use Rattle.tp_exec.proofs.threads.live.Goals as goal
+use Rattle.tp_exec.proofs.threads.run_component.Goals as goal
 
 pub task_of-task-requires : goal.task_of-task-requires
 task_of-task-requires g c =
