@@ -96,12 +96,6 @@ tells_missing h left closing i told closer closes long was fewer =
       how = inr (record { closes = closes; right = told_first h (lines_at left) told said; missing = omega arith });
     }
 
--- the first of them
-pub seen_first : (xs : List (Bor IndexedLine)) (x : Bor IndexedLine) → slice_get xs 0 ≡ Some x → slice_get (lines_at xs) 0 ≡ Some x.now
-seen_first [] x is = cc
-seen_first (y ∷ xs) x is =
-    let same : y ≡ x = cc in ap (λ (z : Bor IndexedLine). Some z.now) same
-
 -- a line that isn't one of these tells nothing
 pub not_left : (a : Act) → ((m : Mention) → a ≡ act.Left m → ⊥) → left_of a ≡ None
 not_left (act.Left m) none = absurd (none m refl)

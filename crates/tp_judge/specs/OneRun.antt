@@ -1,26 +1,26 @@
 -- What makes a trace one run: whether all that its components did can have happened one after another, each message in
 -- its queue at once when it was sent (ES 201 873-4). A line is known by its place in the trace.
 --
--- Four traces, each of them lawful. Before a line stands its place, and its component.
+-- Four lawful traces. Each line begins with its place and its component.
 --
---     0  a  sent b.p 0 question      One run, by the order 0 4 5 2. Where b takes the question (4), what had come to
---     1  a  came p b 0 answer        it (3) is all that was sent to it so far; so it is where a takes the answer (2),
---     2  a  took p b 0 answer        which was sent (5) before.
+--     0  a  sent b.p 0 question      One run, by the order 0 4 5 2. When b takes the question (4), all that was sent
+--     1  a  came p b 0 answer        to it so far has come (3). The same is true when a takes the answer (2), which
+--     2  a  took p b 0 answer        was sent earlier (5).
 --     3  b  came p a 0 question
 --     4  b  took p a 0 question
 --     5  b  sent a.p 0 answer
 --
---     0  a  sent b.p 0 early         Delayed. `early` was sent (0) before `go` (1), that before c took it (3) and sent
---     1  a  sent c.p 0 go            `late` (4), and that before b took it (6). So b looked at its ports when `early`
---     2  c  came p a 0 go            had been sent, and it hadn't come (7): that asks for 6 before 0. The lines
---     3  c  took p a 0 go            0 1 3 4 6 are a circle.
+--     0  a  sent b.p 0 early         Delayed. `early` was sent (0) before `go` (1), which c took (3) before it sent
+--     1  a  sent c.p 0 go            `late` (4), which b took (6). But when b looked at its ports (6), `early` hadn't
+--     2  c  came p a 0 go            come (7), which demands that 6 comes before 0. The lines 0 1 3 4 6 are a circle.
+--     3  c  took p a 0 go
 --     4  c  sent b.q 0 late
 --     5  b  came q c 0 late
 --     6  b  took q c 0 late
 --     7  b  came p a 0 early
 --
---     0  a  sent a.p 0 note          Delayed. The `else` (1) looked when the note had been sent, and it hadn't
---     1  a  else                     come (2).
+--     0  a  sent a.p 0 note          Delayed. When the `else` looked (1), the note had been sent, but hadn't come (2).
+--     1  a  else
 --     2  a  came p a 0 note
 --
 --     0  b  else                     One run, by the order 0 2: the `else` looked before the call was sent.
@@ -153,22 +153,22 @@ pub record IsSentAt (trace : IndexedTrace) (place : ℕ) (m : Mention) : Type 0 
 abbrev pub ComesAt : IndexedTrace → ℕ → ℕ → Mention → Type 0
 ComesAt trace component place m = IsLineOf trace (λ a. (a ≡ act.Came m) × IsJoined trace m.route) component place
 
--- what the line at the first place asks of a run: that the one at the second stands before the one at the third
+-- the line at the first place demands of a run that the second place comes before the third
 pub data IsDemandedAt (trace : IndexedTrace) : ℕ → ℕ → ℕ → Type 0 where
-  -- the lines of a section stand in their order
+  -- the lines of a section keep their order
   in_section : (component j k : ℕ) → j < k → IsOwnAt trace component j → IsOwnAt trace component k
       → IsDemandedAt trace k j k
   -- what came before a line was sent before it
   seen_before : (component j k s : ℕ) (m : Mention) → j < k → ComesAt trace component j m → IsSentAt trace s m
       → IsOwnAt trace component k → IsDemandedAt trace k s k
-  -- what came behind a line that looks was sent behind it
+  -- what came after a line that looks was sent after it
   unseen_before : (component j k s : ℕ) (m : Mention) → j < k → IsLookAt trace component j
       → ComesAt trace component k m → IsSentAt trace s m → IsDemandedAt trace k j s
   -- what came to a component was sent in the order in which it came
   in_turn : (component j k s t : ℕ) (m n : Mention) → j < k → ComesAt trace component j m → IsSentAt trace s m
       → ComesAt trace component k n → IsSentAt trace t n → IsDemandedAt trace k s t
 
--- some line asks for it
+-- some line demands it
 abbrev pub IsDemanded : IndexedTrace → ℕ → ℕ → Type 0
 IsDemanded trace x y = (k : ℕ) × IsDemandedAt trace k x y
 
@@ -176,7 +176,7 @@ IsDemanded trace x y = (k : ℕ) × IsDemandedAt trace k x y
 abbrev pub IsLeastOf : List ℕ → ℕ → Type 0
 IsLeastOf xs least = Contains xs least × All (λ x. least ≤ x) xs
 
--- a circle of the demands: each of these places has to stand before the next, and the last before the first
+-- a circle of demands: each of these places has to come before the next, and the last before the first
 abbrev pub IsDemandCircle : IndexedTrace → List ℕ → Type 0
 IsDemandCircle trace circle = IsCircleOf (IsDemanded trace) circle
 

@@ -1,5 +1,5 @@
 -- The lines of a text, judged and answered from its front.
-use Rattle.std.proofs.Common.{◌≡◌, ℕ, zero, suc, ◌+◌, ◌-◌, ◌≤◌, inl, inr, Option, Some, None, List, [], ◌∷◌, ◌++◌, length, take, refl, ap, sym, ◌∙◌, subst, arith, append_assoc, append-nil}
+use Rattle.std.proofs.Common.{◌≡◌, ℕ, zero, suc, ◌+◌, ◌-◌, ◌≤◌, inr, Option, Some, None, List, [], ◌∷◌, ◌++◌, length, take, refl, ap, sym, ◌∙◌, subst, arith, append_assoc, append-nil}
 use Rattle.std.specs.Prelude.{slice_get, All, Result, Ok, Err, IfSome, IfErr, OnOk}
 use Rattle.std.specs.List.{AllZip}
 use Rattle.std.proofs.lemmas.List.{length-append}
@@ -10,11 +10,9 @@ use Rattle.tp_port.specs.declared.replay.QueueFault.TheVariants as fault
 use Rattle.tp_common.specs.Cutting.{lines_of}
 use Rattle.tp_port.specs.QueueLine.{QueueLine, IsGood, IsFirstBad, Spells, Says}
 use Rattle.tp_port.specs.Replay.{Progress, answer, sighted, after, text_from, left_text, queue_text}
-use Rattle.tp_common.specs.declared.text.ReadFault.{ReadFault}
-use Rattle.tp_common.specs.declared.text.ReadFault.TheVariants as read
 use Rattle.tp_common.specs.Reading.{TakesBytes}
 use Rattle.tp_common.specs.declared.watched.Watched.{Watched}
-use Rattle.tp_port.specs.Faults.{IsAnswerTo, IsReplayed, HasFault, IsFaultOf, IsReadFaultOf, fault_of}
+use Rattle.tp_port.specs.Faults.{IsAnswerTo, IsReplayed, HasFault, IsFaultOf, IsReadFaultOf}
 
 get_after : {X : Type 0} (xs ys : List X) (y : X) → slice_get (xs ++ y ∷ ys) (length xs) ≡ Some y
 get_after [] ys y = refl
@@ -88,17 +86,6 @@ says_good [] lines says k d h = absurd (omega arith)
 says_good (text ∷ texts) [] says k d h = absurd says
 says_good (text ∷ texts) (line ∷ lines) says zero d h = (line, says.0)
 says_good (text ∷ texts) (line ∷ lines) says (suc k) d h = says_good texts lines says.1 k d (omega arith)
-
--- a fault of reading
-pub reading_fault : (fault : ReadFault) (old new : Option (List ℕ)) → TakesBytes old new (Some fault) → HasFault old new (fault_of fault)
-reading_fault read.Read None new taken = (taken.0, taken.1, tt)
-reading_fault read.Read (Some text) new taken = taken
-reading_fault read.Limit None new taken = (taken.0, taken.1, tt)
-reading_fault read.Limit (Some text) None taken = absurd taken.1
-reading_fault read.Limit (Some text) (Some rest) taken =
-    (taken.0, taken.1, (omega (arith, ap length taken.1, length-append taken.0 rest, taken.2), taken.2))
-reading_fault read.Memory None new taken = (taken.0, taken.1, tt)
-reading_fault read.Memory (Some text) new taken = (taken.0, taken.1, (taken.2.0, inl taken.2.1))
 
 -- a fault of a text in memory, and of the same text where it was read
 read_fault : (e : QueueFault) (text : List ℕ) (taken : ℕ) → length text ≤ 1048576 → taken ≤ 1048576 → IsFaultOf text e → IsReadFaultOf text taken e
