@@ -128,7 +128,7 @@ def texts(room: Room) -> None:
         must_be(len(found), len(WANTED))
     with case("as text: what to write instead, the rule and the related place"):
         text = room.all("text").text
-        for piece in ("  no replacement: the report tells each", "  rule: its type has the port", "^^^^ the port type"):
+        for piece in ("  no replacement: the report lists each", "  rule: its type has the port", "^^^^ the port type"):
             must(piece in text, f"no {piece!r} in {text}")
 
 
