@@ -19,6 +19,7 @@ from collections.abc import Callable, Iterable, Iterator
 from typing import Any, Optional
 
 from calling import ENDING, MOST_SECONDS, Ended, take_signals, wait_until, waiting_bytes
+from example_files import example
 from refusing import NO_MEMORY, NO_READ, NO_THREAD, Wrong, must, refused_calls
 
 NOBODY = 65534
@@ -204,14 +205,15 @@ def small_disk(program: Program, mode: str) -> None:
 
 
 def no_threads(program: Program, mode: str) -> None:
-    """No thread can be started at all."""
-    ended, refused = program.run_with({"THREADS_FROM": 1}, mode, program.file(mode))
+    """No thread can be started at all. `mtc` needs none, so the script has another component."""
+    ended, refused = program.run_with({"THREADS_FROM": 1}, mode, str(example("ping_pong.ttcn")))
     must(refused, "no thread was asked for")
     ended.must_be(3, NO_THREAD)
 
 
 def limit_on_processes(program: Program, mode: str) -> None:
-    """The user may start no further process or thread. This limit doesn't hold for root, which runs it as nobody."""
+    """The user may start no further process or thread: the report of `mtc` alone is printed, that of two components
+    isn't. This limit doesn't hold for root, which runs it as nobody."""
 
     def limit() -> None:
         resource.setrlimit(resource.RLIMIT_NPROC, (0, 0))
@@ -228,6 +230,8 @@ def limit_on_processes(program: Program, mode: str) -> None:
         raise LeftOut("nobody can't run the program")
     reached.must_be(0, b"accepted\n")
     with open(program.file(mode), "rb") as file:
+        program.run(mode, before=limit, stdin=file).must_be(0, program.answers[mode])
+    with open(example("ping_pong.ttcn"), "rb") as file:
         program.run(mode, before=limit, stdin=file).must_be(3, NO_THREAD)
 
 

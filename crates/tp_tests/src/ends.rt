@@ -10,7 +10,6 @@ use tp_common::memory::Memory;
 use tp_config::config::Config;
 use tp_config::port_type::{CompId, RouteId};
 use tp_floor::floor::Floor;
-use tp_floor::notifier::Woken;
 use tp_inbox::desk::Desk;
 use tp_inbox::gathered::{Rest, gather};
 use tp_inbox::making::inbox;
