@@ -7,7 +7,7 @@ use Rattle.tp_syntax.specs.Reading.{Tree}
 use Rattle.tp_syntax.specs.Refusal.{Agree, agree_last, agree_more, Begins, begins_end, begins_more, BeginsText, IsText, NoneGoesOn}
 use Rattle.tp_syntax.specs.Faults.{AreAllowed, AreTokensSeen, AreWithin, IsAllowed, IsCut, is_minus, opened_behind}
 use Rattle.tp_syntax.specs.SettledTokens.{settled}
-use Rattle.tp_syntax.specs.ReadingLaws.{ReadTextsAreAccepted}
+use Rattle.tp_syntax.specs.ReadTexts.{ReadTextsAreAccepted}
 use Rattle.tp_syntax.proofs.AcceptedTokenTexts.{good_texts_are_accepted}
 use Rattle.tp_syntax.proofs.UniqueTokens.{tokens_are_unique}
 

@@ -4,11 +4,9 @@ use Rattle.std.proofs.lemmas.List.{map-append}
 use Rattle.tp_tree.specs.declared.tree.Variable.{Variable}
 use Rattle.tp_syntax.specs.Rule.{end_of_variable, variables}
 use Rattle.tp_syntax.specs.declared.cursor.Parser.{Parser}
-use Rattle.tp_syntax.specs.BehaviourTrees.{open_behind}
-use Rattle.tp_syntax.specs.CaseParts.{variable_part}
-use Rattle.tp_syntax.specs.CaseTrees.{Part}
-use Rattle.tp_syntax.specs.PartialReading.{HasEnd, Leads, part_or_end, semicolon_frames}
-use Rattle.tp_syntax.specs.Parsing.{left}
+use Rattle.tp_syntax.specs.DefinitionTrees.{open_behind}
+use Rattle.tp_syntax.specs.CaseTrees.{variable_part, Part}
+use Rattle.tp_syntax.specs.Parsing.{HasEnd, Leads, part_or_end, semicolon_frames, left}
 use Rattle.tp_syntax.proofs.ReadingGoesOn.{leading}
 use Rattle.tp_syntax.proofs.StepsOfReading.{parsing}
 

@@ -6,14 +6,12 @@ use Rattle.tp_syntax.specs.Rule.{a_setup, a_start, closing, after_statements, af
 use Rattle.tp_tree.specs.declared.tree.Action.{Action}
 use Rattle.tp_tree.specs.declared.tree.Action.TheViews.{roll-Statement}
 use Rattle.tp_syntax.specs.declared.cursor.Parser.{Parser}
+use Rattle.tp_syntax.specs.declared.parts.End.{End}
 use Rattle.tp_syntax.specs.declared.case_bodies.CaseBody.{CaseBody}
 use Rattle.tp_syntax.specs.declared.cases.Stage.{Stage}
 use Rattle.tp_syntax.specs.declared.cases.Stage.TheVariants as stage
-use Rattle.tp_syntax.specs.CaseParts.{IsUpTo, part, rank_of, stage_rank, statement_part}
-use Rattle.tp_syntax.specs.CaseTrees.{Kind, Part, pairs, creates, starts, does, done, case_all_frames, is_action, is_all, is_over, is_statement, is_unnamed, part_frames, part_rule}
-use Rattle.tp_syntax.specs.CaseTrees.{parts_frames, stage_of, unnamed_frames}
-use Rattle.tp_syntax.specs.PartialReading.{Ends, Enters, HasEnd, semicolon_frames, Frame, Leads, enter, end_frames, part_or_end}
-use Rattle.tp_syntax.specs.Parsing.{left}
+use Rattle.tp_syntax.specs.CaseTrees.{IsUpTo, part, rank_of, stage_rank, statement_part, Kind, Part, pairs, creates, starts, does, done, case_all_frames, is_action, is_all, is_over, is_statement, is_unnamed, part_frames, part_rule, parts_frames, stage_of, unnamed_frames}
+use Rattle.tp_syntax.specs.Parsing.{Ends, Enters, HasEnd, semicolon_frames, Frame, Leads, enter, end_frames, part_or_end, left}
 use Rattle.tp_syntax.specs.StatementTrees.{Step, compounded, shape_of, verdict_set}
 use Rattle.tp_syntax.proofs.ReadingGoesOn.{leading, leads_on}
 use Rattle.tp_syntax.proofs.PredefinedTypes.{predefined_parsing}
@@ -63,18 +61,18 @@ enter_case_statements e = e.entered case_statements after_statements refl refl
 pub enter_setups : {p : Parser} {b : Bool} → Enters p b → Leads case_setups (left p) (enter case_setups) (part_or_end a_setup b) (left p)
 enter_setups e = e.entered case_setups a_setup refl refl
 
-pub end_setup : {p q : Parser} {x : Bool × Bool} → Ends p x q → Leads end_of_setup (left p) (end_frames end_of_setup case_setups x.0) (part_or_end a_setup x.1) (left q)
+pub end_setup : {p q : Parser} {x : End} → Ends p x q → Leads end_of_setup (left p) (end_frames end_of_setup case_setups x.has_semicolon) (part_or_end a_setup x.is_open) (left q)
 end_setup e = e.ended end_of_setup case_setups a_setup refl refl refl refl
 
-pub end_start : {p q : Parser} {x : Bool × Bool} → Ends p x q → Leads end_of_start (left p) (end_frames end_of_start case_starts x.0) (part_or_end a_start x.1) (left q)
+pub end_start : {p q : Parser} {x : End} → Ends p x q → Leads end_of_start (left p) (end_frames end_of_start case_starts x.has_semicolon) (part_or_end a_start x.is_open) (left q)
 end_start e = e.ended end_of_start case_starts a_start refl refl refl refl
 
-pub end_variable : {p q : Parser} {x : Bool × Bool} → Ends p x q
-    → Leads end_of_case_variable (left p) (end_frames end_of_case_variable case_variables x.0) (part_or_end after_variables x.1) (left q)
+pub end_variable : {p q : Parser} {x : End} → Ends p x q
+    → Leads end_of_case_variable (left p) (end_frames end_of_case_variable case_variables x.has_semicolon) (part_or_end after_variables x.is_open) (left q)
 end_variable e = e.ended end_of_case_variable case_variables after_variables refl refl refl refl
 
-pub end_statement : {p q : Parser} {x : Bool × Bool} → Ends p x q
-    → Leads end_of_case_statement (left p) (end_frames end_of_case_statement case_statements x.0) (part_or_end after_statements x.1) (left q)
+pub end_statement : {p q : Parser} {x : End} → Ends p x q
+    → Leads end_of_case_statement (left p) (end_frames end_of_case_statement case_statements x.has_semicolon) (part_or_end after_statements x.is_open) (left q)
 end_statement e = e.ended end_of_case_statement case_statements after_statements refl refl refl refl
 
 pub end_done : {p q : Parser} {b : Bool} → HasEnd p b q → Leads end_of_case (left p) (semicolon_frames end_of_case b) closing (left q)

@@ -7,8 +7,7 @@ use Rattle.tp_syntax.specs.declared.stuck.Stuck.{Stuck}
 use Rattle.tp_syntax.specs.Item.{token, rule, of_symbol, choose, at_symbol, Choice, accepts, next}
 use Rattle.tp_syntax.specs.Rule.{Rule}
 use Rattle.tp_syntax.specs.Grammar.{production, notes_line}
-use Rattle.tp_syntax.specs.Reading.{Tree, more, none, Reads, ReadsChoice, Fails, FailsChoice, reads_rule, reads_this, reads_other, reads_else, reads_none, reads_more, fails_rule, fails_this, fails_here, fails_later}
-use Rattle.tp_syntax.specs.TemplateTrees.{of, one, sym as symbol_leaf, chain}
+use Rattle.tp_syntax.specs.Reading.{Tree, more, none, Reads, ReadsChoice, Fails, FailsChoice, reads_rule, reads_this, reads_other, reads_else, reads_none, reads_more, fails_rule, fails_this, fails_here, fails_later, of, one, sym as symbol_leaf, chain}
 
 -- this rule is a chain of others behind commas
 pub record Separated (q r : Rule) : Type 0 where

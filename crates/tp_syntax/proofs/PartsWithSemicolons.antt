@@ -7,8 +7,8 @@ use Rattle.tp_syntax.specs.declared.stuck.Stuck.{Stuck}
 use Rattle.tp_syntax.specs.Item.{token, rule, sy, of_symbol, Choice, choose, at_symbol, accepts, next}
 use Rattle.tp_syntax.specs.Rule.{Rule}
 use Rattle.tp_syntax.specs.Grammar.{production, notes_line}
-use Rattle.tp_syntax.specs.Reading.{Tree, Reads, ReadsChoice, Fails, FailsChoice, reads_rule, reads_this, reads_other, reads_else, reads_none, reads_more, fails_rule, fails_other, fails_this, fails_else, fails_here, fails_later, more}
-use Rattle.tp_syntax.specs.TemplateTrees.{of, one, sym as symbol_leaf, steps}
+use Rattle.tp_syntax.specs.Reading.{Tree, Reads, ReadsChoice, Fails, FailsChoice, reads_rule, reads_this, reads_other, reads_else, reads_none, reads_more, fails_rule, fails_other, fails_this, fails_else, fails_here, fails_later, more, of, one, sym as symbol_leaf}
+use Rattle.tp_syntax.specs.DefinitionTrees.{steps}
 
 -- this rule is a row of others, each with what ends it, behind which the row goes on
 pub record InSteps (q m e : Rule) : Type 0 where

@@ -8,8 +8,7 @@ use Rattle.tp_syntax.specs.declared.stuck.Stuck.TheVariants.{At}
 use Rattle.tp_syntax.specs.Item.{Terminal, binds, same, Item, token, rule, Guarded}
 use Rattle.tp_syntax.specs.Rule.{Rule}
 use Rattle.tp_syntax.specs.Grammar.{production}
-use Rattle.tp_syntax.specs.Reading.{Tree, leaf, node, Trees, none, more, noted, bound_by, known, Reads, ReadsChoice, ReadsAll, reads_token, reads_rule, reads_this, reads_other, reads_else, reads_none, reads_more, Fails, FailsChoice, FailsAll, fails_token, fails_rule, fails_this, fails_other, fails_else, fails_here, fails_later}
-use Rattle.tp_syntax.specs.SpelledTrees.{Among, among_this, among_other, among_else, Spells, SpellsAll, spells_token, spells_rule, spells_none, spells_more}
+use Rattle.tp_syntax.specs.Reading.{Tree, leaf, node, Trees, none, more, noted, bound_by, known, Reads, ReadsChoice, ReadsAll, reads_token, reads_rule, reads_this, reads_other, reads_else, reads_none, reads_more, Fails, FailsChoice, FailsAll, fails_token, fails_rule, fails_this, fails_other, fails_else, fails_here, fails_later, Among, among_this, among_other, among_else, Spells, SpellsAll, spells_token, spells_rule, spells_none, spells_more}
 use Rattle.tp_syntax.specs.Refusal.{Begins, begins_end, begins_more}
 use Rattle.tp_syntax.proofs.UniqueTrees.{bound_node}
 use Rattle.tp_syntax.proofs.ShallowTexts.{shortest, depth}

@@ -4,10 +4,9 @@ use Rattle.std.proofs.lemmas.Bool.{false≢true}
 use Rattle.tp_syntax.specs.declared.token.Symbol.TheVariants.{Colon}
 use Rattle.tp_tree.specs.declared.message.TypeName.{TypeName}
 use Rattle.tp_tree.specs.declared.message.TypeName.TheVariants as type_name
-use Rattle.tp_syntax.specs.Reading.{Tree, more}
+use Rattle.tp_syntax.specs.Reading.{Tree, more, of, one, sym as symbol_leaf}
 use Rattle.tp_syntax.specs.Rule.{a_type, sent}
 use Rattle.tp_syntax.specs.OperationTrees.{is_predefined, message_sent, predefined_tree, type_tree}
-use Rattle.tp_syntax.specs.TemplateTrees.{of, one, sym as symbol_leaf}
 use Rattle.tp_syntax.proofs.StepsOfReading.{parsing}
 
 pub predefined_type : (t : TypeName) → is_predefined t ≡ true → type_tree t ≡ of a_type (one (predefined_tree t))

@@ -9,9 +9,8 @@ use Rattle.tp_syntax.specs.Rule.{Rule, a_module}
 use Rattle.tp_syntax.specs.Grammar.{production}
 use Rattle.tp_syntax.specs.Reading.{Tree, Trees, node, leaf, none, more, noted, bound_by, known, Reads, ReadsChoice, ReadsAll, reads_token, reads_rule, reads_this, reads_other, reads_else, reads_none, reads_more, Fails, FailsChoice, FailsAll, fails_token, fails_rule, fails_this, fails_other, fails_else, fails_here, fails_later}
 use Rattle.tp_syntax.specs.Refusal.{IsText, IsRefusedAt, refused_within, refused_behind}
-use Rattle.tp_syntax.proofs.FirstTokens.{nullable, rank}
+use Rattle.tp_syntax.proofs.FirstTokens.{nullable, rank, firsts}
 use Rattle.tp_syntax.proofs.TokensTellAlternatives.{all_whole, all_in, starts, may_be_nothing, follow_fits, items_fit, later_apart, guarded_fit}
-use Rattle.tp_syntax.proofs.FirstTokens.{firsts}
 use Rattle.tp_syntax.proofs.FollowingTokens.{follows}
 use Rattle.tp_syntax.proofs.ShallowTexts.{depth}
 use Rattle.tp_syntax.proofs.TextsOfRules.{can_stand, are_below, all_stand, short_items, leads, all_lead}

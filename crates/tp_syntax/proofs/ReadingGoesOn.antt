@@ -12,10 +12,8 @@ use Rattle.tp_syntax.specs.declared.stuck.Stuck.TheVariants.{Memory}
 use Rattle.tp_syntax.specs.Item.{Item, token, rule, of_symbol, Guarded, Choice, accepts, next}
 use Rattle.tp_syntax.specs.Rule.{Rule, closing}
 use Rattle.tp_syntax.specs.Grammar.{production, notes_line}
-use Rattle.tp_syntax.specs.Reading.{Tree, Trees, Reads, ReadsChoice, ReadsAll, Fails, FailsChoice, FailsAll, reads_rule, reads_this, reads_other, reads_else, reads_none, reads_more, fails_memory, fails_rule, fails_this, fails_other, fails_else, fails_here, fails_later, line_ahead}
-use Rattle.tp_syntax.specs.Parsing.{left}
-use Rattle.tp_syntax.specs.TemplateTrees.{sym as symbol_leaf}
-use Rattle.tp_syntax.specs.PartialReading.{Frame, HasEnd, frame, with_last, under, Leads, LeadsChoice, LeadsAll, leads_here, leads_rule, leads_this, leads_other, leads_else, leads_last, leads_more, Goes, ParsesAll, Ends, Enters, all_frames, listed, ended, enter, end_frames, part_or_end, closing_tree}
+use Rattle.tp_syntax.specs.Reading.{Tree, Trees, Reads, ReadsChoice, ReadsAll, Fails, FailsChoice, FailsAll, reads_rule, reads_this, reads_other, reads_else, reads_none, reads_more, fails_memory, fails_rule, fails_this, fails_other, fails_else, fails_here, fails_later, line_ahead, sym as symbol_leaf}
+use Rattle.tp_syntax.specs.Parsing.{left, Frame, HasEnd, frame, with_last, under, Leads, LeadsChoice, LeadsAll, leads_here, leads_rule, leads_this, leads_other, leads_else, leads_last, leads_more, Goes, ParsesAll, Ends, Enters, all_frames, listed, ended, enter, end_frames, part_or_end, closing_tree}
 use Rattle.tp_syntax.proofs.StepsOfReading.{parsing}
 
 mutual
@@ -153,14 +151,15 @@ enters_part {p} a n = record {
 }
 
 pub ends_on : {p q : Parser} {r b : Bool} → accepts (of_symbol Semicolon) (next (left p)) ≡ r → r ≡ true
-    → Reads (token (of_symbol Semicolon)) (left p) (symbol_leaf Semicolon) (left q) → Enters q b → Ends p (true, b) q
+    → Reads (token (of_symbol Semicolon)) (left p) (symbol_leaf Semicolon) (left q) → Enters q b → Ends p (record { has_semicolon = true; is_open = b }) q
 ends_on {p} {q} {b = b} a n h k = record {
   ended = λ r l part is listing silent quiet. leads_rule (rw silent refl)
       (subst (λ (c : Choice). LeadsChoice c.guarded c.otherwise (left p) (symbol_leaf Semicolon ∷ []) (enter l) (part_or_end part b) (left q)) (sym is)
       (leads_this (a ∙ n) (leads_more h (leads_last (k.entered l part listing quiet)))));
 }
 
-pub ends_here : {p : Parser} {r : Bool} → accepts (of_symbol Semicolon) (next (left p)) ≡ r → r ≡ false → Ends p (false, false) p
+pub ends_here : {p : Parser} {r : Bool} → accepts (of_symbol Semicolon) (next (left p)) ≡ r → r ≡ false
+    → Ends p (record { has_semicolon = false; is_open = false }) p
 ends_here {p} a n = record {
   ended = λ r l part is listing silent quiet. leads_rule (rw silent refl)
       (subst (λ (c : Choice). LeadsChoice c.guarded c.otherwise (left p) [] [] closing (left p)) (sym is)

@@ -20,14 +20,12 @@ use Rattle.tp_syntax.specs.declared.case_bodies.CaseBody.{CaseBody}
 use Rattle.tp_syntax.specs.declared.cases.Stage.{Stage}
 use Rattle.tp_syntax.specs.declared.cases.Stage.TheVariants as stage
 use Rattle.tp_syntax.specs.Rule.{Rule, a_statement, after_start, all_ports, end_of_case, end_of_plain, more_arguments, plain, statements}
-use Rattle.tp_syntax.specs.Reading.{Tree, leaf, node, Trees, none, more}
-use Rattle.tp_syntax.specs.BehaviourTrees.{behind_variables, function_tree, local_frames, open_behind}
-use Rattle.tp_syntax.specs.CaseParts.{body_tree, done_parts, part, setup_kind, setup_part, start_part, statement_part, variable_part}
-use Rattle.tp_syntax.specs.CaseTrees.{Part, creates, declares, does, done, pairs, starts, action_frames, arguments_tree, owner_tree, part_frames, parts_frames, place_tree, pair_tree, statement_frames, variable_frames}
-use Rattle.tp_syntax.specs.PartialReading.{Frame, frame, under, all_frames, closing_tree, end_frames, semicolon_frames}
+use Rattle.tp_syntax.specs.Reading.{Tree, leaf, node, Trees, none, more, of, one}
+use Rattle.tp_syntax.specs.DefinitionTrees.{behind_variables, function_tree, local_frames, open_behind}
+use Rattle.tp_syntax.specs.CaseTrees.{body_tree, done_parts, part, setup_kind, setup_part, start_part, statement_part, variable_part, Part, creates, declares, does, done, pairs, starts, action_frames, arguments_tree, owner_tree, part_frames, parts_frames, place_tree, pair_tree, statement_frames, variable_frames}
+use Rattle.tp_syntax.specs.Parsing.{Frame, frame, under, all_frames, closing_tree, end_frames, semicolon_frames}
 use Rattle.tp_syntax.specs.OperationTrees.{component_tree, type_tree}
 use Rattle.tp_syntax.specs.StatementTrees.{Shape, compounded, on_port, named_tree, shape_frames, step_frames, step_of, statements_tree}
-use Rattle.tp_syntax.specs.TemplateTrees.{of, one}
 use Rattle.tp_syntax.proofs.SameOperations.{component_back, component_returns}
 use Rattle.tp_syntax.proofs.SameStatements.{statements_told, under_append}
 use Rattle.tp_syntax.proofs.SameTypes.{row_back, row_more, type_back, type_in, type_returns}

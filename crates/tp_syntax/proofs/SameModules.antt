@@ -10,9 +10,8 @@ use Rattle.tp_tree.specs.declared.tree.TestCase.{TestCase}
 use Rattle.tp_syntax.specs.Rule.{Rule, definitions, end_of_list}
 use Rattle.tp_syntax.specs.Reading.{Tree, leaf, node, Trees, none, more}
 use Rattle.tp_syntax.specs.ReadTexts.{IsReadAs}
-use Rattle.tp_syntax.specs.BehaviourTrees.{body_of, system_tree, test_case_trees}
-use Rattle.tp_syntax.specs.DefinitionTrees.{defined_frames, definition_frames, frames_of_all, function_trees, module_tree}
-use Rattle.tp_syntax.specs.PartialReading.{under, closing_tree, end_frames}
+use Rattle.tp_syntax.specs.DefinitionTrees.{body_of, system_tree, test_case_trees, defined_frames, definition_frames, frames_of_all, function_trees, module_tree}
+use Rattle.tp_syntax.specs.Parsing.{under, closing_tree, end_frames}
 use Rattle.tp_syntax.specs.OperationTrees.{type_tree}
 use Rattle.tp_syntax.specs.Refusal.{IsText}
 use Rattle.tp_syntax.specs.SettledTokens.{settled}

@@ -26,8 +26,7 @@ use Rattle.tp_tree.specs.declared.tree.VerdictName.TheVariants as v
 use Rattle.tp_syntax.specs.Reading.{Tree, leaf, node, Trees, none, more}
 use Rattle.tp_syntax.specs.TemplateTrees.{integer_tree}
 use Rattle.tp_syntax.specs.ValueTrees.{value_tree}
-use Rattle.tp_syntax.specs.OperationTrees.{component_tree, message_sent, sent_tree, receivers_tree, template_part, from_tree, redirect_parts}
-use Rattle.tp_syntax.specs.OperationTrees.{kind_tree, received_tree, control_tree, verdict_tree, turns_tree}
+use Rattle.tp_syntax.specs.OperationTrees.{component_tree, message_sent, sent_tree, receivers_tree, template_part, from_tree, redirect_parts, kind_tree, received_tree, control_tree, verdict_tree, turns_tree}
 use Rattle.tp_syntax.specs.StatementTrees.{operation_of}
 use Rattle.tp_syntax.proofs.SameValues.{integer_in, value_back, value_returns}
 use Rattle.tp_syntax.proofs.SameTemplates.{template_back, template_returns}

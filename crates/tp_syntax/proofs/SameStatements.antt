@@ -17,17 +17,13 @@ use Rattle.tp_tree.specs.declared.tree.Receive.{Receive}
 use Rattle.tp_tree.specs.declared.tree.Statement.{Statement}
 use Rattle.tp_tree.specs.declared.tree.Turns.{Turns}
 use Rattle.tp_syntax.specs.Rule.{a_statement, end_of_plain, other_operation, statements}
-use Rattle.tp_syntax.specs.Reading.{Tree, leaf, node, Trees, none, more}
-use Rattle.tp_syntax.specs.PartialReading.{Frame, frame, under, with_last, all_frames, end_frames, closing_tree, may_end_tree}
+use Rattle.tp_syntax.specs.Reading.{Tree, leaf, node, Trees, none, more, of, one}
+use Rattle.tp_syntax.specs.Parsing.{Frame, frame, under, with_last, all_frames, end_frames, closing_tree, may_end_tree}
 use Rattle.tp_syntax.specs.OperationTrees.{kind_tree}
-use Rattle.tp_syntax.specs.TemplateTrees.{of, one}
-use Rattle.tp_syntax.specs.StatementTrees.{after_branches, BranchView, ElseView, Shape, Step, action_step, body_of, body_step, branch_frames, branch_of}
-use Rattle.tp_syntax.specs.StatementTrees.{branch_step, branches_tree, block_tree, compounded, control_shape, counted_step, counted_tree, else_of, else_step}
-use Rattle.tp_syntax.specs.StatementTrees.{plain_tree, shape_frames, shape_of, statement_step, statements_tree, step_frames, step_of}
+use Rattle.tp_syntax.specs.StatementTrees.{after_branches, BranchView, ElseView, Shape, Step, action_step, body_of, body_step, branch_frames, branch_of, branch_step, branches_tree, block_tree, compounded, control_shape, counted_step, counted_tree, else_of, else_step, plain_tree, shape_frames, shape_of, statement_step, statements_tree, step_frames, step_of}
 use Rattle.tp_syntax.proofs.StatementViews.{action_at, branch_made, else_made, step_made}
 use Rattle.tp_syntax.proofs.SameValues.{firsts}
-use Rattle.tp_syntax.proofs.SameOperations.{sent_back, sent_returns, receivers_back, receivers_return, receive_back, receive_returns, operation_of_word}
-use Rattle.tp_syntax.proofs.SameOperations.{control_back, control_returns, verdict_back, verdict_returns, turns_back, turns_return}
+use Rattle.tp_syntax.proofs.SameOperations.{sent_back, sent_returns, receivers_back, receivers_return, receive_back, receive_returns, operation_of_word, control_back, control_returns, verdict_back, verdict_returns, turns_back, turns_return}
 
 abbrev statement_of : ℕ → Action → Bool → Statement
 statement_of l x b = roll-Statement (record { line = l; action = x; has_semicolon = b })

@@ -9,9 +9,8 @@ use Rattle.tp_tree.specs.declared.message.Template.TheViews.{roll-Template, roll
 use Rattle.tp_tree.specs.declared.message.Template.TheFolds.{map-Template, fold-roll-TemplateField, ind-Template}
 use Rattle.tp_tree.specs.declared.message.TemplateField.{TemplateField}
 use Rattle.tp_syntax.specs.Rule.{other_template, more_templates, more_template_fields}
-use Rattle.tp_syntax.specs.Reading.{Tree, leaf, node, Trees, none, more}
-use Rattle.tp_syntax.specs.TemplateTrees.{Views, FieldViews, of, chain, around, wholes, field_whole, in_parens_of, entries_of, complement_of, fields_of, range_of}
-use Rattle.tp_syntax.specs.TemplateTrees.{upper_tree, template_step, field_step, template_views, field_views, template_tree}
+use Rattle.tp_syntax.specs.Reading.{Tree, leaf, node, Trees, none, more, of, chain}
+use Rattle.tp_syntax.specs.TemplateTrees.{Views, FieldViews, around, wholes, field_whole, in_parens_of, entries_of, complement_of, fields_of, range_of, upper_tree, template_step, field_step, template_views, field_views, template_tree}
 use Rattle.tp_syntax.proofs.TemplateTrees.{views_at}
 use Rattle.tp_syntax.proofs.SameValues.{firsts, is_true, integer_in}
 

@@ -13,11 +13,9 @@ use Rattle.tp_tree.specs.declared.tree.PortDeclaration.{PortDeclaration}
 use Rattle.tp_tree.specs.declared.tree.Way.{Way}
 use Rattle.tp_tree.specs.declared.tree.Way.TheVariants as y
 use Rattle.tp_syntax.specs.Rule.{Rule, declarations, end_of_declaration, end_of_way, more_fields, more_names, more_parameters, more_types, more_ways, ways}
-use Rattle.tp_syntax.specs.Reading.{Tree, leaf, node, Trees, none, more}
+use Rattle.tp_syntax.specs.Reading.{Tree, leaf, node, Trees, none, more, of, one, chain}
 use Rattle.tp_syntax.specs.OperationTrees.{type_tree}
-use Rattle.tp_syntax.specs.TemplateTrees.{of, one, chain, closing, steps}
-use Rattle.tp_syntax.specs.TypeTrees.{declared_tree, direction_of, direction_tree, declaration_of, field_type_tree, fields_tree, port_tree, ports_tree, way_tree}
-use Rattle.tp_syntax.specs.DefinitionTrees.{parameter_tree, parameters_tree, ways_tree}
+use Rattle.tp_syntax.specs.DefinitionTrees.{closing, steps, declared_tree, direction_of, direction_tree, declaration_of, field_type_tree, fields_tree, port_tree, ports_tree, way_tree, parameter_tree, parameters_tree, ways_tree}
 
 -- what is read back is told
 pub told : {A B : Type 0} {view : A → B} (back : B → A) → ((x : A) → back (view x) ≡ x) → (x y : A) → view x ≡ view y → x ≡ y

@@ -9,8 +9,7 @@ use Rattle.tp_tree.specs.declared.message.Value.TheViews.{roll-Value, roll-Value
 use Rattle.tp_tree.specs.declared.message.Value.TheFolds.{map-Value, fold-roll-ValueField, ind-Value}
 use Rattle.tp_tree.specs.declared.message.ValueField.{ValueField}
 use Rattle.tp_syntax.specs.Rule.{unnamed_value, more_values, more_value_fields}
-use Rattle.tp_syntax.specs.Reading.{Tree, leaf, node, Trees, none, more}
-use Rattle.tp_syntax.specs.TemplateTrees.{of, chain}
+use Rattle.tp_syntax.specs.Reading.{Tree, leaf, node, Trees, none, more, of, chain}
 use Rattle.tp_syntax.specs.ValueTrees.{Views, FieldViews, around, field_whole, wholes, entries_of, fields_of, value_step, field_step, value_views, field_views, value_tree}
 use Rattle.tp_syntax.proofs.ValueTrees.{views_at}
 

@@ -4,8 +4,7 @@ use Rattle.std.proofs.lemmas.Bool.{false≢true, or_left, or_right}
 use Rattle.tp_syntax.specs.Lexeme.{Lexeme, name, word, number, text, symbol, PlacedLexeme}
 use Rattle.tp_syntax.specs.Item.{Terminal, of_word, of_symbol, exactly, this_name, a_name, a_number, a_text, positive, negated, a_pattern, binds, same, finish, Item, token, rule, Guarded, accepts, one_of, next}
 use Rattle.tp_syntax.specs.Rule.{Rule}
-use Rattle.tp_syntax.specs.Reading.{Tree, Trees, Reads, ReadsChoice, ReadsAll, reads_token, reads_rule, reads_this, reads_other, reads_else, reads_none, reads_more, known}
-use Rattle.tp_syntax.specs.SpelledTrees.{Among, among_this, among_other, among_else, Spells, spells_token, spells_rule, SpellsAll, spells_none, spells_more}
+use Rattle.tp_syntax.specs.Reading.{Tree, Trees, Reads, ReadsChoice, ReadsAll, reads_token, reads_rule, reads_this, reads_other, reads_else, reads_none, reads_more, known, Among, among_this, among_other, among_else, Spells, spells_token, spells_rule, SpellsAll, spells_none, spells_more}
 use Rattle.tp_syntax.proofs.FirstTokens.{nullable, firsts}
 use Rattle.tp_syntax.proofs.FollowingTokens.{follows}
 use Rattle.tp_syntax.proofs.TokensTellAlternatives.{class_of, code_of, class_ahead, code_ahead, is_whole, all_whole, is_kind, is_in, all_in, none_in, starts, may_be_nothing, follow_fits, items_fit, later_apart, guarded_fit}

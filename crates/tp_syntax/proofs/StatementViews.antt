@@ -22,16 +22,14 @@ use Rattle.tp_tree.specs.declared.tree.Statement.{Statement}
 use Rattle.tp_tree.specs.declared.tree.Turns.{Turns}
 use Rattle.tp_tree.specs.declared.tree.VerdictName.{VerdictName}
 use Rattle.tp_syntax.specs.Rule.{a_branch, a_statement, compound, end_of_plain, end_of_reception, more_branches, other_operation, plain, statements}
-use Rattle.tp_syntax.specs.Reading.{Tree, leaf, more}
+use Rattle.tp_syntax.specs.Reading.{Tree, leaf, more, of, one, sym as symbol_leaf}
 use Rattle.tp_syntax.specs.declared.cursor.Parser.{Parser}
-use Rattle.tp_syntax.specs.declared.plain.Plain.{Plain}
-use Rattle.tp_syntax.specs.declared.plain.Plain.TheVariants as p
-use Rattle.tp_syntax.specs.PartialReading.{Ends, Enters, Leads, enter, end_frames, frame, part_or_end}
+use Rattle.tp_syntax.specs.declared.parts.End.{End}
+use Rattle.tp_syntax.specs.declared.statements.Plain.{Plain}
+use Rattle.tp_syntax.specs.declared.statements.Plain.TheVariants as p
+use Rattle.tp_syntax.specs.Parsing.{Ends, Enters, Leads, enter, end_frames, frame, part_or_end, left}
 use Rattle.tp_syntax.specs.OperationTrees.{send_tree, turns_tree}
-use Rattle.tp_syntax.specs.Parsing.{left}
-use Rattle.tp_syntax.specs.PlainStatements.{is_named, named_part, plain_shape}
-use Rattle.tp_syntax.specs.StatementTrees.{BranchView, ElseView, Shape, Step, action_step, body_of, body_step, branch_of, branch_step, branches_tree, compounded, control_shape, counted_step, counted_tree, else_of, else_step, operation_of, otherwise_of, on_all_ports, on_port, plain_tree, port_started, shape_frames, shape_of, statement_step, statements_tree, step_of, verdict_set}
-use Rattle.tp_syntax.specs.TemplateTrees.{of, one, sym as symbol_leaf}
+use Rattle.tp_syntax.specs.StatementTrees.{is_named, named_part, plain_shape, BranchView, ElseView, Shape, Step, action_step, body_of, body_step, branch_of, branch_step, branches_tree, compounded, control_shape, counted_step, counted_tree, else_of, else_step, operation_of, otherwise_of, on_all_ports, on_port, plain_tree, port_started, shape_frames, shape_of, statement_step, statements_tree, step_of, verdict_set}
 use Rattle.tp_syntax.proofs.ReadingGoesOn.{leading}
 use Rattle.tp_syntax.proofs.StepsOfReading.{parsing}
 
@@ -112,11 +110,11 @@ enter_statements e = e.entered statements a_statement refl refl
 pub enter_branches : {p : Parser} {b : Bool} → Enters p b → Leads more_branches (left p) (enter more_branches) (part_or_end a_branch b) (left p)
 enter_branches e = e.entered more_branches a_branch refl refl
 
-pub end_plain : {p q : Parser} {x : Bool × Bool} → Ends p x q → Leads end_of_plain (left p) (end_frames end_of_plain statements x.0) (part_or_end a_statement x.1) (left q)
+pub end_plain : {p q : Parser} {x : End} → Ends p x q → Leads end_of_plain (left p) (end_frames end_of_plain statements x.has_semicolon) (part_or_end a_statement x.is_open) (left q)
 end_plain e = e.ended end_of_plain statements a_statement refl refl refl refl
 
-pub end_reception : {p q : Parser} {x : Bool × Bool} → Ends p x q
-    → Leads end_of_reception (left p) (end_frames end_of_reception more_branches x.0) (part_or_end a_branch x.1) (left q)
+pub end_reception : {p q : Parser} {x : End} → Ends p x q
+    → Leads end_of_reception (left p) (end_frames end_of_reception more_branches x.has_semicolon) (part_or_end a_branch x.is_open) (left q)
 end_reception e = e.ended end_of_reception more_branches a_branch refl refl refl refl
 
 pub ruleset shapes = (shape_send, shape_receive, shape_control, shape_all_ports, shape_set_verdict)

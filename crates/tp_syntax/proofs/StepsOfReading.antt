@@ -46,6 +46,10 @@ pub failed_now : (ps : List Placed) {t : Terminal} → accepts t (next (map plac
     → Fails (token t) (map placed_lexeme ps) (At (length ps))
 failed_now ps e = fails_token e (sym (length-map ps placed_lexeme))
 
+pub failed_as : (ps : List Placed) {t : Terminal} {e : Stuck} → e ≡ At (length ps) → accepts t (next (map placed_lexeme ps)) ≡ false
+    → Fails (token t) (map placed_lexeme ps) e
+failed_as ps {t} is refused = subst (λ (x : Stuck). Fails (token t) (map placed_lexeme ps) x) (sym is) (failed_now ps refused)
+
 -- the first alternative that is left is taken, or it isn't
 pub picks : {g : Guarded} {gs : List Guarded} {otherwise : List Item} {ts : List PlacedLexeme} {trees : Trees} {rest : List PlacedLexeme} {r : Bool}
     → one_of g.guards (next ts) ≡ r → r ≡ true → ReadsAll [] g.items ts trees rest → ReadsChoice (g ∷ gs) otherwise ts trees rest
@@ -125,4 +129,4 @@ pub handed_memory : {A : Type 0} {i : Item} {view : A → Tree} {p q : Parser} {
 handed_memory made = handed made fails_memory
 
 pub ruleset parsing =
-    (to_z-of_z, skipped, failed_now, skipped_word, skipped_symbol, failed, parsed_ok, parsed_err, handed, handed_memory, reads_rule, reads_this, reads_other, reads_else, reads_none, reads_more, fails_rule, fails_this, fails_other, fails_else, fails_here, fails_later)
+    (to_z-of_z, skipped, failed_now, failed_as, skipped_word, skipped_symbol, failed, parsed_ok, parsed_err, handed, handed_memory, reads_rule, reads_this, reads_other, reads_else, reads_none, reads_more, fails_rule, fails_this, fails_other, fails_else, fails_here, fails_later)

@@ -10,8 +10,8 @@ use Rattle.tp_tree.specs.declared.message.Template.TheViews.{roll-Template}
 use Rattle.tp_tree.specs.declared.message.Template.TheFolds.{map-Template, fold-roll-Template, fold_out-TemplateField}
 use Rattle.tp_tree.specs.declared.message.TemplateField.{TemplateField, out-TemplateField}
 use Rattle.tp_syntax.specs.Rule.{a_template, a_template_field, after_minus, an_integer, in_parentheses, more_template_fields, more_templates}
-use Rattle.tp_syntax.specs.Reading.{Tree, leaf, more}
-use Rattle.tp_syntax.specs.TemplateTrees.{IsNegative, IsPositive, Views, FieldViews, of, one, sym as symbol_leaf, magnitude, integer_tree, number_inside, number_part, of_integer, of_name, of_other, of_bracket, wholes, in_parens_of, entries_of, complement_of, field_whole, fields_of, range_of, bool_leaf, template_step, field_step, template_views, field_views, template_tree, field_tree}
+use Rattle.tp_syntax.specs.Reading.{Tree, leaf, more, of, one, sym as symbol_leaf}
+use Rattle.tp_syntax.specs.TemplateTrees.{IsNegative, IsPositive, Views, FieldViews, magnitude, integer_tree, number_inside, number_part, of_integer, of_name, of_other, of_bracket, wholes, in_parens_of, entries_of, complement_of, field_whole, fields_of, range_of, bool_leaf, template_step, field_step, template_views, field_views, template_tree, field_tree}
 use Rattle.tp_syntax.proofs.StepsOfReading.{parsing}
 use Rattle.tp_syntax.proofs.PartsAfterCommas.{Separated, gathered_first}
 

@@ -2,11 +2,9 @@
 use Rattle.std.proofs.Common.{◌≡◌, true, false, List, [], ◌∷◌, drop, refl, ap, ◌∙◌}
 use Rattle.tp_syntax.specs.declared.token.Symbol.TheVariants.{RightBrace, Semicolon}
 use Rattle.tp_tree.specs.declared.tree.Direction.{Direction}
-use Rattle.tp_syntax.specs.Reading.{more}
+use Rattle.tp_syntax.specs.Reading.{more, of, one, sym as symbol_leaf}
 use Rattle.tp_syntax.specs.Rule.{a_declaration, a_field, a_parameter, a_type, a_way, declarations, declared_name, end_of_declaration, end_of_way, more_arguments, more_fields, more_names, more_parameters, more_types, more_ways, ways, who}
-use Rattle.tp_syntax.specs.TemplateTrees.{of, one, sym as symbol_leaf, steps}
-use Rattle.tp_syntax.specs.TypeTrees.{direction_tree}
-use Rattle.tp_syntax.specs.DefinitionTrees.{ways_tree}
+use Rattle.tp_syntax.specs.DefinitionTrees.{steps, direction_tree, ways_tree}
 use Rattle.tp_syntax.proofs.StepsOfReading.{parsing}
 use Rattle.tp_syntax.proofs.PartsAfterCommas.{Separated, gathered_first}
 use Rattle.tp_syntax.proofs.PartsWithSemicolons.{InSteps, stepped_first}

@@ -8,7 +8,7 @@ use Rattle.tp_syntax.specs.Lexeme.{Lexeme, word, symbol}
 use Rattle.tp_syntax.specs.Code.{word_code, symbol_code}
 use Rattle.tp_syntax.specs.Word.{words}
 use Rattle.tp_syntax.specs.Item.{of_word, of_symbol, accepts}
-use Rattle.tp_syntax.specs.GrammarLaws.{WordsAreTold}
+use Rattle.tp_syntax.specs.Refusal.{WordsAreTold}
 
 -- the symbols, by their numbers
 abbrev symbols : List Symbol

@@ -5,8 +5,7 @@ use Rattle.tp_syntax.specs.declared.stuck.Stuck.{Stuck}
 use Rattle.tp_syntax.specs.declared.stuck.Stuck.TheVariants.{At, Memory}
 use Rattle.tp_syntax.specs.Item.{Item, rule, Guarded, next}
 use Rattle.tp_syntax.specs.Rule.{a_module}
-use Rattle.tp_syntax.specs.Reading.{Tree, Trees, Reads, ReadsChoice, ReadsAll, reads_token, reads_rule, reads_this, reads_other, reads_else, reads_none, reads_more, Fails}
-use Rattle.tp_syntax.specs.SpelledTrees.{Among, among_this, among_other, among_else, Spells, SpellsAll, spells_token, spells_rule, spells_none, spells_more}
+use Rattle.tp_syntax.specs.Reading.{Tree, Trees, Reads, ReadsChoice, ReadsAll, reads_token, reads_rule, reads_this, reads_other, reads_else, reads_none, reads_more, Fails, Among, among_this, among_other, among_else, Spells, SpellsAll, spells_token, spells_rule, spells_none, spells_more}
 use Rattle.tp_syntax.specs.Refusal.{Begins, begins_end, BeginsText, IsRefusedAt, refused_within, refused_behind, IsText, NoneGoesOn}
 use Rattle.tp_syntax.proofs.FollowingTokens.{follows}
 use Rattle.tp_syntax.proofs.SpelledTokensAreRead.{has_this, complete}

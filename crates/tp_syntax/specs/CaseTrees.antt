@@ -1,5 +1,6 @@
 -- The trees of a test case's body.
-use Rattle.std.specs.Prelude.{ℕ, Bool, true, false, cond, List, [], ◌∷◌, ◌++◌, map, Some, None}
+use Rattle.std.specs.Prelude.{ℕ, Bool, true, false, cond, List, [], ◌∷◌, ◌++◌, map, Some, None, ◌≡◌, ◌<◌, Option}
+use Rattle.std.specs.Prelude.{Result}
 use Rattle.tp_syntax.specs.declared.word.Word.{Word}
 use Rattle.tp_syntax.specs.declared.word.Word.TheVariants as w
 use Rattle.tp_syntax.specs.declared.token.Symbol.TheVariants.{Assign, Colon, Comma, Dot, LeftParen, RightParen}
@@ -17,15 +18,27 @@ use Rattle.tp_syntax.specs.Rule.{after_variables, arguments, case_action, case_a
 use Rattle.tp_syntax.specs.Rule.{case_statement, case_statements, case_unnamed, case_variables, end_of_case}
 use Rattle.tp_syntax.specs.Rule.{end_of_case_statement, end_of_case_variable, end_of_setup, end_of_start}
 use Rattle.tp_syntax.specs.Rule.{more_arguments, variable_parts}
-use Rattle.tp_syntax.specs.Reading.{Tree, leaf, more}
+use Rattle.tp_syntax.specs.Reading.{Tree, leaf, of, tree, one, sym, chain}
 use Rattle.tp_syntax.specs.declared.cases.Stage.{Stage}
 use Rattle.tp_syntax.specs.declared.cases.Stage.TheVariants as stage
-use Rattle.tp_syntax.specs.PartialReading.{Frame, frame, under, enter, end_frames, semicolon_frames, closing_tree}
-use Rattle.tp_syntax.specs.PartialReading.{may_end_tree}
+use Rattle.tp_syntax.specs.Parsing.{Frame, frame, under, enter, end_frames, semicolon_frames, closing_tree}
+use Rattle.tp_syntax.specs.Parsing.{may_end_tree, Goes, part_or_end}
 use Rattle.tp_syntax.specs.OperationTrees.{component_tree, control_tree, predefined_tree, set_verdict_tree, type_tree}
 use Rattle.tp_syntax.specs.StatementTrees.{Shape, compounded, verdict_set, on_all_ports, port_started, on_port}
-use Rattle.tp_syntax.specs.StatementTrees.{named_tree}
-use Rattle.tp_syntax.specs.TemplateTrees.{of, one, sym, chain}
+use Rattle.tp_syntax.specs.StatementTrees.{named_tree, plain_shape, shape_of, step_of}
+use Rattle.tp_tree.specs.declared.tree.ComponentStart.{ComponentStart}
+use Rattle.tp_tree.specs.declared.tree.SetupAction.{SetupAction}
+use Rattle.tp_tree.specs.declared.tree.SetupAction.TheVariants as setup
+use Rattle.tp_tree.specs.declared.tree.SetupStatement.{SetupStatement}
+use Rattle.tp_tree.specs.declared.tree.Statement.{Statement}
+use Rattle.tp_tree.specs.declared.tree.Variable.{Variable}
+use Rattle.tp_syntax.specs.declared.cases.CaseAction.{CaseAction}
+use Rattle.tp_syntax.specs.declared.cases.CasePart.{CasePart}
+use Rattle.tp_syntax.specs.declared.cursor.Parser.{Parser}
+use Rattle.tp_syntax.specs.declared.stuck.Stuck.{Stuck}
+use Rattle.tp_syntax.specs.declared.cases.CaseAction.TheVariants as action
+use Rattle.tp_tree.specs.declared.tree.AllDone.{AllDone}
+use Rattle.tp_syntax.specs.declared.case_bodies.CaseBody.{CaseBody}
 
 -- what a part does: a `connect` or a `map`, by its word; a creation; the start of a component, with its function and
 -- arguments; a variable; a statement; or `all component.done`
@@ -65,20 +78,17 @@ owner_tree (e.Named n) = of a_place_owner (one (leaf (name n)))
 
 abbrev pub place_tree : PairEnd → Tree
 place_tree p =
-    of a_place (more (owner_tree p.component) (more (sym Colon) (one (leaf (name p.port)))))
+    tree a_place (owner_tree p.component ∷ sym Colon ∷ leaf (name p.port) ∷ [])
 
 abbrev pub pair_tree : PairEnd → PairEnd → Tree
 pair_tree a b =
-    of a_pair
-    (more (sym LeftParen)
-    (more (place_tree a) (more (sym Comma) (more (place_tree b) (one (sym RightParen))))))
+    tree a_pair (sym LeftParen ∷ place_tree a ∷ sym Comma ∷ place_tree b ∷ sym RightParen ∷ [])
 
 abbrev pub arguments_tree : List ComponentName → Tree
 arguments_tree [] = of arguments (one (sym RightParen))
 arguments_tree (c ∷ cs) =
-    of arguments
-    (more (component_tree c)
-    (more (chain more_arguments (map component_tree cs)) (one (sym RightParen))))
+    tree arguments
+    (component_tree c ∷ chain more_arguments (map component_tree cs) ∷ sym RightParen ∷ [])
 
 -- whether the part begins with `all`, is one of the rule `case_unnamed`, or begins with `var`
 abbrev pub is_all : Kind → Bool
@@ -222,3 +232,88 @@ parts_frames s (p ∷ ps) =
 -- parts, and the `}` after them
 abbrev pub case_tree : List Part → Tree
 case_tree ps = under (enter case_setups ++ parts_frames stage.Setups ps) closing_tree
+
+abbrev pub kind_of : CaseAction → Kind
+kind_of (action.Connect a b) = pairs w.Connect a b
+kind_of (action.Map a b) = pairs w.Map a b
+kind_of (action.Create x) = creates x
+kind_of (action.Start n f args) = starts n f args
+kind_of (action.Variable t n) = declares t n
+kind_of (action.Plain p) = does (plain_shape p)
+kind_of (action.Compound a) = does (shape_of a)
+kind_of action.Done = done
+
+abbrev pub part : ℕ → Kind → Bool → Part
+part line k b = record { line = line; kind = k; semicolon = b }
+
+abbrev pub setup_kind : SetupAction → Kind
+setup_kind (setup.Connect a b) = pairs w.Connect a b
+setup_kind (setup.Map a b) = pairs w.Map a b
+setup_kind (setup.Create x) = creates x
+
+abbrev pub setup_part : SetupStatement → Part
+setup_part x = record { line = x.line; kind = setup_kind x.action; semicolon = x.has_semicolon }
+
+abbrev pub start_part : ComponentStart → Part
+start_part x =
+    record {
+      line = x.line;
+      kind = starts x.component x.function x.arguments;
+      semicolon = x.has_semicolon;
+    }
+
+abbrev pub variable_part : Variable → Part
+variable_part x =
+    record { line = x.line; kind = declares x.type_name x.name; semicolon = x.has_semicolon }
+
+abbrev pub statement_part : Statement → Part
+statement_part x =
+    record {
+      line = (step_of x).line;
+      kind = does (step_of x).shape;
+      semicolon = (step_of x).semicolon;
+    }
+
+abbrev pub done_parts : Option AllDone → List Part
+done_parts None = []
+done_parts (Some x) = record { line = x.line; kind = done; semicolon = x.has_semicolon } ∷ []
+
+-- the parts of a body, in their order
+abbrev pub parts_of : CaseBody → List Part
+parts_of b =
+    map setup_part b.setups
+    ++ (map start_part b.starts
+    ++ (map variable_part b.variables ++ (map statement_part b.statements
+    ++ done_parts b.all_done)))
+
+abbrev pub body_tree : CaseBody → Tree
+body_tree b = case_tree (parts_of b)
+
+-- the rank of a part: parts of a lower rank come before it
+abbrev pub stage_rank : Stage → ℕ
+stage_rank stage.Setups = 0
+stage_rank stage.Starts = 1
+stage_rank stage.Variables = 2
+stage_rank stage.Statements = 3
+
+abbrev pub rank_of : Kind → ℕ
+rank_of (pairs x a b) = 0
+rank_of (creates x) = 0
+rank_of (starts n f args) = 1
+rank_of (declares t n) = 2
+rank_of (does x) = 3
+rank_of done = 4
+
+-- the body has no parts above this rank
+pub record IsUpTo (n : ℕ) (b : CaseBody) : Type 0 where
+  pub no_starts : n < 1 → b.starts ≡ []
+  pub no_variables : n < 2 → b.variables ≡ []
+  pub no_statements : n < 3 → b.statements ≡ []
+  pub not_done : n < 4 → b.all_done ≡ None
+
+-- a part is read after this rule, up to the rule of the part that may follow it
+abbrev pub GoesCase : Rule → (Kind → Bool → List Frame) → Parser → Result CasePart Stuck
+    → Parser → Type 0
+GoesCase r frames p result q =
+    Goes r (λ x. frames (kind_of x.action) x.end.has_semicolon)
+    (λ x. part_or_end (part_rule (stage_of (kind_of x.action))) x.end.is_open) p result q

@@ -6,9 +6,8 @@ use Rattle.tp_syntax.specs.declared.script_fault.ScriptFault.{ScriptFault}
 use Rattle.tp_syntax.specs.declared.script_fault.ScriptFault.TheVariants.{Refused}
 use Rattle.tp_syntax.specs.declared.token.Symbol.{Symbol}
 use Rattle.tp_syntax.specs.declared.token.Symbol.TheVariants.{LeftBrace, RightBrace, LeftParen, RightParen, LeftBracket}
-use Rattle.tp_syntax.specs.declared.token.Symbol.TheVariants.{RightBracket, Comma, Semicolon, Colon, Dot, Question}
-use Rattle.tp_syntax.specs.declared.token.Symbol.TheVariants.{Star, Minus, Less, Plus, DotDot, Assign, Arrow}
-use Rattle.tp_syntax.specs.Lexeme.{Lexeme, name, word, number, text, symbol, PlacedLexeme}
+use Rattle.tp_syntax.specs.declared.token.Symbol.TheVariants.{RightBracket, Minus}
+use Rattle.tp_syntax.specs.Lexeme.{Lexeme, number, symbol, PlacedLexeme}
 use Rattle.tp_syntax.specs.declared.faults.Bracket.{Bracket}
 use Rattle.tp_syntax.specs.declared.faults.Bracket.TheVariants.{Opens, Closes, Neither}
 
@@ -20,18 +19,7 @@ symbol_bracket LeftParen = Opens
 symbol_bracket RightParen = Closes
 symbol_bracket LeftBracket = Opens
 symbol_bracket RightBracket = Closes
-symbol_bracket Comma = Neither
-symbol_bracket Semicolon = Neither
-symbol_bracket Colon = Neither
-symbol_bracket Dot = Neither
-symbol_bracket Question = Neither
-symbol_bracket Star = Neither
-symbol_bracket Minus = Neither
-symbol_bracket Less = Neither
-symbol_bracket Plus = Neither
-symbol_bracket DotDot = Neither
-symbol_bracket Assign = Neither
-symbol_bracket Arrow = Neither
+symbol_bracket _ = Neither
 
 -- whether it is a `-`
 abbrev pub is_minus : Lexeme → Bool
@@ -46,8 +34,7 @@ greatest_number false = 9223372036854775807
 -- the bracket is within the limits, if this many are open before it
 abbrev pub MayStandOpen : ℕ → Bracket → Type 0
 MayStandOpen opened Opens = opened < 32
-MayStandOpen opened Closes = Unit {0}
-MayStandOpen opened Neither = Unit {0}
+MayStandOpen opened _ = Unit {0}
 
 -- how many brackets are open after this one, if this many are open before it
 abbrev pub bracket_behind : ℕ → Bracket → ℕ
@@ -57,20 +44,15 @@ bracket_behind opened Neither = opened
 
 -- how many brackets are open after the token, if this many are open before it
 abbrev pub opened_behind : ℕ → Lexeme → ℕ
-opened_behind opened (name n) = opened
-opened_behind opened (word w) = opened
-opened_behind opened (number n) = opened
-opened_behind opened (text t) = opened
 opened_behind opened (symbol s) = bracket_behind opened (symbol_bracket s)
+opened_behind opened _ = opened
 
 -- the token is within the limits, if this many brackets are open before it; `signed` says whether it is directly after
 -- a `-`
 abbrev pub IsAllowed : ℕ → Bool → Lexeme → Type 0
-IsAllowed opened signed (name n) = Unit {0}
-IsAllowed opened signed (word w) = Unit {0}
 IsAllowed opened signed (number n) = n ≤ greatest_number signed
-IsAllowed opened signed (text t) = Unit {0}
 IsAllowed opened signed (symbol s) = MayStandOpen opened (symbol_bracket s)
+IsAllowed opened signed _ = Unit {0}
 
 -- each of the tokens is within the limits. Before them `opened` brackets are open, after them `end`; `signed` and
 -- `end_signed` say whether a `-` comes directly before that place

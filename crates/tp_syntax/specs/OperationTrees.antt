@@ -1,8 +1,8 @@
 -- The trees of operations and their parts.
 use Rattle.std.specs.Prelude.{ℕ, Bool, true, false, List, [], ◌∷◌, Option, Some, None}
 use Rattle.tp_syntax.specs.declared.word.Word.TheVariants as w
-use Rattle.tp_syntax.specs.declared.token.Symbol.TheVariants.{Arrow, Assign, Colon, LeftParen, Less, Plus}
-use Rattle.tp_syntax.specs.declared.token.Symbol.TheVariants.{RightParen, Semicolon}
+use Rattle.tp_syntax.specs.declared.token.Symbol.TheVariants.{Arrow, Assign, Colon, LeftParen, Less, Plus, RightParen}
+use Rattle.tp_syntax.specs.declared.token.Symbol.TheVariants.{Semicolon}
 use Rattle.tp_syntax.specs.Lexeme.{name, number, word}
 use Rattle.tp_common.specs.declared.operation.PortOperation.{PortOperation}
 use Rattle.tp_common.specs.declared.operation.PortOperation.TheVariants as port_operation
@@ -21,14 +21,14 @@ use Rattle.tp_tree.specs.declared.tree.SentExpression.TheVariants as sent_as
 use Rattle.tp_tree.specs.declared.tree.Turns.{Turns}
 use Rattle.tp_tree.specs.declared.tree.VerdictName.{VerdictName}
 use Rattle.tp_tree.specs.declared.tree.VerdictName.TheVariants as verdict
-use Rattle.tp_syntax.specs.Item.{Item, token, rule, sy, exactly, this_name}
-use Rattle.tp_syntax.specs.Rule.{a_predefined, a_type, addressees, an_integer, control_word, may_have_from}
-use Rattle.tp_syntax.specs.Rule.{may_have_sender, may_have_template, may_have_value, other_operation, received}
-use Rattle.tp_syntax.specs.Rule.{receivers, receiving, redirect, redirected, sent, set_verdict, turns, verdict_word}
-use Rattle.tp_syntax.specs.Rule.{who}
-use Rattle.tp_syntax.specs.Reading.{Tree, leaf, Trees, none, more}
-use Rattle.tp_syntax.specs.TemplateTrees.{of, one, sym, nothing, integer_tree, template_tree}
+use Rattle.tp_syntax.specs.Rule.{a_predefined, a_type, addressees, control_word, may_have_from, may_have_sender}
+use Rattle.tp_syntax.specs.Rule.{may_have_template, may_have_value, other_operation, received, receivers, receiving}
+use Rattle.tp_syntax.specs.Rule.{redirect, redirected, sent, set_verdict, turns, verdict_word, who}
+use Rattle.tp_syntax.specs.Reading.{Tree, leaf, none, of, tree, one, sym, nothing}
+use Rattle.tp_syntax.specs.TemplateTrees.{integer_tree, template_tree}
 use Rattle.tp_syntax.specs.ValueTrees.{value_tree}
+use Rattle.tp_syntax.specs.declared.operations.OtherOperation.{OtherOperation}
+use Rattle.tp_syntax.specs.declared.operations.OtherOperation.TheVariants as other
 
 abbrev pub predefined_tree : TypeName → Tree
 predefined_tree type_name.Integer = of a_predefined (one (leaf (word w.Integer)))
@@ -52,64 +52,55 @@ component_tree (component.Named n) = of who (one (leaf (name n)))
 -- the tree of what is sent: a message, by its type, or a variable
 abbrev pub message_sent : TypeName → Tree → Tree
 message_sent (type_name.Named n) v =
-    of sent (more (leaf (name n)) (one (of may_have_value (more (sym Colon) (one v)))))
-message_sent t v = of sent (more (predefined_tree t) (more (sym Colon) (one v)))
+    tree sent (leaf (name n) ∷ tree may_have_value (sym Colon ∷ v ∷ []) ∷ [])
+message_sent t v = tree sent (predefined_tree t ∷ sym Colon ∷ v ∷ [])
 
 abbrev pub sent_tree : SentExpression → Tree
 sent_tree (sent_as.Message m) = message_sent m.type_name (value_tree m.value)
-sent_tree (sent_as.Variable n) = of sent (more (leaf (name n)) (one (of may_have_value none)))
+sent_tree (sent_as.Variable n) = tree sent (leaf (name n) ∷ of may_have_value none ∷ [])
 
 abbrev pub receivers_tree : Option Receivers → Tree
 receivers_tree None = of receivers none
 receivers_tree (Some receivers_of.AllComponents) =
-    of receivers
-    (more (leaf (word w.To))
-    (one (of addressees (more (leaf (word w.All)) (one (leaf (word w.Component)))))))
+    tree receivers
+    (leaf (word w.To) ∷ tree addressees (leaf (word w.All) ∷ leaf (word w.Component) ∷ []) ∷ [])
 receivers_tree (Some (receivers_of.Component c)) =
-    of receivers (more (leaf (word w.To)) (one (of addressees (one (component_tree c)))))
+    tree receivers (leaf (word w.To) ∷ of addressees (one (component_tree c)) ∷ [])
 
 abbrev pub template_part : Option MessageTemplate → Tree
 template_part None = of may_have_template none
 template_part (Some m) =
-    of may_have_template
-    (more (sym LeftParen)
-    (more (type_tree m.type_name)
-    (more (sym Colon) (more (template_tree m.template) (one (sym RightParen))))))
+    tree may_have_template (sym LeftParen ∷ type_tree m.type_name ∷ sym Colon
+    ∷ template_tree m.template ∷ sym RightParen ∷ [])
 
 abbrev pub from_tree : Option ComponentName → Tree
 from_tree None = of may_have_from none
-from_tree (Some c) = of may_have_from (more (leaf (word w.From)) (one (component_tree c)))
+from_tree (Some c) = tree may_have_from (leaf (word w.From) ∷ component_tree c ∷ [])
 
 abbrev pub sender_tree : Option (List ℕ) → Tree
 sender_tree None = of may_have_sender none
-sender_tree (Some n) = of may_have_sender (more (leaf (word w.Sender)) (one (leaf (name n))))
+sender_tree (Some n) = tree may_have_sender (leaf (word w.Sender) ∷ leaf (name n) ∷ [])
 
 abbrev pub redirect_parts : Option (List ℕ) → Option (List ℕ) → Tree
 redirect_parts None None = of redirect none
 redirect_parts None (Some s) =
-    of redirect
-    (more (sym Arrow) (one (of redirected (more (leaf (word w.Sender)) (one (leaf (name s)))))))
+    tree redirect (sym Arrow ∷ tree redirected (leaf (word w.Sender) ∷ leaf (name s) ∷ []) ∷ [])
 redirect_parts (Some v) s =
-    of redirect
-    (more (sym Arrow)
-    (one
-    (of redirected
-    (more (leaf (word w.Value)) (more (leaf (name v)) (one (sender_tree s)))))))
+    tree redirect
+    (sym Arrow ∷ tree redirected (leaf (word w.Value) ∷ leaf (name v) ∷ sender_tree s ∷ []) ∷ [])
 
 abbrev pub redirect_tree : Redirect → Tree
 redirect_tree r = redirect_parts r.value r.sender
 
 abbrev pub received_tree : Option MessageTemplate → Option ComponentName → Redirect → Tree
-received_tree t s d =
-    of received (more (template_part t) (more (from_tree s) (one (redirect_tree d))))
+received_tree t s d = tree received (template_part t ∷ from_tree s ∷ redirect_tree d ∷ [])
 
 abbrev pub kind_tree : ReceiveKind → Tree → Tree
-kind_tree receive_kind.Receive t = of receiving (more (leaf (word w.Receive)) (one t))
-kind_tree receive_kind.Trigger t = of receiving (more (leaf (word w.Trigger)) (one t))
+kind_tree receive_kind.Receive t = tree receiving (leaf (word w.Receive) ∷ t ∷ [])
+kind_tree receive_kind.Trigger t = tree receiving (leaf (word w.Trigger) ∷ t ∷ [])
 kind_tree receive_kind.Check t =
-    of receiving
-    (more (leaf (word w.Check))
-    (more (sym LeftParen) (more (leaf (word w.Receive)) (more t (one (sym RightParen))))))
+    tree receiving
+    (leaf (word w.Check) ∷ sym LeftParen ∷ leaf (word w.Receive) ∷ t ∷ sym RightParen ∷ [])
 
 abbrev pub receiving_tree : ReceiveKind → Option MessageTemplate → Option ComponentName → Redirect
     → Tree
@@ -117,10 +108,8 @@ receiving_tree k t s d = kind_tree k (received_tree t s d)
 
 abbrev pub send_tree : SentExpression → Option Receivers → Tree
 send_tree s to =
-    of other_operation
-    (more (leaf (word w.Send))
-    (more (sym LeftParen)
-    (more (sent_tree s) (more (sym RightParen) (one (receivers_tree to))))))
+    tree other_operation
+    (leaf (word w.Send) ∷ sym LeftParen ∷ sent_tree s ∷ sym RightParen ∷ receivers_tree to ∷ [])
 
 abbrev pub operation_word : PortOperation → Tree
 operation_word port_operation.Start = leaf (word w.Start)
@@ -143,36 +132,24 @@ verdict_tree v = of verdict_word (one (verdict_leaf v))
 
 abbrev pub set_verdict_tree : VerdictName → Tree
 set_verdict_tree v =
-    of set_verdict
-    (more (leaf (word w.Setverdict))
-    (more (sym LeftParen) (more (verdict_tree v) (one (sym RightParen)))))
-
-abbrev pub step_trees : List ℕ → Trees
-step_trees n =
-    more (leaf (name n)) (more (sym Plus) (more (leaf (number 1)) (one (sym RightParen))))
-
-abbrev pub rest_trees : List ℕ → Trees
-rest_trees n = more (sym Semicolon) (more (leaf (name n)) (more (sym Assign) (step_trees n)))
-
-abbrev pub bound_trees : List ℕ → Tree → Trees
-bound_trees n bound =
-    more (sym Semicolon) (more (leaf (name n)) (more (sym Less) (more bound (rest_trees n))))
+    tree set_verdict
+    (leaf (word w.Setverdict) ∷ sym LeftParen ∷ verdict_tree v ∷ sym RightParen ∷ [])
 
 abbrev pub turns_tree : Turns → Tree
 turns_tree t =
-    of turns
-    (more (sym LeftParen)
-    (more (leaf (word w.Var)) (more (leaf (word w.Integer)) (more (leaf (name t.name))
-    (more (sym Assign)
-    (more (integer_tree t.first) (bound_trees t.name (integer_tree t.bound))))))))
+    tree turns
+    (sym LeftParen ∷ leaf (word w.Var) ∷ leaf (word w.Integer) ∷ leaf (name t.name) ∷ sym Assign
+    ∷ integer_tree t.first ∷ sym Semicolon
+    ∷ leaf (name t.name) ∷ sym Less ∷ integer_tree t.bound ∷ sym Semicolon
+    ∷ leaf (name t.name) ∷ sym Assign ∷ leaf (name t.name) ∷ sym Plus ∷ leaf (number 1)
+    ∷ sym RightParen ∷ [])
 
--- the last items of the rule `turns`, if this name is bound: after the second `:=`, after the bound, and after the
--- first value
-abbrev pub step_items : List ℕ → List Item
-step_items n = token (this_name n) ∷ sy Plus ∷ token (exactly 1) ∷ sy RightParen ∷ []
-
-abbrev pub rest_items : List ℕ → List Item
-rest_items n = sy Semicolon ∷ token (this_name n) ∷ sy Assign ∷ step_items n
-
-abbrev pub bound_items : List ℕ → List Item
-bound_items n = sy Semicolon ∷ token (this_name n) ∷ sy Less ∷ rule an_integer ∷ rest_items n
+-- an operation on a port other than `start`
+abbrev pub operation_tree : OtherOperation → Tree
+operation_tree (other.Send s to) = send_tree s to
+operation_tree (other.Receive r) =
+    of other_operation
+    (one (receiving_tree r.kind r.received.template r.received.sender r.received.redirect))
+operation_tree other.Stop = of other_operation (one (leaf (word w.Stop)))
+operation_tree other.Halt = of other_operation (one (leaf (word w.Halt)))
+operation_tree other.Clear = of other_operation (one (leaf (word w.Clear)))

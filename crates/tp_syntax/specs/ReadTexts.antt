@@ -1,4 +1,4 @@
--- What `parse` returns: a module, or the first fault of a text.
+-- What `parse` returns, a module or the first fault of a text, and the laws of it.
 use Rattle.std.specs.Prelude.{◌≡◌, ℕ, ◌+◌, ◌<◌, ◌≤◌, ◌⊎◌, List, Option, None, length}
 use Rattle.tp_syntax.specs.declared.script_fault.ScriptFault.{ScriptFault}
 use Rattle.tp_syntax.specs.Lexeme.{PlacedLexeme}
@@ -10,6 +10,8 @@ use Rattle.tp_tree.specs.declared.tree.Module.{Module}
 use Rattle.tp_syntax.specs.DefinitionTrees.{module_tree}
 use Rattle.tp_syntax.specs.Faults.{AreTokensSeen, AreWithin, fault_in}
 use Rattle.tp_syntax.specs.SettledTokens.{settled}
+use Rattle.tp_syntax.specs.declared.script_fault.TextRule.{TextRule}
+use Rattle.tp_syntax.specs.declared.script_fault.ScriptFault.TheVariants.{Refused}
 
 -- the text isn't too long, and has these tokens, each within the limits of names and numbers
 pub record HasTokens (bytes : List ℕ) (tokens : List PlacedLexeme) : Type 0 where
@@ -43,3 +45,16 @@ IsUnread bytes fault =
     IsRefused bytes fault
     ⊎ ((tokens : List PlacedLexeme) × HasTokens bytes tokens
     × IsFaultOf tokens (newlines bytes + 1) fault)
+
+-- two modules with the same tree are equal
+abbrev pub TreesDetermineModules : Type 0
+TreesDetermineModules = (m n : Module) → module_tree m ≡ module_tree n → m ≡ n
+
+-- a text is read as at most one module
+abbrev pub ReadingsAreUnique : Type 0
+ReadingsAreUnique = (text : List ℕ) (m n : Module) → IsReadAs text m → IsReadAs text n → m ≡ n
+
+-- a text that is read as a module is refused for no rule
+abbrev pub ReadTextsAreAccepted : Type 0
+ReadTextsAreAccepted =
+    (text : List ℕ) (m : Module) (rule : TextRule) (line : ℕ) → IsReadAs text m → IsUnread text (Refused rule line) → ⊥

@@ -1,6 +1,8 @@
 -- How tokens are read by the grammar, and where reading fails.
 use Rattle.std.specs.Prelude.{ℕ, ◌≡◌, true, false, cond, List, [], ◌∷◌, Option, Some, None, length}
-use Rattle.tp_syntax.specs.Lexeme.{Lexeme, name, PlacedLexeme}
+use Rattle.tp_syntax.specs.declared.token.Symbol.{Symbol}
+use Rattle.tp_syntax.specs.declared.token.Symbol.TheVariants.{Comma}
+use Rattle.tp_syntax.specs.Lexeme.{Lexeme, name, symbol, PlacedLexeme}
 use Rattle.tp_syntax.specs.declared.stuck.Stuck.{Stuck}
 use Rattle.tp_syntax.specs.declared.stuck.Stuck.TheVariants.{At, Memory}
 use Rattle.tp_syntax.specs.Item.{Terminal, binds, same, this_name, Item, token, rule, Guarded, accepts, one_of, next}
@@ -16,6 +18,32 @@ mutual
   pub data Trees : Type 0 where
     none : Trees
     more : Tree → Trees → Trees
+
+abbrev pub trees_of : List Tree → Trees
+trees_of [] = none
+trees_of (t ∷ ts) = more t (trees_of ts)
+
+-- a rule's node without a line: of these trees; of the trees in this list
+abbrev pub of : Rule → Trees → Tree
+of r trees = node r None trees
+
+abbrev pub tree : Rule → List Tree → Tree
+tree r ts = of r (trees_of ts)
+
+abbrev pub one : Tree → Trees
+one t = more t none
+
+abbrev pub sym : Symbol → Tree
+sym s = leaf (symbol s)
+
+-- in place of a tree that can't come
+abbrev pub nothing : Tree
+nothing = leaf (name [])
+
+-- a `,` and a tree, as often as there are trees
+abbrev pub chain : Rule → List Tree → Tree
+chain r [] = of r none
+chain r (t ∷ ts) = tree r (sym Comma ∷ t ∷ chain r ts ∷ [])
 
 -- the line that a rule notes, if it notes one: that of the next token
 abbrev pub line_ahead : List PlacedLexeme → ℕ
@@ -99,3 +127,31 @@ mutual
         {t : Tree} {e : Stuck}
         → Reads (known bound i) ts t mid → FailsAll (bound_by bound i t) is mid e
         → FailsAll bound (i ∷ is) ts e
+
+-- these items are one of the alternatives
+pub data Among : List Guarded → List Item → List Item → Type 0 where
+  among_this : {g : Guarded} {gs : List Guarded} {otherwise : List Item}
+      → Among (g ∷ gs) otherwise g.items
+  among_other : {g : Guarded} {gs : List Guarded} {otherwise items : List Item}
+      → Among gs otherwise items → Among (g ∷ gs) otherwise items
+  among_else : {otherwise : List Item} → Among [] otherwise otherwise
+
+-- the tokens before the rest spell this tree of the item, or these trees of the items
+mutual
+  pub data Spells : Item → List PlacedLexeme → Tree → List PlacedLexeme → Type 0 where
+    spells_token : {t : Terminal} {p : PlacedLexeme} {ps : List PlacedLexeme}
+        → accepts t (Some p.token) ≡ true
+        → Spells (token t) (p ∷ ps) (leaf p.token) ps
+    spells_rule : {r : Rule} {items : List Item} {ts : List PlacedLexeme} {trees : Trees}
+        {rest : List PlacedLexeme} {line : Option ℕ}
+        → line ≡ noted r ts → Among (production r).guarded (production r).otherwise items
+        → SpellsAll [] items ts trees rest
+        → Spells (rule r) ts (node r line trees) rest
+
+  pub data SpellsAll : List ℕ → List Item → List PlacedLexeme → Trees → List PlacedLexeme
+      → Type 0 where
+    spells_none : {bound : List ℕ} {ts : List PlacedLexeme} → SpellsAll bound [] ts none ts
+    spells_more : {bound : List ℕ} {i : Item} {is : List Item} {ts mid rest : List PlacedLexeme}
+        {t : Tree} {trees : Trees}
+        → Spells (known bound i) ts t mid → SpellsAll (bound_by bound i t) is mid trees rest
+        → SpellsAll bound (i ∷ is) ts (more t trees) rest

@@ -1,5 +1,5 @@
 -- The trees of statements.
-use Rattle.std.specs.Prelude.{ℕ, Bool, List, [], ◌∷◌, ◌++◌, map, Option, Some, None}
+use Rattle.std.specs.Prelude.{ℕ, Bool, List, [], ◌∷◌, ◌++◌, map, Option, Some, None, true, false}
 use Rattle.tp_syntax.specs.declared.word.Word.TheVariants as w
 use Rattle.tp_syntax.specs.declared.token.Symbol.TheVariants.{Dot, LeftBrace, LeftBracket, RightBracket}
 use Rattle.tp_syntax.specs.Lexeme.{name, word}
@@ -19,12 +19,12 @@ use Rattle.tp_tree.specs.declared.tree.VerdictName.{VerdictName}
 use Rattle.tp_syntax.specs.Rule.{a_branch, a_reception, a_statement, after_bracket, all_ports, an_otherwise, compound}
 use Rattle.tp_syntax.specs.Rule.{end_of_branch, end_of_plain, end_of_reception, more_branches, named, named_operation}
 use Rattle.tp_syntax.specs.Rule.{other_operation, plain, statements}
-use Rattle.tp_syntax.specs.Reading.{Tree, leaf, more}
-use Rattle.tp_syntax.specs.PartialReading.{Frame, frame, under, all_frames, enter, end_frames}
-use Rattle.tp_syntax.specs.PartialReading.{closing_tree, may_end_tree}
+use Rattle.tp_syntax.specs.Reading.{Tree, leaf, of, tree, one, sym}
+use Rattle.tp_syntax.specs.Parsing.{Frame, frame, under, all_frames, enter, end_frames, closing_tree, may_end_tree}
 use Rattle.tp_syntax.specs.OperationTrees.{control_tree, operation_word, receiving_tree, send_tree, set_verdict_tree}
-use Rattle.tp_syntax.specs.OperationTrees.{turns_tree}
-use Rattle.tp_syntax.specs.TemplateTrees.{of, one, sym}
+use Rattle.tp_syntax.specs.OperationTrees.{turns_tree, operation_tree}
+use Rattle.tp_syntax.specs.declared.statements.Plain.{Plain}
+use Rattle.tp_syntax.specs.declared.statements.Plain.TheVariants as plain_as
 
 -- what a statement does: the tree of an `alt` or a `for`; a verdict; an operation on all ports; the start of a port;
 -- another operation on a port, with its tree
@@ -58,16 +58,16 @@ pub record ElseView : Type 0 where
 
 -- an operation on a port, after its dot
 abbrev pub named_tree : List ℕ → Tree → Tree
-named_tree n t = of named (more (leaf (name n)) (more (sym Dot) (one (of named_operation (one t)))))
+named_tree n t = tree named (leaf (name n) ∷ sym Dot ∷ of named_operation (one t) ∷ [])
+
+-- an operation on all ports
+abbrev pub all_ports_tree : PortOperation → Tree
+all_ports_tree o =
+    tree all_ports (leaf (word w.All) ∷ leaf (word w.Port) ∷ sym Dot ∷ control_tree o ∷ [])
 
 abbrev pub plain_tree : Shape → Tree
 plain_tree (verdict_set v) = of plain (one (set_verdict_tree v))
-plain_tree (on_all_ports o) =
-    of plain
-    (one
-    (of all_ports
-    (more (leaf (word w.All))
-    (more (leaf (word w.Port)) (more (sym Dot) (one (control_tree o)))))))
+plain_tree (on_all_ports o) = of plain (one (all_ports_tree o))
 plain_tree (port_started n) = of plain (one (named_tree n (leaf (word w.Start))))
 plain_tree (on_port n t) = of plain (one (named_tree n t))
 plain_tree (compounded t) = t
@@ -104,10 +104,8 @@ branch_frames b = bracket_frames b.line ++ reception_frames b
 
 abbrev pub otherwise_tree : Tree → Bool → Tree
 otherwise_tree block b =
-    of an_otherwise
-    (more (leaf (word w.Else))
-    (more (sym RightBracket)
-    (more (sym LeftBrace) (more block (more (may_end_tree b) (one closing_tree))))))
+    tree an_otherwise (leaf (word w.Else) ∷ sym RightBracket ∷ sym LeftBrace ∷ block
+    ∷ may_end_tree b ∷ closing_tree ∷ [])
 
 -- the tree after the branches: a `}`, or `[else]`
 abbrev pub after_branches : Option ElseView → Tree
@@ -131,8 +129,7 @@ action_step (s.Control x) = control_shape x.port x.operation
 action_step (s.AllPorts o) = on_all_ports o
 action_step (s.SetVerdict v) = verdict_set v
 action_step (s.Alt bs e) =
-    compounded
-    (of compound (more (leaf (word w.Alt)) (more (sym LeftBrace) (one (branches_tree bs e)))))
+    compounded (tree compound (leaf (word w.Alt) ∷ sym LeftBrace ∷ branches_tree bs e ∷ []))
 action_step (s.For t) = compounded t
 
 abbrev pub body_step : s.BranchBody-F Shape (Option Tree) BranchView Tree ElseView Step
@@ -151,9 +148,8 @@ branch_step b = record {
 
 abbrev pub counted_step : s.Counted-F Shape (Option Tree) BranchView Tree ElseView Step → Tree
 counted_step c =
-    of compound
-    (more (leaf (word w.For))
-    (more (turns_tree c.turns) (more (sym LeftBrace) (one (block_tree c.block)))))
+    tree compound
+    (leaf (word w.For) ∷ turns_tree c.turns ∷ sym LeftBrace ∷ block_tree c.block ∷ [])
 
 abbrev pub else_step : s.ElseBranch-F Shape (Option Tree) BranchView Tree ElseView Step → ElseView
 else_step e = record { line = e.line; block = block_tree e.block; semicolon = e.has_semicolon }
@@ -203,3 +199,21 @@ otherwise_of (Some e) = Some (else_of e)
 abbrev pub compound_tree : Shape → Tree
 compound_tree (compounded t) = t
 compound_tree _ = closing_tree
+
+-- a statement without a block, as the parser returns it
+abbrev pub plain_shape : Plain → Shape
+plain_shape (plain_as.SetVerdict v) = verdict_set v
+plain_shape (plain_as.AllPorts o) = on_all_ports o
+plain_shape (plain_as.Start n) = port_started n
+plain_shape (plain_as.Named n o) = on_port n (operation_tree o)
+
+-- the operation on a port, and whether it is one
+abbrev pub named_part : Shape → Tree
+named_part (port_started n) = named_tree n (leaf (word w.Start))
+named_part (on_port n t) = named_tree n t
+named_part _ = closing_tree
+
+abbrev pub is_named : Shape → Bool
+is_named (port_started n) = true
+is_named (on_port n t) = true
+is_named _ = false

@@ -2,32 +2,17 @@
 use Rattle.std.specs.Prelude.{ℕ, suc, ◌≡◌, ℤ, pos, negsuc, Bool, true, false, List, [], ◌∷◌, map, Option, Some, None}
 use Rattle.tp_syntax.specs.declared.word.Word.TheVariants as w
 use Rattle.tp_syntax.specs.declared.token.Symbol.{Symbol}
-use Rattle.tp_syntax.specs.declared.token.Symbol.TheVariants.{Assign, Comma, DotDot, LeftBrace, LeftParen, Minus}
-use Rattle.tp_syntax.specs.declared.token.Symbol.TheVariants.{Question, RightBrace, RightParen, Semicolon, Star}
-use Rattle.tp_syntax.specs.Lexeme.{name, number, text, word, symbol}
-use Rattle.tp_syntax.specs.Rule.{Rule, an_integer, a_template, uncounted_template, counted_template, other_template}
+use Rattle.tp_syntax.specs.declared.token.Symbol.TheVariants.{Assign, DotDot, LeftBrace, LeftParen, Minus, Question}
+use Rattle.tp_syntax.specs.declared.token.Symbol.TheVariants.{RightBrace, RightParen, Star}
+use Rattle.tp_syntax.specs.Lexeme.{name, number, text, word}
+use Rattle.tp_syntax.specs.Rule.{an_integer, a_template, uncounted_template, counted_template, other_template}
 use Rattle.tp_syntax.specs.Rule.{in_parentheses, after_minus, after_number, upper, template_entries}
 use Rattle.tp_syntax.specs.Rule.{after_template_name, more_templates, a_template_field, more_template_fields}
-use Rattle.tp_syntax.specs.Reading.{Tree, leaf, node, Trees, none, more}
+use Rattle.tp_syntax.specs.Reading.{Tree, leaf, node, Trees, none, more, trees_of, of, tree, one, sym, nothing, chain}
 use Rattle.tp_tree.specs.declared.message.Template.{Template}
 use Rattle.tp_tree.specs.declared.message.Template.TheOpen as t
 use Rattle.tp_tree.specs.declared.message.Template.TheFolds.{fold-Template, fold-TemplateField}
 use Rattle.tp_tree.specs.declared.message.TemplateField.{TemplateField}
-
--- a rule's node without a line
-abbrev pub of : Rule → Trees → Tree
-of r trees = node r None trees
-
-abbrev pub one : Tree → Trees
-one t = more t none
-
-abbrev pub sym : Symbol → Tree
-sym s = leaf (symbol s)
-
--- a `,` and a tree, as often as there are trees
-abbrev pub chain : Rule → List Tree → Tree
-chain r [] = of r none
-chain r (t ∷ ts) = of r (more (sym Comma) (more t (one (chain r ts))))
 
 abbrev pub magnitude : ℤ → Tree
 magnitude (pos n) = leaf (number n)
@@ -41,7 +26,7 @@ IsNegative z = (n : ℕ) × (z ≡ negsuc n)
 
 abbrev pub integer_tree : ℤ → Tree
 integer_tree (pos n) = of an_integer (one (leaf (number n)))
-integer_tree (negsuc n) = of an_integer (more (sym Minus) (one (leaf (number (suc n)))))
+integer_tree (negsuc n) = tree an_integer (sym Minus ∷ leaf (number (suc n)) ∷ [])
 
 abbrev pub upper_tree : Option ℤ → Tree
 upper_tree None = of upper (one (leaf (word w.Infinity)))
@@ -62,21 +47,25 @@ pub record FieldViews : Type 0 where
   pub field_name : List ℕ
   pub whole : Tree
 
-abbrev pub nothing : Tree
-nothing = leaf (name [])
-
 -- an integer after a `(`, followed by this tree
 abbrev pub number_inside : ℤ → Tree → Tree
-number_inside (pos n) t = of in_parentheses (more (leaf (number n)) (one t))
+number_inside (pos n) t = tree in_parentheses (leaf (number n) ∷ t ∷ [])
 number_inside (negsuc n) t =
-    of in_parentheses
-    (more (sym Minus) (one (of after_minus (more (leaf (number (suc n))) (one t)))))
+    tree in_parentheses (sym Minus ∷ tree after_minus (leaf (number (suc n)) ∷ t ∷ []) ∷ [])
 
 abbrev pub listed : Tree → Tree
-listed rest = of after_number (more rest (one (sym RightParen)))
+listed rest = tree after_number (rest ∷ sym RightParen ∷ [])
 
 abbrev pub ranged : Option ℤ → Tree
-ranged high = of after_number (more (sym DotDot) (more (upper_tree high) (one (sym RightParen))))
+ranged high = tree after_number (sym DotDot ∷ upper_tree high ∷ sym RightParen ∷ [])
+
+-- entries in braces after the first, which this tree is, followed by this one
+abbrev pub in_braces_after : Tree → Tree → Tree
+in_braces_after first rest = tree template_entries (first ∷ rest ∷ sym RightBrace ∷ [])
+
+-- the same in parentheses
+abbrev pub in_parens_after : Tree → Tree → Tree
+in_parens_after first rest = tree in_parentheses (first ∷ rest ∷ sym RightParen ∷ [])
 
 abbrev pub of_integer : ℤ → Views
 of_integer z = record {
@@ -85,9 +74,7 @@ of_integer z = record {
   counted = of counted_template (one (integer_tree z));
   other = nothing;
   inside = nothing;
-  in_braces =
-      λ rest. of template_entries
-      (more (of counted_template (one (integer_tree z))) (more rest (one (sym RightBrace))));
+  in_braces = in_braces_after (of counted_template (one (integer_tree z)));
   in_parens = λ rest. number_inside z (listed rest);
 }
 
@@ -102,9 +89,9 @@ of_name n = record {
   other = nothing;
   inside = nothing;
   in_braces =
-      λ rest. of template_entries
-      (more (leaf (name n)) (one (of after_template_name (more rest (one (sym RightBrace))))));
-  in_parens = λ rest. of in_parentheses (more (name_tree n) (more rest (one (sym RightParen))));
+      λ rest. tree template_entries
+      (leaf (name n) ∷ tree after_template_name (rest ∷ sym RightBrace ∷ []) ∷ []);
+  in_parens = in_parens_after (name_tree n);
 }
 
 abbrev pub around : Tree → Tree → Views
@@ -114,19 +101,15 @@ around o i = record {
   counted = of counted_template (one o);
   other = o;
   inside = i;
-  in_braces =
-      λ rest. of template_entries
-      (more (of counted_template (one o)) (more rest (one (sym RightBrace))));
-  in_parens =
-      λ rest. of in_parentheses
-      (more (of uncounted_template (one o)) (more rest (one (sym RightParen))));
+  in_braces = in_braces_after (of counted_template (one o));
+  in_parens = in_parens_after (of uncounted_template (one o));
 }
 
 abbrev pub of_other : Trees → Views
 of_other trees = around (of other_template trees) nothing
 
 abbrev pub of_bracket : Symbol → Tree → Views
-of_bracket s i = around (of other_template (more (sym s) (one i))) i
+of_bracket s i = around (tree other_template (sym s ∷ i ∷ [])) i
 
 abbrev pub wholes : List Views → List Tree
 wholes vs = map (λ (v : Views). v.whole) vs
@@ -141,25 +124,23 @@ entries_of (v ∷ vs) = v.in_braces (chain more_templates (wholes vs))
 
 abbrev pub complement_of : List Views → Trees
 complement_of [] = none
-complement_of (v ∷ vs) = more (leaf (word w.Complement)) (more (sym LeftParen) (more v.whole
-    (more (chain more_templates (wholes vs)) (one (sym RightParen)))))
+complement_of (v ∷ vs) =
+    trees_of (leaf (word w.Complement) ∷ sym LeftParen ∷ v.whole
+    ∷ chain more_templates (wholes vs) ∷ sym RightParen ∷ [])
 
 abbrev pub field_whole : FieldViews → Tree
-field_whole f =
-    of a_template_field (more (leaf (name f.field_name)) (more (sym Assign) (one f.whole)))
+field_whole f = tree a_template_field (leaf (name f.field_name) ∷ sym Assign ∷ f.whole ∷ [])
 
 abbrev pub fields_of : List FieldViews → Tree
 fields_of [] = nothing
 fields_of (f ∷ fs) =
-    of template_entries (more (leaf (name f.field_name)) (one (of after_template_name
-    (more (sym Assign)
-    (more f.whole
-    (more (chain more_template_fields (map field_whole fs)) (one (sym RightBrace))))))))
+    tree template_entries (leaf (name f.field_name) ∷ tree after_template_name (sym Assign ∷ f.whole
+    ∷ chain more_template_fields (map field_whole fs) ∷ sym RightBrace ∷ []) ∷ [])
 
 abbrev pub range_of : Option ℤ → Option ℤ → Tree
-range_of None high = of in_parentheses (more (sym Minus) (one (of after_minus
-    (more (leaf (word w.Infinity))
-    (more (sym DotDot) (more (upper_tree high) (one (sym RightParen))))))))
+range_of None high =
+    tree in_parentheses (sym Minus ∷ tree after_minus (leaf (word w.Infinity) ∷ sym DotDot
+    ∷ upper_tree high ∷ sym RightParen ∷ []) ∷ [])
 range_of (Some z) high = number_inside z (ranged high)
 
 abbrev pub bool_leaf : Bool → Tree
@@ -176,7 +157,7 @@ template_step t.AnyOrNone = of_other (one (sym Star))
 template_step (t.OneOf vs) = of_bracket LeftParen (in_parens_of vs)
 template_step (t.Complement vs) = of_other (complement_of vs)
 template_step (t.Range low high) = of_bracket LeftParen (range_of low high)
-template_step (t.Pattern bs) = of_other (more (leaf (word w.Pattern)) (one (leaf (text bs))))
+template_step (t.Pattern bs) = of_other (trees_of (leaf (word w.Pattern) ∷ leaf (text bs) ∷ []))
 template_step (t.List vs) = of_bracket LeftBrace (entries_of vs)
 template_step (t.Record fs) = of_bracket LeftBrace (fields_of fs)
 
@@ -227,14 +208,11 @@ after_number_tree z t = number_part z (inside_tree t)
 abbrev pub IsUncounted : Template → Type 0
 IsUncounted t = (template_tree t ≡ of a_template (one (uncounted_tree t)))
     × ((rest : Tree)
-    → (template_views t).in_parens rest
-    ≡ of in_parentheses (more (uncounted_tree t) (more rest (one (sym RightParen)))))
+    → (template_views t).in_parens rest ≡ in_parens_after (uncounted_tree t) rest)
 
 abbrev pub IsCounted : Template → Type 0
 IsCounted t =
-    (rest : Tree)
-    → (template_views t).in_braces rest
-    ≡ of template_entries (more (counted_tree t) (more rest (one (sym RightBrace))))
+    (rest : Tree) → (template_views t).in_braces rest ≡ in_braces_after (counted_tree t) rest
 
 abbrev pub IsOther : Template → Type 0
 IsOther t = template_views t ≡ around (other_tree t) (inside_tree t)
@@ -242,15 +220,3 @@ IsOther t = template_views t ≡ around (other_tree t) (inside_tree t)
 -- the template is in brackets that begin with this symbol, followed by this tree
 abbrev pub IsInside : Symbol → Tree → Template → Type 0
 IsInside s i t = template_views t ≡ of_bracket s i
-
--- the end of a part in braces: a `;`, after which others may follow, or the `}` after the last part
-abbrev pub closing : {A : Type 0} → Rule → Bool → List A → Tree → Tree
-closing e true xs rest = of e (more (sym Semicolon) (one rest))
-closing e false [] rest = of e (one (sym RightBrace))
-closing e false (x ∷ xs) rest = of e (more nothing (one rest))
-
--- parts in braces, each with its end, and the `}` after them
-abbrev pub steps : {A : Type 0} → Rule → Rule → (A → Tree) → (A → Bool) → List A → Tree
-steps m e view ends [] = of m (one (sym RightBrace))
-steps m e view ends (x ∷ xs) =
-    of m (more (view x) (one (closing e (ends x) xs (steps m e view ends xs))))

@@ -6,7 +6,7 @@ use Rattle.tp_syntax.specs.declared.script_fault.TextRule.TheVariants.{Syntax, L
 use Rattle.tp_syntax.specs.declared.script_fault.ScriptFault.{ScriptFault}
 use Rattle.tp_syntax.specs.declared.script_fault.ScriptFault.TheVariants.{Refused, Memory}
 use Rattle.tp_syntax.specs.declared.token.Symbol.{Symbol}
-use Rattle.tp_syntax.specs.Lexeme.{Lexeme, name, word, number, text, symbol, PlacedLexeme}
+use Rattle.tp_syntax.specs.Lexeme.{Lexeme, name, number, PlacedLexeme}
 use Rattle.tp_syntax.specs.Byte.{is_printable}
 use Rattle.tp_syntax.specs.Spelling.{Run, doubled, symbol_spelling}
 use Rattle.tp_syntax.specs.Cut.{Piece, piece_bytes, IsPiece, Cuts, AreTokens, tokens_in, line_after, TokenAt}
@@ -14,10 +14,8 @@ use Rattle.tp_syntax.specs.Cut.{Piece, piece_bytes, IsPiece, Cuts, AreTokens, to
 -- a name has at most 64 characters, and a number is at most 9223372036854775808
 abbrev pub IsWithinLimits : Lexeme → Type 0
 IsWithinLimits (name n) = length n ≤ 64
-IsWithinLimits (word w) = Unit {0}
 IsWithinLimits (number n) = n ≤ 9223372036854775808
-IsWithinLimits (text t) = Unit {0}
-IsWithinLimits (symbol s) = Unit {0}
+IsWithinLimits _ = Unit {0}
 
 -- each of the tokens is within the limits
 abbrev pub AreWithinLimits : List PlacedLexeme → Type 0

@@ -4,12 +4,12 @@ use Rattle.tp_syntax.specs.declared.token.Symbol.TheVariants.{Assign, LeftBrace,
 use Rattle.tp_syntax.specs.Lexeme.{name, text}
 use Rattle.tp_syntax.specs.Rule.{a_value, unnamed_value, value_entries, after_value_name, more_values, a_value_field}
 use Rattle.tp_syntax.specs.Rule.{more_value_fields}
-use Rattle.tp_syntax.specs.Reading.{Tree, leaf, more}
+use Rattle.tp_syntax.specs.Reading.{Tree, leaf, of, tree, one, sym, chain, nothing}
 use Rattle.tp_tree.specs.declared.message.Value.{Value}
 use Rattle.tp_tree.specs.declared.message.Value.TheOpen as layer
 use Rattle.tp_tree.specs.declared.message.Value.TheFolds.{fold-Value, fold-ValueField}
 use Rattle.tp_tree.specs.declared.message.ValueField.{ValueField}
-use Rattle.tp_syntax.specs.TemplateTrees.{of, one, sym, chain, nothing, integer_tree, bool_leaf}
+use Rattle.tp_syntax.specs.TemplateTrees.{integer_tree, bool_leaf}
 
 -- the trees of a value: as any value; as one that isn't a name; the part after its bracket; and the entries in braces
 -- that begin with it, if a chain of others follows
@@ -29,8 +29,8 @@ of_name n = record {
   unnamed = nothing;
   inside = nothing;
   in_braces =
-      λ rest. of value_entries
-      (more (leaf (name n)) (one (of after_value_name (more rest (one (sym RightBrace))))));
+      λ rest. tree value_entries
+      (leaf (name n) ∷ tree after_value_name (rest ∷ sym RightBrace ∷ []) ∷ []);
 }
 
 abbrev pub around : Tree → Tree → Views
@@ -38,14 +38,14 @@ around u i = record {
   whole = of a_value (one u);
   unnamed = u;
   inside = i;
-  in_braces = λ rest. of value_entries (more u (more rest (one (sym RightBrace))));
+  in_braces = λ rest. tree value_entries (u ∷ rest ∷ sym RightBrace ∷ []);
 }
 
 abbrev pub of_unnamed : Tree → Views
 of_unnamed t = around (of unnamed_value (one t)) nothing
 
 abbrev pub of_bracket : Tree → Views
-of_bracket i = around (of unnamed_value (more (sym LeftBrace) (one i))) i
+of_bracket i = around (tree unnamed_value (sym LeftBrace ∷ i ∷ [])) i
 
 abbrev pub wholes : List Views → List Tree
 wholes vs = map (λ (v : Views). v.whole) vs
@@ -55,14 +55,13 @@ entries_of [] = of value_entries (one (sym RightBrace))
 entries_of (v ∷ vs) = v.in_braces (chain more_values (wholes vs))
 
 abbrev pub field_whole : FieldViews → Tree
-field_whole f = of a_value_field (more (leaf (name f.field_name)) (more (sym Assign) (one f.whole)))
+field_whole f = tree a_value_field (leaf (name f.field_name) ∷ sym Assign ∷ f.whole ∷ [])
 
 abbrev pub fields_of : List FieldViews → Tree
 fields_of [] = nothing
-fields_of (f ∷ fs) = of value_entries (more (leaf (name f.field_name)) (one (of after_value_name
-    (more (sym Assign)
-    (more f.whole
-    (more (chain more_value_fields (map field_whole fs)) (one (sym RightBrace))))))))
+fields_of (f ∷ fs) =
+    tree value_entries (leaf (name f.field_name) ∷ tree after_value_name (sym Assign ∷ f.whole
+    ∷ chain more_value_fields (map field_whole fs) ∷ sym RightBrace ∷ []) ∷ [])
 
 abbrev pub value_step : layer.Value-F Views FieldViews → Views
 value_step (layer.Int z) = of_unnamed (integer_tree z)

@@ -2,9 +2,8 @@
 ghost use Rattle.std.specs.Prelude.{◌≡◌, ◌<◌, ◌≤◌, [], ◌∷◌, ◌++◌, IfOk, OnOk, length};
 ghost use Rattle.tp_syntax.specs.Item.{rule};
 ghost use Rattle.tp_syntax.specs.Rule.{case_setups};
-ghost use Rattle.tp_syntax.specs.CaseParts.{IsUpTo, body_tree, kind_of, part, parts_of};
-ghost use Rattle.tp_syntax.specs.CaseParts.{rank_of, setup_kind, stage_rank, statement_part};
-ghost use Rattle.tp_syntax.specs.CaseTrees.{does, stage_of};
+ghost use Rattle.tp_syntax.specs.CaseTrees.{IsUpTo, body_tree, kind_of, part, parts_of, rank_of, setup_kind};
+ghost use Rattle.tp_syntax.specs.CaseTrees.{stage_rank, statement_part, does, stage_of};
 ghost use Rattle.tp_syntax.specs.Parsing.{Parses};
 ghost use Rattle.tp_syntax.specs.StatementTrees.{shape_of};
 
@@ -165,8 +164,8 @@ impl<'a, 't> Parser<'a, 't> {
             let line = self.line();
             let part = self.case_part(alloc, stage)?;
             stage = part.action.stage();
-            body.keep(line, part.action, part.has_semicolon)?;
-            is_open = part.is_open;
+            body.keep(line, part.action, part.end.has_semicolon)?;
+            is_open = part.end.is_open;
         }
         self.closing()?;
         Ok(body)

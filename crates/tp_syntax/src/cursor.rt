@@ -1,11 +1,11 @@
 //! The tokens that are left to read, and how one of them is passed.
-ghost use Rattle.std.specs.Prelude.{◌≡◌, ◌<◌, IfOk, OnOk, length, ◌≢◌, ◌↔◌, ◌∷◌, [], true, false, IsTrue, IfSome};
-ghost use Rattle.std.specs.Prelude.{OnSome, IfNone, Some, None, ℕ, List};
+ghost use Rattle.std.specs.Prelude.{◌≡◌, ◌<◌, IfOk, OnOk, length, ◌≢◌, ◌↔◌, ◌∷◌, [], true, false, IsTrue, IfErr, OnErr};
+ghost use Rattle.std.specs.Prelude.{Some, None, ℕ, List};
 ghost use Rattle.tp_syntax.specs.Lexeme.{Lexeme, name, number, text, word, symbol};
 ghost use Rattle.std.specs.List.{list_all};
 ghost use Rattle.tp_syntax.specs.Code.{is_plain};
-ghost use Rattle.tp_syntax.specs.Item.{a_name, a_number, a_pattern, a_text, accepts, negated, next, of_symbol};
-ghost use Rattle.tp_syntax.specs.Item.{of_word, one_of, positive, token};
+ghost use Rattle.tp_syntax.specs.Item.{a_name, a_number, a_pattern, a_text, accepts, negated, next, of_symbol, of_word};
+ghost use Rattle.tp_syntax.specs.Item.{one_of, positive, token};
 ghost use Rattle.tp_syntax.specs.Parsing.{Parses, left};
 ghost use Rattle.tp_syntax.specs.Reading.{Reads, leaf, line_ahead};
 ghost use Rattle.tp_syntax.specs.TemplateTrees.{magnitude, IsNegative, IsPositive};
@@ -120,45 +120,48 @@ impl<'a, 't> Parser<'a, 't> {
         }
     }
 
-    /// The name that comes next, if one does.
-    pub fn next_name(&self) -> Option<&'a str>
-        ensures yes { IfSome result (λ n. next (left self.now) ≡ Some (name n.now)) }
-        ensures no { IfNone result (accepts a_name (next (left self.now)) ≡ false) }
+    /// The name that comes next.
+    pub fn next_name(&self) -> Result<&'a str, Stuck>
+        ensures yes { IfOk result (λ n. next (left self.now) ≡ Some (name n.now)) }
+        ensures no { OnErr result (accepts a_name (next (left self.now)) ≡ false) }
+        ensures stuck { IfErr result (λ e. e ≡ Stuck.At (length self.now.rest.now)) }
     {
         match self.rest.first() {
             Some(placed) => match &placed.token {
-                Token::Name(found) => Some(*found),
-                _ => None,
+                Token::Name(found) => Ok(*found),
+                _ => Err(Stuck::At(self.rest.len())),
             },
-            None => None,
+            None => Err(Stuck::At(self.rest.len())),
         }
     }
 
-    /// The number that comes next, if one does.
-    pub fn next_number(&self) -> Option<u64>
-        ensures yes { IfSome result (λ n. next (left self.now) ≡ Some (number n)) }
-        ensures no { IfNone result (accepts a_number (next (left self.now)) ≡ false) }
+    /// The number that comes next.
+    pub fn next_number(&self) -> Result<u64, Stuck>
+        ensures yes { IfOk result (λ n. next (left self.now) ≡ Some (number n)) }
+        ensures no { OnErr result (accepts a_number (next (left self.now)) ≡ false) }
+        ensures stuck { IfErr result (λ e. e ≡ Stuck.At (length self.now.rest.now)) }
     {
         match self.rest.first() {
             Some(placed) => match &placed.token {
-                Token::Number(found) => Some(*found),
-                _ => None,
+                Token::Number(found) => Ok(*found),
+                _ => Err(Stuck::At(self.rest.len())),
             },
-            None => None,
+            None => Err(Stuck::At(self.rest.len())),
         }
     }
 
-    /// The text that comes next, if one does.
-    pub fn next_text(&self) -> Option<&'a [u8]>
-        ensures yes { IfSome result (λ n. next (left self.now) ≡ Some (text n.now)) }
-        ensures no { IfNone result (accepts a_text (next (left self.now)) ≡ false) }
+    /// The text that comes next.
+    pub fn next_text(&self) -> Result<&'a [u8], Stuck>
+        ensures yes { IfOk result (λ n. next (left self.now) ≡ Some (text n.now)) }
+        ensures no { OnErr result (accepts a_text (next (left self.now)) ≡ false) }
+        ensures stuck { IfErr result (λ e. e ≡ Stuck.At (length self.now.rest.now)) }
     {
         match self.rest.first() {
             Some(placed) => match &placed.token {
-                Token::Text(found) => Some(found.as_slice()),
-                _ => None,
+                Token::Text(found) => Ok(found.as_slice()),
+                _ => Err(Stuck::At(self.rest.len())),
             },
-            None => None,
+            None => Err(Stuck::At(self.rest.len())),
         }
     }
 
@@ -193,14 +196,10 @@ impl<'a, 't> Parser<'a, 't> {
         ensures parses { Parses (token a_name) (λ n. leaf (name n)) self.old result self.new }
         ensures shorter { OnOk result (length self.new.rest.now < length self.old.rest.now) }
     {
-        match self.next_name() {
-            Some(spelling) => {
-                self.skip();
-                let name = Name::from_str(alloc, spelling)?;
-                Ok(name)
-            }
-            None => Err(Stuck::At(self.rest.len())),
-        }
+        let spelling = self.next_name()?;
+        self.skip();
+        let name = Name::from_str(alloc, spelling)?;
+        Ok(name)
     }
 
     /// Passes a text.
@@ -209,14 +208,10 @@ impl<'a, 't> Parser<'a, 't> {
             self.old result self.new }
         ensures shorter { OnOk result (length self.new.rest.now < length self.old.rest.now) }
     {
-        match self.next_text() {
-            Some(characters) => {
-                self.skip();
-                let copied = Items::from_slice(alloc, characters)?;
-                Ok(copied)
-            }
-            None => Err(Stuck::At(self.rest.len())),
-        }
+        let characters = self.next_text()?;
+        self.skip();
+        let copied = Items::from_slice(alloc, characters)?;
+        Ok(copied)
     }
 
     /// Whether an integer comes next.
@@ -232,16 +227,12 @@ impl<'a, 't> Parser<'a, 't> {
         ensures sign { IfOk result IsPositive }
         ensures shorter { OnOk result (length self.new.rest.now < length self.old.rest.now) }
     {
-        match self.next_number() {
-            Some(found) => {
-                if found <= GREATEST {
-                    self.skip();
-                    return Ok(found as i64);
-                }
-                Err(Stuck::At(self.rest.len()))
-            }
-            None => Err(Stuck::At(self.rest.len())),
+        let found = self.next_number()?;
+        if found <= GREATEST {
+            self.skip();
+            return Ok(found as i64);
         }
+        Err(Stuck::At(self.rest.len()))
     }
 
     /// Passes the number after a `-`.
@@ -250,16 +241,12 @@ impl<'a, 't> Parser<'a, 't> {
         ensures sign { IfOk result IsNegative }
         ensures shorter { OnOk result (length self.new.rest.now < length self.old.rest.now) }
     {
-        match self.next_number() {
-            Some(found) => {
-                if 1 <= found && found <= GREATEST + 1 {
-                    self.skip();
-                    return Ok(-1 - (found - 1) as i64);
-                }
-                Err(Stuck::At(self.rest.len()))
-            }
-            None => Err(Stuck::At(self.rest.len())),
+        let found = self.next_number()?;
+        if 1 <= found && found <= GREATEST + 1 {
+            self.skip();
+            return Ok(-1 - (found - 1) as i64);
         }
+        Err(Stuck::At(self.rest.len()))
     }
 
     /// Passes a text that may follow `pattern`.
@@ -268,17 +255,13 @@ impl<'a, 't> Parser<'a, 't> {
             self.old result self.new }
         ensures shorter { OnOk result (length self.new.rest.now < length self.old.rest.now) }
     {
-        match self.next_text() {
-            Some(characters) => {
-                if is_pattern(characters) {
-                    self.skip();
-                    let copied = Items::from_slice(alloc, characters)?;
-                    return Ok(copied);
-                }
-                Err(Stuck::At(self.rest.len()))
-            }
-            None => Err(Stuck::At(self.rest.len())),
+        let characters = self.next_text()?;
+        if is_pattern(characters) {
+            self.skip();
+            let copied = Items::from_slice(alloc, characters)?;
+            return Ok(copied);
         }
+        Err(Stuck::At(self.rest.len()))
     }
 }
 

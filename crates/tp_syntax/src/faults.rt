@@ -1,8 +1,8 @@
 //! The first fault of a text, by its tokens.
 ghost use Rattle.std.specs.Prelude.{◌≡◌, ◌<◌, ◌≤◌, ◌↔◌, ◌∷◌, ◌++◌, ◌-◌, IsTrue, List, drop, length, map};
 ghost use Rattle.tp_syntax.specs.Lexeme.{PlacedLexeme, lexeme_of, placed_lexeme};
-ghost use Rattle.tp_syntax.specs.Faults.{IsAllowed, IsCutOf, AreTokensSeen, brought_within, greatest_number};
-ghost use Rattle.tp_syntax.specs.Faults.{is_minus, fault_line, opened_behind, symbol_bracket};
+ghost use Rattle.tp_syntax.specs.Faults.{IsAllowed, IsCutOf, AreTokensSeen, brought_within, greatest_number, is_minus};
+ghost use Rattle.tp_syntax.specs.Faults.{fault_line, opened_behind, symbol_bracket};
 
 use crate::script_fault::ScriptFault;
 use crate::token::{Placed, Symbol, Token};

@@ -1,7 +1,7 @@
 //! Laws of the grammar. Each is the contract of a function that does nothing.
-ghost use Rattle.tp_syntax.specs.ReadingLaws.{ReadTextsAreAccepted, ReadingsAreUnique, TreesDetermineModules};
-ghost use Rattle.tp_syntax.specs.GrammarLaws.{EachTextIsTold, OneTokenTells, RefusalsAreFirst};
-ghost use Rattle.tp_syntax.specs.GrammarLaws.{TextsHaveOneTree, WordsAreTold};
+ghost use Rattle.tp_syntax.specs.ReadTexts.{ReadTextsAreAccepted, ReadingsAreUnique, TreesDetermineModules};
+ghost use Rattle.tp_syntax.specs.Refusal.{EachTextIsTold, OneTokenTells, RefusalsAreFirst, TextsHaveOneTree};
+ghost use Rattle.tp_syntax.specs.Refusal.{WordsAreTold};
 
 /// A word or symbol of the table is accepted if and only if it comes next.
 pub fn words_are_told()

@@ -5,19 +5,13 @@
 //! was refused, and says nothing about the script; only calls that can return it allocate.
 #![tactic(auto)]
 
-#[tactic(auto, using(crate::proofs::StepsOfReading::parsing))]
-mod behaviours;
 mod byte;
-#[tactic(auto, using(crate::proofs::StepsOfReading::parsing))]
-mod case_actions;
 #[tactic(auto, using(crate::proofs::StepsOfReading::parsing))]
 mod case_bodies;
 #[tactic(auto, using(crate::proofs::StepsOfReading::parsing))]
 mod cases;
 #[tactic(auto, using(crate::proofs::StepsOfReading::parsing))]
 mod cursor;
-#[tactic(auto, using(crate::proofs::StepsOfReading::parsing))]
-mod definitions;
 #[tactic(auto, using(crate::proofs::StepsOfReading::parsing))]
 mod faults;
 pub mod laws;
@@ -31,8 +25,6 @@ pub mod parser;
 #[tactic(auto, using(crate::proofs::StepsOfReading::parsing))]
 mod parts;
 mod piece;
-#[tactic(auto, using(crate::proofs::StepsOfReading::parsing))]
-mod plain;
 pub mod script_fault;
 #[tactic(auto, using(crate::proofs::StepsOfReading::parsing))]
 mod statements;

@@ -1,15 +1,15 @@
-//! Functions and test cases with their heads, the definitions of a module, and modules.
-ghost use Rattle.std.specs.Prelude.{◌≡◌, ◌<◌, ◌≤◌, ◌∷◌, IfOk, OnOk, drop, length, map, true};
-ghost use Rattle.tp_syntax.specs.Item.{rule};
-ghost use Rattle.tp_syntax.specs.Rule.{a_definition, a_module, a_parameter, behaviour, definitions};
-ghost use Rattle.tp_syntax.specs.Rule.{more_parameters, parameters};
-ghost use Rattle.tp_syntax.specs.CaseParts.{variable_part};
-ghost use Rattle.tp_syntax.specs.DefinitionTrees.{behaviour_tree, body_items, body_trees, definition_frames};
-ghost use Rattle.tp_syntax.specs.DefinitionTrees.{definitions_tree, function_items, function_trees, is_behaviour};
-ghost use Rattle.tp_syntax.specs.DefinitionTrees.{module_tree, parameter_tree, parameters_tree};
-ghost use Rattle.tp_syntax.specs.PartialReading.{Goes, ParsesAll, part_or_end};
-ghost use Rattle.tp_syntax.specs.Parsing.{Parses};
-ghost use Rattle.tp_syntax.specs.TemplateTrees.{chain};
+//! Functions and test cases, the definitions of a module, and modules.
+ghost use Rattle.std.specs.Prelude.{◌≡◌, ◌<◌, ◌≤◌, map, true, OnOk, length, ◌∷◌, IfOk, drop};
+ghost use Rattle.tp_syntax.specs.Item.{accepts, next, of_word, rule};
+ghost use Rattle.tp_syntax.specs.Rule.{may_have_system, variables, a_definition, a_module, a_parameter, behaviour};
+ghost use Rattle.tp_syntax.specs.Rule.{definitions, more_parameters, parameters};
+ghost use Rattle.tp_syntax.specs.DefinitionTrees.{case_items, test_case_trees, function_tree, local_frames};
+ghost use Rattle.tp_syntax.specs.DefinitionTrees.{system_tree, behaviour_tree, definition_frames, definitions_tree};
+ghost use Rattle.tp_syntax.specs.DefinitionTrees.{function_items, function_trees, is_behaviour, module_tree};
+ghost use Rattle.tp_syntax.specs.DefinitionTrees.{parameter_tree, parameters_tree};
+ghost use Rattle.tp_syntax.specs.CaseTrees.{variable_part};
+ghost use Rattle.tp_syntax.specs.Parsing.{Goes, ParsesAll, part_or_end, Parses, left};
+ghost use Rattle.tp_syntax.specs.Reading.{chain};
 
 use crate::cursor::Parser;
 use crate::stuck::Stuck;
@@ -17,18 +17,100 @@ use crate::token::Symbol;
 use crate::word::Word;
 use std::alloc::Global;
 use tp_tree::name::Name;
-use tp_tree::tree::{Defined, Definition, Function, Module, Parameter, Statement, Variable};
+use tp_tree::tree::{
+    Defined, Definition, Function, Module, Parameter, Statement, TestCase, Variable,
+};
 use tp_value::items::Items;
 
-/// What follows the parameters of a function.
-#[derive(Drop)]
-pub struct FunctionRun {
-    pub runs_on: Name,
-    pub variables: Items<Variable>,
-    pub statements: Items<Statement>,
-}
-
 impl<'a, 't> Parser<'a, 't> {
+    /// Passes a variable, and its `;` if it has one. Without it only a `}` may follow.
+    #[tactic(auto, using(crate::proofs::BehaviourViews::behaviour_parsing))]
+    fn local_variable(&mut self, alloc: Global) -> Result<Variable, Stuck>
+        requires { accepts (of_word Word.Var) (next (left self.old)) ≡ true }
+        ensures goes { Goes variables (λ v. local_frames (variable_part v))
+            (λ v. part_or_end variables v.has_semicolon)
+            self.old result self.new }
+        ensures shorter { OnOk result (length self.new.rest.now < length self.old.rest.now) }
+    {
+        let line = self.line();
+        self.pass_word(Word::Var);
+        let type_name = self.type_name(alloc)?;
+        let name = self.name(alloc)?;
+        let has_semicolon = self.may_end();
+        Ok(Variable {
+            line,
+            type_name,
+            name,
+            has_semicolon,
+        })
+    }
+
+    /// Passes the body of a function, and the `}` that follows it.
+    #[tactic(auto, using(crate::proofs::BehaviourViews::behaviour_parsing))]
+    pub fn function_body(
+        &mut self,
+        alloc: Global,
+    ) -> Result<(Items<Variable>, Items<Statement>), Stuck>
+        ensures parses { Parses (rule variables) (λ x. function_tree (map variable_part x.0) x.1)
+            self.old result self.new }
+        ensures shorter { OnOk result (length self.new.rest.now < length self.old.rest.now) }
+    {
+        let mut variables = Items::new(alloc);
+        let mut is_open = true;
+        'more: while is_open {
+            if !self.is_word(Word::Var) {
+                let statements = self.statements(alloc)?;
+                return Ok((variables, statements));
+            }
+            let variable = self.local_variable(alloc)?;
+            is_open = variable.has_semicolon;
+            variables.push(variable)?;
+        }
+        self.closing()?;
+        let statements = Items::new(alloc);
+        Ok((variables, statements))
+    }
+
+    fn system(&mut self, alloc: Global) -> Result<Option<Name>, Stuck>
+        ensures parses { Parses (rule may_have_system) system_tree self.old result self.new }
+        ensures shorter { OnOk result (length self.new.rest.now ≤ length self.old.rest.now) }
+    {
+        if !self.is_word(Word::System) {
+            return Ok(None);
+        }
+        self.pass_word(Word::System);
+        let name = self.name(alloc)?;
+        Ok(Some(name))
+    }
+
+    /// Passes a test case.
+    #[tactic(auto, using(crate::proofs::ReadingGoesOn::all_parsing))]
+    pub fn test_case(&mut self, alloc: Global) -> Result<TestCase, Stuck>
+        ensures parses { ParsesAll case_items test_case_trees self.old result self.new }
+        ensures shorter { OnOk result (length self.new.rest.now < length self.old.rest.now) }
+    {
+        self.word(Word::Testcase)?;
+        let name = self.name(alloc)?;
+        self.symbol(Symbol::LeftParen)?;
+        self.symbol(Symbol::RightParen)?;
+        self.word(Word::Runs)?;
+        self.word(Word::On)?;
+        let runs_on = self.name(alloc)?;
+        let system = self.system(alloc)?;
+        self.symbol(Symbol::LeftBrace)?;
+        let body = self.case_body(alloc)?;
+        Ok(TestCase {
+            name,
+            runs_on,
+            system,
+            setups: body.setups,
+            starts: body.starts,
+            variables: body.variables,
+            statements: body.statements,
+            all_done: body.all_done,
+        })
+    }
+
     fn parameter(&mut self, alloc: Global) -> Result<Parameter, Stuck>
         ensures parses { Parses (rule a_parameter) parameter_tree self.old result self.new }
         ensures shorter { OnOk result (length self.new.rest.now < length self.old.rest.now) }
@@ -75,26 +157,6 @@ impl<'a, 't> Parser<'a, 't> {
         Ok(parameters)
     }
 
-    /// Passes what follows the parameters of a function.
-    #[tactic(auto, using(crate::proofs::ReadingGoesOn::all_parsing))]
-    fn function_run(&mut self, alloc: Global) -> Result<FunctionRun, Stuck>
-        ensures parses { ParsesAll body_items
-            (λ x. body_trees x.runs_on (map variable_part x.variables) x.statements)
-            self.old result self.new }
-        ensures shorter { OnOk result (length self.new.rest.now < length self.old.rest.now) }
-    {
-        self.word(Word::Runs)?;
-        self.word(Word::On)?;
-        let runs_on = self.name(alloc)?;
-        self.symbol(Symbol::LeftBrace)?;
-        let (variables, statements) = self.function_body(alloc)?;
-        Ok(FunctionRun {
-            runs_on,
-            variables,
-            statements,
-        })
-    }
-
     /// Passes a function.
     #[tactic(auto, using(crate::proofs::ReadingGoesOn::all_parsing))]
     fn function(&mut self, alloc: Global) -> Result<Function, Stuck>
@@ -105,13 +167,17 @@ impl<'a, 't> Parser<'a, 't> {
         let name = self.name(alloc)?;
         self.symbol(Symbol::LeftParen)?;
         let parameters = self.parameters(alloc)?;
-        let run = self.function_run(alloc)?;
+        self.word(Word::Runs)?;
+        self.word(Word::On)?;
+        let runs_on = self.name(alloc)?;
+        self.symbol(Symbol::LeftBrace)?;
+        let (variables, statements) = self.function_body(alloc)?;
         Ok(Function {
             name,
             parameters,
-            runs_on: run.runs_on,
-            variables: run.variables,
-            statements: run.statements,
+            runs_on,
+            variables,
+            statements,
         })
     }
 
@@ -144,19 +210,18 @@ impl<'a, 't> Parser<'a, 't> {
             let definition = Definition {
                 line,
                 defined: ended.defined,
-                has_semicolon: ended.has_semicolon,
+                has_semicolon: ended.end.has_semicolon,
             };
-            return Ok((definition, ended.is_open));
+            return Ok((definition, ended.end.is_open));
         }
         let defined = self.behaviour(alloc)?;
-        let has_semicolon = self.may_end();
-        let is_open = self.is_open();
+        let end = self.block_end();
         let definition = Definition {
             line,
             defined,
-            has_semicolon,
+            has_semicolon: end.has_semicolon,
         };
-        Ok((definition, is_open))
+        Ok((definition, end.is_open))
     }
 
     /// Passes the definitions of a module, and the `}` that follows them.

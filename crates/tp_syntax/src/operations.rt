@@ -5,8 +5,7 @@ ghost use Rattle.tp_syntax.specs.Rule.{a_predefined, a_type, may_have_from, may_
 ghost use Rattle.tp_syntax.specs.Rule.{other_operation, received, receivers, receiving, redirect, sent, who};
 ghost use Rattle.tp_syntax.specs.OperationTrees.{component_tree, from_tree, is_predefined, predefined_tree};
 ghost use Rattle.tp_syntax.specs.OperationTrees.{received_tree, receivers_tree, receiving_tree, redirect_tree};
-ghost use Rattle.tp_syntax.specs.OperationTrees.{sender_tree, sent_tree, template_part, type_tree};
-ghost use Rattle.tp_syntax.specs.OtherOperations.{operation_tree};
+ghost use Rattle.tp_syntax.specs.OperationTrees.{sender_tree, sent_tree, template_part, type_tree, operation_tree};
 ghost use Rattle.tp_syntax.specs.Parsing.{Parses, left};
 
 use crate::cursor::Parser;

@@ -1,12 +1,11 @@
 //! From a text to its module.
-ghost use Rattle.std.specs.Prelude.{◌≡◌, ◌+◌, ◌-◌, ◌≤◌, ◌++◌, IfErr, IfOk, Option, None};
-ghost use Rattle.std.specs.Prelude.{drop, false, length, map};
+ghost use Rattle.std.specs.Prelude.{◌≡◌, ◌+◌, ◌-◌, ◌≤◌, ◌++◌, IfErr, IfOk, Option, None, drop, false, length, map};
 ghost use Rattle.tp_syntax.specs.Cut.{newlines};
 ghost use Rattle.tp_syntax.specs.Lexeme.{placed_lexeme, lexeme_of};
 ghost use Rattle.tp_syntax.specs.ReadTexts.{IsReadAs, IsUnread};
 ghost use Rattle.tp_syntax.specs.Faults.{fault_in, fault_line, is_minus};
-ghost use Rattle.tp_syntax.specs.SettledTokens.{has_negative_zero, is_zero, kept_at_end};
-ghost use Rattle.tp_syntax.specs.SettledTokens.{kept_of, minus_on, settled, waiting};
+ghost use Rattle.tp_syntax.specs.SettledTokens.{has_negative_zero, is_zero, kept_at_end, kept_of, minus_on, settled};
+ghost use Rattle.tp_syntax.specs.SettledTokens.{waiting};
 
 use crate::cursor::Parser;
 use crate::faults::{front_of, is_minus};

@@ -1,14 +1,11 @@
 //! Parts of statements: names in a `for`, ends, port operations, verdicts, the head of a `for`.
-ghost use Rattle.std.specs.Prelude.{◌≡◌, ◌<◌, ◌≤◌, ℕ, List, [], ◌∷◌, OnOk, length};
+ghost use Rattle.std.specs.Prelude.{◌≡◌, ◌<◌, ◌≤◌, [], ◌∷◌, OnOk, length};
 ghost use Rattle.tp_syntax.specs.Lexeme.{name, number};
-ghost use Rattle.tp_syntax.specs.Item.{binds, exactly, of_word, one_of, next, rule, this_name, token};
+ghost use Rattle.tp_syntax.specs.Item.{exactly, of_word, one_of, next, rule, this_name, token};
 ghost use Rattle.tp_syntax.specs.Reading.{Reads, leaf};
 ghost use Rattle.tp_syntax.specs.Rule.{closing, control_word, may_end, set_verdict, turns, verdict_word};
-ghost use Rattle.tp_syntax.specs.PartialReading.{Ends, Enters, HasEnd, ParsesAll, closing_tree, may_end_tree};
-ghost use Rattle.tp_syntax.specs.OperationTrees.{bound_items, bound_trees, control_tree, rest_items, rest_trees};
-ghost use Rattle.tp_syntax.specs.OperationTrees.{set_verdict_tree, step_items, step_trees, turns_tree, verdict_tree};
-ghost use Rattle.tp_syntax.specs.Parsing.{Parses, left};
-ghost use Rattle.tp_syntax.specs.TemplateTrees.{integer_tree};
+ghost use Rattle.tp_syntax.specs.Parsing.{Ends, Enters, HasEnd, closing_tree, may_end_tree, Parses, left};
+ghost use Rattle.tp_syntax.specs.OperationTrees.{control_tree, set_verdict_tree, turns_tree, verdict_tree};
 
 use crate::cursor::Parser;
 use crate::stuck::Stuck;
@@ -19,38 +16,26 @@ use tp_common::operation::PortOperation;
 use tp_tree::name::Name;
 use tp_tree::tree::{Turns, VerdictName};
 
-impl<'a, 't> Parser<'a, 't> {
-    /// Passes the name that a `for` binds.
-    fn bound_name(&mut self, alloc: Global) -> Result<Name, Stuck>
-        ensures parses { Parses (token binds) (λ n. leaf (name n)) self.old result self.new }
-        ensures shorter { OnOk result (length self.new.rest.now < length self.old.rest.now) }
-    {
-        match self.next_name() {
-            Some(spelling) => {
-                self.skip();
-                let name = Name::from_str(alloc, spelling)?;
-                Ok(name)
-            }
-            None => Err(Stuck::At(self.rest.len())),
-        }
-    }
+/// Whether a part has a `;`, and whether a further one follows it.
+#[derive(Clone, Copy)]
+pub struct End {
+    pub has_semicolon: bool,
+    pub is_open: bool,
+}
 
+impl<'a, 't> Parser<'a, 't> {
     /// Passes this name.
     fn same_name(&mut self, want: &Name) -> Result<(), Stuck>
         ensures parses { Parses (token (this_name want.now)) (λ _. leaf (name want.now))
             self.old result self.new }
         ensures shorter { OnOk result (length self.new.rest.now < length self.old.rest.now) }
     {
-        match self.next_name() {
-            Some(spelling) => {
-                if want.as_str() == spelling {
-                    self.skip();
-                    return Ok(());
-                }
-                Err(Stuck::At(self.rest.len()))
-            }
-            None => Err(Stuck::At(self.rest.len())),
+        let spelling = self.next_name()?;
+        if want.as_str() == spelling {
+            self.skip();
+            return Ok(());
         }
+        Err(Stuck::At(self.rest.len()))
     }
 
     /// Passes the number 1.
@@ -59,21 +44,19 @@ impl<'a, 't> Parser<'a, 't> {
             self.old result self.new }
         ensures shorter { OnOk result (length self.new.rest.now < length self.old.rest.now) }
     {
-        match self.next_number() {
-            Some(found) => {
-                if found == 1 {
-                    self.skip();
-                    return Ok(());
-                }
-                Err(Stuck::At(self.rest.len()))
-            }
-            None => Err(Stuck::At(self.rest.len())),
+        let found = self.next_number()?;
+        if found == 1 {
+            self.skip();
+            return Ok(());
         }
+        Err(Stuck::At(self.rest.len()))
     }
 
     /// Passes a `;`, if it comes next.
+    #[tactic(auto, using(crate::proofs::StepsOfReading::parsing, crate::proofs::ReadingGoesOn::leading))]
     pub fn may_end(&mut self) -> bool
         ensures read { Reads (rule may_end) (left self.old) (may_end_tree result) (left self.new) }
+        ensures end { HasEnd self.old result self.new }
         ensures shorter { length self.new.rest.now ≤ length self.old.rest.now }
     {
         if self.is_symbol(Symbol::Semicolon) {
@@ -94,19 +77,39 @@ impl<'a, 't> Parser<'a, 't> {
         true
     }
 
-    /// Passes the `;` of a part, if it comes next. Returns whether it did, and whether a further
-    /// part follows it. Without a `;` only a `}` may follow.
+    /// Passes the `;` of a part, if it comes next. Without a `;` only a `}` may follow.
     #[tactic(auto, using(crate::proofs::ReadingGoesOn::leading))]
-    pub fn end(&mut self) -> (bool, bool)
+    pub fn end(&mut self) -> End
         ensures ends { Ends self.old result self.new }
         ensures shorter { length self.new.rest.now ≤ length self.old.rest.now }
     {
         if self.is_symbol(Symbol::Semicolon) {
             self.pass_symbol(Symbol::Semicolon);
             let is_open = self.is_open();
-            return (true, is_open);
+            return End {
+                has_semicolon: true,
+                is_open,
+            };
         }
-        (false, false)
+        End {
+            has_semicolon: false,
+            is_open: false,
+        }
+    }
+
+    /// Passes the `;` of a part with a block, if it comes next. It need not come.
+    pub fn block_end(&mut self) -> End
+        ensures read { Reads (rule may_end) (left self.old) (may_end_tree result.has_semicolon)
+            (left self.new) }
+        ensures enters { Enters self.new result.is_open }
+        ensures shorter { length self.new.rest.now ≤ length self.old.rest.now }
+    {
+        let has_semicolon = self.may_end();
+        let is_open = self.is_open();
+        End {
+            has_semicolon,
+            is_open,
+        }
     }
 
     /// Passes the `}` of a list.
@@ -116,19 +119,6 @@ impl<'a, 't> Parser<'a, 't> {
     {
         self.symbol(Symbol::RightBrace)?;
         Ok(())
-    }
-
-    /// Passes a `;`, if it comes next.
-    #[tactic(auto, using(crate::proofs::ReadingGoesOn::leading))]
-    pub fn has_end(&mut self) -> bool
-        ensures end { HasEnd self.old result self.new }
-        ensures shorter { length self.new.rest.now ≤ length self.old.rest.now }
-    {
-        if self.is_symbol(Symbol::Semicolon) {
-            self.pass_symbol(Symbol::Semicolon);
-            return true;
-        }
-        false
     }
 
     /// Whether an `alt` or a `for` comes next.
@@ -196,7 +186,7 @@ impl<'a, 't> Parser<'a, 't> {
     }
 
     /// Passes the head of a `for`, after that word.
-    #[tactic(auto, using(crate::proofs::ReadingGoesOn::all_parsing))]
+    #[tactic(auto, using(crate::proofs::BoundNames::turns_parsing))]
     pub fn turns(&mut self, alloc: Global) -> Result<Turns, Stuck>
         ensures parses { Parses (rule turns) turns_tree self.old result self.new }
         ensures shorter { OnOk result (length self.new.rest.now < length self.old.rest.now) }
@@ -204,53 +194,20 @@ impl<'a, 't> Parser<'a, 't> {
         self.symbol(Symbol::LeftParen)?;
         self.word(Word::Var)?;
         self.word(Word::Integer)?;
-        let name = self.bound_name(alloc)?;
+        let name = self.name(alloc)?;
         self.symbol(Symbol::Assign)?;
         let first = self.integer()?;
-        let bound = self.bound(&name)?;
-        Ok(Turns { name, first, bound })
-    }
-
-    /// Passes the bound of the variable, and what follows it in the head.
-    #[tactic(auto, using(crate::proofs::ReadingGoesOn::all_parsing))]
-    fn bound(&mut self, name: &Name) -> Result<i64, Stuck>
-        ensures parses { ParsesAll (bound_items name.now)
-            (λ z. bound_trees name.now (integer_tree z))
-            self.old result self.new }
-        ensures shorter { OnOk result (length self.new.rest.now < length self.old.rest.now) }
-    {
         self.symbol(Symbol::Semicolon)?;
-        self.same_name(name)?;
+        self.same_name(&name)?;
         self.symbol(Symbol::Less)?;
         let bound = self.integer()?;
-        self.step(name)?;
-        Ok(bound)
-    }
-
-    /// Passes the step of the variable.
-    #[tactic(auto, using(crate::proofs::ReadingGoesOn::all_parsing))]
-    fn step(&mut self, name: &Name) -> Result<(), Stuck>
-        ensures parses { ParsesAll (rest_items name.now) (λ _. rest_trees name.now)
-            self.old result self.new }
-        ensures shorter { OnOk result (length self.new.rest.now < length self.old.rest.now) }
-    {
         self.symbol(Symbol::Semicolon)?;
-        self.same_name(name)?;
+        self.same_name(&name)?;
         self.symbol(Symbol::Assign)?;
-        self.plus_one(name)?;
-        Ok(())
-    }
-
-    #[tactic(auto, using(crate::proofs::ReadingGoesOn::all_parsing))]
-    fn plus_one(&mut self, name: &Name) -> Result<(), Stuck>
-        ensures parses { ParsesAll (step_items name.now) (λ _. step_trees name.now)
-            self.old result self.new }
-        ensures shorter { OnOk result (length self.new.rest.now < length self.old.rest.now) }
-    {
-        self.same_name(name)?;
+        self.same_name(&name)?;
         self.symbol(Symbol::Plus)?;
         self.number_one()?;
         self.symbol(Symbol::RightParen)?;
-        Ok(())
+        Ok(Turns { name, first, bound })
     }
 }

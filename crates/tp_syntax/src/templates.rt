@@ -4,12 +4,11 @@ ghost use Rattle.tp_syntax.specs.Item.{rule};
 ghost use Rattle.tp_syntax.specs.Rule.{a_template, a_template_field, after_minus, after_number, an_integer};
 ghost use Rattle.tp_syntax.specs.Rule.{counted_template, in_parentheses, more_template_fields, more_templates};
 ghost use Rattle.tp_syntax.specs.Rule.{other_template, template_entries, uncounted_template, upper};
-ghost use Rattle.tp_syntax.specs.Reading.{more};
+ghost use Rattle.tp_syntax.specs.Reading.{more, chain, of, one, sym};
 ghost use Rattle.tp_syntax.specs.Parsing.{Parses};
 ghost use Rattle.tp_syntax.specs.TemplateTrees.{IsCounted, IsInside, IsOther, IsUncounted, after_minus_tree};
-ghost use Rattle.tp_syntax.specs.TemplateTrees.{after_number_tree, chain, counted_tree, field_tree, inside_tree};
-ghost use Rattle.tp_syntax.specs.TemplateTrees.{integer_tree, number_inside, of};
-ghost use Rattle.tp_syntax.specs.TemplateTrees.{one, other_tree, sym, template_tree, uncounted_tree, upper_tree};
+ghost use Rattle.tp_syntax.specs.TemplateTrees.{after_number_tree, counted_tree, field_tree, inside_tree, integer_tree};
+ghost use Rattle.tp_syntax.specs.TemplateTrees.{number_inside, other_tree, template_tree, uncounted_tree, upper_tree};
 
 use crate::cursor::Parser;
 use crate::stuck::Stuck;

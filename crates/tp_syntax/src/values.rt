@@ -4,7 +4,7 @@ ghost use Rattle.tp_syntax.specs.Item.{rule};
 ghost use Rattle.tp_syntax.specs.Rule.{a_value, a_value_field, more_value_fields, more_values, unnamed_value};
 ghost use Rattle.tp_syntax.specs.Rule.{value_entries};
 ghost use Rattle.tp_syntax.specs.Parsing.{Parses};
-ghost use Rattle.tp_syntax.specs.TemplateTrees.{chain};
+ghost use Rattle.tp_syntax.specs.Reading.{chain};
 ghost use Rattle.tp_syntax.specs.ValueTrees.{IsBraced, IsUnnamed, field_tree, inside_tree, unnamed_tree, value_tree};
 
 use crate::cursor::Parser;

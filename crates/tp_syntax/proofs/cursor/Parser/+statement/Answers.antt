@@ -2,7 +2,7 @@
 use Rattle.std.proofs.Common.{refl, ap, ◌∙◌, arith, ℕ, [], Some}
 use Rattle.tp_syntax.specs.Rule.{a_branch, a_statement, statements}
 use Rattle.tp_syntax.specs.Reading.{reads_rule, reads_other, reads_else, reads_more, reads_none, fails_rule, fails_this, fails_other, fails_else, fails_here, fails_later}
-use Rattle.tp_syntax.specs.PartialReading.{enter, leads_rule, leads_this, leads_else, leads_last, leads_more}
+use Rattle.tp_syntax.specs.Parsing.{enter, leads_rule, leads_this, leads_else, leads_last, leads_more}
 use Rattle.tp_syntax.specs.StatementTrees.{branch_frames, branch_of, step_frames, step_of}
 use Rattle.tp_syntax.proofs.ReadingGoesOn.{grown, leads_noted, leads_reads, list_ended, list_fails, list_on, list_unended}
 use Rattle.tp_syntax.proofs.StepsOfReading.{handed, parsed_ok}

@@ -1,8 +1,7 @@
 -- What is left is read as what remains of the statements, or of the branches.
 use Rattle.std.proofs.Common.{◌+◌, ◌*◌, ◌≤◌, ◌++◌, length, map}
 use Rattle.tp_syntax.specs.Rule.{a_branch, a_statement, statements}
-use Rattle.tp_syntax.specs.PartialReading.{Leads, all_frames, enter, part_or_end}
-use Rattle.tp_syntax.specs.Parsing.{left}
+use Rattle.tp_syntax.specs.Parsing.{Leads, all_frames, enter, part_or_end, left}
 use Rattle.tp_syntax.specs.StatementTrees.{branch_frames, branch_of, step_frames, step_of}
 use Rattle.tp_syntax.proofs.cursor.Parser.+statement.Given as goal
 

@@ -1,6 +1,6 @@
 -- One more part of a test case's body.
 use Rattle.std.proofs.Common.{arith}
-use Rattle.tp_syntax.specs.CaseParts.{kind_of, part}
+use Rattle.tp_syntax.specs.CaseTrees.{kind_of, part}
 use Rattle.tp_syntax.proofs.CaseViews.{case_grown, fits_grown, stage_grown}
 use Rattle.tp_syntax.proofs.ReadingGoesOn.{list_ended, list_fails, list_on, list_unended}
 use Rattle.tp_syntax.proofs.StepsOfReading.{handed, parsed_ok}
@@ -12,7 +12,7 @@ returns-in_err-part-clause-parses c =
 
 pub more-preserved : goal.more-preserved
 more-preserved c = record {
-  so_far = case_grown _ _ (part c.line-line.result (kind_of c.in_ok-part.part.action) c.in_ok-part.part.has_semicolon) _ _ c.in_ok-keep.ensures.kept
+  so_far = case_grown _ _ (part c.line-line.result (kind_of c.in_ok-part.part.action) c.in_ok-part.part.end.has_semicolon) _ _ c.in_ok-keep.ensures.kept
       c.more.invariant.at c.stage-stage.ensures c.line-line.ensures (list_on _ _ c.more.invariant.so_far c.more-test.true) c.in_ok-part.ensures.goes.gone;
   at = stage_grown _ _ _ c.in_ok-keep.ensures.kept c.stage-stage.ensures;
   fits = fits_grown _ _ c.stage-stage.ensures c.in_ok-part.ensures.over c.in_ok-keep.ensures.fits;

@@ -2,10 +2,8 @@
 use Rattle.std.proofs.Common.{◌≡◌, ◌≤◌, ◌++◌, true, length}
 use Rattle.tp_syntax.specs.Rule.{case_setups}
 use Rattle.tp_syntax.specs.declared.cases.Stage.TheVariants as stage
-use Rattle.tp_syntax.specs.CaseParts.{IsUpTo, parts_of, stage_rank}
-use Rattle.tp_syntax.specs.CaseTrees.{part_rule, parts_frames}
-use Rattle.tp_syntax.specs.PartialReading.{Leads, enter, part_or_end}
-use Rattle.tp_syntax.specs.Parsing.{left}
+use Rattle.tp_syntax.specs.CaseTrees.{IsUpTo, parts_of, stage_rank, part_rule, parts_frames}
+use Rattle.tp_syntax.specs.Parsing.{Leads, enter, part_or_end, left}
 use Rattle.tp_syntax.proofs.CaseViews.{stage_behind}
 use Rattle.tp_syntax.proofs.cursor.Parser.case_body.Given as goal
 

@@ -2,7 +2,7 @@
 use Rattle.std.proofs.Common.{List, arith}
 use Rattle.tp_syntax.specs.Rule.{a_definition, definitions}
 use Rattle.tp_syntax.specs.DefinitionTrees.{definition_frames}
-use Rattle.tp_syntax.specs.PartialReading.{Frame, enter}
+use Rattle.tp_syntax.specs.Parsing.{Frame, enter}
 use Rattle.tp_syntax.proofs.ReadingGoesOn.{grown, list_ended, list_fails, list_on, list_unended}
 use Rattle.tp_syntax.proofs.StepsOfReading.{handed, parsed_ok}
 use Rattle.tp_syntax.proofs.cursor.Parser.definitions.Goals as goal

@@ -2,8 +2,7 @@
 use Rattle.std.proofs.Common.{◌≤◌, ◌++◌, length}
 use Rattle.tp_syntax.specs.Rule.{a_definition, definitions}
 use Rattle.tp_syntax.specs.DefinitionTrees.{frames_of_all}
-use Rattle.tp_syntax.specs.PartialReading.{Leads, enter, part_or_end}
-use Rattle.tp_syntax.specs.Parsing.{left}
+use Rattle.tp_syntax.specs.Parsing.{Leads, enter, part_or_end, left}
 use Rattle.tp_syntax.proofs.cursor.Parser.definitions.Given as goal
 
 abbrev pub invariant-more : goal.invariant-more

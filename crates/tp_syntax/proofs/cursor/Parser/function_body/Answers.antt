@@ -3,9 +3,9 @@ use Rattle.std.proofs.Common.{Bool, List, [], refl, ap, ap₂, map, sym, ◌∙�
 use Rattle.tp_tree.specs.declared.tree.Statement.{Statement}
 use Rattle.tp_syntax.specs.Rule.{variables}
 use Rattle.tp_syntax.specs.Reading.{reads_rule, reads_other, reads_else, reads_more, reads_none, fails_rule, fails_other, fails_else, fails_here}
-use Rattle.tp_syntax.specs.BehaviourTrees.{behind_variables, local_frames}
-use Rattle.tp_syntax.specs.CaseParts.{variable_part}
-use Rattle.tp_syntax.specs.PartialReading.{all_frames, under}
+use Rattle.tp_syntax.specs.DefinitionTrees.{behind_variables, local_frames}
+use Rattle.tp_syntax.specs.CaseTrees.{variable_part}
+use Rattle.tp_syntax.specs.Parsing.{all_frames, under}
 use Rattle.tp_syntax.proofs.BehaviourViews.{open_grown}
 use Rattle.tp_syntax.proofs.ReadingGoesOn.{grown, leads_reads, list_ended, list_fails, list_on, list_unended}
 use Rattle.tp_syntax.proofs.StepsOfReading.{handed, parsed_as}

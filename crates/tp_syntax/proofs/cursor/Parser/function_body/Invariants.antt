@@ -1,10 +1,9 @@
 -- What is left is read as what remains of the body.
 use Rattle.std.proofs.Common.{◌≡◌, ◌≤◌, true, length, map}
 use Rattle.tp_syntax.specs.Rule.{variables}
-use Rattle.tp_syntax.specs.BehaviourTrees.{local_frames, open_behind}
-use Rattle.tp_syntax.specs.CaseParts.{variable_part}
-use Rattle.tp_syntax.specs.PartialReading.{Leads, all_frames, part_or_end}
-use Rattle.tp_syntax.specs.Parsing.{left}
+use Rattle.tp_syntax.specs.DefinitionTrees.{local_frames, open_behind}
+use Rattle.tp_syntax.specs.CaseTrees.{variable_part}
+use Rattle.tp_syntax.specs.Parsing.{Leads, all_frames, part_or_end, left}
 use Rattle.tp_syntax.proofs.cursor.Parser.function_body.Given as goal
 
 abbrev pub invariant-more : goal.invariant-more

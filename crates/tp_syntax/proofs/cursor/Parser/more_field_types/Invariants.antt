@@ -2,7 +2,7 @@
 use Rattle.std.proofs.Common.{◌≤◌, length}
 use Rattle.tp_syntax.specs.Rule.{more_fields}
 use Rattle.tp_syntax.specs.Parsing.{left}
-use Rattle.tp_syntax.specs.TypeTrees.{field_type_tree}
+use Rattle.tp_syntax.specs.DefinitionTrees.{field_type_tree}
 use Rattle.tp_syntax.proofs.PartsAfterCommas.{Gathered}
 use Rattle.tp_syntax.proofs.cursor.Parser.more_field_types.Given as goal
 

@@ -2,7 +2,7 @@
 use Rattle.std.proofs.Common.{◌≤◌, length}
 use Rattle.tp_syntax.specs.Rule.{more_names}
 use Rattle.tp_syntax.specs.Parsing.{left}
-use Rattle.tp_syntax.specs.TypeTrees.{declared_tree}
+use Rattle.tp_syntax.specs.DefinitionTrees.{declared_tree}
 use Rattle.tp_syntax.proofs.PartsAfterCommas.{Gathered}
 use Rattle.tp_syntax.proofs.cursor.Parser.more_names.Given as goal
 

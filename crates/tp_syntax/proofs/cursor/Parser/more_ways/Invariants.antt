@@ -3,7 +3,7 @@ use Rattle.std.proofs.Common.{◌≡◌, ◌≤◌, ◌∷◌, drop, length}
 use Rattle.tp_syntax.specs.Rule.{end_of_way, more_ways}
 use Rattle.tp_tree.specs.declared.tree.Direction.{Direction}
 use Rattle.tp_syntax.specs.Parsing.{left}
-use Rattle.tp_syntax.specs.TypeTrees.{direction_tree}
+use Rattle.tp_syntax.specs.DefinitionTrees.{direction_tree}
 use Rattle.tp_syntax.proofs.PartsWithSemicolons.{Stepped}
 use Rattle.tp_syntax.proofs.cursor.Parser.more_ways.Given as goal
 

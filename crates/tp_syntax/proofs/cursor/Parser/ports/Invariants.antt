@@ -2,7 +2,7 @@ use Rattle.std.proofs.Common.{◌≤◌, length}
 use Rattle.tp_syntax.specs.Rule.{declarations, end_of_declaration}
 use Rattle.tp_tree.specs.declared.tree.PortDeclaration.{PortDeclaration}
 use Rattle.tp_syntax.specs.Parsing.{left}
-use Rattle.tp_syntax.specs.TypeTrees.{port_tree}
+use Rattle.tp_syntax.specs.DefinitionTrees.{port_tree}
 use Rattle.tp_syntax.proofs.PartsWithSemicolons.{Stepped}
 use Rattle.tp_syntax.proofs.cursor.Parser.ports.Given as goal
 
